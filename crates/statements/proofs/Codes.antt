@@ -81,6 +81,3 @@ same_role a b e = sym (role_back a) ∙ ap role_at e ∙ role_back b
 
 pub same_status : (a b : RunStatus) → status_code a ≡ status_code b → a ≡ b
 same_status a b e = sym (status_back a) ∙ ap status_at e ∙ status_back b
-
-pub same_action : (a b : RunAction) → action_code a ≡ action_code b → a ≡ b
-same_action a b e = sym (action_back a) ∙ ap action_at e ∙ action_back b

@@ -1,63 +1,24 @@
 -- The typed rows of a database are those that it holds.
 use Rattle.std.proofs.Common.{◌≡◌, ℕ, nat_lt, arith, Bool, true, false, cond, unsigned_abs, List, [], map, Option, Some, None, refl, ap, ◌∙◌}
-use Rattle.sqlite_value.specs.declared.value.Value.TheVariants as cell
-use Rattle.sqlite_typed.specs.Columns.{or_null, bytes_of, int_of, unless_null}
+use Rattle.sqlite_typed.specs.Columns.{or_null, int_of, unless_null}
 use Rattle.std.proofs.lemmas.Bool.Decides.{nat_tests}
 use Rattle.sqlite_keyed.proofs.ListLemmas.{map_back}
 use Rattle.sqlite.specs.Effect.{Database}
-use Rattle.basis.specs.declared.runs.RunAction.{RunAction}
-use Rattle.basis.specs.declared.rows.Holder.{Holder}
-use Rattle.basis.specs.declared.rows.Holder.TheVariants.{Nobody, Lock, Run as HeldByRun}
-use Rattle.statements.specs.Rows.{Kept, TokenRow, WsRow, RunRow, BoundRow, stored, token_cells, ws_cells, run_cells, bound_cells, number, action_code, kind_cell, lock_id_cell, lock_text_cell, run_cell, kept_by, token_at, ws_at, run_at, bound_at, holder_at, action_at}
+use Rattle.statements.specs.Rows.{Kept, TokenRow, WsRow, RunRow, BoundRow, stored, token_cells, ws_cells, run_cells, bound_cells, number, kept_by, token_at, ws_at, run_at, bound_at}
 use Rattle.statements.specs.declared.making.TheConstants.{NEWEST}
 use Rattle.statements.specs.Tables.{Layout, Tables, Holds, HoldsIn, count_in, rows_in, up_to, rows_of, tables_of, tables_at}
 use Rattle.statements.proofs.Held.{IsHeld, Ours, metas, orgs, tokens, wss, versions, runs, pages, vpages, bounds, editions, keepings, held_in, holds_all}
-use Rattle.statements.proofs.Codes.{flag_back, role_back, status_back, action_back}
-use Rattle.statements.proofs.RunSettings.{run_settings_back}
-
-text_back : (o : Option (List ℕ)) → unless_null bytes_of (or_null cell.Text o) ≡ o
-text_back None = refl
-text_back (Some t) = refl
-
-action_cell_back : (o : Option RunAction) → unless_null (λ v. action_at (unsigned_abs (int_of v))) (or_null (λ a. number (action_code a)) o) ≡ o
-action_cell_back None = refl
-action_cell_back (Some a) = ap Some (action_back a)
-
-holder_back : (h : Holder) → holder_at (unsigned_abs (int_of (kind_cell h))) (bytes_of (lock_id_cell h)) (bytes_of (lock_text_cell h)) (unsigned_abs (int_of (run_cell h))) ≡ h
-holder_back Nobody = refl
-holder_back (Lock id text) = refl
-holder_back (HeldByRun n) = refl
+use Rattle.statements.proofs.Codes.{role_back}
+use Rattle.statements.proofs.ReadBack.{workspace_back, run_row_back}
 
 pub token_back : (x : Kept TokenRow) → kept_by token_at (stored token_cells x) ≡ x
 token_back x = λ i. (x.0, record { org = x.1.org; name = x.1.name; it = record { digest = x.1.it.digest; role = role_back x.1.it.role i } })
 
 pub ws_back : (x : Kept WsRow) → kept_by ws_at (stored ws_cells x) ≡ x
-ws_back x = λ i. (
-  x.0,
-  record {
-    org = x.1.org;
-    name = x.1.name;
-    it = record { runs = run_settings_back x.1.it.runs i; holder = holder_back x.1.it.holder i; released = text_back x.1.it.released i; next_version = x.1.it.next_version; next_run = x.1.it.next_run };
-  },
-)
+ws_back x = λ i. (x.0, record { org = x.1.org; name = x.1.name; it = workspace_back x.1.it i })
 
 pub run_back : (x : Kept RunRow) → kept_by run_at (stored run_cells x) ≡ x
-run_back x = λ i. (
-  x.0,
-  record {
-    org = x.1.org;
-    ws = x.1.ws;
-    it = record {
-      number = x.1.it.number;
-      plan_only = flag_back x.1.it.plan_only i;
-      key = text_back x.1.it.key i;
-      message = x.1.it.message;
-      created = x.1.it.created;
-      status = status_back x.1.it.status i;
-      action = action_cell_back x.1.it.action i;
-    };
-  },
-)
+run_back x = λ i. (x.0, record { org = x.1.org; ws = x.1.ws; it = run_row_back x.1.it i })
 
 until_back : (o : Option ℕ) → unless_null (λ v. unsigned_abs (int_of v)) (or_null number o) ≡ o
 until_back None = refl

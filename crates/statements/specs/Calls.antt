@@ -11,9 +11,6 @@ use Rattle.sqlite_value.specs.declared.value.Value.TheVariants as cell
 use Rattle.sqlite_value.specs.Order.{Row, column}
 use Rattle.basis.specs.declared.roles.Role.{Role}
 use Rattle.basis.specs.declared.runs.RunStatus.{RunStatus}
-use Rattle.basis.specs.declared.runs.RunAction.{RunAction}
-use Rattle.basis.specs.declared.rows.Holder.{Holder}
-use Rattle.basis.specs.declared.rows.Holder.TheVariants.{Nobody, Lock, Run as HeldByRun}
 use Rattle.basis.specs.declared.rows.VersionRow.{VersionRow as Version}
 use Rattle.statements.specs.declared.rows.Workspace.{Workspace}
 use Rattle.statements.specs.declared.rows.NamedWorkspace.{NamedWorkspace}
@@ -23,7 +20,7 @@ use Rattle.statements.specs.declared.rows.NamedRole.{NamedRole}
 use Rattle.statements.specs.declared.rows.NamedToken.{NamedToken}
 use Rattle.statements.specs.declared.rows.BoundedRole.{BoundedRole}
 use Rattle.basis.specs.declared.roles.Bounds.{Bounds}
-use Rattle.statements.specs.Rows.{number, role_code, status_code, action_code, run_settings_at}
+use Rattle.statements.specs.Rows.{number, role_code, status_code, workspace_in_row, version_in_row, run_in_row}
 use Rattle.sqlite.specs.State.{State, IsUnchanged, IsRolledBack, KeepsCommit, ExecutesInside, QueriesRow, Shown, Begins}
 
 -- a text that was run in a transaction
@@ -85,33 +82,15 @@ AreAllRead Is text old new xs = (rows : List Row) × Shown text [] old new rows 
 abbrev pub IsFlagCell : Value → Bool → Type 0
 IsFlagCell v b = (n : ℤ) × (v ≡ cell.Int n) × (b ≡ not (int_eq n (pos 0)))
 
-abbrev pub IsTextOrNull : Value → Option (List ℕ) → Type 0
-IsTextOrNull v None = v ≡ cell.Null
-IsTextOrNull v (Some t) = v ≡ cell.Text t
-
 abbrev pub IsNumberOrNull : Value → Option ℕ → Type 0
 IsNumberOrNull v None = v ≡ cell.Null
 IsNumberOrNull v (Some n) = v ≡ number n
 
--- the columns are kind, lock_id, lock_text and run
-abbrev pub AreHolderCells : Value → Value → Value → Value → Holder → Type 0
-AreHolderCells kind id text run Nobody = kind ≡ number 0
-AreHolderCells kind id text run (Lock i t) = (kind ≡ number 1) × (id ≡ cell.Text i) × (text ≡ cell.Blob t)
-AreHolderCells kind id text run (HeldByRun n) = (kind ≡ number 2) × (run ≡ number n)
-
--- a workspace, of which the settings of runs begin in this column
-pub record IsWorkspaceWith (at : ℕ) (row : Row) (w : Workspace) : Type 0 where
-  pub runs : w.runs ≡ run_settings_at row at
-  pub holder : AreHolderCells (column row 0) (column row 1) (column row 2) (column row 3) w.holder
-  pub released : IsTextOrNull (column row 4) w.released
-  pub next_version : column row 5 ≡ number w.next_version
-  pub next_run : column row 6 ≡ number w.next_run
-
 abbrev pub IsWorkspace : Row → Workspace → Type 0
-IsWorkspace row w = IsWorkspaceWith 7 row w
+IsWorkspace row w = w ≡ workspace_in_row row 0 7
 
 pub record IsNamedRow (row : Row) (w : NamedWorkspace) : Type 0 where
-  pub it : IsWorkspaceWith 10 row w.it
+  pub it : w.it ≡ workspace_in_row row 0 10
   pub name : column row 7 ≡ cell.Text w.name
   pub keep : IsNumberOrNull (column row 8) w.keep
   pub last : IsNumberOrNull (column row 9) w.last
@@ -123,28 +102,11 @@ pub record IsOrganization (row : Row) (o : Organization) : Type 0 where
   pub name : column row 0 ≡ cell.Text o.name
   pub cap : column row 1 ≡ number o.cap
 
-pub record IsVersionRow (row : Row) (v : Version) : Type 0 where
-  pub number_is : column row 0 ≡ number v.number
-  pub serial : column row 1 ≡ number v.serial
-  pub lineage : column row 2 ≡ cell.Text v.lineage
-  pub created : column row 3 ≡ number v.created
-  pub size : column row 4 ≡ number v.size
+abbrev pub IsVersionRow : Row → Version → Type 0
+IsVersionRow row v = v ≡ version_in_row row 0
 
-abbrev pub IsStatusCell : Value → RunStatus → Type 0
-IsStatusCell v status = v ≡ number (status_code status)
-
-abbrev pub IsActionOrNull : Value → Option RunAction → Type 0
-IsActionOrNull v None = v ≡ cell.Null
-IsActionOrNull v (Some action) = v ≡ number (action_code action)
-
-pub record IsRunRow (row : Row) (r : Run) : Type 0 where
-  pub number_is : column row 0 ≡ number r.number
-  pub plan_only : IsFlagCell (column row 1) r.plan_only
-  pub key : IsTextOrNull (column row 2) r.key
-  pub message : column row 3 ≡ cell.Text r.message
-  pub created : column row 4 ≡ number r.created
-  pub status : IsStatusCell (column row 5) r.status
-  pub action : IsActionOrNull (column row 6) r.action
+abbrev pub IsRunRow : Row → Run → Type 0
+IsRunRow row r = r ≡ run_in_row row 0
 
 pub record IsNamedRole (row : Row) (r : NamedRole) : Type 0 where
   pub name : column row 0 ≡ cell.Text r.name
@@ -175,7 +137,7 @@ abbrev pub IsRole : Row → Role → Type 0
 IsRole row role = column row 0 ≡ number (role_code role)
 
 abbrev pub IsStatus : Row → RunStatus → Type 0
-IsStatus row status = IsStatusCell (column row 0) status
+IsStatus row status = column row 0 ≡ number (status_code status)
 
 -- the number in the row that a count gives
 abbrev pub IsCount : {E F : Type 0} → Result (Option Row) E → Result ℕ F → Type 0

@@ -1,5 +1,5 @@
 -- The rows of the tables as typed values, the cells that keep them, and the typed row that cells stand for.
-use Rattle.std.specs.Prelude.{ℕ, ℤ, pos, Bool, List, [], ◌∷◌, ◌++◌, length, if◌then◌else◌, zero, suc, not, unsigned_abs, ◌+◌, ◌==◌}
+use Rattle.std.specs.Prelude.{ℕ, ℤ, pos, Bool, Option, List, [], ◌∷◌, ◌++◌, length, if◌then◌else◌, zero, suc, not, unsigned_abs, ◌+◌, ◌==◌}
 use Rattle.sqlite_value.specs.declared.value.Value.{Value}
 use Rattle.sqlite_value.specs.declared.value.Value.TheVariants as cell
 use Rattle.sqlite_value.specs.Order.{Row, column}
@@ -13,6 +13,9 @@ use Rattle.basis.specs.declared.runs.RunAction.{RunAction}
 use Rattle.basis.specs.declared.runs.RunAction.TheVariants.{ReportPlanned, ReportUnchanged, Fail, Confirm, ReportApplied, Discard, Cancel}
 use Rattle.basis.specs.declared.rows.Holder.{Holder}
 use Rattle.basis.specs.declared.rows.Holder.TheVariants.{Nobody, Lock, Run as HeldByRun}
+use Rattle.basis.specs.declared.rows.VersionRow.{VersionRow as Version}
+use Rattle.basis.specs.declared.rows.RunRow.{RunRow as Run}
+use Rattle.statements.specs.declared.rows.Workspace.{Workspace}
 use Rattle.statements.specs.declared.rows.Token.{Token as ItsToken}
 use Rattle.statements.specs.declared.rows.OrgRow.{OrgRow as ItsOrgRow}
 use Rattle.statements.specs.declared.rows.TokenRow.{TokenRow as ItsTokenRow}
@@ -204,15 +207,53 @@ run_settings_at r at = record { auto_apply = flag_at r at }
 abbrev pub run_settings_width : ℕ
 run_settings_width = length (run_settings_cells (run_settings_at [] 0))
 
--- the column of a row of ws that comes so many behind those, the first of them 0
-abbrev pub behind_run_settings : ℕ → ℕ
-behind_run_settings n = 3 + run_settings_width + n
+-- the column of a row of ws behind those
+abbrev pub behind_run_settings : ℕ
+behind_run_settings = 3 + run_settings_width
 
 -- from the columns kind, lock_id, lock_text and run
-abbrev pub holder_at : ℕ → List ℕ → List ℕ → ℕ → Holder
-holder_at zero id text run = Nobody
-holder_at (suc zero) id text run = Lock id text
-holder_at (suc (suc n)) id text run = HeldByRun run
+abbrev pub holder_of : ℕ → List ℕ → List ℕ → ℕ → Holder
+holder_of zero id text run = Nobody
+holder_of (suc zero) id text run = Lock id text
+holder_of (suc (suc n)) id text run = HeldByRun run
+
+-- who holds a workspace, of which the first column is this one
+abbrev pub holder_at : Row → ℕ → Holder
+holder_at r at = holder_of (number_at r at) (bytes_at r (at + 1)) (bytes_at r (at + 2)) (number_at r (at + 3))
+
+-- a text that may be absent
+abbrev pub some_bytes_at : Row → ℕ → Option (List ℕ)
+some_bytes_at r at = unless_null bytes_of (column r at)
+
+-- an action that may be absent
+abbrev pub some_action_at : Row → ℕ → Option RunAction
+some_action_at r at = unless_null (λ v. action_at (unsigned_abs (int_of v))) (column r at)
+
+-- what a row holds of a workspace, of which the holder begins in this column and how its runs go in the other
+abbrev pub workspace_in_row : Row → ℕ → ℕ → Workspace
+workspace_in_row r at settings = record {
+  runs = run_settings_at r settings;
+  holder = holder_at r at;
+  released = some_bytes_at r (at + 4);
+  next_version = number_at r (at + 5);
+  next_run = number_at r (at + 6);
+}
+
+-- what a row holds of a version, of which the first column is this one
+abbrev pub version_in_row : Row → ℕ → Version
+version_in_row r at = record { number = number_at r at; serial = number_at r (at + 1); lineage = bytes_at r (at + 2); created = number_at r (at + 3); size = number_at r (at + 4) }
+
+-- what a row holds of a run, of which the first column is this one
+abbrev pub run_in_row : Row → ℕ → Run
+run_in_row r at = record {
+  number = number_at r at;
+  plan_only = flag_at r (at + 1);
+  key = some_bytes_at r (at + 2);
+  message = bytes_at r (at + 3);
+  created = number_at r (at + 4);
+  status = status_at (number_at r (at + 5));
+  action = some_action_at r (at + 6);
+}
 
 -- a row with its rowid, from the row that a tree keeps
 abbrev pub kept_by : {R : Type 0} → (Row → R) → Row → Kept R
@@ -228,39 +269,13 @@ abbrev pub token_at : Row → TokenRow
 token_at r = record { org = bytes_at r 1; name = bytes_at r 2; it = record { digest = bytes_at r 3; role = role_at (number_at r 4) } }
 
 abbrev pub ws_at : Row → WsRow
-ws_at r = record {
-  org = bytes_at r 1;
-  name = bytes_at r 2;
-  it = record {
-    runs = run_settings_at r 3;
-    holder = holder_at (number_at r (behind_run_settings 0)) (bytes_at r (behind_run_settings 1)) (bytes_at r (behind_run_settings 2)) (number_at r (behind_run_settings 3));
-    released = unless_null bytes_of (column r (behind_run_settings 4));
-    next_version = number_at r (behind_run_settings 5);
-    next_run = number_at r (behind_run_settings 6);
-  };
-}
+ws_at r = record { org = bytes_at r 1; name = bytes_at r 2; it = workspace_in_row r behind_run_settings 3 }
 
 abbrev pub version_at : Row → VersionRow
-version_at r = record {
-  org = bytes_at r 1;
-  ws = bytes_at r 2;
-  it = record { number = number_at r 3; serial = number_at r 4; lineage = bytes_at r 5; created = number_at r 6; size = number_at r 7 };
-}
+version_at r = record { org = bytes_at r 1; ws = bytes_at r 2; it = version_in_row r 3 }
 
 abbrev pub run_at : Row → RunRow
-run_at r = record {
-  org = bytes_at r 1;
-  ws = bytes_at r 2;
-  it = record {
-    number = number_at r 3;
-    plan_only = flag_at r 4;
-    key = unless_null bytes_of (column r 5);
-    message = bytes_at r 6;
-    created = number_at r 7;
-    status = status_at (number_at r 8);
-    action = unless_null (λ v. action_at (unsigned_abs (int_of v))) (column r 9);
-  };
-}
+run_at r = record { org = bytes_at r 1; ws = bytes_at r 2; it = run_in_row r 3 }
 
 abbrev pub page_at : Row → PageRow
 page_at r = record { key = bytes_at r 1; twin = number_at r 2; bytes = bytes_at r 3; uses = number_at r 4 }

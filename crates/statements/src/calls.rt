@@ -6,9 +6,9 @@ ghost use Rattle.sqlite.specs.Values.{bound};
 ghost use Rattle.sqlite.specs.Held.{state};
 ghost use Rattle.sqlite.specs.State.{HasCleanDisk, Survives, Shown};
 ghost use Rattle.basis.specs.declared.numbers.TheConstants.{MAX_MOMENT};
-ghost use Rattle.statements.specs.Rows.{number, role_code, status_code, action_code, flag, flag_at};
+ghost use Rattle.statements.specs.Rows.{number, role_code, status_code, action_code, number_at, flag_at, bytes_at, some_bytes_at, status_at, some_action_at, version_in_row, run_in_row};
 ghost use Rattle.statements.specs.Steps.{Queries};
-ghost use Rattle.statements.specs.Calls.{Wrote, WroteAny, IsQuery, FirstRow, FirstRows, LimitsTo, IsCalm, AreAllRead, IsRead, IsOnly, AreRead, IsOrganization, IsVersionRow, IsTextOrNull, IsRunRow, IsNamedRole, IsNamedToken, IsNumberOrNull, IsBound, IsBoundedRole, IsBody, IsNumber, IsRole, IsStatusCell, IsActionOrNull, IsStatus, IsCount};
+ghost use Rattle.statements.specs.Calls.{Wrote, WroteAny, IsQuery, FirstRow, FirstRows, LimitsTo, IsCalm, AreAllRead, IsRead, IsOnly, AreRead, IsOrganization, IsVersionRow, IsRunRow, IsNamedRole, IsNamedToken, IsNumberOrNull, IsBound, IsBoundedRole, IsBody, IsNumber, IsRole, IsStatus, IsCount};
 
 use crate::rows::{BoundedRole, NamedRole, NamedToken, Organization, Token};
 use basis::{
@@ -162,8 +162,38 @@ pub(crate) fn optional_seconds(moment: Option<Moment>) -> Option<i64>
     }
 }
 
+pub fn text_in(row: &Row, at: usize) -> Result<Text, Error>
+    ensures { IfOk result (λ x. x ≡ bytes_at row.now at) }
+{
+    Ok(Text::new(row.get(at)?))
+}
+
+pub fn bytes_in(row: &Row, at: usize) -> Result<Bytes, Error>
+    ensures { IfOk result (λ x. x ≡ bytes_at row.now at) }
+{
+    Ok(Bytes::new(row.get(at)?))
+}
+
+pub fn unsigned_in(row: &Row, at: usize) -> Result<u64, Error>
+    ensures { IfOk result (λ x. x ≡ number_at row.now at) }
+{
+    row.get(at)
+}
+
+pub(crate) fn number_in(row: &Row, at: usize) -> Result<Number, Error>
+    ensures { IfOk result (λ x. x ≡ number_at row.now at) }
+{
+    number_of(row.get(at)?, at)
+}
+
+pub(crate) fn moment_in(row: &Row, at: usize) -> Result<Moment, Error>
+    ensures { IfOk result (λ x. x ≡ number_at row.now at) }
+{
+    moment_of(row.get(at)?, at)
+}
+
 pub(crate) fn optional_text(row: &Row, at: usize) -> Result<Option<Text>, Error>
-    ensures { IfOk result (IsTextOrNull (column row.now at)) }
+    ensures { IfOk result (λ x. x ≡ some_bytes_at row.now at) }
 {
     match row.get::<Option<String>>(at)? {
         Some(text) => Ok(Some(Text::new(text))),
@@ -269,7 +299,7 @@ pub(crate) fn optional_keep(row: &Row, at: usize) -> Result<Option<KeepCount>, E
 }
 
 pub(crate) fn optional_lock_id(row: &Row, at: usize) -> Result<Option<LockId>, Error>
-    ensures { IfOk result (IsTextOrNull (column row.now at)) }
+    ensures { IfOk result (λ x. x ≡ some_bytes_at row.now at) }
 {
     match row.get::<Option<String>>(at)? {
         Some(value) => Ok(Some(lock_id_of(value, at)?)),
@@ -297,7 +327,7 @@ pub(crate) fn flag_in(row: &Row, at: usize) -> Result<bool, Error>
 }
 
 pub(crate) fn status_in(row: &Row, at: usize) -> Result<RunStatus, Error>
-    ensures { IfOk result (IsStatusCell (column row.now at)) }
+    ensures { IfOk result (λ status. column row.now at ≡ number (status_code status)) }
 {
     match row.get::<u64>(at)? {
         0 => Ok(RunStatus::Pending),
@@ -314,7 +344,7 @@ pub(crate) fn status_in(row: &Row, at: usize) -> Result<RunStatus, Error>
 }
 
 pub(crate) fn action_in(row: &Row, at: usize) -> Result<Option<RunAction>, Error>
-    ensures { IfOk result (IsActionOrNull (column row.now at)) }
+    ensures { IfOk result (λ x. x ≡ some_action_at row.now at) }
 {
     match row.get::<Option<u64>>(at)? {
         None => Ok(None),
@@ -327,6 +357,42 @@ pub(crate) fn action_in(row: &Row, at: usize) -> Result<Option<RunAction>, Error
         Some(6) => Ok(Some(RunAction::Cancel)),
         Some(_) => Err(Error::IntegralValueOutOfRange(at)),
     }
+}
+
+fn status_of_row(row: &Row, at: usize) -> Result<RunStatus, Error>
+    ensures { IfOk result (λ x. x ≡ status_at (number_at row.now at)) }
+{
+    status_in(row, at)
+}
+
+/// A version in a row, of which the first column is this one.
+pub(crate) fn version_in(row: &Row, at: u8) -> Result<VersionRow, Error>
+    ensures { IfOk result (λ x. x ≡ version_in_row row.now at) }
+{
+    let at = usize::from(at);
+    Ok(VersionRow {
+        number: number_in(row, at)?,
+        serial: unsigned_in(row, at + 1)?,
+        created: moment_in(row, at + 3)?,
+        size: unsigned_in(row, at + 4)?,
+        lineage: text_in(row, at + 2)?,
+    })
+}
+
+/// A run in a row, of which the first column is this one.
+pub(crate) fn run_in(row: &Row, at: u8) -> Result<RunRow, Error>
+    ensures { IfOk result (λ x. x ≡ run_in_row row.now at) }
+{
+    let at = usize::from(at);
+    Ok(RunRow {
+        number: number_in(row, at)?,
+        plan_only: flag_in(row, at + 1)?,
+        created: moment_in(row, at + 4)?,
+        status: status_of_row(row, at + 5)?,
+        action: action_in(row, at + 6)?,
+        message: text_in(row, at + 3)?,
+        key: optional_text(row, at + 2)?,
+    })
 }
 
 /// A value that a row of an answer holds.
@@ -343,8 +409,8 @@ impl Read for Organization {
 
     fn of_row(row: &Row) -> Result<Organization, Error> {
         Ok(Organization {
-            name: Text::new(row.get(0)?),
             cap: limit_of(row.get(1)?, 1)?,
+            name: Text::new(row.get(0)?),
         })
     }
 }
@@ -353,13 +419,7 @@ impl Read for VersionRow {
     ghost is_in = { IsVersionRow };
 
     fn of_row(row: &Row) -> Result<VersionRow, Error> {
-        Ok(VersionRow {
-            number: number_of(row.get(0)?, 0)?,
-            serial: row.get(1)?,
-            lineage: Text::new(row.get(2)?),
-            created: moment_of(row.get(3)?, 3)?,
-            size: row.get(4)?,
-        })
+        version_in(row, 0)
     }
 }
 
@@ -367,15 +427,7 @@ impl Read for RunRow {
     ghost is_in = { IsRunRow };
 
     fn of_row(row: &Row) -> Result<RunRow, Error> {
-        Ok(RunRow {
-            number: number_of(row.get(0)?, 0)?,
-            plan_only: row.get(1)?,
-            key: optional_text(row, 2)?,
-            message: Text::new(row.get(3)?),
-            created: moment_of(row.get(4)?, 4)?,
-            status: status_in(row, 5)?,
-            action: action_in(row, 6)?,
-        })
+        run_in(row, 0)
     }
 }
 
@@ -424,8 +476,8 @@ impl Read for NamedRole {
 
     fn of_row(row: &Row) -> Result<NamedRole, Error> {
         Ok(NamedRole {
-            name: Text::new(row.get(0)?),
             role: role_in(row, 1)?,
+            name: Text::new(row.get(0)?),
         })
     }
 }
@@ -434,12 +486,12 @@ impl Read for NamedToken {
     ghost is_in = { IsNamedToken };
 
     fn of_row(row: &Row) -> Result<NamedToken, Error> {
+        let role = role_in(row, 2)?;
+        let digest = Bytes::new(row.get(1)?);
+        let name = Text::new(row.get(0)?);
         Ok(NamedToken {
-            name: Text::new(row.get(0)?),
-            it: Token {
-                digest: Bytes::new(row.get(1)?),
-                role: role_in(row, 2)?,
-            },
+            name,
+            it: Token { digest, role },
         })
     }
 }
@@ -459,15 +511,13 @@ impl Read for BoundedRole {
     ghost is_in = { IsBoundedRole };
 
     fn of_row(row: &Row) -> Result<BoundedRole, Error> {
+        let role = role_in(row, 1)?;
+        let until = optional_moment(row, 2)?;
+        let name = Text::new(row.get(0)?);
+        let prefix = prefix_of(row.get(3)?, 3)?;
         Ok(BoundedRole {
-            token: NamedRole {
-                name: Text::new(row.get(0)?),
-                role: role_in(row, 1)?,
-            },
-            bounds: Bounds {
-                until: optional_moment(row, 2)?,
-                prefix: prefix_of(row.get(3)?, 3)?,
-            },
+            token: NamedRole { name, role },
+            bounds: Bounds { until, prefix },
         })
     }
 }

@@ -5,29 +5,32 @@ ghost use Rattle.sqlite.specs.Values.{bound};
 ghost use Rattle.statements.specs.Steps.{AnyRows, Equals, EqualsWhere, Writes, Tells, Queries};
 ghost use Rattle.statements.specs.Changes.{with_run_settings, held_by, released_from, with_next_version, with_next_run, ws_changed, ws_row_added, ws_row_removed, ws_added, ws_removed, HasNoKeeping};
 ghost use Rattle.statements.specs.Listings.{workspace_rows_after, workspace_names_of, WorkspacesApart, NamesApart, later_of, end_of};
-ghost use Rattle.statements.specs.Rows.{run_settings_at, run_settings_cells};
-ghost use Rattle.statements.specs.Calls.{AreHolderCells, IsWorkspaceWith, IsWorkspace, IsNamedRow, IsName};
-ghost use Rattle.sqlite_value.specs.Order.{column};
+ghost use Rattle.statements.specs.Rows.{run_settings_at, run_settings_cells, bytes_at, holder_at, workspace_in_row};
+ghost use Rattle.statements.specs.Calls.{IsWorkspace, IsNamedRow, IsName};
 ghost use Rattle.sqlite_value.specs.declared.value.Value.TheVariants.{Text};
 ghost use Rattle.statements.specs.Finds.{workspace_of, workspaces_of};
 ghost use Rattle.basis.specs.declared.rows.Holder.TheVariants.{Lock};
 
 use crate::calls::{
-    Read, all_rows, count_of, first_row, first_rows, flag_in, limit, lock_id_of, name_of,
-    number_of, optional_keep, optional_lock_id, optional_number, read_all, read_one, update, write,
+    Read, all_rows, bytes_in, count_of, first_row, first_rows, flag_in, limit, lock_id_of, name_of,
+    number_in, optional_keep, optional_lock_id, optional_number, read_all, read_one, unsigned_in,
+    update, write,
 };
 use crate::keepings;
 use crate::rows::{NamedWorkspace, Workspace};
-use basis::{Bytes, Holder, Items, KeepCount, LockId, Number, Prefix, RunSettings, WsName};
+use basis::{Holder, Items, KeepCount, LockId, Number, Prefix, RunSettings, WsName};
 use sqlite::types::{ToSql, ValueRef};
 use sqlite::{Alter, Connection, Error, Row, Transaction, params};
 use std::alloc::Global;
 
 /// How many columns say how runs go.
-pub(crate) const RUN_SETTINGS_WIDTH: usize = 1;
+const RUN_SETTINGS_WIDTH: usize = 1;
+
+/// The first column of a row of ws behind those, where the rowid is the first of all.
+pub(crate) const BEHIND_RUN_SETTINGS: u8 = 3 + RUN_SETTINGS_WIDTH as u8;
 
 /// The settings of runs in a row of an answer, of which the first stands in this column.
-pub(crate) fn run_settings_in(row: &Row, at: u8) -> Result<RunSettings, Error>
+fn run_settings_in(row: &Row, at: u8) -> Result<RunSettings, Error>
     ensures { IfOk result (λ runs. runs ≡ run_settings_at row.now at) }
 {
     let at = usize::from(at);
@@ -47,30 +50,39 @@ fn params_of<'v>(
     [org.to_sql(), name.to_sql(), runs.auto_apply.to_sql()]
 }
 
-fn holder_in(row: &Row) -> Result<Holder, Error>
-    ensures { IfOk result (AreHolderCells (column row.now 0) (column row.now 1) (column row.now 2) (column row.now 3)) }
+fn lock_id_in(row: &Row, at: usize) -> Result<LockId, Error>
+    ensures { IfOk result (λ x. x ≡ bytes_at row.now at) }
 {
-    match row.get::<u64>(0)? {
+    lock_id_of(row.get(at)?, at)
+}
+
+/// Who holds a workspace, of which the first column is this one.
+fn holder_in(row: &Row, at: u8) -> Result<Holder, Error>
+    ensures { IfOk result (λ x. x ≡ holder_at row.now at) }
+{
+    let at = usize::from(at);
+    match unsigned_in(row, at)? {
         0 => Ok(Holder::Nobody),
         1 => Ok(Holder::Lock {
-            id: lock_id_of(row.get(1)?, 1)?,
-            text: Bytes::new(row.get(2)?),
+            id: lock_id_in(row, at + 1)?,
+            text: bytes_in(row, at + 2)?,
         }),
-        2 => Ok(Holder::Run(number_of(row.get(3)?, 3)?)),
-        _ => Err(Error::IntegralValueOutOfRange(0)),
+        2 => Ok(Holder::Run(number_in(row, at + 3)?)),
+        _ => Err(Error::IntegralValueOutOfRange(at)),
     }
 }
 
-/// A workspace, of which the settings of runs begin in this column.
-fn workspace_in(row: &Row, at: u8) -> Result<Workspace, Error>
-    ensures { IfOk result (IsWorkspaceWith at row.now) }
+/// A workspace in a row, of which the holder begins in this column and how its runs go in the other.
+pub(crate) fn workspace_in(row: &Row, at: u8, settings: u8) -> Result<Workspace, Error>
+    ensures { IfOk result (λ x. x ≡ workspace_in_row row.now at settings) }
 {
+    let place = usize::from(at);
     Ok(Workspace {
-        runs: run_settings_in(row, at)?,
-        holder: holder_in(row)?,
-        released: optional_lock_id(row, 4)?,
-        next_version: row.get(5)?,
-        next_run: row.get(6)?,
+        runs: run_settings_in(row, settings)?,
+        next_version: unsigned_in(row, place + 5)?,
+        next_run: unsigned_in(row, place + 6)?,
+        released: optional_lock_id(row, place + 4)?,
+        holder: holder_in(row, at)?,
     })
 }
 
@@ -78,7 +90,7 @@ impl Read for Workspace {
     ghost is_in = { IsWorkspace };
 
     fn of_row(row: &Row) -> Result<Workspace, Error> {
-        workspace_in(row, 7)
+        workspace_in(row, 0, 7)
     }
 }
 
@@ -87,10 +99,10 @@ impl Read for NamedWorkspace {
 
     fn of_row(row: &Row) -> Result<NamedWorkspace, Error> {
         Ok(NamedWorkspace {
-            it: workspace_in(row, 10)?,
-            name: name_of(row.get(7)?, 7)?,
             keep: optional_keep(row, 8)?,
             last: optional_number(row, 9)?,
+            name: name_of(row.get(7)?, 7)?,
+            it: workspace_in(row, 0, 10)?,
         })
     }
 }
