@@ -1,8 +1,8 @@
 pub mod Examples
 pub mod AsciiLemmas
-pub mod PartLemmas
-pub mod KindLemmas
+pub mod ParamLemmas
 pub mod WalkLemmas
-pub mod LevelLemmas
+pub mod TreeLemmas
 pub mod TableLemmas
+pub mod KindLemmas
 pub mod RouteLemmas

@@ -1,5 +1,7 @@
 -- How a router's walk goes over rows whose parts are whole words or whole parameters.
-use Rattle.std.proofs.Common.{◌≡◌, ◌≢◌, ℕ, zero, suc, ◌-◌, ◌<◌, ◌≤◌, List, [], ◌∷◌, ◌++◌, length, drop, Option, Some, None, Bool, true, false, ◌&&◌, ◌==◌, ◌⊎◌, inl, inr, cond, refl, sym, ap, ◌∙◌, arith, ltb, nat_eq, length-append}
+use Rattle.std.proofs.Common.{◌≡◌, ◌≢◌, ℕ, zero, suc, ◌-◌, ◌<◌, ◌≤◌, List, [], ◌∷◌, ◌++◌, length, drop, Option, Some, None, Bool, true, false, ◌&&◌, ◌==◌, ◌⊎◌, inl, inr, cond, refl, sym, ap, ◌∙◌, arith, ltb, nat_eq, length-append, append-nil, IsUtf8, unwrap_or, eqb-true, ne_eqb}
+use Rattle.std.proofs.Math.Bool.{and-false}
+use Rattle.std.proofs.Math.Seq.{drop-length, drop-append_seam}
 use Rattle.std.proofs.lemmas.Bool.Decides.{nat_tests}
 use Rattle.std.proofs.lemmas.Bool.{ltb-true, lt-ltb}
 use Rattle.std.specs.Cmp.Lexicographic.{pointwise}
@@ -7,11 +9,13 @@ use Rattle.matchit.specs.Rows.{RowsOf, param_token, catch_all_token}
 use Rattle.matchit.specs.Seek.{own, step, or_else, seek, param_step, has_slash, segment, longest_from, with_suffix, cuts}
 use Rattle.route.proofs.AsciiLemmas.{both_true}
 
-pub is_same : (a b : ℕ) → (a == b) ≡ true → a ≡ b
-is_same a b h = grind (arith, nat_tests)
-
-pub is_other : (a b : ℕ) → a ≢ b → (a == b) ≡ false
-is_other a b h = grind (arith, nat_tests)
+-- a path fits a pattern whose parameters take these parts
+pub data Fits : List ℕ → List ℕ → List (List ℕ) → Type 0 where
+  fits_end : Fits [] [] []
+  fits_byte : (x : ℕ) (tail path : List ℕ) (parts : List (List ℕ)) → x < 256 → Fits tail path parts → Fits (x ∷ tail) (x ∷ path) parts
+  fits_last : (p : List ℕ) → IsUtf8 p → Fits (256 ∷ []) p (p ∷ [])
+  fits_part : (p tail path : List ℕ) (parts : List (List ℕ)) → IsUtf8 p → has_slash p ≡ false → Fits (47 ∷ tail) (47 ∷ path) parts
+      → Fits (256 ∷ 47 ∷ tail) (p ++ 47 ∷ path) (p ∷ parts)
 
 -- a path is one part, or a part, a slash and more
 pub record Cut (path : List ℕ) : Type 0 where
@@ -29,7 +33,7 @@ cut_path (b ∷ path) = by (b == 47) refl (cut_path path)
     more e (inr c) = inr (record { part = b ∷ c.part; rest = c.rest; whole = ap (λ x. b ∷ x) c.whole; plain = rw e c.plain })
 
     by : (v : Bool) → (b == 47) ≡ v → (has_slash path ≡ false) ⊎ Cut path → (has_slash (b ∷ path) ≡ false) ⊎ Cut (b ∷ path)
-    by true e ih = inr (record { part = []; rest = path; whole = ap (λ x. x ∷ path) (is_same b 47 e); plain = refl })
+    by true e ih = inr (record { part = []; rest = path; whole = ap (λ x. x ∷ path) (eqb-true b 47 e); plain = refl })
     by false e ih = more e ih
 
 -- what a part's segment is
@@ -67,18 +71,13 @@ word_byte : (x : ℕ) (t : List ℕ) → is_word (x ∷ t) ≡ true → x < 256
 word_byte x t h = by (x == 47) refl h
   where
     by : (v : Bool) → (x == 47) ≡ v → cond v true (ltb x 256 && is_word t) ≡ true → x < 256
-    by true e h = let s : x ≡ 47 = is_same x 47 e in omega arith
+    by true e h = let s : x ≡ 47 = eqb-true x 47 e in omega arith
     by false e h = ltb-true x 256 (both_true (ltb x 256) (is_word t) h).0
 
 word_on : (b : ℕ) (t : List ℕ) → b ≢ 47 → is_word (b ∷ t) ≡ true → is_word t ≡ true
 word_on b t n h =
-    let e : (b == 47) ≡ false = is_other b 47 n in
+    let e : (b == 47) ≡ false = ne_eqb b 47 n in
     (both_true (ltb b 256) (is_word t) (rw e at h)).1
-
--- the bytes of a row up to its first slash
-abbrev pub word_of : List ℕ → List ℕ
-word_of [] = []
-word_of (x ∷ t) = cond (x == 47) [] (x ∷ word_of t)
 
 module _ {K : Type 0} where
   pub or_none : (a : Option K) → or_else a None ≡ a
@@ -117,7 +116,7 @@ module _ {K : Type 0} where
   words_step n ((x ∷ t, key) ∷ r) l h =
       let parts = both_true (is_word (x ∷ t)) (all_words r) h in
       let small : x < 256 = word_byte x t parts.0 in
-      let other : (x == n) ≡ false = is_other x n (λ e. omega arith) in
+      let other : (x == n) ≡ false = ne_eqb x n (λ e. omega arith) in
       rw other (words_step n r l parts.1)
 
   words_on : (b : ℕ) (r : RowsOf K) → b ≢ 47 → all_words r ≡ true → all_words (step b r) ≡ true
@@ -129,7 +128,7 @@ module _ {K : Type 0} where
     where
       by : (v : Bool) → (x == b) ≡ v → is_word (x ∷ t) ≡ true → all_words (step b r) ≡ true → all_words (cond v ((t, key) ∷ step b r) (step b r)) ≡ true
       by true e h ih =
-          let same : x ≡ b = is_same x b e in
+          let same : x ≡ b = eqb-true x b e in
           let on : is_word t ≡ true = word_on x t (λ z. n (sym same ∙ z)) h in
           rw (on, ih) refl
       by false e h ih = ih
@@ -159,54 +158,40 @@ module _ {K : Type 0} where
       let n : b ≢ 47 = λ e. grind (arith, nat_tests) in
       seek_word_byte r b (p ++ 47 ∷ q) h ∙ word_more p q (step b r) (words_on b r n h) parts.1
 
-  -- a part that no row begins with leads nowhere
-  abbrev pub Lacks : List ℕ → RowsOf K → Type 0
-  Lacks p [] = Unit {0}
-  Lacks p ((t, key) ∷ r) = (word_of t ≢ p) × Lacks p r
+  -- a row of these rows
+  abbrev pub HasRow : List ℕ → K → RowsOf K → Type 0
+  HasRow tail k [] = ⊥
+  HasRow tail k ((t, key) ∷ r) = ((t ≡ tail) × (key ≡ k)) ⊎ HasRow tail k r
 
-  lacks_nil_own : (r : RowsOf K) → Lacks [] r → own r ≡ None
-  lacks_nil_own [] h = refl
-  lacks_nil_own (([], key) ∷ r) h = absurd (h.0 refl)
-  lacks_nil_own ((x ∷ t, key) ∷ r) h = lacks_nil_own r h.1
-
-  lacks_nil_step : (r : RowsOf K) → Lacks [] r → step 47 r ≡ []
-  lacks_nil_step [] h = refl
-  lacks_nil_step (([], key) ∷ r) h = absurd (h.0 refl)
-  lacks_nil_step ((x ∷ t, key) ∷ r) h = by (x == 47) refl h.0 (lacks_nil_step r h.1)
+  pub row_step : (b : ℕ) (tail : List ℕ) (k : K) (r : RowsOf K) → HasRow tail k (step b r) → HasRow (b ∷ tail) k r
+  row_step b tail k [] h = h
+  row_step b tail k (([], key) ∷ r) h = inr (row_step b tail k r h)
+  row_step b tail k ((x ∷ t, key) ∷ r) h = by (x == b) refl h (row_step b tail k r)
     where
-      by : (v : Bool) → (x == 47) ≡ v → (cond v [] (x ∷ word_of t) ≢ []) → step 47 r ≡ [] → cond v ((t, key) ∷ step 47 r) (step 47 r) ≡ []
-      by true e n ih = absurd (n refl)
-      by false e n ih = ih
+      by : (v : Bool) → (x == b) ≡ v → HasRow tail k (cond v ((t, key) ∷ step b r) (step b r)) → (HasRow tail k (step b r) → HasRow (b ∷ tail) k r)
+          → HasRow (b ∷ tail) k ((x ∷ t, key) ∷ r)
+      by true e (inl h) ih = inl (rw (eqb-true x b e, h.0) refl, h.1)
+      by true e (inr h) ih = inr (ih h)
+      by false e h ih = inr (ih h)
 
-  lacks_on : (b : ℕ) (p : List ℕ) (r : RowsOf K) → (b == 47) ≡ false → Lacks (b ∷ p) r → Lacks p (step b r)
-  lacks_on b p [] e h = tt
-  lacks_on b p (([], key) ∷ r) e h = lacks_on b p r e h.1
-  lacks_on b p ((x ∷ t, key) ∷ r) e h = by (x == b) refl h.0 (lacks_on b p r e h.1)
-    where
-      by : (v : Bool) → (x == b) ≡ v → (word_of (x ∷ t) ≢ b ∷ p) → Lacks p (step b r) → Lacks p (cond v ((t, key) ∷ step b r) (step b r))
-      by true f n ih =
-          let same : x ≡ b = is_same x b f in
-          let plain : (x == 47) ≡ false = rw same e in
-          (λ z. n (rw plain (rw (same, z) refl)), ih)
-      by false f n ih = ih
+  row_own : (k : K) (r : RowsOf K) → own r ≡ Some k → HasRow [] k r
+  row_own k [] e = cc
+  row_own k (([], key) ∷ r) e = inl (refl, ap (λ o. unwrap_or o k) e)
+  row_own k ((x ∷ t, key) ∷ r) e = inr (row_own k r e)
 
-  pub lacks_own : (p : List ℕ) (r : RowsOf K) → has_slash p ≡ false → Lacks p r → own (steps p r) ≡ None
-  lacks_own [] r s h = lacks_nil_own r h
-  lacks_own (b ∷ p) r s h =
-      let parts = plain_head b p s in
-      lacks_own p (step b r) parts.1 (lacks_on b p r parts.0 h)
+  pub row_right : (tail : List ℕ) (k : K) (r s : RowsOf K) → HasRow tail k s → HasRow tail k (r ++ s)
+  row_right tail k [] s h = h
+  row_right tail k ((t, key) ∷ r) s h = inr (row_right tail k r s h)
 
-  pub lacks_step : (p : List ℕ) (r : RowsOf K) → has_slash p ≡ false → Lacks p r → step 47 (steps p r) ≡ []
-  lacks_step [] r s h = lacks_nil_step r h
-  lacks_step (b ∷ p) r s h =
-      let parts = plain_head b p s in
-      lacks_step p (step b r) parts.1 (lacks_on b p r parts.0 h)
+  pub row_word : (p : List ℕ) (k : K) (r : RowsOf K) → own (steps p r) ≡ Some k → HasRow p k r
+  row_word [] k r e = row_own k r e
+  row_word (b ∷ p) k r e = row_step b p k r (row_word p k (step b r) e)
+
+  pub row_more : (p tail : List ℕ) (k : K) (r : RowsOf K) → HasRow tail k (step 47 (steps p r)) → HasRow (p ++ 47 ∷ tail) k r
+  row_more [] tail k r h = row_step 47 tail k r h
+  row_more (b ∷ p) tail k r h = row_step b (p ++ 47 ∷ tail) k r (row_more p tail k (step b r) h)
 
 -- a parameter takes a whole part
-and_false : (a : Bool) → (a && false) ≡ false
-and_false true = refl
-and_false false = refl
-
 no_tail : (k : ℕ) (seg : List ℕ) → has_slash seg ≡ false → pointwise nat_eq (47 ∷ []) (drop k seg) ≡ false
 no_tail zero [] h = refl
 no_tail zero (y ∷ seg) h =
@@ -217,15 +202,7 @@ no_tail (suc k) [] h = refl
 no_tail (suc k) (y ∷ seg) h = no_tail k seg (plain_head y seg h).1
 
 pub cuts_plain : (seg : List ℕ) → has_slash seg ≡ false → cuts seg (47 ∷ []) ≡ false
-cuts_plain seg h = rw (no_tail (length seg - 1) seg h) (and_false (ltb 1 (length seg)))
-
-pub drop_front : (p rest : List ℕ) → drop (length p) (p ++ rest) ≡ rest
-drop_front [] rest = refl
-drop_front (b ∷ p) rest = drop_front p rest
-
-pub drop_whole : (p : List ℕ) → drop (length p) p ≡ []
-drop_whole [] = refl
-drop_whole (b ∷ p) = drop_whole p
+cuts_plain seg h = rw (no_tail (length seg - 1) seg h) (and-false (ltb 1 (length seg)))
 
 long_cut : (b : ℕ) (p : List ℕ) → length ((b ∷ p) ++ 47 ∷ []) - 1 ≡ length (b ∷ p)
 long_cut b p = simp length-append (omega arith)
@@ -233,167 +210,195 @@ long_cut b p = simp length-append (omega arith)
 pub cuts_cut : (b : ℕ) (p : List ℕ) → cuts ((b ∷ p) ++ 47 ∷ []) (47 ∷ []) ≡ true
 cuts_cut b p =
     let long : ltb 1 (length ((b ∷ p) ++ 47 ∷ [])) ≡ true = lt-ltb 1 _ (simp length-append (omega arith)) in
-    rw (long, long_cut b p, drop_front (b ∷ p) (47 ∷ [])) refl
+    rw (long, long_cut b p, drop-append_seam (b ∷ p) (47 ∷ [])) refl
 
 module _ {K : Type 0} where
-  -- each row begins with a parameter
-  abbrev pub all_any : RowsOf K → Bool
-  all_any [] = true
-  all_any (([], key) ∷ r) = false
-  all_any ((x ∷ t, key) ∷ r) = (x == 256) && all_any r
+  -- the rows with these tokens in front, and the row that ends
+  abbrev pub after : List ℕ → RowsOf K → RowsOf K
+  after w [] = []
+  after w ((t, key) ∷ r) = (w ++ t, key) ∷ after w r
 
-  -- each row goes on with a slash or ends
-  abbrev pub all_slashed : RowsOf K → Bool
-  all_slashed [] = true
-  all_slashed (([], key) ∷ r) = all_slashed r
-  all_slashed ((x ∷ t, key) ∷ r) = (x == 47) && all_slashed r
+  abbrev pub ended : Option K → RowsOf K
+  ended None = []
+  ended (Some key) = ([], key) ∷ []
 
-  -- some row goes on
-  abbrev pub has_tail : RowsOf K → Bool
-  has_tail [] = false
-  has_tail (([], key) ∷ r) = has_tail r
-  has_tail ((x ∷ t, key) ∷ r) = true
+  -- what comes behind a part: a slash and more, or the end
+  abbrev pub onward : RowsOf K → Option K → RowsOf K
+  onward next end = after (47 ∷ []) next ++ ended end
 
-  any_step : (b : ℕ) (r : RowsOf K) → b ≢ 256 → all_any r ≡ true → step b r ≡ []
-  any_step b [] n h = refl
-  any_step b (([], key) ∷ r) n h = cc
-  any_step b ((x ∷ t, key) ∷ r) n h =
-      let parts = both_true (x == 256) (all_any r) h in
-      let same : x ≡ 256 = is_same x 256 parts.0 in
-      let other : (x == b) ≡ false = is_other x b (λ e. n (sym e ∙ same)) in
-      rw other (any_step b r n parts.1)
+  pub after_nil : (r : RowsOf K) → after [] r ≡ r
+  after_nil [] = refl
+  after_nil ((t, key) ∷ r) = ap (λ z. (t, key) ∷ z) (after_nil r)
 
-  any_own : (r : RowsOf K) → all_any r ≡ true → own r ≡ None
-  any_own [] h = refl
-  any_own (([], key) ∷ r) h = cc
-  any_own ((x ∷ t, key) ∷ r) h = any_own r (both_true (x == 256) (all_any r) h).1
+  step_append : (b : ℕ) (r s : RowsOf K) → step b (r ++ s) ≡ step b r ++ step b s
+  step_append b [] s = refl
+  step_append b (([], key) ∷ r) s = step_append b r s
+  step_append b ((x ∷ t, key) ∷ r) s =
+      let ih = step_append b r s in
+      elim (x == b) as (λ v. cond v ((t, key) ∷ step b (r ++ s)) (step b (r ++ s)) ≡ cond v ((t, key) ∷ step b r) (step b r) ++ step b s) [
+        | true ↦ ap (λ z. (t, key) ∷ z) ih
+        | false ↦ ih
+      ]
 
-  slashed_step : (n : ℕ) (s : RowsOf K) → n ≢ 47 → all_slashed s ≡ true → step n s ≡ []
-  slashed_step n [] o h = refl
-  slashed_step n (([], key) ∷ s) o h = slashed_step n s o h
-  slashed_step n ((x ∷ t, key) ∷ s) o h =
-      let parts = both_true (x == 47) (all_slashed s) h in
-      let same : x ≡ 47 = is_same x 47 parts.0 in
-      let other : (x == n) ≡ false = is_other x n (λ e. o (sym e ∙ same)) in
-      rw other (slashed_step n s o parts.1)
+  own_append : (r s : RowsOf K) → own (r ++ s) ≡ or_else (own r) (own s)
+  own_append [] s = refl
+  own_append (([], key) ∷ r) s = refl
+  own_append ((x ∷ t, key) ∷ r) s = own_append r s
 
-  longest_no : (seg : List ℕ) (s : RowsOf K) → cuts seg (47 ∷ []) ≡ false → all_slashed s ≡ true → longest_from seg [] s ≡ []
-  longest_no seg [] c h = refl
-  longest_no seg (([], key) ∷ s) c h = longest_no seg s c h
-  longest_no seg ((x ∷ t, key) ∷ s) c h =
-      let parts = both_true (x == 47) (all_slashed s) h in
-      let same : x ≡ 47 = is_same x 47 parts.0 in
-      rw (same, c) (longest_no seg s c parts.1)
+  pub step_hit : (b : ℕ) (w : List ℕ) (r : RowsOf K) → step b (after (b ∷ w) r) ≡ after w r
+  step_hit b w [] = refl
+  step_hit b w ((t, key) ∷ r) =
+      let same : (b == b) ≡ true = grind (arith, nat_tests) in
+      rw same (ap (λ z. (w ++ t, key) ∷ z) (step_hit b w r))
 
-  longest_kept : (seg : List ℕ) (s : RowsOf K) → all_slashed s ≡ true → longest_from seg (47 ∷ []) s ≡ 47 ∷ []
-  longest_kept seg [] h = refl
-  longest_kept seg (([], key) ∷ s) h = longest_kept seg s h
-  longest_kept seg ((x ∷ t, key) ∷ s) h =
-      let parts = both_true (x == 47) (all_slashed s) h in
-      let same : x ≡ 47 = is_same x 47 parts.0 in
-      rw same (longest_kept seg s parts.1)
+  step_miss : (b x : ℕ) (w : List ℕ) (r : RowsOf K) → x ≢ b → step b (after (x ∷ w) r) ≡ []
+  step_miss b x w [] n = refl
+  step_miss b x w ((t, key) ∷ r) n = rw (ne_eqb x b n) (step_miss b x w r n)
 
-  longest_yes : (seg : List ℕ) (s : RowsOf K) → cuts seg (47 ∷ []) ≡ true → all_slashed s ≡ true
-      → longest_from seg [] s ≡ cond (has_tail s) (47 ∷ []) []
-  longest_yes seg [] c h = refl
-  longest_yes seg (([], key) ∷ s) c h = longest_yes seg s c h
-  longest_yes seg ((x ∷ t, key) ∷ s) c h =
-      let parts = both_true (x == 47) (all_slashed s) h in
-      let same : x ≡ 47 = is_same x 47 parts.0 in
-      rw (same, c) (longest_kept seg s parts.1)
+  own_after : (x : ℕ) (w : List ℕ) (r : RowsOf K) → own (after (x ∷ w) r) ≡ None
+  own_after x w [] = refl
+  own_after x w ((t, key) ∷ r) = own_after x w r
 
-  suffix_step : (s : RowsOf K) → all_slashed s ≡ true → step 47 (with_suffix (47 ∷ []) s) ≡ step 47 s
-  suffix_step [] h = refl
-  suffix_step (([], key) ∷ s) h = suffix_step s h
-  suffix_step ((x ∷ t, key) ∷ s) h =
-      let parts = both_true (x == 47) (all_slashed s) h in
-      let same : x ≡ 47 = is_same x 47 parts.0 in
-      let ih = suffix_step s parts.1 in
-      rw same (ap (λ z. (t, key) ∷ z) ih)
+  pub step_onward : (next : RowsOf K) (end : Option K) → step 47 (onward next end) ≡ next
+  step_onward next None = rw (step_append 47 (after (47 ∷ []) next) [], step_hit 47 [] next, after_nil next) (append-nil next)
+  step_onward next (Some key) = rw (step_append 47 (after (47 ∷ []) next) (([], key) ∷ []), step_hit 47 [] next, after_nil next) (append-nil next)
 
-  suffix_slashed : (s : RowsOf K) → all_slashed s ≡ true → all_slashed (with_suffix (47 ∷ []) s) ≡ true
-  suffix_slashed [] h = refl
-  suffix_slashed (([], key) ∷ s) h = suffix_slashed s h
-  suffix_slashed ((x ∷ t, key) ∷ s) h =
-      let parts = both_true (x == 47) (all_slashed s) h in
-      let same : x ≡ 47 = is_same x 47 parts.0 in
-      rw same (suffix_slashed s parts.1)
+  step_off : (b : ℕ) (next : RowsOf K) (end : Option K) → 47 ≢ b → step b (onward next end) ≡ []
+  step_off b next None n = rw (step_append b (after (47 ∷ []) next) [], step_miss b 47 [] next n) refl
+  step_off b next (Some key) n = rw (step_append b (after (47 ∷ []) next) (([], key) ∷ []), step_miss b 47 [] next n) refl
 
-  tail_none : (s : RowsOf K) → has_tail s ≡ false → step 47 s ≡ []
-  tail_none [] h = refl
-  tail_none (([], key) ∷ s) h = tail_none s h
-  tail_none ((x ∷ t, key) ∷ s) h = cc
+  pub own_onward : (next : RowsOf K) (end : Option K) → own (onward next end) ≡ end
+  own_onward next None = rw (own_append (after (47 ∷ []) next) [], own_after 47 [] next) refl
+  own_onward next (Some key) = rw (own_append (after (47 ∷ []) next) (([], key) ∷ []), own_after 47 [] next) refl
 
-  -- how far a parameter goes: over a last part, over a part with a slash after it, and over no part
-  param_last : (s : RowsOf K) (p : List ℕ) → all_slashed s ≡ true → has_slash p ≡ false → param_step s p ≡ (length p, s)
-  unfolding param_step
-  param_last s p h plain =
-      rw (segment_plain p plain, longest_no p s (cuts_plain p plain) h, plain) refl
+  -- a word before them: it leads to them, and another part leads nowhere
+  steps_nil : (p : List ℕ) → steps {K = K} p [] ≡ []
+  steps_nil [] = refl
+  steps_nil (b ∷ p) = steps_nil p
 
-  param_inner : (s : RowsOf K) (b : ℕ) (p q : List ℕ) → all_slashed s ≡ true → has_slash (b ∷ p) ≡ false → has_tail s ≡ true
-      → param_step s ((b ∷ p) ++ 47 ∷ q) ≡ (length (b ∷ p), with_suffix (47 ∷ []) s)
-  unfolding param_step
-  param_inner s b p q h plain tail =
-      rw (segment_cut (b ∷ p) q plain, longest_yes ((b ∷ p) ++ 47 ∷ []) s (cuts_cut b p) h, tail, long_cut b p) refl
+  steps_append : (p : List ℕ) (r s : RowsOf K) → steps p (r ++ s) ≡ steps p r ++ steps p s
+  steps_append [] r s = refl
+  steps_append (b ∷ p) r s = ap (steps p) (step_append b r s) ∙ steps_append p (step b r) (step b s)
 
-  param_stuck : (s : RowsOf K) (b : ℕ) (p q : List ℕ) → all_slashed s ≡ true → has_slash (b ∷ p) ≡ false → has_tail s ≡ false
-      → param_step s ((b ∷ p) ++ 47 ∷ q) ≡ (0, [])
-  unfolding param_step
-  param_stuck s b p q h plain tail =
-      rw (segment_cut (b ∷ p) q plain, longest_yes ((b ∷ p) ++ 47 ∷ []) s (cuts_cut b p) h, tail, slash_cut (b ∷ p) q) refl
+  steps_hit : (w : List ℕ) (r : RowsOf K) → steps w (after w r) ≡ r
+  steps_hit [] r = after_nil r
+  steps_hit (b ∷ w) r = ap (steps w) (step_hit b w r) ∙ steps_hit w r
 
-  param_empty : (s : RowsOf K) (q : List ℕ) → all_slashed s ≡ true → param_step s (47 ∷ q) ≡ (0, [])
-  unfolding param_step
-  param_empty s q h = rw (longest_no (47 ∷ []) s refl h) refl
-
-  -- rows that all begin with a parameter
-  pub record AreNames (r : RowsOf K) : Type 0 where
-    pub any : all_any r ≡ true
-    pub slashed : all_slashed (step 256 r) ≡ true
-
-  -- their walk is the parameter's alone
-  names_walk : (r : RowsOf K) (b : ℕ) (p : List ℕ) → AreNames r → b ≢ 256
-      → seek 0 r (b ∷ p) ≡ seek ((param_step (step 256 r) (b ∷ p)).0 - 1) (param_step (step 256 r) (b ∷ p)).1 p
-  unfolding seek
-  names_walk r b p names n =
-      rw (any_step b r n names.any, any_step 257 r (λ e. omega arith) names.any, seek_none 0 p)
-      (or_none (seek ((param_step (step 256 r) (b ∷ p)).0 - 1) (param_step (step 256 r) (b ∷ p)).1 p))
-
-  pub name_nothing : (r : RowsOf K) → AreNames r → seek 0 r [] ≡ None
-  unfolding seek
-  name_nothing r names = any_own r names.any
-
-  pub name_empty : (r : RowsOf K) (q : List ℕ) → AreNames r → seek 0 r (47 ∷ q) ≡ None
-  name_empty r q names =
-      names_walk r 47 q names (λ e. omega arith) ∙ rw (param_empty (step 256 r) q names.slashed) (seek_none (0 - 1) q)
-
-  pub name_last : (r : RowsOf K) (b : ℕ) (p : List ℕ) → AreNames r → b ≢ 256 → has_slash (b ∷ p) ≡ false → seek 0 r (b ∷ p) ≡ own (step 256 r)
-  unfolding seek
-  name_last r b p names n plain =
-      let less : length (b ∷ p) - 1 ≡ length p = omega arith in
-      names_walk r b p names n
-      ∙ rw (param_last (step 256 r) (b ∷ p) names.slashed plain, less, seek_drop (length p) (step 256 r) p, drop_whole p) refl
-
-  pub name_more : (r : RowsOf K) (b : ℕ) (p q : List ℕ) → AreNames r → b ≢ 256 → has_slash (b ∷ p) ≡ false
-      → seek 0 r ((b ∷ p) ++ 47 ∷ q) ≡ seek 0 (step 47 (step 256 r)) q
-  name_more r b p q names n plain = by (has_tail (step 256 r)) refl
+  steps_miss : (p w : List ℕ) (next : RowsOf K) (end : Option K) → p ≢ w → has_slash p ≡ false → has_slash w ≡ false
+      → (own (steps p (after w (onward next end))) ≡ None) × (step 47 (steps p (after w (onward next end))) ≡ [])
+  steps_miss [] [] next end n plain word = absurd (n refl)
+  steps_miss [] (x ∷ w) next end n plain word =
+      let other : x ≢ 47 = λ e. let e0 = (plain_head x w word).0 in grind (arith, nat_tests) in
+      (own_after x w (onward next end), step_miss 47 x w (onward next end) other)
+  steps_miss (b ∷ p) [] next end n plain word =
+      let other : 47 ≢ b = λ e. let e0 = (plain_head b p plain).0 in grind (arith, nat_tests) in
+      rw (after_nil (onward next end), step_off b next end other, steps_nil p) (refl, refl)
+  steps_miss (b ∷ p) (x ∷ w) next end n plain word =
+      by (x == b) refl (λ z. steps_miss p w next end z (plain_head b p plain).1 (plain_head x w word).1)
     where
-      by : (v : Bool) → has_tail (step 256 r) ≡ v → seek 0 r ((b ∷ p) ++ 47 ∷ q) ≡ seek 0 (step 47 (step 256 r)) q
-      by true tail =
-          let less : length (b ∷ p) - 1 ≡ length p = omega arith in
-          let kept = suffix_slashed (step 256 r) names.slashed in
-          names_walk r b (p ++ 47 ∷ q) names n
-          ∙ rw (
-            param_inner (step 256 r) b p q names.slashed plain tail,
-            less,
-            seek_drop (length p) (with_suffix (47 ∷ []) (step 256 r)) (p ++ 47 ∷ q),
-            drop_front p (47 ∷ q),
-          )
-          (seek_byte (with_suffix (47 ∷ []) (step 256 r)) 47 q
-          (slashed_step 256 (with_suffix (47 ∷ []) (step 256 r)) (λ e. omega arith) kept)
-          (slashed_step 257 (with_suffix (47 ∷ []) (step 256 r)) (λ e. omega arith) kept)
-          ∙ ap (λ rows. seek 0 rows q) (suffix_step (step 256 r) names.slashed))
-      by false tail =
-          names_walk r b (p ++ 47 ∷ q) names n
-          ∙ rw (param_stuck (step 256 r) b p q names.slashed plain tail, tail_none (step 256 r) tail)
-          (seek_none (0 - 1) (p ++ 47 ∷ q) ∙ sym (seek_none 0 q))
+      leads_nowhere : RowsOf K → Type 0
+      leads_nowhere r = (own (steps p r) ≡ None) × (step 47 (steps p r) ≡ [])
+
+      by : (v : Bool) → (x == b) ≡ v → (p ≢ w → leads_nowhere (after w (onward next end))) → leads_nowhere (step b (after (x ∷ w) (onward next end)))
+      by true e ih =
+          let same : x ≡ b = eqb-true x b e in
+          rw (same, step_hit b w (onward next end)) (ih (λ z. n (rw (same, z) refl)))
+      by false e ih = rw (step_miss b x w (onward next end) (λ z. grind (arith, nat_tests)), steps_nil p) (refl, refl)
+
+  pub hit : (w : List ℕ) (next : RowsOf K) (end : Option K) (others : RowsOf K) → own (steps w others) ≡ None → step 47 (steps w others) ≡ []
+      → (own (steps w (after w (onward next end) ++ others)) ≡ end) × (step 47 (steps w (after w (onward next end) ++ others)) ≡ next)
+  hit w next end others g h =
+      rw (steps_append w (after w (onward next end)) others, steps_hit w (onward next end), own_append (onward next end) (steps w others), own_onward next end, g) (
+        or_none end,
+        rw (step_append 47 (onward next end) (steps w others), step_onward next end, h) (append-nil next),
+      )
+
+  pub miss : (p w : List ℕ) (next : RowsOf K) (end : Option K) (others : RowsOf K) → p ≢ w → has_slash p ≡ false → has_slash w ≡ false
+      → (own (steps p (after w (onward next end) ++ others)) ≡ own (steps p others)) × (step 47 (steps p (after w (onward next end) ++ others)) ≡ step 47 (steps p others))
+  miss p w next end others n plain word =
+      let missed = steps_miss p w next end n plain word in
+      rw (steps_append p (after w (onward next end)) others, own_append (steps p (after w (onward next end))) (steps p others), missed.0) (
+        refl,
+        rw (step_append 47 (steps p (after w (onward next end))) (steps p others), missed.1) refl,
+      )
+
+  -- a parameter before them: how far it goes
+  longest_off : (seg : List ℕ) (next : RowsOf K) (end : Option K) → cuts seg (47 ∷ []) ≡ false → longest_from seg [] (onward next end) ≡ []
+  longest_off seg [] None c = refl
+  longest_off seg [] (Some key) c = refl
+  longest_off seg ((t, key) ∷ next) end c = rw (longest_from, c) (longest_off seg next end c)
+
+  longest_kept : (seg : List ℕ) (next : RowsOf K) (end : Option K) → longest_from seg (47 ∷ []) (onward next end) ≡ 47 ∷ []
+  longest_kept seg [] None = refl
+  longest_kept seg [] (Some key) = refl
+  longest_kept seg ((t, key) ∷ next) end = longest_kept seg next end
+
+  with_slash : (next : RowsOf K) (end : Option K) → with_suffix (47 ∷ []) (onward next end) ≡ after (47 ∷ []) next
+  with_slash [] None = refl
+  with_slash [] (Some key) = refl
+  with_slash ((t, key) ∷ next) end = ap (λ z. (47 ∷ t, key) ∷ z) (with_slash next end)
+
+  param_last : (next : RowsOf K) (end : Option K) (p : List ℕ) → has_slash p ≡ false → param_step (onward next end) p ≡ (length p, onward next end)
+  unfolding param_step
+  param_last next end p plain = rw (segment_plain p plain, longest_off p next end (cuts_plain p plain), plain) refl
+
+  param_empty : (next : RowsOf K) (end : Option K) (q : List ℕ) → param_step (onward next end) (47 ∷ q) ≡ (0, [])
+  unfolding param_step
+  param_empty next end q = rw (longest_off (47 ∷ []) next end refl) refl
+
+  param_stuck : (end : Option K) (b : ℕ) (p q : List ℕ) → param_step (ended end) ((b ∷ p) ++ 47 ∷ q) ≡ (0, [])
+  unfolding param_step
+  param_stuck None b p q = rw (slash_cut (b ∷ p) q) refl
+  param_stuck (Some key) b p q = rw (slash_cut (b ∷ p) q) refl
+
+  param_cut : (r : RowsOf K) (path : List ℕ) → longest_from (segment path) [] r ≡ 47 ∷ [] → param_step r path ≡ (length (segment path) - 1, with_suffix (47 ∷ []) r)
+  unfolding param_step
+  param_cut r path h = rw h refl
+
+  param_inner : (t : List ℕ) (key : K) (next : RowsOf K) (end : Option K) (b : ℕ) (p q : List ℕ) → has_slash (b ∷ p) ≡ false
+      → param_step (onward ((t, key) ∷ next) end) ((b ∷ p) ++ 47 ∷ q) ≡ (length (b ∷ p), after (47 ∷ []) ((t, key) ∷ next))
+  param_inner t key next end b p q plain =
+      let part = segment_cut (b ∷ p) q plain in
+      let long : longest_from (segment ((b ∷ p) ++ 47 ∷ q)) [] (onward ((t, key) ∷ next) end) ≡ 47 ∷ [] = rw (part, longest_from, cuts_cut b p) (longest_kept (segment ((b ∷ p) ++ 47 ∷ q)) next end) in
+      param_cut (onward ((t, key) ∷ next) end) ((b ∷ p) ++ 47 ∷ q) long
+      ∙ rw (part, long_cut b p) (ap (λ z. (length (b ∷ p), z)) (with_slash ((t, key) ∷ next) end))
+
+  module _ (next : RowsOf K) (end : Option K) where
+    name_walk : (b : ℕ) (p : List ℕ) → b ≢ 256 → seek 0 (after (256 ∷ []) (onward next end)) (b ∷ p)
+        ≡ seek ((param_step (onward next end) (b ∷ p)).0 - 1) (param_step (onward next end) (b ∷ p)).1 p
+    unfolding seek
+    name_walk b p n =
+        rw (
+          step_miss b 256 [] (onward next end) (λ e. n (sym e)),
+          step_miss 257 256 [] (onward next end) (λ e. omega arith),
+          step_hit 256 [] (onward next end),
+          after_nil (onward next end),
+          seek_none 0 p,
+        )
+        (or_none (seek ((param_step (onward next end) (b ∷ p)).0 - 1) (param_step (onward next end) (b ∷ p)).1 p))
+
+    pub name_nothing : seek 0 (after (256 ∷ []) (onward next end)) [] ≡ None
+    unfolding seek
+    name_nothing = own_after 256 [] (onward next end)
+
+    pub name_empty : (q : List ℕ) → seek 0 (after (256 ∷ []) (onward next end)) (47 ∷ q) ≡ None
+    name_empty q = name_walk 47 q (λ e. omega arith) ∙ rw (param_empty next end q) (seek_none (0 - 1) q)
+
+    pub name_last : (b : ℕ) (p : List ℕ) → b ≢ 256 → has_slash (b ∷ p) ≡ false → seek 0 (after (256 ∷ []) (onward next end)) (b ∷ p) ≡ end
+    unfolding seek
+    name_last b p n plain =
+        let less : length (b ∷ p) - 1 ≡ length p = omega arith in
+        name_walk b p n
+        ∙ rw (param_last next end (b ∷ p) plain, less, seek_drop (length p) (onward next end) p, drop-length p) (own_onward next end)
+
+  pub name_more : (next : RowsOf K) (end : Option K) (b : ℕ) (p q : List ℕ) → b ≢ 256 → has_slash (b ∷ p) ≡ false
+      → seek 0 (after (256 ∷ []) (onward next end)) ((b ∷ p) ++ 47 ∷ q) ≡ seek 0 next q
+  name_more [] end b p q n plain =
+      name_walk [] end b (p ++ 47 ∷ q) n ∙ rw (param_stuck end b p q) (seek_none (0 - 1) (p ++ 47 ∷ q) ∙ sym (seek_none 0 q))
+  name_more ((t, key) ∷ next) end b p q n plain =
+      let less : length (b ∷ p) - 1 ≡ length p = omega arith in
+      let rows : RowsOf K = after (47 ∷ []) ((t, key) ∷ next) in
+      name_walk ((t, key) ∷ next) end b (p ++ 47 ∷ q) n
+      ∙ rw (param_inner t key next end b p q plain, less, seek_drop (length p) rows (p ++ 47 ∷ q), drop-append_seam p (47 ∷ q))
+      (seek_byte rows 47 q (step_miss 256 47 [] ((t, key) ∷ next) (λ e. omega arith)) (step_miss 257 47 [] ((t, key) ∷ next) (λ e. omega arith))
+      ∙ ap (λ z. seek 0 z q) (step_hit 47 [] ((t, key) ∷ next) ∙ after_nil ((t, key) ∷ next)))

@@ -1,12 +1,12 @@
 //! What a path names.
-ghost use Rattle.std.specs.Prelude.{◌≡◌, [], get_or};
+ghost use Rattle.std.specs.Prelude.{◌≡◌};
 ghost use Rattle.basis.specs.Checks.{or_refused};
 ghost use Rattle.basis.specs.Inner.Checks.{Follows};
 ghost use Rattle.route.specs.Tokens.{org_of};
-ghost use Rattle.route.specs.Inner.Kinds.{ws_of, resource_in, resource_named, org_resource_named};
-ghost use Rattle.route.specs.Paths.{path_parts, resource_of, action_of};
+ghost use Rattle.route.specs.Inner.Kinds.{pairs_of, ws_of, resource_in, resource_named};
+ghost use Rattle.route.specs.Paths.{resource_of, action_of};
 
-use crate::routes::{Kind, Routes};
+use crate::routes::{Found, Kind, Routes};
 use basis::{Number, OrgName, Refusal, RunAction, Unfit, WsName};
 use std::alloc::Global;
 
@@ -30,51 +30,33 @@ pub enum Resource {
     Action(WsName, Number, RunAction),
 }
 
-/// The index of the organization's name among the parts of a path, counted from 0.
-const ORG_PART: usize = 2;
-
-/// The index of the workspace's name.
-const WS_PART: usize = 4;
-
-/// The index of a version's or a run's number.
-const NUMBER_PART: usize = 5;
-
-/// The index of the action's word.
-const ACTION_PART: usize = 7;
-
 /// What a path names; where it is no route, it is refused as `NoRoute`.
 pub fn read_resource(alloc: Global, routes: &Routes, path: &str) -> Result<OrgResource, Refusal>
     ensures { Follows result (or_refused Refusal.NoRoute (resource_of path.now)) }
 {
-    match routes.kind_of(path) {
-        Some(kind) => org_resource_named(alloc, kind, path),
-        None => Err(Refusal::NoRoute),
-    }
-}
-
-// What a path of a kind names.
-fn org_resource_named(alloc: Global, kind: Kind, path: &str) -> Result<OrgResource, Refusal>
-    ensures { Follows result (or_refused Refusal.NoRoute (org_resource_named kind (path_parts path.now))) }
-{
-    let org = match read_org(alloc, part(path, ORG_PART)) {
+    let found = match routes.find(path) {
+        Some(found) => found,
+        None => return Err(Refusal::NoRoute),
+    };
+    let org = match read_org(alloc, found.part("org")) {
         Ok(org) => org,
         Err(refusal) => return Err(refusal),
     };
-    match resource_named(alloc, kind, path) {
+    match resource_named(alloc, &found) {
         Ok(resource) => Ok(OrgResource { org, resource }),
         Err(refusal) => Err(refusal),
     }
 }
 
-// What a path of a kind names in its organization.
-fn resource_named(alloc: Global, kind: Kind, path: &str) -> Result<Resource, Refusal>
-    ensures { Follows result (or_refused Refusal.NoRoute (resource_named kind (path_parts path.now))) }
+// What a route names in its organization.
+fn resource_named(alloc: Global, found: &Found<'_, '_>) -> Result<Resource, Refusal>
+    ensures { Follows result (or_refused Refusal.NoRoute (resource_named found.now.kind (pairs_of found.now.params))) }
 {
-    if kind == Kind::ListsWorkspaces {
+    if found.kind == Kind::ListsWorkspaces {
         return Ok(Resource::AllWorkspaces);
     }
-    match read_ws(alloc, part(path, WS_PART)) {
-        Ok(ws) => match resource_in(kind, path, ws) {
+    match read_ws(alloc, found.part("ws")) {
+        Ok(ws) => match resource_in(found, ws) {
             Some(resource) => Ok(resource),
             None => Err(Refusal::NoRoute),
         },
@@ -82,22 +64,21 @@ fn resource_named(alloc: Global, kind: Kind, path: &str) -> Result<Resource, Ref
     }
 }
 
-// What a path of a kind names of a workspace.
-fn resource_in(kind: Kind, path: &str, ws: WsName) -> Option<Resource>
-    ensures { result ≡ resource_in kind (path_parts path.now) ws }
+// What a route names of a workspace.
+fn resource_in(found: &Found<'_, '_>, ws: WsName) -> Option<Resource>
+    ensures { result ≡ resource_in found.now.kind (pairs_of found.now.params) ws }
 {
-    let number = Number::read(part(path, NUMBER_PART)).ok();
-    match kind {
+    match found.kind {
         Kind::ListsWorkspaces => Some(Resource::AllWorkspaces),
         Kind::IsWorkspace => Some(Resource::Workspace(ws)),
         Kind::IsState => Some(Resource::State(ws)),
         Kind::ListsVersions => Some(Resource::AllVersions(ws)),
-        Kind::IsVersion => Some(Resource::Version(ws, number?)),
+        Kind::IsVersion => Some(Resource::Version(ws, Number::read(found.part("number")).ok()?)),
         Kind::ListsRuns => Some(Resource::AllRuns(ws)),
-        Kind::IsRun => Some(Resource::Run(ws, number?)),
+        Kind::IsRun => Some(Resource::Run(ws, Number::read(found.part("number")).ok()?)),
         Kind::IsAction => {
-            let number = number?;
-            let action = action_named(part(path, ACTION_PART))?;
+            let number = Number::read(found.part("number")).ok()?;
+            let action = action_named(found.part("action"))?;
             Some(Resource::Action(ws, number, action))
         }
     }
@@ -135,21 +116,5 @@ fn action_named(word: &str) -> Option<RunAction>
         "discard" => Some(RunAction::Discard),
         "cancel" => Some(RunAction::Cancel),
         _ => None,
-    }
-}
-
-// The part of a path by its index, between its slashes.
-fn part(path: &str, index: usize) -> &str
-    ensures { result.now ≡ get_or (path_parts path.now) index [] }
-{
-    match path.split_once('/') {
-        Some((first, rest)) => {
-            if index == 0 {
-                first
-            } else {
-                part(rest, index - 1)
-            }
-        }
-        None => { if index == 0 { path } else { "" } }
     }
 }

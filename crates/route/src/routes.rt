@@ -1,12 +1,12 @@
 //! The shapes of routes, found by a router that is made once.
-ghost use Rattle.std.specs.Prelude.{◌≡◌, IfOk, IfErr};
-ghost use Rattle.matchit.specs.Router.{rename};
-ghost use Rattle.route.specs.Inner.Kinds.{kind_at};
-ghost use Rattle.route.specs.Paths.{path_parts};
-ghost use Rattle.route.specs.Inner.Table.{kind_in_route, table};
+ghost use Rattle.std.specs.Prelude.{◌≡◌, IfOk, IfErr, option_and_then};
+ghost use Rattle.matchit.specs.Params.{AllText};
+ghost use Rattle.route.specs.Inner.Kinds.{pairs_of, part_of, org_resource_named};
+ghost use Rattle.route.specs.Inner.Table.{table};
+ghost use Rattle.route.specs.Paths.{resource_of};
 
 use basis::Down;
-use matchit::{InsertError, Router};
+use matchit::{InsertError, Params, Router};
 use std::alloc::Global;
 
 /// The router of custody's paths. It is made once, and finding a route takes no memory.
@@ -14,7 +14,7 @@ use std::alloc::Global;
 pub struct Routes {
     router: Router<Kind>,
     /// The router holds the table of routes.
-    ghost complete: { rename kind_in_route router ≡ table },
+    ghost complete: { router ≡ table },
 }
 
 impl Routes {
@@ -25,14 +25,35 @@ impl Routes {
         }
     }
 
-    /// The shape of a path's route. Only words and empty parts are looked at. It takes no memory.
-    pub(crate) fn kind_of(&self, path: &str) -> Option<Kind>
-        ensures { result ≡ kind_at (path_parts path.now) }
+    /// The route of a path. It takes no memory.
+    pub(crate) fn find<'r, 'p>(&'r self, path: &'p str) -> Option<Found<'r, 'p>>
+        ensures { resource_of path.now ≡ option_and_then (λ found. org_resource_named found.kind (pairs_of found.params)) result }
     {
         match self.router.at(path) {
-            Ok(found) => Some(*found.value),
+            Ok(found) => Some(Found {
+                kind: *found.value,
+                params: found.params,
+            }),
             Err(_) => None,
         }
+    }
+}
+
+/// The route of a path: its shape, and what its parameters took.
+#[derive(Drop)]
+pub(crate) struct Found<'r, 'p> {
+    pub(crate) kind: Kind,
+    params: Params<'r, 'p>,
+    /// Names and parts are text.
+    ghost text: { ∥ AllText (pairs_of params) ∥₁ },
+}
+
+impl<'r, 'p> Found<'r, 'p> {
+    /// The part of the path that the parameter of a name took.
+    pub(crate) fn part(&self, name: &str) -> &'p str
+        ensures { result.now ≡ part_of name.now (pairs_of self.now.params) }
+    {
+        self.params.get(name).unwrap_or("")
     }
 }
 
@@ -51,7 +72,7 @@ pub enum Kind {
 
 // The router of the table.
 fn make_router(alloc: Global) -> Result<Router<Kind>, InsertError>
-    ensures complete { IfOk result (λ router. rename kind_in_route router ≡ table) }
+    ensures complete { IfOk result (λ router. router ≡ table) }
     ensures memory { IfErr result (λ error. error ≡ InsertError.OutOfMemory) }
 {
     let mut router = Router::new(alloc);

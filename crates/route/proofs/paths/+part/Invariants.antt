@@ -1,4 +1,0 @@
-use Rattle.route.proofs.paths.+part.Given as goal
-
-abbrev pub decreases-part : goal.decreases-part
-decreases-part l = l.index
