@@ -4,40 +4,29 @@ use Rattle.sqlite_value.specs.declared.value.Value.TheVariants.{Text}
 use Rattle.sqlite_sql.specs.Program.{overlay}
 use Rattle.sqlite.specs.State.{State, Executes}
 use Rattle.sqlite_typed.specs.Columns.{or_null}
-use Rattle.sqlite_keyed.proofs.KeyedLemmas.{IsKeyedBy-delete_where}
 use Rattle.sqlite_keyed.proofs.ListLemmas.{filter_all, all_of}
 use Rattle.statements.specs.Place.{tree_of}
 use Rattle.statements.specs.Schema.{bound_table, token_table}
-use Rattle.statements.specs.Rows.{Kept, id_of, TokenRow, BoundRow, bound_cells, token_cells, number}
-use Rattle.statements.specs.Tables.{Tables, Holds, bound_layout}
+use Rattle.statements.specs.Rows.{Kept, TokenRow, bound_cells, token_cells, number}
+use Rattle.statements.specs.Tables.{Tables, Holds}
 use Rattle.statements.specs.Changes.{is_bound, unbounded, bound_row_added, bound_row_removed, bounds_filled}
 use Rattle.statements.specs.Inner.Making.{Moved}
-use Rattle.statements.proofs.Held.{IsHeld, bounds, tokens, held_in, bounds_held}
-use Rattle.statements.proofs.Own.{delete_own, insert_own, fill_own, keyed_next, stored_tree}
+use Rattle.statements.proofs.Held.{bounds, tokens, held_in}
+use Rattle.statements.proofs.Own.{fill_own, stored_tree}
 use Rattle.statements.proofs.Edits.{all_keyed}
 use Rattle.statements.proofs.Casts.{bound_casts}
-use Rattle.statements.proofs.Frames.{Turns, moved_by, written_in, bounds_written}
+use Rattle.statements.proofs.Frames.{Turns, moved_by, written_in, deleted, inserted}
 use Rattle.statements.proofs.Conditions.{two_texts}
 use Rattle.statements.proofs.Answered.{point, all_are}
-use Rattle.statements.proofs.BoundTexts.{add_bound_text, add_bound_means, add_bound_terms, remove_bound_text, remove_bound_means, remove_bound_query, fill_bounds_text, fill_bounds_means, filled_rest}
+use Rattle.statements.proofs.BoundTexts.{add_bound_text, add_bound_means, remove_bound_text, remove_bound_means, fill_bounds_text, fill_bounds_means, filled_rest}
 
 module _ (old new : State) (count : ℕ) (t : Tables) (h : Holds old.now t) where
-  abbrev held : IsHeld bound_layout old.now t.bounds
-  held = bounds_held old.now t h
-
   pub add_bound_does : (org name : List ℕ) (until : Option ℕ) (prefix : List ℕ) → Executes add_bound_text (Text org ∷ Text name ∷ or_null number until ∷ Text prefix ∷ []) old new (Ok count)
       → Turns old.now new.now (bound_row_added org name until prefix t)
-  add_bound_does org name until prefix ran =
-      let row : BoundRow = record { org = org; name = name; until = until; prefix = prefix } in
-      let left = insert_own bound_cells bound_table bound_casts old new held.own held.steady t.bounds held.rows held.keyed add_bound_text (Text org ∷ Text name ∷ or_null number until ∷ Text prefix ∷ []) count ran
-      add_bound_terms 5 (add_bound_means old.now.schema _ _ held.own.place) refl refl row refl in
-      bounds_written old.now new.now left.1 t h _ left.0 (keyed_next t.bounds row held.keyed)
+  add_bound_does org name until prefix ran = inserted bounds bound_casts old new count t h _ _ ran (add_bound_means old.now.schema) refl refl (record { org = org; name = name; until = until; prefix = prefix }) refl
 
   pub remove_bound_does : (org name : List ℕ) → Executes remove_bound_text (Text org ∷ Text name ∷ []) old new (Ok count) → Turns old.now new.now (bound_row_removed org name t)
-  remove_bound_does org name ran =
-      let left = delete_own bound_cells bound_table bound_casts old new held.own held.steady t.bounds held.rows held.keyed remove_bound_text (Text org ∷ Text name ∷ []) count ran
-      (remove_bound_query (tree_of old.now.schema bound_table.name)) (remove_bound_means old.now.schema _ _ held.own.place) refl refl refl (λ rows. refl) (is_bound org name) (λ x. two_texts x.1.org org x.1.name name) (λ x. refl) in
-      bounds_written old.now new.now left.1 t h _ left.0 (IsKeyedBy-delete_where id_of (is_bound org name) t.bounds held.keyed)
+  remove_bound_does org name ran = deleted bounds bound_casts old new count t h _ _ ran (remove_bound_means old.now.schema) (is_bound org name) (λ x. two_texts x.1.org org x.1.name name) tt
 
 -- a row for each token, in the order of the tokens
 pub fill_bounds_does : (old new : State) (count : ℕ) → Executes fill_bounds_text [] old new (Ok count) → Moved 2 bounds_filled old.now new.now

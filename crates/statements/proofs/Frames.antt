@@ -1,25 +1,37 @@
 -- A database holds the rows of our tables after one of the tables has got other rows.
-use Rattle.std.proofs.Common.{◌≡◌, ◌≢◌, ℕ, zero, suc, ◌+◌, ◌<◌, Bool, true, false, cond, List, [], ◌∷◌, map, take, slice_get, Option, Some, None, option_map, arith, refl, sym, ap, ◌∙◌, subst}
+use Rattle.std.proofs.Common.{◌≡◌, ◌≢◌, ℕ, zero, suc, ◌+◌, ◌/◌, ◌<◌, Bool, true, false, cond, List, [], ◌∷◌, ◌++◌, map, take, length, slice_get, Option, Some, None, Ok, option_map, arith, refl, sym, ap, ◌∙◌, subst}
 use Rattle.std.specs.Prelude.{◌==◌}
-use Rattle.std.specs.List.{AllByRecursion}
+use Rattle.std.specs.List.{AllByRecursion, list_all}
 use Rattle.std.proofs.lemmas.Option.{slice_get-map}
+use Rattle.sqlite_value.specs.declared.value.Value.TheVariants.{Null, Int}
 use Rattle.sqlite_value.specs.Order.{Row}
+use Rattle.sqlite_sql.specs.Term.{Term, holds, eval_all}
+use Rattle.sqlite_rules.specs.Cast.{cast_all}
 use Rattle.sqlite_schema.specs.declared.schema.Schema.{Schema}
 use Rattle.sqlite_schema.specs.declared.schema.Table.{Table}
-use Rattle.sqlite_keyed.specs.Keyed.{IsKeyedBy}
+use Rattle.sqlite_schema.specs.declared.command.Command.{Command}
+use Rattle.sqlite_schema.specs.declared.command.Command.TheVariants.{Insert, Update, Delete}
+use Rattle.sqlite_schema.specs.declared.command.Source.TheVariants.{Values}
+use Rattle.sqlite_keyed.specs.Keyed.{IsKeyedBy, next_key}
+use Rattle.sqlite_keyed.specs.Lists.{update_where, delete_where}
+use Rattle.sqlite_keyed.proofs.KeyedLemmas.{IsKeyedBy-update_where, IsKeyedBy-delete_where}
 use Rattle.sqlite_keyed.proofs.ListLemmas.{all_weaker, all-slice_get}
-use Rattle.sqlite.specs.Effect.{Database}
-use Rattle.statements.specs.Place.{tree_of, IsOwn, AreOwn}
-use Rattle.statements.specs.Rows.{Kept, id_of, OrgRow, TokenRow, WsRow, VersionRow, RunRow, PageRow, VpageRow, BoundRow, KeepingRow, stored}
+use Rattle.sqlite.specs.Effect.{Database, value_rows}
+use Rattle.sqlite.specs.Rows.{stamped}
+use Rattle.sqlite.specs.State.{State, Executes}
+use Rattle.statements.specs.Place.{tree_of, StandsAt, IsOwn, AreOwn}
+use Rattle.statements.specs.Rows.{Kept, id_of, PageRow, VpageRow, stored}
 use Rattle.statements.specs.declared.making.TheConstants.{NEWEST}
 use Rattle.statements.specs.Tables.{count_in, Tables, Holds, HoldsAll, HoldsIn, HasRows, StoredTable, stored_tables, version_tables, tables_in, our_tables, rowid_of}
 use Rattle.statements.specs.Steps.{LeavesBeside, LeavesForeign}
 use Rattle.statements.specs.Inner.Making.{Moved}
-use Rattle.statements.specs.Schema.{bound_table, keeping_table}
 use Rattle.statements.proofs.Counts.{get_take}
-use Rattle.statements.proofs.Held.{Ours, followed, our_follow, metas, orgs, tokens, wss, versions, runs, pages, vpages, bounds, editions, keepings, with_rows, rows_keyed, holds_all, tables_taken, own_in, apart_both}
+use Rattle.statements.proofs.Held.{Ours, IsHeld, held, followed, our_follow, pages, vpages, with_rows, rows_keyed, holds_all, tables_taken, own_in, apart_both}
 use Rattle.statements.proofs.Follows.{IsFollowing, AllFollow, follows_by}
-use Rattle.statements.proofs.Own.{Leads}
+use Rattle.statements.proofs.Meaning.{Means}
+use Rattle.statements.proofs.Writes.{plain_program}
+use Rattle.statements.proofs.Commands.{update_query, delete_query}
+use Rattle.statements.proofs.Own.{Leads, update_own, delete_own, insert_own, insert_others, other_keeps, keyed_next}
 
 same_tables : (n : ℕ) (rows : List Row) (xs : List StoredTable) → tables_in (with_rows n rows xs) ≡ tables_in xs
 same_tables n rows [] = refl
@@ -38,6 +50,16 @@ followers n [] os = []
 followers n (x ∷ xs) [] = []
 followers n (x ∷ xs) (None ∷ os) = followers n xs os
 followers n (x ∷ xs) (Some m ∷ os) = cond (m == n) (x ∷ followers n xs os) (followers n xs os)
+
+all_followers : (P : Table → Type 0) (n : ℕ) (xs : List Table) (os : List (Option ℕ)) → AllByRecursion P xs → AllByRecursion P (followers n xs os)
+all_followers P n [] os all = tt
+all_followers P n (x ∷ xs) [] all = tt
+all_followers P n (x ∷ xs) (None ∷ os) all = all_followers P n xs os all.1
+all_followers P n (x ∷ xs) (Some m ∷ os) all = by_test (m == n) (all_followers P n xs os all.1)
+  where
+    by_test : (b : Bool) → AllByRecursion P (followers n xs os) → AllByRecursion P (cond b (x ∷ followers n xs os) (followers n xs os))
+    by_test true rest = (all.0, rest)
+    by_test false rest = rest
 
 -- the database holds these rows of our tables, and what is not ours is left
 abbrev pub Turns : Database → Database → Tables → Type 0
@@ -153,37 +175,53 @@ module _ (old new : Database) (same : new.schema ≡ old.schema) where
     written h stay w keyed = let it = written_in (count_in NEWEST) x.low (holds_all old t h) stay w keyed in (record { ours = it.0.own; rows = it.0.rows }, it.1)
 
   module _ (t : Tables) (h : Holds old t) where
-    pub metas_written : (xs : List (Kept ℕ)) → Written metas t xs
-    metas_written xs = written metas t xs h tt
-
-    pub orgs_written : (xs : List (Kept OrgRow)) → Written orgs t xs
-    orgs_written xs = written orgs t xs h tt
-
-    -- where a token goes, it has to be shown that no row of bound does
-    pub tokens_written : (xs : List (Kept TokenRow)) → new.trees (tree_of s bound_table.name) ≡ old.trees (tree_of s bound_table.name) → Written tokens t xs
-    tokens_written xs stays = written tokens t xs h ((λ _. stays), tt)
-
-    -- and where a workspace does, that no row of keeping does
-    pub wss_written : (xs : List (Kept WsRow)) → new.trees (tree_of s keeping_table.name) ≡ old.trees (tree_of s keeping_table.name) → Written wss t xs
-    wss_written xs stays = written wss t xs h ((λ _. stays), tt)
-
-    pub versions_written : (xs : List (Kept VersionRow)) → Written versions t xs
-    versions_written xs = written versions t xs h tt
-
-    pub runs_written : (xs : List (Kept RunRow)) → Written runs t xs
-    runs_written xs = written runs t xs h tt
-
     pub pages_written : (xs : List (Kept PageRow)) → Written pages t xs
     pages_written xs = written pages t xs h tt
 
     pub vpages_written : (xs : List (Kept VpageRow)) → Written vpages t xs
     vpages_written xs = written vpages t xs h tt
 
-    pub bounds_written : (xs : List (Kept BoundRow)) → Written bounds t xs
-    bounds_written xs = written bounds t xs h tt
+-- ---- what a text does
 
-    pub editions_written : (xs : List (Kept ℕ)) → Written editions t xs
-    editions_written xs = written editions t xs h tt
+module _ {R : Type 0} (x : Ours R) (casts : (r : R) → cast_all x.layout.table.columns (x.layout.cells r) ≡ x.layout.cells r) (old new : State) (count : ℕ) (t : Tables) (h : Holds old.now t)
+    (text : List ℕ) (params : Row) (ran : Executes text params old new (Ok count)) where
+  abbrev cells : R → Row
+  cells = x.layout.cells
 
-    pub keepings_written : (xs : List (Kept KeepingRow)) → Written keepings t xs
-    keepings_written xs = written keepings t xs h tt
+  its : IsHeld x.layout old.now (x.rows t)
+  its = held old.now t h x
+
+  -- what the text means wherever the table stands
+  abbrev MeansThere : (ℕ → ℕ → Command) → Type 0
+  MeansThere meant = (at tree : ℕ) → StandsAt old.now.schema x.layout.table.name x.layout.table at tree → Means old.now.schema (meant at tree) text
+
+  abbrev Remains : Table → Type 0
+  Remains other = tree_of old.now.schema other.name ≢ tree_of old.now.schema x.layout.table.name → new.now.trees (tree_of old.now.schema other.name) ≡ old.now.trees (tree_of old.now.schema other.name)
+
+  -- the tables that follow this one keep their rows
+  abbrev Stay : Type 0
+  Stay = AllByRecursion Remains (followers x.place our_tables followed)
+
+  pub updated : {filter terms : List Term} → MeansThere (λ at tree. Update at (plain_program (update_query tree filter terms))) → (p : Kept R → Bool) → ((y : Kept R) → list_all (holds (params ∷ stored cells y ∷ [])) filter ≡ p y)
+      → (f : R → R) → ((y : Kept R) → eval_all terms (params ∷ stored cells y ∷ []) ≡ cells (f y.1)) → Stay → Turns old.now new.now (x.put (update_where p (λ y. (y.0, f y.1)) (x.rows t)) t)
+  updated means p tests f shows stay =
+      let next : Kept R → Kept R = λ y. (y.0, f y.1) in
+      let left = update_own cells x.layout.table casts old new its.own its.steady (x.rows t) its.rows its.keyed text params count ran
+      _ (means _ _ its.own.place) refl refl refl (λ rows. refl) p tests next (λ y. refl) (λ y. ap (λ cs. Int y.0 ∷ Int y.0 ∷ cs) (shows y)) in
+      written old.now new.now left.1 x t _ h stay left.0 (IsKeyedBy-update_where id_of p next (λ y. refl) (x.rows t) its.keyed)
+
+  pub deleted : {filter : List Term} → MeansThere (λ at tree. Delete at (plain_program (delete_query tree filter))) → (p : Kept R → Bool) → ((y : Kept R) → list_all (holds (params ∷ stored cells y ∷ [])) filter ≡ p y)
+      → Stay → Turns old.now new.now (x.put (delete_where p (x.rows t)) t)
+  deleted means p tests stay =
+      let left = delete_own cells x.layout.table casts old new its.own its.steady (x.rows t) its.rows its.keyed text params count ran
+      _ (means _ _ its.own.place) refl refl refl (λ rows. refl) p tests (λ y. refl) in
+      written old.now new.now left.1 x t _ h stay left.0 (IsKeyedBy-delete_where id_of p (x.rows t) its.keyed)
+
+  -- a new row leaves all others
+  pub inserted : {terms : List Term} {width : ℕ} → MeansThere (λ at tree. Insert at (Values terms width)) → x.layout.table.is_counted ≡ false → stamped x.layout.table params ≡ params
+      → (row : R) → value_rows params width (length terms / width) terms ≡ (Null ∷ cells row) ∷ [] → Turns old.now new.now (x.put (x.rows t ++ (next_key id_of (x.rows t), row) ∷ []) t)
+  inserted {terms} {width} means uncounted unstamped row given =
+      let left = insert_own cells x.layout.table casts old new its.own its.steady (x.rows t) its.rows its.keyed text params count ran terms width (means _ _ its.own.place) uncounted unstamped row given in
+      let others = insert_others x.layout.table old new its.own text params count ran (Values terms width) (means _ _ its.own.place) uncounted unstamped in
+      let remain = all_weaker _ Remains (λ other own. other_keeps old.now.schema (tree_of old.now.schema x.layout.table.name) old.now.trees new.now.trees other own others.1) our_tables h.ours.own in
+      written old.now new.now left.1 x t _ h (all_followers Remains x.place our_tables followed remain) left.0 (keyed_next (x.rows t) row its.keyed)

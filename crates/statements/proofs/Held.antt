@@ -150,11 +150,8 @@ holds_all db t h = record { own = h.ours; rows = h.rows }
 -- ---- in one that has them all
 
 module _ (db : Database) (t : Tables) (h : Holds db t) where
-  held : {R : Type 0} (x : Ours R) → IsHeld x.layout db (x.rows t)
+  pub held : {R : Type 0} (x : Ours R) → IsHeld x.layout db (x.rows t)
   held x = held_in x (count_in NEWEST) x.low db t (holds_all db t h)
-
-  pub metas_held : IsHeld meta_layout db t.metas
-  metas_held = held metas
 
   pub orgs_held : IsHeld org_layout db t.orgs
   orgs_held = held orgs
@@ -179,9 +176,6 @@ module _ (db : Database) (t : Tables) (h : Holds db t) where
 
   pub bounds_held : IsHeld bound_layout db t.bounds
   bounds_held = held bounds
-
-  pub editions_held : IsHeld edition_layout db t.editions
-  editions_held = held editions
 
   pub keepings_held : IsHeld keeping_layout db t.keepings
   keepings_held = held keepings

@@ -3,46 +3,31 @@ use Rattle.std.proofs.Common.{◌≡◌, ℕ, List, [], ◌∷◌, Ok, refl, ◌
 use Rattle.sqlite_value.specs.declared.value.Value.TheVariants.{Text}
 use Rattle.sqlite_sql.specs.Program.{overlay}
 use Rattle.sqlite.specs.State.{State, Executes}
-use Rattle.sqlite_keyed.proofs.KeyedLemmas.{IsKeyedBy-update_where, IsKeyedBy-delete_where}
 use Rattle.sqlite_keyed.proofs.ListLemmas.{filter_all, all_of}
 use Rattle.statements.specs.Place.{tree_of}
 use Rattle.statements.specs.Schema.{ws_table, keeping_table}
-use Rattle.statements.specs.Rows.{Kept, id_of, WsRow, KeepingRow, ws_cells, keeping_cells, number}
-use Rattle.statements.specs.Tables.{Tables, Holds, keeping_layout}
+use Rattle.statements.specs.Rows.{Kept, WsRow, ws_cells, keeping_cells, number}
+use Rattle.statements.specs.Tables.{Tables, Holds}
 use Rattle.statements.specs.Changes.{is_keeping, kept_first, keeping_row_added, keeping_changed, keeping_row_removed, keepings_filled}
 use Rattle.statements.specs.Inner.Making.{Moved}
-use Rattle.statements.proofs.Held.{IsHeld, wss, keepings, held_in, keepings_held}
-use Rattle.statements.proofs.Own.{update_own, delete_own, insert_own, fill_own, keyed_next, stored_tree}
+use Rattle.statements.proofs.Held.{wss, keepings, held_in}
+use Rattle.statements.proofs.Own.{fill_own, stored_tree}
 use Rattle.statements.proofs.Edits.{all_keyed}
 use Rattle.statements.proofs.Casts.{keeping_casts}
-use Rattle.statements.proofs.Frames.{Turns, moved_by, written_in, keepings_written}
+use Rattle.statements.proofs.Frames.{Turns, moved_by, written_in, updated, deleted, inserted}
 use Rattle.statements.proofs.Conditions.{two_texts}
 use Rattle.statements.proofs.Answered.{point, all_are}
-use Rattle.statements.proofs.KeepingTexts.{add_keeping_text, add_keeping_means, add_keeping_terms, set_keeping_text, set_keeping_means, set_keeping_query, remove_keeping_text, remove_keeping_means, remove_keeping_query, fill_keepings_text, fill_keepings_means, filled_rest}
+use Rattle.statements.proofs.KeepingTexts.{add_keeping_text, add_keeping_means, set_keeping_text, set_keeping_means, remove_keeping_text, remove_keeping_means, fill_keepings_text, fill_keepings_means, filled_rest}
 
 module _ (old new : State) (count : ℕ) (t : Tables) (h : Holds old.now t) where
-  abbrev held : IsHeld keeping_layout old.now t.keepings
-  held = keepings_held old.now t h
-
   pub add_keeping_does : (org ws : List ℕ) (keep : ℕ) → Executes add_keeping_text (Text org ∷ Text ws ∷ number keep ∷ []) old new (Ok count) → Turns old.now new.now (keeping_row_added org ws keep t)
-  add_keeping_does org ws keep ran =
-      let row : KeepingRow = record { org = org; ws = ws; keep = keep } in
-      let left = insert_own keeping_cells keeping_table keeping_casts old new held.own held.steady t.keepings held.rows held.keyed add_keeping_text (Text org ∷ Text ws ∷ number keep ∷ []) count ran
-      add_keeping_terms 4 (add_keeping_means old.now.schema _ _ held.own.place) refl refl row refl in
-      keepings_written old.now new.now left.1 t h _ left.0 (keyed_next t.keepings row held.keyed)
+  add_keeping_does org ws keep ran = inserted keepings keeping_casts old new count t h _ _ ran (add_keeping_means old.now.schema) refl refl (record { org = org; ws = ws; keep = keep }) refl
 
   pub set_keeping_does : (org ws : List ℕ) (keep : ℕ) → Executes set_keeping_text (Text org ∷ Text ws ∷ number keep ∷ []) old new (Ok count) → Turns old.now new.now (keeping_changed keep org ws t)
-  set_keeping_does org ws keep ran =
-      let left = update_own keeping_cells keeping_table keeping_casts old new held.own held.steady t.keepings held.rows held.keyed set_keeping_text (Text org ∷ Text ws ∷ number keep ∷ []) count ran
-      (set_keeping_query (tree_of old.now.schema keeping_table.name)) (set_keeping_means old.now.schema _ _ held.own.place) refl refl refl (λ rows. refl) (is_keeping org ws) (λ x. two_texts x.1.org org x.1.ws ws)
-      (λ (x : Kept KeepingRow). (x.0, record x.1 { keep = keep })) (λ x. refl) (λ x. refl) in
-      keepings_written old.now new.now left.1 t h _ left.0 (IsKeyedBy-update_where id_of (is_keeping org ws) (λ (x : Kept KeepingRow). (x.0, record x.1 { keep = keep })) (λ x. refl) t.keepings held.keyed)
+  set_keeping_does org ws keep ran = updated keepings keeping_casts old new count t h _ _ ran (set_keeping_means old.now.schema) (is_keeping org ws) (λ x. two_texts x.1.org org x.1.ws ws) (λ r. record r { keep = keep }) (λ x. refl) tt
 
   pub remove_keeping_does : (org ws : List ℕ) → Executes remove_keeping_text (Text org ∷ Text ws ∷ []) old new (Ok count) → Turns old.now new.now (keeping_row_removed org ws t)
-  remove_keeping_does org ws ran =
-      let left = delete_own keeping_cells keeping_table keeping_casts old new held.own held.steady t.keepings held.rows held.keyed remove_keeping_text (Text org ∷ Text ws ∷ []) count ran
-      (remove_keeping_query (tree_of old.now.schema keeping_table.name)) (remove_keeping_means old.now.schema _ _ held.own.place) refl refl refl (λ rows. refl) (is_keeping org ws) (λ x. two_texts x.1.org org x.1.ws ws) (λ x. refl) in
-      keepings_written old.now new.now left.1 t h _ left.0 (IsKeyedBy-delete_where id_of (is_keeping org ws) t.keepings held.keyed)
+  remove_keeping_does org ws ran = deleted keepings keeping_casts old new count t h _ _ ran (remove_keeping_means old.now.schema) (is_keeping org ws) (λ x. two_texts x.1.org org x.1.ws ws) tt
 
 -- a row for each workspace, in the order of the workspaces
 pub fill_keepings_does : (old new : State) (count : ℕ) → Executes fill_keepings_text [] old new (Ok count) → Moved 3 keepings_filled old.now new.now

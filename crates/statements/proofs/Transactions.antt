@@ -142,62 +142,56 @@ counts_by read old new text params (Ok r) (Ok n) first calm is shows = (λ t h. 
 
 -- ---- the whole of what a function promises
 
-module _ {S X E : Type 0} (g : Ghosts S) (old new : Transaction S) (text : List ℕ) (params : Row) (result : Result X E) where
-  abbrev before : State
-  before = state g old.conn.now
+-- what is known of a text that was run in a transaction
+abbrev Ran : {S X E : Type 0} → Ghosts S → Transaction S → Transaction S → List ℕ → Row → Result X E → Type 0
+Ran g old new text params result =
+    (new.conn.ghost_name ≡ old.conn.ghost_name) × (HasCleanDisk (state g new.conn.now) → IsTrue (state g old.conn.now).in_transaction → Wrote text params (state g old.conn.now) (state g new.conn.now) result)
+    × Survives (state g old.conn.now) (state g new.conn.now) (λ _. ⊥)
 
-  abbrev after : State
-  after = state g new.conn.now
+module _ {S X E : Type 0} {g : Ghosts S} {old new : Transaction S} (text : List ℕ) (params : Row) {result : Result X E} where
+  pub writes_where : {law : Tables → Type 0} {change : Tables → Tables} → Ran g old new text params result
+      → ((count : ℕ) (t : Tables) → Holds (state g old.conn.now).now t → law t → Executes text params (state g old.conn.now) (state g new.conn.now) (Ok count) → Turns (state g old.conn.now).now (state g new.conn.now).now (change t))
+      → Writes g law change old new result
+  writes_where {law} {change} ran does = record { same_reference = ran.0; changed = λ clean inside. moves_where law change _ _ text params result (ran.1 clean inside) does; survives = ran.2 }
 
-  abbrev WroteIt : Type 0
-  WroteIt = HasCleanDisk after → IsTrue before.in_transaction → Wrote text params before after result
+  pub writes_by : {change : Tables → Tables} → Ran g old new text params result
+      → ((count : ℕ) (t : Tables) → Holds (state g old.conn.now).now t → Executes text params (state g old.conn.now) (state g new.conn.now) (Ok count) → Turns (state g old.conn.now).now (state g new.conn.now).now (change t))
+      → Writes g AnyRows change old new result
+  writes_by ran does = writes_where ran (λ count t h any. does count t h)
 
-  pub writes_where : {law : Tables → Type 0} {change : Tables → Tables} → new.conn.ghost_name ≡ old.conn.ghost_name → WroteIt → Survives before after (λ _. ⊥)
-      → ((count : ℕ) (t : Tables) → Holds before.now t → law t → Executes text params before after (Ok count) → Turns before.now after.now (change t)) → Writes g law change old new result
-  writes_where {law} {change} same wrote survives does = record { same_reference = same; changed = λ clean inside. moves_where law change before after text params result (wrote clean inside) does; survives = survives }
+  pub makes_by : {Change : Database → Database → Type 0} → Ran g old new text params result
+      → ((count : ℕ) → Executes text params (state g old.conn.now) (state g new.conn.now) (Ok count) → Change (state g old.conn.now).now (state g new.conn.now).now) → MakesBy g Change old new result
+  makes_by {Change} ran does =
+      record { same_reference = ran.0; made = λ clean inside. alters_by Change _ _ text params result (ran.1 clean inside) does; clean = ran.2.clean; shield = ran.2.shield }
 
-  pub writes_by : {change : Tables → Tables} → new.conn.ghost_name ≡ old.conn.ghost_name → WroteIt → Survives before after (λ _. ⊥)
-      → ((count : ℕ) (t : Tables) → Holds before.now t → Executes text params before after (Ok count) → Turns before.now after.now (change t)) → Writes g AnyRows change old new result
-  writes_by same wrote survives does = writes_where same wrote survives (λ count t h any. does count t h)
+-- what is known of a query, whose answer is so
+abbrev Asked : {S Y E : Type 0} → Ghosts S → Held S → Held S → Result Y E → (Y → Type 0) → Type 0
+Asked g old new rows gives =
+    (old.in_transaction ≡ false → new.in_transaction ≡ false) × (HasCleanDisk (state g new) → IfOk rows gives) × (HasCleanDisk (state g new) → IsCalm (state g old) (state g new) rows) × Survives (state g old) (state g new) (λ _. ⊥)
 
-  pub makes_by : {Change : Database → Database → Type 0} → new.conn.ghost_name ≡ old.conn.ghost_name → WroteIt → Survives before after (λ _. ⊥)
-      → ((count : ℕ) → Executes text params before after (Ok count) → Change before.now after.now) → MakesBy g Change old new result
-  makes_by {Change} same wrote survives does =
-      record { same_reference = same; made = λ clean inside. alters_by Change before after text params result (wrote clean inside) does; clean = survives.clean; shield = survives.shield }
+module _ {S E F : Type 0} {g : Ghosts S} {old new : Held S} where
+  pub queries_by : {X : Type 0} {read : Tables → Option X} {result : Result (Option X) F} (Is : Row → X → Type 0) (text : List ℕ) (params : Row) (row : Result (Option Row) E)
+      → Asked g old new row (FirstRow text params (state g old) (state g new)) → IsRead Is row result
+      → ((t : Tables) → Holds (state g old).now t → (r : Option Row) → FirstRow text params (state g old) (state g new) r → Pins Is r (read t)) → Queries g (Equals read) old new result
+  queries_by {X} {read} {result} Is text params row asked is pins =
+      record { mode = asked.0; read = λ clean. reads_by read Is _ _ text params row result (asked.1 clean) (asked.2 clean) is pins; survives = asked.3 }
 
-module _ {S : Type 0} (g : Ghosts S) (old new : Held S) where
-  abbrev s : State
-  s = state g old
+  pub queries_only : {X : Type 0} {says : Option X → Tables → Type 0} {result : Result (Option X) F} (Is : Row → X → Type 0) (Gives : State → State → List Row → Type 0) (rows : Result (List Row) E)
+      → Asked g old new rows (Gives (state g old) (state g new)) → IsOnly Is rows result → ((t : Tables) → Holds (state g old).now t → Gives (state g old) (state g new) [] → says None t)
+      → ((t : Tables) → Holds (state g old).now t → (row : Row) (x : X) → Gives (state g old) (state g new) (row ∷ []) → Is row x → says (Some x) t) → Queries g says old new result
+  queries_only {X} {says} {result} Is Gives rows asked is none one =
+      record { mode = asked.0; read = λ clean. reads_only says Is _ _ (Gives (state g old) (state g new)) rows result (asked.1 clean) (asked.2 clean) is none one; survives = asked.3 }
 
-  abbrev left : State
-  left = state g new
+  pub queries_all : {X : Type 0} {law : Tables → Type 0} {read : Tables → List X} {result : Result (List X) F} (Is : Row → X → Type 0) (Gives : State → State → List Row → Type 0) (rows : Result (List Row) E)
+      → Asked g old new rows (Gives (state g old) (state g new)) → AreRead Is rows result
+      → ((t : Tables) → Holds (state g old).now t → law t → (rs : List Row) (xs : List X) → Gives (state g old) (state g new) rs → AllZip Is rs xs → xs ≡ read t) → Queries g (EqualsWhere law read) old new result
+  queries_all {X} {law} {read} {result} Is Gives rows asked are shows =
+      record { mode = asked.0; read = λ clean. lists_by law read Is _ _ (Gives (state g old) (state g new)) rows result (asked.1 clean) (asked.2 clean) are shows; survives = asked.3 }
 
-  abbrev StaysOut : Type 0
-  StaysOut = old.in_transaction ≡ false → new.in_transaction ≡ false
-
-  pub queries_by : {X E F : Type 0} {read : Tables → Option X} (Is : Row → X → Type 0) (text : List ℕ) (params : Row) (row : Result (Option Row) E) (result : Result (Option X) F)
-      → StaysOut → (HasCleanDisk left → IfOk row (FirstRow text params s left)) → (HasCleanDisk left → IsCalm s left row) → Survives s left (λ _. ⊥) → IsRead Is row result
-      → ((t : Tables) → Holds s.now t → (r : Option Row) → FirstRow text params s left r → Pins Is r (read t)) → Queries g (Equals read) old new result
-  queries_by {X} {E} {F} {read} Is text params row result mode first calm survives is pins =
-      record { mode = mode; read = λ clean. reads_by read Is s left text params row result (first clean) (calm clean) is pins; survives = survives }
-
-  pub queries_only : {X E F : Type 0} {says : Option X → Tables → Type 0} (Is : Row → X → Type 0) (Gives : State → State → List Row → Type 0) (rows : Result (List Row) E) (result : Result (Option X) F)
-      → StaysOut → (HasCleanDisk left → IfOk rows (Gives s left)) → (HasCleanDisk left → IsCalm s left rows) → Survives s left (λ _. ⊥) → IsOnly Is rows result
-      → ((t : Tables) → Holds s.now t → Gives s left [] → says None t) → ((t : Tables) → Holds s.now t → (row : Row) (x : X) → Gives s left (row ∷ []) → Is row x → says (Some x) t) → Queries g says old new result
-  queries_only {X} {E} {F} {says} Is Gives rows result mode gives calm survives is none one =
-      record { mode = mode; read = λ clean. reads_only says Is s left (Gives s left) rows result (gives clean) (calm clean) is none one; survives = survives }
-
-  pub queries_all : {X E F : Type 0} {law : Tables → Type 0} {read : Tables → List X} (Is : Row → X → Type 0) (Gives : State → State → List Row → Type 0) (rows : Result (List Row) E) (result : Result (List X) F)
-      → StaysOut → (HasCleanDisk left → IfOk rows (Gives s left)) → (HasCleanDisk left → IsCalm s left rows) → Survives s left (λ _. ⊥) → AreRead Is rows result
-      → ((t : Tables) → Holds s.now t → law t → (rs : List Row) (xs : List X) → Gives s left rs → AllZip Is rs xs → xs ≡ read t) → Queries g (EqualsWhere law read) old new result
-  queries_all {X} {E} {F} {law} {read} Is Gives rows result mode gives calm survives are shows =
-      record { mode = mode; read = λ clean. lists_by law read Is s left (Gives s left) rows result (gives clean) (calm clean) are shows; survives = survives }
-
-  pub queries_count : {E F : Type 0} {read : Tables → ℕ} (text : List ℕ) (params : Row) (row : Result (Option Row) E) (result : Result ℕ F)
-      → StaysOut → (HasCleanDisk left → IfOk row (FirstRow text params s left)) → (HasCleanDisk left → IsCalm s left row) → Survives s left (λ _. ⊥) → IsCount row result
-      → ((t : Tables) → Holds s.now t → (r : Option Row) → FirstRow text params s left r → r ≡ Some (number (read t) ∷ [])) → Queries g (Equals read) old new result
-  queries_count {E} {F} {read} text params row result mode first calm survives is shows =
-      record { mode = mode; read = λ clean. counts_by read s left text params row result (first clean) (calm clean) is shows; survives = survives }
+  pub queries_count : {read : Tables → ℕ} {result : Result ℕ F} (text : List ℕ) (params : Row) (row : Result (Option Row) E) → Asked g old new row (FirstRow text params (state g old) (state g new)) → IsCount row result
+      → ((t : Tables) → Holds (state g old).now t → (r : Option Row) → FirstRow text params (state g old) (state g new) r → r ≡ Some (number (read t) ∷ [])) → Queries g (Equals read) old new result
+  queries_count {read} {result} text params row asked is shows =
+      record { mode = asked.0; read = λ clean. counts_by read _ _ text params row result (asked.1 clean) (asked.2 clean) is shows; survives = asked.3 }
 
 -- ---- one after another
 

@@ -5,31 +5,25 @@ use Rattle.sqlite_value.specs.Order.{Row}
 use Rattle.sqlite_value.specs.Keys.{first_key}
 use Rattle.sqlite.specs.State.{State, Executes}
 use Rattle.sqlite_keyed.proofs.ListLemmas.{all_weaker}
-use Rattle.sqlite_keyed.proofs.KeyedLemmas.{IsKeyedBy-delete_where}
-use Rattle.statements.specs.Place.{tree_of}
 use Rattle.statements.specs.Schema.{version_table}
-use Rattle.statements.specs.Rows.{id_of, VersionRow, version_cells, number}
+use Rattle.statements.specs.Rows.{VersionRow, version_cells, number}
 use Rattle.statements.specs.Tables.{Tables, Holds, version_layout}
 use Rattle.statements.specs.Changes.{is_version, new_version, version_added, version_removed}
 use Rattle.statements.specs.Finds.{size_of}
 use Rattle.statements.proofs.Fresh.{insert_sound, none_alike, none_found}
-use Rattle.statements.proofs.Held.{IsHeld, versions_held}
-use Rattle.statements.proofs.Own.{delete_own, insert_own, keyed_next}
+use Rattle.statements.proofs.Held.{IsHeld, versions_held, versions}
+use Rattle.statements.proofs.Own.{insert_own}
 use Rattle.statements.proofs.Casts.{version_casts}
-use Rattle.statements.proofs.Frames.{Turns, versions_written}
+use Rattle.statements.proofs.Frames.{Turns, deleted, inserted}
 use Rattle.statements.proofs.Conditions.{two_texts_number}
-use Rattle.statements.proofs.VersionTexts.{add_version_text, add_version_means, add_version_terms, remove_version_text, remove_version_means, remove_version_query}
+use Rattle.statements.proofs.VersionTexts.{add_version_text, add_version_means, add_version_terms, remove_version_text, remove_version_means}
 
 module _ (old new : State) (count : ℕ) (t : Tables) (h : Holds old.now t) where
   abbrev held : IsHeld version_layout old.now t.versions
   held = versions_held old.now t h
 
   pub add_version_does : (org ws : List ℕ) (n serial : ℕ) (lineage : List ℕ) (created size : ℕ) → Executes add_version_text (Text org ∷ Text ws ∷ number n ∷ number serial ∷ Text lineage ∷ number created ∷ number size ∷ []) old new (Ok count) → Turns old.now new.now (version_added org ws (new_version n serial lineage created size) t)
-  add_version_does org ws n serial lineage created size ran =
-      let row : VersionRow = record { org = org; ws = ws; it = new_version n serial lineage created size } in
-      let left = insert_own version_cells version_table version_casts old new held.own held.steady t.versions held.rows held.keyed add_version_text (Text org ∷ Text ws ∷ number n ∷ number serial ∷ Text lineage ∷ number created ∷ number size ∷ []) count ran
-      add_version_terms 8 (add_version_means old.now.schema _ _ held.own.place) refl refl row refl in
-      versions_written old.now new.now left.1 t h _ left.0 (keyed_next t.versions row held.keyed)
+  add_version_does org ws n serial lineage created size ran = inserted versions version_casts old new count t h _ _ ran (add_version_means old.now.schema) refl refl (record { org = org; ws = ws; it = new_version n serial lineage created size }) refl
 
   pub add_version_finds : (org ws : List ℕ) (n serial : ℕ) (lineage : List ℕ) (created size : ℕ) → Executes add_version_text (Text org ∷ Text ws ∷ number n ∷ number serial ∷ Text lineage ∷ number created ∷ number size ∷ []) old new (Ok count) → size_of org ws n t ≡ None
   unfolding first_key
@@ -42,7 +36,4 @@ module _ (old new : State) (count : ℕ) (t : Tables) (h : Holds old.now t) wher
       none_found (is_version org ws n) (λ x. x.1.it.size) t.versions (all_weaker _ (λ x. is_version org ws n x ≡ false) (λ x e. sym (two_texts_number x.1.org org x.1.ws ws x.1.it.number n) ∙ e) t.versions alike)
 
   pub remove_version_does : (org ws : List ℕ) (n : ℕ) → Executes remove_version_text (Text org ∷ Text ws ∷ number n ∷ []) old new (Ok count) → Turns old.now new.now (version_removed org ws n t)
-  remove_version_does org ws n ran =
-      let left = delete_own version_cells version_table version_casts old new held.own held.steady t.versions held.rows held.keyed remove_version_text (Text org ∷ Text ws ∷ number n ∷ []) count ran
-      (remove_version_query (tree_of old.now.schema version_table.name)) (remove_version_means old.now.schema _ _ held.own.place) refl refl refl (λ rows. refl) (is_version org ws n) (λ x. two_texts_number x.1.org org x.1.ws ws x.1.it.number n) (λ x. refl) in
-      versions_written old.now new.now left.1 t h _ left.0 (IsKeyedBy-delete_where id_of (is_version org ws n) t.versions held.keyed)
+  remove_version_does org ws n ran = deleted versions version_casts old new count t h _ _ ran (remove_version_means old.now.schema) (is_version org ws n) (λ x. two_texts_number x.1.org org x.1.ws ws x.1.it.number n) tt

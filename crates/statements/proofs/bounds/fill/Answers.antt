@@ -3,7 +3,4 @@ use Rattle.statements.proofs.BoundWrites.{fill_bounds_does}
 use Rattle.statements.proofs.bounds.fill.Goals as goal
 
 pub returns : goal.returns
-returns g c =
-    makes_by g.S.Store _ _ _ _ c.write.result c.write.ensures.same_reference
-    c.write.ensures.runs c.write.ensures.survives
-    (λ count. fill_bounds_does _ _ count)
+returns g c = makes_by _ _ (c.write.ensures.same_reference, c.write.ensures.runs, c.write.ensures.survives) (λ count. fill_bounds_does _ _ count)

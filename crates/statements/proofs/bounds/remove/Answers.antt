@@ -4,6 +4,5 @@ use Rattle.statements.proofs.bounds.remove.Goals as goal
 
 pub returns : goal.returns
 returns g c =
-    writes_by g.S.Store _ _ _ _ c.write.result c.write.ensures.same_reference
-    (λ clean inside. rw (c.params-to_sql.ensures, c.params-to_sql-2.ensures) at (c.write.ensures.runs clean inside)) c.write.ensures.survives
+    writes_by _ _ (c.write.ensures.same_reference, (λ clean inside. rw (c.params-to_sql.ensures, c.params-to_sql-2.ensures) at (c.write.ensures.runs clean inside)), c.write.ensures.survives)
     (λ count t holds. remove_bound_does _ _ count t holds c.args.org.now c.args.name.now)

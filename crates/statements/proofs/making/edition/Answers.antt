@@ -10,8 +10,7 @@ use Rattle.statements.proofs.making.edition.Goals as goal
 
 pub returns-clause-reads : goal.returns-clause-reads
 returns-clause-reads g c =
-    queries_by g.S.Store _ _ IsNumber edition_text _ c.first_row-row.result c.read_one.result c.first_row-row.ensures.mode
-    (c.first_row-row.ensures.row edition_is_query) (c.first_row-row.ensures.calm edition_is_query) (c.first_row-row.ensures.survives edition_is_query) c.read_one.ensures
+    queries_by IsNumber _ _ _ (c.first_row-row.ensures.mode, (c.first_row-row.ensures.row edition_is_query), c.first_row-row.ensures.calm edition_is_query, c.first_row-row.ensures.survives edition_is_query) c.read_one.ensures
     (λ t holds row first. edition_shows _ _ t holds row first)
 
 pub returns-clause-told : goal.returns-clause-told

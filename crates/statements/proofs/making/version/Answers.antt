@@ -10,8 +10,7 @@ use Rattle.statements.proofs.making.version.Goals as goal
 
 pub returns-clause-reads : goal.returns-clause-reads
 returns-clause-reads g c =
-    queries_by g.S.Store _ _ IsNumber version_text _ c.first_row-row.result c.read_one.result c.first_row-row.ensures.mode
-    (c.first_row-row.ensures.row version_is_query) (c.first_row-row.ensures.calm version_is_query) (c.first_row-row.ensures.survives version_is_query) c.read_one.ensures
+    queries_by IsNumber _ _ _ (c.first_row-row.ensures.mode, (c.first_row-row.ensures.row version_is_query), c.first_row-row.ensures.calm version_is_query, c.first_row-row.ensures.survives version_is_query) c.read_one.ensures
     (λ t holds row first. version_shows _ _ t holds row first)
 
 pub returns-clause-told : goal.returns-clause-told

@@ -8,6 +8,5 @@ use Rattle.statements.proofs.organizations.list.Goals as goal
 
 pub returns : goal.returns
 returns g c =
-    queries_all g.S.Store _ _ IsOrganization (Shown list_orgs_text []) c.all_rows-rows.result c.read_all.result c.all_rows-rows.ensures.mode
-    c.all_rows-rows.ensures.rows (c.all_rows-rows.ensures.calm list_orgs_is_query) (c.all_rows-rows.ensures.survives list_orgs_is_query) c.read_all.ensures
+    queries_all IsOrganization (Shown list_orgs_text []) _ (c.all_rows-rows.ensures.mode, c.all_rows-rows.ensures.rows, c.all_rows-rows.ensures.calm list_orgs_is_query, c.all_rows-rows.ensures.survives list_orgs_is_query) c.read_all.ensures
     (λ t holds apart rows orgs shown read. list_orgs_shows _ _ t holds rows orgs apart shown read)

@@ -6,6 +6,5 @@ use Rattle.statements.proofs.runs.list.Goals as goal
 
 pub returns : goal.returns
 returns g c =
-    queries_all g.S.Store _ _ IsRunRow (FirstRows c.args.most list_runs_text _) c.first_rows-rows.result c.read_all.result c.first_rows-rows.ensures.mode
-    (λ clean. rw (c.params-to_sql.ensures, c.params-to_sql-2.ensures, c.params-to_sql-3.ensures) at (c.first_rows-rows.ensures.rows list_runs_is_query clean)) (c.first_rows-rows.ensures.calm list_runs_is_query) (c.first_rows-rows.ensures.survives list_runs_is_query) c.read_all.ensures
+    queries_all IsRunRow (FirstRows c.args.most list_runs_text _) _ (c.first_rows-rows.ensures.mode, (λ clean. rw (c.params-to_sql.ensures, c.params-to_sql-2.ensures, c.params-to_sql-3.ensures) at (c.first_rows-rows.ensures.rows list_runs_is_query clean)), c.first_rows-rows.ensures.calm list_runs_is_query, c.first_rows-rows.ensures.survives list_runs_is_query) c.read_all.ensures
     (λ t holds rise rows runs first read. list_runs_shows _ _ t holds c.args.org.now c.args.ws.now c.args.after c.args.most rows runs rise first read)

@@ -7,6 +7,5 @@ use Rattle.statements.proofs.tokens.list.Goals as goal
 
 pub returns : goal.returns
 returns g c =
-    queries_all g.S.Store _ _ IsNamedRole (Shown list_tokens_text _) c.all_rows-rows.result c.read_all.result c.all_rows-rows.ensures.mode
-    (λ clean. rw c.params-to_sql.ensures at (c.all_rows-rows.ensures.rows clean)) (c.all_rows-rows.ensures.calm list_tokens_is_query) (c.all_rows-rows.ensures.survives list_tokens_is_query) c.read_all.ensures
+    queries_all IsNamedRole (Shown list_tokens_text _) _ (c.all_rows-rows.ensures.mode, (λ clean. rw c.params-to_sql.ensures at (c.all_rows-rows.ensures.rows clean)), c.all_rows-rows.ensures.calm list_tokens_is_query, c.all_rows-rows.ensures.survives list_tokens_is_query) c.read_all.ensures
     (λ t holds apart rows roles shown read. list_tokens_shows _ _ t holds c.args.org.now rows roles apart shown read)

@@ -9,8 +9,7 @@ use Rattle.statements.proofs.versions.add.Goals as goal
 
 pub returns-clause-writes : goal.returns-clause-writes
 returns-clause-writes g c =
-    writes_by g.S.Store _ _ _ _ c.write.result c.write.ensures.same_reference
-    (λ clean inside. rw (c.signed-serial.ensures, to_z-of_z w64 (pos c.args.serial) (record { sfits = c.requires.serial_fits }), c.seconds-created.ensures.number, to_z-of_z w64 (pos c.args.created) (moment_fits c.args.created c.seconds-created.ensures.most), c.signed-size.ensures, to_z-of_z w64 (pos c.args.size) (record { sfits = c.requires.size_fits })) at (rw (c.params-to_sql.ensures, c.params-to_sql-2.ensures, c.params-to_sql-3.ensures, c.params-to_sql-4.ensures, c.params-to_sql-5.ensures, c.params-to_sql-6.ensures, c.params-to_sql-7.ensures, c.get-number.ensures.value) at (c.write.ensures.runs clean inside))) c.write.ensures.survives
+    writes_by _ _ (c.write.ensures.same_reference, (λ clean inside. rw (c.signed-serial.ensures, to_z-of_z w64 (pos c.args.serial) (record { sfits = c.requires.serial_fits }), c.seconds-created.ensures.number, to_z-of_z w64 (pos c.args.created) (moment_fits c.args.created c.seconds-created.ensures.most), c.signed-size.ensures, to_z-of_z w64 (pos c.args.size) (record { sfits = c.requires.size_fits })) at (rw (c.params-to_sql.ensures, c.params-to_sql-2.ensures, c.params-to_sql-3.ensures, c.params-to_sql-4.ensures, c.params-to_sql-5.ensures, c.params-to_sql-6.ensures, c.params-to_sql-7.ensures, c.get-number.ensures.value) at (c.write.ensures.runs clean inside))), c.write.ensures.survives)
     (λ count t holds. add_version_does _ _ count t holds c.args.org.now c.args.ws.now c.args.number c.args.serial c.args.lineage.now c.args.created c.args.size)
 
 pub returns-clause-fresh : goal.returns-clause-fresh

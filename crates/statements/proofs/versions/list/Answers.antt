@@ -6,6 +6,5 @@ use Rattle.statements.proofs.versions.list.Goals as goal
 
 pub returns : goal.returns
 returns g c =
-    queries_all g.S.Store _ _ IsVersionRow (FirstRows c.args.most list_versions_text _) c.first_rows-rows.result c.read_all.result c.first_rows-rows.ensures.mode
-    (λ clean. rw (c.params-to_sql.ensures, c.params-to_sql-2.ensures, c.params-to_sql-3.ensures) at (c.first_rows-rows.ensures.rows list_versions_is_query clean)) (c.first_rows-rows.ensures.calm list_versions_is_query) (c.first_rows-rows.ensures.survives list_versions_is_query) c.read_all.ensures
+    queries_all IsVersionRow (FirstRows c.args.most list_versions_text _) _ (c.first_rows-rows.ensures.mode, (λ clean. rw (c.params-to_sql.ensures, c.params-to_sql-2.ensures, c.params-to_sql-3.ensures) at (c.first_rows-rows.ensures.rows list_versions_is_query clean)), c.first_rows-rows.ensures.calm list_versions_is_query, c.first_rows-rows.ensures.survives list_versions_is_query) c.read_all.ensures
     (λ t holds rise rows heads first read. list_versions_shows _ _ t holds c.args.org.now c.args.ws.now c.args.after c.args.most rows heads rise first read)

@@ -9,6 +9,5 @@ use Rattle.statements.proofs.workspaces.list_all.Goals as goal
 
 pub returns : goal.returns
 returns g c =
-    queries_all g.S.Store _ _ IsNamedRow (FirstRows c.args.most list_ws_text _) c.first_rows-rows.result c.read_all.result c.first_rows-rows.ensures.mode
-    (λ clean. rw (c.params-to_sql.ensures, c.params-to_sql-2.ensures, c.params-to_sql-3.ensures, to_z-of_z w64 c.limit-limit.result (limit_fits c.args.most _ c.limit-limit.ensures)) at (c.first_rows-rows.ensures.rows list_ws_is_query clean)) (c.first_rows-rows.ensures.calm list_ws_is_query) (c.first_rows-rows.ensures.survives list_ws_is_query) c.read_all.ensures
+    queries_all IsNamedRow (FirstRows c.args.most list_ws_text _) _ (c.first_rows-rows.ensures.mode, (λ clean. rw (c.params-to_sql.ensures, c.params-to_sql-2.ensures, c.params-to_sql-3.ensures, to_z-of_z w64 c.limit-limit.result (limit_fits c.args.most _ c.limit-limit.ensures)) at (c.first_rows-rows.ensures.rows list_ws_is_query clean)), c.first_rows-rows.ensures.calm list_ws_is_query, c.first_rows-rows.ensures.survives list_ws_is_query) c.read_all.ensures
     (λ t holds apart rows wss first read. list_ws_shows _ _ t holds c.args.org.now c.args.after.now c.args.most _ c.limit-limit.ensures rows wss apart first read)

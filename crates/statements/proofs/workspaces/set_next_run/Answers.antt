@@ -7,8 +7,7 @@ use Rattle.statements.proofs.workspaces.set_next_run.Goals as goal
 
 pub returns-clause-writes : goal.returns-clause-writes
 returns-clause-writes g c =
-    writes_by g.S.Store _ _ _ _ c.update.result c.update.ensures.same_reference
-    (λ clean inside. any_wrote _ _ _ _ c.update.result (rw (c.params-to_sql.ensures, c.params-to_sql-2.ensures, c.params-to_sql-3.ensures) at (c.update.ensures.runs clean inside))) c.update.ensures.survives
+    writes_by _ _ (c.update.ensures.same_reference, (λ clean inside. any_wrote _ _ _ _ c.update.result (rw (c.params-to_sql.ensures, c.params-to_sql-2.ensures, c.params-to_sql-3.ensures) at (c.update.ensures.runs clean inside))), c.update.ensures.survives)
     (λ count t holds. set_next_run_does _ _ count t holds c.args.org.now c.args.name.now c.args.next)
 
 pub returns-clause-found : goal.returns-clause-found
