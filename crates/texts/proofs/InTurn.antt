@@ -1,6 +1,7 @@
 -- Rows that show a place and the bytes of its page, taken one at a time and in turn.
-use Rattle.std.proofs.Common.{◌≡◌, ◌⊎◌, inl, inr, ℕ, ◌+◌, List, [], ◌∷◌, ◌++◌, false, Some, None, refl, sym, ◌∙◌, subst, arith}
+use Rattle.std.proofs.Common.{◌≡◌, ◌⊎◌, inl, inr, ℕ, ◌+◌, List, [], ◌∷◌, ◌++◌, false, Some, None, Result, Ok, Err, refl, sym, ◌∙◌, subst, arith}
 use Rattle.std.specs.List.{AllByRecursion}
+use Rattle.std.specs.Result.{IsErr}
 use Rattle.sqlite_value.specs.declared.value.Value.TheVariants.{Blob}
 use Rattle.sqlite_value.specs.Order.{Row, column}
 use Rattle.sqlite_keyed.proofs.ListLemmas.{all_weaker, all-append}
@@ -8,17 +9,18 @@ use Rattle.sqlite_trees.specs.declared.store.Store.{Ghosts}
 use Rattle.sqlite.specs.declared.error.Error.{Error}
 use Rattle.sqlite.specs.Given.{Advances, HasBegun}
 use Rattle.sqlite.specs.Held.{Held, state}
-use Rattle.sqlite.specs.State.{HasCleanDisk, IsUnchanged, KeepsCommit, Fails, Survives, Shown, CommitsShowing}
+use Rattle.sqlite.specs.State.{HasCleanDisk, IsUnchanged, KeepsCommit, Fails, Survives, Shown, CommitsShowing, FailsToQuery}
 use Rattle.statements.specs.Rows.{number}
 use Rattle.statements.specs.Calls.{IsQuery, FirstRows}
+use Rattle.statements.proofs.Calm.{failed_calm}
 use Rattle.statements.proofs.ReadBack.{number_read}
 use Rattle.statements.proofs.Taking.{Takes, takes_none, takes_all, takes_more, calm_failed}
 use Rattle.sqlite.proofs.InsideLemmas.{unchanged_keeps}
 use Rattle.statements.specs.Steps.{LeavesAsIs}
 use Rattle.statements.proofs.Transactions.{clean_before}
-use Rattle.pages.proofs.Looking.{one_look, looks_then}
+use Rattle.pages.proofs.Looking.{as_it_is, one_look, looks_then}
 use Rattle.texts.proofs.Many.{nothing_more}
-use Rattle.texts.specs.Inner.Calls.{ShowsPlace, AreInTurn}
+use Rattle.texts.specs.Inner.Calls.{ShowsPlace, AreInTurn, JoinsRows}
 use Rattle.texts.proofs.NextPiece.{none_there, there_more, joined_more}
 
 pub none_in_turn : AreInTurn [] 0 []
@@ -72,26 +74,64 @@ module _ {S : Type 0} (g : Ghosts S) (sql : List ℕ) (params : Row) (old : Held
       → (HasCleanDisk (state g now) → HasBegun g sql params old now) → TakesInTurn g sql params old now 0 []
   begin_in_turn now mode survives begun = record { rows = []; taken = takes_none g sql params old now mode survives begun; in_turn = none_in_turn }
 
+  -- an error, whichever it is, on the same connection
+  errs_at : (all : ℕ) (result : Result (List ℕ) Error) (now end : Held S) → IsErr result → end ≡ now → ((e : Error) → JoinsRows g sql params all old now (Err e)) → JoinsRows g sql params all old end result
+  errs_at all (Ok text) now end err is errs = absurd (cc)
+  errs_at all (Err e) now end err is errs = subst (λ (h : Held S). JoinsRows g sql params all old h (Err e)) (sym is) (errs e)
+
+  -- nothing was run
+  pub joins_none : (all : ℕ) (result : Result (List ℕ) Error) → IsErr result → JoinsRows g sql params all old old result
+  joins_none all result err = errs_at all result old old err refl (λ e. record {
+    mode = λ idle. idle;
+    joins = λ query clean. tt;
+    looks = λ query clean. (tt, nothing_more (state g old) (state g old) (as_it_is (state g old)));
+    so_far = λ query clean. clean;
+    shield = λ query s. s;
+  })
+
+  -- the query was refused
+  pub joins_refused : (now : Held S) (all : ℕ) (f : Error) (result : Result (List ℕ) Error) → IsErr result → (old.in_transaction ≡ false → now.in_transaction ≡ false) → Survives (state g old) (state g now) (CommitsShowing sql params (state g old))
+      → (HasCleanDisk (state g now) → FailsToQuery sql params (state g old) (state g now) f) → JoinsRows g sql params all old now result
+  joins_refused now all f result err mode survives refused = errs_at all result now now err refl (λ e. record {
+    mode = mode;
+    joins = λ query clean. tt;
+    looks = λ query clean. (tt, unchanged_keeps (state g old) (state g now) (failed_calm sql query params (state g old) (state g now) f (refused clean)));
+    so_far = λ query. clean_before (state g old) (state g now) _ survives;
+    shield = λ query. survives.shield;
+  })
+
   module _ (now : Held S) (places : ℕ) (text : List ℕ) (so : TakesInTurn g sql params old now places text)
       (next : Held S) (mode : now.in_transaction ≡ false → next.in_transaction ≡ false) (survives : Survives (state g now) (state g next) (λ _. ⊥)) where
-    pub mode_on : old.in_transaction ≡ false → next.in_transaction ≡ false
+    mode_on : old.in_transaction ≡ false → next.in_transaction ≡ false
     mode_on is = mode (so.taken.mode is)
 
     clean_on : IsQuery sql → HasCleanDisk (state g next) → HasCleanDisk (state g now)
     clean_on is = clean_before (state g now) (state g next) _ survives
 
-    pub so_far_on : IsQuery sql → HasCleanDisk (state g next) → HasCleanDisk (state g old)
+    so_far_on : IsQuery sql → HasCleanDisk (state g next) → HasCleanDisk (state g old)
     so_far_on is clean = clean_before (state g old) (state g now) _ (so.taken.survives is) (clean_on is clean)
 
-    pub looks_on : (HasCleanDisk (state g next) → IsUnchanged (state g now) (state g next)) → IsQuery sql → HasCleanDisk (state g next) → LeavesAsIs (state g old) (state g next)
+    looks_on : (HasCleanDisk (state g next) → IsUnchanged (state g now) (state g next)) → IsQuery sql → HasCleanDisk (state g next) → LeavesAsIs (state g old) (state g next)
     looks_on same is clean = looks_then (state g old) (state g now) (state g next) (one_look (state g old) (state g now) (so.taken.given is (clean_on is clean)).1) (one_look (state g now) (state g next) (same clean))
 
-    -- where something failed behind, nothing is committed
-    pub kept_on : (HasCleanDisk (state g next) → IsUnchanged (state g now) (state g next)) → IsQuery sql → HasCleanDisk (state g next) → KeepsCommit (state g old) (state g next)
-    kept_on same is clean = nothing_more (state g old) (state g next) (looks_on same is clean)
-
-    pub kept_failed : (e : Error) → (HasCleanDisk (state g next) → Fails (state g now) (state g next) ⊥ e ⊎ IsUnchanged (state g now) (state g next)) → IsQuery sql → HasCleanDisk (state g next) → KeepsCommit (state g old) (state g next)
+    kept_failed : (e : Error) → (HasCleanDisk (state g next) → Fails (state g now) (state g next) ⊥ e ⊎ IsUnchanged (state g now) (state g next)) → IsQuery sql → HasCleanDisk (state g next) → KeepsCommit (state g old) (state g next)
     kept_failed e kept is clean = unchanged_keeps (state g old) (state g next) (calm_failed g sql params old now so.rows places so.taken next mode survives e kept is clean)
+
+    shield_on : IsQuery sql → (state g old).IsShielded → (state g next).IsShielded
+    shield_on is s = survives.shield ((so.taken.survives is).shield s)
+
+    -- where something fails behind a row, or no row comes, nothing is committed
+    pub joins_stopped : (all : ℕ) (result : Result (List ℕ) Error) (end : Held S) → IsErr result → end ≡ next → (HasCleanDisk (state g next) → IsUnchanged (state g now) (state g next)) → JoinsRows g sql params all old end result
+    joins_stopped all result end err is same = errs_at all result next end err is (λ e. record {
+      mode = mode_on;
+      joins = λ query clean. tt;
+      looks = λ query clean. (tt, nothing_more (state g old) (state g next) (looks_on same query clean));
+      so_far = so_far_on;
+      shield = shield_on;
+    })
+
+    pub joins_failed : (all : ℕ) (f : Error) (result : Result (List ℕ) Error) (end : Held S) → IsErr result → end ≡ next → (HasCleanDisk (state g next) → Fails (state g now) (state g next) ⊥ f ⊎ IsUnchanged (state g now) (state g next)) → JoinsRows g sql params all old end result
+    joins_failed all f result end err is kept = errs_at all result next end err is (λ e. record { mode = mode_on; joins = λ query clean. tt; looks = λ query clean. (tt, kept_failed f kept query clean); so_far = so_far_on; shield = shield_on })
 
     pub more_in_turn : (row : Row) → (HasCleanDisk (state g next) → Advances g now next (Some row)) → (HasCleanDisk (state g next) → IsUnchanged (state g now) (state g next))
         → (bytes longer : List ℕ) → column row 0 ≡ number places → column row 1 ≡ Blob bytes → longer ≡ text ++ bytes → TakesInTurn g sql params old next (places + 1) longer
@@ -109,6 +149,12 @@ module _ {S : Type 0} (g : Ghosts S) (sql : List ℕ) (params : Row) (old : Held
         whole (inl begins) = absurd (let count = so.taken.count in let long = begins.1 in let none : ⊥ = omega (arith, count, long) in none)
         whole (inr shown) = shown.0
 
-    pub all_in_turn : (HasCleanDisk (state g next) → Advances g now next None) → IsQuery sql → HasCleanDisk (state g next)
-        → (rows : List Row) × Shown sql params (state g old) (state g next) rows × AreInTurn rows places text
-    all_in_turn advances is clean = (so.rows, shown_on advances is clean, so.in_turn)
+    pub joins_all : (all : ℕ) (whole : List ℕ) (end : Held S) → end ≡ next → places ≡ all → whole ≡ text → (HasCleanDisk (state g next) → Advances g now next None) → (HasCleanDisk (state g next) → IsUnchanged (state g now) (state g next))
+        → JoinsRows {E = Error} g sql params all old end (Ok whole)
+    joins_all all whole end is last is_text advances same = subst (λ (h : Held S). JoinsRows {E = Error} g sql params all old h (Ok whole)) (sym is) (record {
+      mode = mode_on;
+      joins = λ query clean. (so.rows, shown_on advances query clean, subst (λ (m : ℕ). AreInTurn so.rows m whole) last (subst (λ (b : List ℕ). AreInTurn so.rows places b) (sym is_text) so.in_turn));
+      looks = λ query clean. (looks_on same query clean, tt);
+      so_far = so_far_on;
+      shield = shield_on;
+    })

@@ -1,17 +1,15 @@
 //! A text is read by one query, whose rows are taken one at a time.
-ghost use Rattle.std.specs.Prelude.{◌≡◌, false, List, IfOk, OnOk};
+ghost use Rattle.std.specs.Prelude.{◌≡◌, IfOk, OnOk};
 ghost use Rattle.sqlite_value.specs.declared.value.Value.TheVariants.{Blob};
-ghost use Rattle.sqlite_value.specs.Order.{Row as SqlRow, column};
+ghost use Rattle.sqlite_value.specs.Order.{column};
 ghost use Rattle.sqlite.specs.Values.{bound};
 ghost use Rattle.sqlite.specs.Held.{state};
-ghost use Rattle.sqlite.specs.State.{HasCleanDisk, Shown};
+ghost use Rattle.sqlite.specs.State.{HasCleanDisk};
 ghost use Rattle.statements.specs.Rows.{number};
-ghost use Rattle.statements.specs.Calls.{IsQuery};
 ghost use Rattle.statements.specs.Steps.{Equals, Sees};
 ghost use Rattle.statements.specs.Tables.{Tables, Holds};
-ghost use Rattle.pages.specs.Inner.Calls.{OnlyLooks};
 ghost use Rattle.texts.specs.Texts.{joined, AreThere};
-ghost use Rattle.texts.specs.Inner.Calls.{AreInTurn};
+ghost use Rattle.texts.specs.Inner.Calls.{JoinsRows};
 
 use basis::{Bytes, Number};
 use sqlite::types::ValueRef;
@@ -41,11 +39,7 @@ fn join_rows<S: Alter>(
     places: u64,
     size: usize,
 ) -> Result<Bytes, Error>
-    ensures mode { conn.old.in_transaction ≡ false → conn.new.in_transaction ≡ false }
-    ensures rows { IsQuery sql.now → HasCleanDisk (state S.Store conn.new) → IfOk result (λ text. (rows : List SqlRow) × Shown sql.now (bound params.now) (state S.Store conn.old) (state S.Store conn.new) rows × AreInTurn rows places text) }
-    ensures looks { IsQuery sql.now → OnlyLooks (state S.Store conn.old) (state S.Store conn.new) result }
-    ensures so_far { IsQuery sql.now → HasCleanDisk (state S.Store conn.new) → HasCleanDisk (state S.Store conn.old) }
-    ensures shield { IsQuery sql.now → (state S.Store conn.old).IsShielded → (state S.Store conn.new).IsShielded }
+    ensures { JoinsRows S.Store sql.now (bound params.now) places conn.old conn.new result }
 {
     let mut text = Vec::with_capacity(alloc, size)?;
     let mut rows = conn.query(sql, params)?;

@@ -1,18 +1,20 @@
 -- What calls on one page of a text change and read.
-use Rattle.std.specs.Prelude.{◌≡◌, ◌<◌, ℕ, ⊤, Bool, List, Option, Some, option_map, Result, OnOk}
+use Rattle.std.specs.Prelude.{◌≡◌, ◌<◌, ℕ, ⊤, Bool, false, List, Option, Some, option_map, Result, IfOk, OnOk}
 use Rattle.std.specs.List.{AllByRecursion}
 use Rattle.std.specs.Str.{bytes_eq}
 use Rattle.sqlite_value.specs.declared.value.Value.TheVariants.{Blob}
 use Rattle.sqlite_value.specs.Order.{Row, column}
 use Rattle.sqlite_trees.specs.declared.store.Store.{Ghosts}
-use Rattle.sqlite.specs.Held.{state}
-use Rattle.sqlite.specs.State.{HasCleanDisk}
+use Rattle.sqlite.specs.Held.{Held, state}
+use Rattle.sqlite.specs.State.{HasCleanDisk, Shown}
 use Rattle.sqlite.specs.declared.transaction.Transaction.{Transaction}
 use Rattle.statements.specs.Rows.{number}
+use Rattle.statements.specs.Calls.{IsQuery}
 use Rattle.statements.specs.Steps.{Steps}
 use Rattle.statements.specs.Tables.{Tables, Holds}
 use Rattle.pages.specs.Pages.{IsKeyFor}
 use Rattle.pages.specs.Puts.{twin_limit, twin_for, page_put}
+use Rattle.pages.specs.Inner.Calls.{OnlyLooks}
 use Rattle.pages.specs.declared.store.PageId.{PageId}
 use Rattle.texts.specs.Texts.{place_added, place_removed, released_at, piece_of, joined, AreThere}
 
@@ -47,3 +49,11 @@ pub record AreInTurn (rows : List Row) (places : ℕ) (text : List ℕ) : Type 0
   pub text_is :
       (org ws : List ℕ) (n : ℕ) (t : Tables) → ((place : ℕ) (bytes : List ℕ) → ShowsPlace rows place bytes → piece_of org ws n place t ≡ Some bytes)
       → (text ≡ joined org ws n places t) × AreThere org ws n places t
+
+-- What joining all rows of a query promises: each shows the next place, they are so many, and the text is their bytes. A query leaves what there is.
+pub record JoinsRows {S E : Type 0} (g : Ghosts S) (sql : List ℕ) (params : Row) (places : ℕ) (old new : Held S) (result : Result (List ℕ) E) : Type 0 where
+  pub mode : old.in_transaction ≡ false → new.in_transaction ≡ false
+  pub joins : IsQuery sql → HasCleanDisk (state g new) → IfOk result (λ text. (rows : List Row) × Shown sql params (state g old) (state g new) rows × AreInTurn rows places text)
+  pub looks : IsQuery sql → OnlyLooks (state g old) (state g new) result
+  pub so_far : IsQuery sql → HasCleanDisk (state g new) → HasCleanDisk (state g old)
+  pub shield : IsQuery sql → (state g old).IsShielded → (state g new).IsShielded

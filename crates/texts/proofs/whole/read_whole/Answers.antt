@@ -10,7 +10,7 @@ returns-clause-queries g c =
     record {
       mode = c.join_rows.ensures.mode;
       sees = λ clean. (whole_read old new c.args.org.now c.args.ws.now c.args.number c.args.places c.join_rows.result
-          (rw (c.params-to_sql.ensures, c.params-to_sql-2.ensures, c.params-to_sql-3.ensures, c.get-number.ensures.value) at (c.join_rows.ensures.rows whole_is_query clean)) (c.join_rows.ensures.looks whole_is_query clean)).0;
+          (rw (c.params-to_sql.ensures, c.params-to_sql-2.ensures, c.params-to_sql-3.ensures, c.get-number.ensures.value) at (c.join_rows.ensures.joins whole_is_query clean)) (c.join_rows.ensures.looks whole_is_query clean)).0;
       so_far = c.join_rows.ensures.so_far whole_is_query;
       shield = c.join_rows.ensures.shield whole_is_query;
     }
@@ -20,4 +20,4 @@ returns-clause-there g c clean =
     let old = state g.S.Store c.args.conn.now in
     let new = state g.S.Store c.join_rows.new.conn in
     (whole_read old new c.args.org.now c.args.ws.now c.args.number c.args.places c.join_rows.result
-    (rw (c.params-to_sql.ensures, c.params-to_sql-2.ensures, c.params-to_sql-3.ensures, c.get-number.ensures.value) at (c.join_rows.ensures.rows whole_is_query clean)) (c.join_rows.ensures.looks whole_is_query clean)).1
+    (rw (c.params-to_sql.ensures, c.params-to_sql-2.ensures, c.params-to_sql-3.ensures, c.get-number.ensures.value) at (c.join_rows.ensures.joins whole_is_query clean)) (c.join_rows.ensures.looks whole_is_query clean)).1
