@@ -1,5 +1,5 @@
 //! A text is read by one query, whose rows are taken one at a time.
-ghost use Rattle.std.specs.Prelude.{◌≡◌, IfOk, OnOk};
+ghost use Rattle.std.specs.Prelude.{◌≡◌, IfOk, OnOk, option_copied};
 ghost use Rattle.sqlite_value.specs.declared.value.Value.TheVariants.{Blob};
 ghost use Rattle.sqlite_value.specs.Order.{column};
 ghost use Rattle.sqlite.specs.Values.{bound};
@@ -9,7 +9,7 @@ ghost use Rattle.statements.specs.Rows.{number};
 ghost use Rattle.statements.specs.Steps.{Equals, Sees};
 ghost use Rattle.statements.specs.Tables.{Tables, Holds};
 ghost use Rattle.texts.specs.Texts.{joined, AreThere};
-ghost use Rattle.texts.specs.Inner.Calls.{JoinsRows};
+ghost use Rattle.texts.specs.Inner.Calls.{AddsRow, JoinsRows};
 
 use basis::{Bytes, Number};
 use sqlite::types::ValueRef;
@@ -30,6 +30,18 @@ fn bytes_at(row: &Row, place: u64) -> Result<&[u8], Error>
     }
 }
 
+/// Adds the bytes that a row has beside this place to the text. It is an error where there is no row.
+fn add_row(text: &mut Vec<u8>, row: Option<&Row>, place: u64) -> Result<(), Error>
+    ensures { OnOk result (AddsRow (option_copied row.entry) place text.old.items text.new.items) }
+{
+    let Some(row) = row else {
+        return Err(Error::QueryReturnedNoRows);
+    };
+    let bytes = bytes_at(row, place)?;
+    text.extend_from_slice(bytes)?;
+    Ok(())
+}
+
 /// The bytes of all rows of a query, which has one for each place from 0 on, in turn, and so many.
 fn join_rows<S: Alter>(
     alloc: Global,
@@ -44,11 +56,8 @@ fn join_rows<S: Alter>(
     let mut text = Vec::with_capacity(alloc, size)?;
     let mut rows = conn.query(sql, params)?;
     'rows: for place in 0..places {
-        let Some(row) = rows.next()? else {
-            return Err(Error::QueryReturnedNoRows);
-        };
-        let bytes = bytes_at(row, place)?;
-        text.extend_from_slice(bytes)?;
+        let row = rows.next()?;
+        add_row(&mut text, row, place)?;
     }
     match rows.next()? {
         None => Ok(Bytes::new(text)),

@@ -1,5 +1,5 @@
 -- What calls on one page of a text change and read.
-use Rattle.std.specs.Prelude.{◌≡◌, ◌<◌, ℕ, ⊤, Bool, false, List, Option, Some, option_map, Result, IfOk, OnOk}
+use Rattle.std.specs.Prelude.{◌≡◌, ◌<◌, ◌++◌, ℕ, ⊤, Bool, false, List, Option, Some, option_map, Result, IfOk, OnOk}
 use Rattle.std.specs.List.{AllByRecursion}
 use Rattle.std.specs.Str.{bytes_eq}
 use Rattle.sqlite_value.specs.declared.value.Value.TheVariants.{Blob}
@@ -49,6 +49,15 @@ pub record AreInTurn (rows : List Row) (places : ℕ) (text : List ℕ) : Type 0
   pub text_is :
       (org ws : List ℕ) (n : ℕ) (t : Tables) → ((place : ℕ) (bytes : List ℕ) → ShowsPlace rows place bytes → piece_of org ws n place t ≡ Some bytes)
       → (text ≡ joined org ws n places t) × AreThere org ws n places t
+
+-- a row is there, it shows the place, and the bytes that it has beside it are put behind the text
+pub record AddsRow (row : Option Row) (place : ℕ) (before behind : List ℕ) : Type 0 where
+  pub one : Row
+  pub bytes : List ℕ
+  pub is_there : row ≡ Some one
+  pub place_is : column one 0 ≡ number place
+  pub bytes_are : column one 1 ≡ Blob bytes
+  pub grown : behind ≡ before ++ bytes
 
 -- What joining all rows of a query promises: each shows the next place, they are so many, and the text is their bytes. A query leaves what there is.
 pub record JoinsRows {S E : Type 0} (g : Ghosts S) (sql : List ℕ) (params : Row) (places : ℕ) (old new : Held S) (result : Result (List ℕ) E) : Type 0 where

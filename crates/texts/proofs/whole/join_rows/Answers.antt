@@ -22,31 +22,19 @@ returns-in_err-row g c =
     let now = c.next.follows.lender-at-none.conn.now in
     joins_failed g.S.Store _ _ c.args.conn.now _ _ _ c.rows.invariant.1 now moved.mode moved.survives _ _ _ _ c.from_residual-in_err-row.ensures.0 (search rules) (λ clean. rw c.in_err-row.was at (moved.kept clean))
 
-pub returns-in_default : goal.returns-in_default
-returns-in_default g c =
+pub returns-in_err-add_row : goal.returns-in_err-add_row
+returns-in_err-add_row g c =
     let moved = c.next.follows.holds-at-none in
     let now = c.next.follows.lender-at-none.conn.now in
-    joins_stopped g.S.Store _ _ c.args.conn.now _ _ _ c.rows.invariant.1 now moved.mode moved.survives _ (Err QueryReturnedNoRows) _ refl (search rules) (λ clean. rw c.in_ok-row.was at (moved.same clean))
-
-pub returns-in_err-bytes : goal.returns-in_err-bytes
-returns-in_err-bytes g c =
-    let moved = c.next.follows.holds-at-none in
-    let now = c.next.follows.lender-at-none.conn.now in
-    joins_stopped g.S.Store _ _ c.args.conn.now _ _ _ c.rows.invariant.1 now moved.mode moved.survives _ _ _ c.from_residual-in_err-bytes.ensures.0 (search rules) (λ clean. rw c.in_ok-row.was at (moved.same clean))
-
-pub returns-in_err-extend_from_slice : goal.returns-in_err-extend_from_slice
-returns-in_err-extend_from_slice g c =
-    let moved = c.next.follows.holds-at-none in
-    let now = c.next.follows.lender-at-none.conn.now in
-    joins_stopped g.S.Store _ _ c.args.conn.now _ _ _ c.rows.invariant.1 now moved.mode moved.survives _ _ _ c.from_residual-in_err-extend_from_slice.ensures.0 (search rules) (λ clean. rw c.in_ok-row.was at (moved.same clean))
+    joins_stopped g.S.Store _ _ c.args.conn.now _ _ _ c.rows.invariant.1 now moved.mode moved.survives _ _ _ c.from_residual-in_err-add_row.ensures.0 (search rules) (λ clean. rw c.in_ok-row.was at (moved.same clean))
 
 pub rows-preserved : goal.rows-preserved
 rows-preserved g c =
     let moved = c.next.follows.holds-at-none in
-    let now = c.next.follows.lender-at-none.conn.now in (
+    let now = c.next.follows.lender-at-none.conn.now in
+    let added = c.in_ok-add_row.ensures in (
       moved.same_reference ∙ c.rows.invariant.0,
-      more_in_turn g.S.Store _ _ c.args.conn.now _ _ _ c.rows.invariant.1 now moved.mode moved.survives c.in-Some.row.now (λ clean. rw (c.in_ok-row.was, c.in-Some.is) at (moved.ok clean)) (λ clean. rw c.in_ok-row.was at (moved.same clean))
-          c.in_ok-bytes.bytes.now _ c.in_ok-bytes.ensures.place c.in_ok-bytes.ensures.bytes c.in_ok-extend_from_slice.ensures.items,
+      more_in_turn g.S.Store _ _ c.args.conn.now _ _ _ c.rows.invariant.1 now moved.mode moved.survives added.one (λ clean. rw (c.in_ok-row.was, added.is_there) at (moved.ok clean)) (λ clean. rw c.in_ok-row.was at (moved.same clean)) added.bytes _ added.place_is added.bytes_are added.grown,
     )
 
 pub returns-in_err-next : goal.returns-in_err-next
@@ -62,8 +50,8 @@ returns-in-None g c =
     let end : c.rows.place ≡ c.args.places = omega (arith, c.rows.auto.place-end, c.rows-test.false) in
     joins_all g.S.Store _ _ c.args.conn.now _ _ _ c.rows.invariant.1 now moved.mode moved.survives _ c.new.result _ (search rules) end c.new.ensures (λ clean. rw (c.in_ok-next.was, c.in-None.is) at (moved.ok clean)) (λ clean. rw c.in_ok-next.was at (moved.same clean))
 
-pub returns-in-Some-2 : goal.returns-in-Some-2
-returns-in-Some-2 g c =
+pub returns-in-Some : goal.returns-in-Some
+returns-in-Some g c =
     let moved = c.next-2.follows.holds-at-none in
     let now = c.next-2.follows.lender-at-none.conn.now in
     joins_stopped g.S.Store _ _ c.args.conn.now _ _ _ c.rows.invariant.1 now moved.mode moved.survives _ (Err QueryReturnedNoRows) _ refl (search rules) (λ clean. rw c.in_ok-next.was at (moved.same clean))
