@@ -2,7 +2,7 @@
 ghost use Rattle.std.specs.Prelude.{◌≡◌, ◌≤◌, Option, Some, None, IfOk, IsErrOf, option_map, option_and_then, IfSome};
 ghost use Rattle.basis.specs.Numbers.{whole_of, within};
 ghost use Rattle.clap.specs.Words.{found_of};
-ghost use Rattle.command_line.specs.Orders.{limit_or_first, command_on, command_in, token_in, token_asked, seconds_or, timeouts_asked, serving_asked, copy_in, copying_asked, compacting_asked, file_asked, asked_with, flag_of, given_found, given_of, text_in, said_by, with_secret, port_of, connections_of, carries};
+ghost use Rattle.command_line.specs.Orders.{limit_or_first, command_on, command_in, token_in, token_asked, seconds_or, timeouts_asked, serving_asked, copy_in, copying_asked, compacting_asked, adds_token, file_asked, asked_with, flag_of, given_found, given_of, text_in, said_by, with_secret, port_of, connections_of, carries};
 ghost use Rattle.command_line.specs.Bounds.{bounds_given};
 ghost use Rattle.command_line.specs.Commands.{limit_of, limit_command, revoke_command};
 
@@ -340,6 +340,14 @@ fn compacting<'a>(db: &'a str, to: Option<&'a str>) -> Option<Order<'a>>
     Some(Order::Compact { from: db, to })
 }
 
+fn adding<'a>(alloc: Global, db: &'a str, values: &Values<'a>) -> Result<Order<'a>, Unfit>
+    ensures ok { IfOk result (λ order. option_map (λ token. adds_token db.entry.now token.org token.name token.role token.bounds) (token_asked (given_of values.now)) ≡ Some (said_by order)) }
+    ensures syntax { IsErrOf result Unfit.Syntax → option_map (λ token. adds_token db.entry.now token.org token.name token.role token.bounds) (token_asked (given_of values.now)) ≡ None }
+{
+    let token = new_token(alloc, values)?;
+    Ok(Order::AddToken { db, token })
+}
+
 fn on_file<'a>(
     alloc: Global,
     command: &str,
@@ -354,10 +362,7 @@ fn on_file<'a>(
         "check" => Ok(Order::Check { db }),
         "org-copy" => copying(alloc, db, values),
         "compact" => compacting(db, values.to).ok_or(Unfit::Syntax),
-        "token-add" => Ok(Order::AddToken {
-            db,
-            token: new_token(alloc, values)?,
-        }),
+        "token-add" => adding(alloc, db, values),
         _ => carrying(alloc, command, db, values),
     }
 }

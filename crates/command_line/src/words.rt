@@ -79,22 +79,29 @@ fn token_name<'a>(alloc: Global) -> Arg<'a>
     value(alloc, "name", "NAME", help)
 }
 
-fn command<'a>(alloc: Global, name: &'a str, about: &'a str) -> Command<'a>
-    ensures { IsCommand result (new_app name.entry.now) }
+fn command<'a>(alloc: Global, name: &'a str, about: &'a str) -> Result<Command<'a>, AllocError>
+    ensures { IfOk result (λ made. IsCommand made (new_app name.entry.now)) }
 {
-    Command::new(alloc, name).about(about)
+    Ok(Command::new(alloc, name).about(about))
 }
 
-fn with_arg<'a>(command: Command<'a>, arg: Arg<'a>) -> Result<Command<'a>, AllocError>
-    ensures { (app : App) (rule : Rule) → IsCommand command.entry app → IsArg arg.entry rule → IfOk result (λ whole. IsCommand whole (with_rule app rule)) }
+// Commands are handed on as results: where there was no memory for one it stays so, and only the next two functions let go of anything.
+fn with_arg<'a>(
+    command: Result<Command<'a>, AllocError>,
+    arg: Arg<'a>,
+) -> Result<Command<'a>, AllocError>
+    ensures { (app : App) (rule : Rule) → IfOk command.entry (λ it. IsCommand it app) → IsArg arg.entry rule → IfOk result (λ whole. IsCommand whole (with_rule app rule)) }
 {
-    command.arg(arg)
+    command?.arg(arg)
 }
 
-fn with_command<'a>(command: Command<'a>, one: Command<'a>) -> Result<Command<'a>, AllocError>
-    ensures { (app : App) (sub : App) → IsCommand command.entry app → IsCommand one.entry sub → IfOk result (λ whole. IsCommand whole (with_subcommand app sub.top)) }
+fn with_command<'a>(
+    command: Result<Command<'a>, AllocError>,
+    one: Result<Command<'a>, AllocError>,
+) -> Result<Command<'a>, AllocError>
+    ensures { (app : App) (sub : App) → IfOk command.entry (λ it. IsCommand it app) → IfOk one.entry (λ it. IsCommand it sub) → IfOk result (λ whole. IsCommand whole (with_subcommand app sub.top)) }
 {
-    command.subcommand(one)
+    command?.subcommand(one?)
 }
 
 fn org_add<'a>(alloc: Global) -> Result<Command<'a>, AllocError>
@@ -102,8 +109,8 @@ fn org_add<'a>(alloc: Global) -> Result<Command<'a>, AllocError>
 {
     let help = "How many workspaces it may have: 0 to 100000; 200 without";
     let bare = command(alloc, "org-add", "Adds an organization");
-    let on_file = with_arg(bare, database(alloc))?;
-    let limited = with_arg(on_file, option(alloc, "limit", false, "N", help))?;
+    let on_file = with_arg(bare, database(alloc));
+    let limited = with_arg(on_file, option(alloc, "limit", false, "N", help));
     with_arg(limited, organization(alloc))
 }
 
@@ -113,8 +120,8 @@ fn org_limit<'a>(alloc: Global) -> Result<Command<'a>, AllocError>
     let about = "Sets how many workspaces an organization may have";
     let help = "How many workspaces it may have: 0 to 100000; what there is stays";
     let bare = command(alloc, "org-limit", about);
-    let on_file = with_arg(bare, database(alloc))?;
-    let of_one = with_arg(on_file, organization(alloc))?;
+    let on_file = with_arg(bare, database(alloc));
+    let of_one = with_arg(on_file, organization(alloc));
     with_arg(of_one, value(alloc, "limit", "N", help))
 }
 
@@ -123,8 +130,8 @@ fn org_copy<'a>(alloc: Global) -> Result<Command<'a>, AllocError>
 {
     let about = "Copies an organization, with all that it has, to another file";
     let bare = command(alloc, "org-copy", about);
-    let on_file = with_arg(bare, database(alloc))?;
-    let to_another = with_arg(on_file, target(alloc))?;
+    let on_file = with_arg(bare, database(alloc));
+    let to_another = with_arg(on_file, target(alloc));
     with_arg(to_another, organization(alloc))
 }
 
@@ -134,8 +141,8 @@ fn org_remove<'a>(alloc: Global) -> Result<Command<'a>, AllocError>
     let about = "Removes an organization, with all that it has";
     let help = "Also where a lock holds or a run is open";
     let bare = command(alloc, "org-remove", about);
-    let on_file = with_arg(bare, database(alloc))?;
-    let forcing = with_arg(on_file, flag(alloc, "force", help))?;
+    let on_file = with_arg(bare, database(alloc));
+    let forcing = with_arg(on_file, flag(alloc, "force", help));
     with_arg(forcing, organization(alloc))
 }
 
@@ -154,21 +161,24 @@ fn token_add<'a>(alloc: Global) -> Result<Command<'a>, AllocError>
         "Adds a token; its secret, 16 to 64 ASCII letters or digits, is the line of standard input";
     let help = "What the token may do: read, write or admin";
     let bare = command(alloc, "token-add", about);
-    let on_file = with_arg(bare, database(alloc))?;
-    let bounded = with_bounds(alloc, on_file)?;
-    let of_one = with_arg(bounded, organization(alloc))?;
-    let named = with_arg(of_one, token_name(alloc))?;
+    let on_file = with_arg(bare, database(alloc));
+    let bounded = with_bounds(alloc, on_file);
+    let of_one = with_arg(bounded, organization(alloc));
+    let named = with_arg(of_one, token_name(alloc));
     with_arg(named, value(alloc, "role", "ROLE", help))
 }
 
-fn with_bounds<'a>(alloc: Global, bare: Command<'a>) -> Result<Command<'a>, AllocError>
-    ensures { (app : App) → IsCommand bare.entry app → IfOk result (λ whole. IsCommand whole (with_bounds app)) }
+fn with_bounds<'a>(
+    alloc: Global,
+    bare: Result<Command<'a>, AllocError>,
+) -> Result<Command<'a>, AllocError>
+    ensures { (app : App) → IfOk bare.entry (λ it. IsCommand it app) → IfOk result (λ whole. IsCommand whole (with_bounds app)) }
 {
     let until_help =
         "From this moment on the token doesn't count, in seconds since 1970: 0 to 253402300799; without, it doesn't end";
     let prefix_help =
         "The token counts for the workspaces whose names begin so: 0 to 90 ASCII letters, digits, '-' and '_'; without, for each";
-    let ending = with_arg(bare, option(alloc, "until", false, "SECONDS", until_help))?;
+    let ending = with_arg(bare, option(alloc, "until", false, "SECONDS", until_help));
     with_arg(ending, option(alloc, "prefix", false, "TEXT", prefix_help))
 }
 
@@ -178,7 +188,7 @@ fn token_list<'a>(alloc: Global) -> Result<Command<'a>, AllocError>
     let about =
         "Lists an organization's tokens: a line `NAME ROLE UNTIL PREFIX` each, '-' for no end and for every workspace";
     let bare = command(alloc, "token-list", about);
-    let on_file = with_arg(bare, database(alloc))?;
+    let on_file = with_arg(bare, database(alloc));
     with_arg(on_file, organization(alloc))
 }
 
@@ -186,8 +196,8 @@ fn token_revoke<'a>(alloc: Global) -> Result<Command<'a>, AllocError>
     ensures { IfOk result (λ command. IsCommand command token_revoke) }
 {
     let bare = command(alloc, "token-revoke", "Takes a token away");
-    let on_file = with_arg(bare, database(alloc))?;
-    let of_one = with_arg(on_file, organization(alloc))?;
+    let on_file = with_arg(bare, database(alloc));
+    let of_one = with_arg(on_file, organization(alloc));
     with_arg(of_one, token_name(alloc))
 }
 
@@ -198,30 +208,36 @@ fn serve<'a>(alloc: Global) -> Result<Command<'a>, AllocError>
     let port_help = "The TCP port of 127.0.0.1: 1 to 65535";
     let count_help = "How many connections are answered, one after the other: 1 to 1000000";
     let bare = command(alloc, "serve", about);
-    let on_file = with_arg(bare, database(alloc))?;
-    let at_port = with_arg(on_file, option(alloc, "port", true, "P", port_help))?;
-    let counted = with_arg(at_port, option(alloc, "count", true, "N", count_help))?;
-    let timed = with_timeouts(alloc, counted)?;
+    let on_file = with_arg(bare, database(alloc));
+    let at_port = with_arg(on_file, option(alloc, "port", true, "P", port_help));
+    let counted = with_arg(at_port, option(alloc, "count", true, "N", count_help));
+    let timed = with_timeouts(alloc, counted);
     with_flags(alloc, timed)
 }
 
-fn with_flags<'a>(alloc: Global, bare: Command<'a>) -> Result<Command<'a>, AllocError>
-    ensures { (app : App) → IsCommand bare.entry app → IfOk result (λ whole. IsCommand whole (with_flags app)) }
+fn with_flags<'a>(
+    alloc: Global,
+    bare: Result<Command<'a>, AllocError>,
+) -> Result<Command<'a>, AllocError>
+    ensures { (app : App) → IfOk bare.entry (λ it. IsCommand it app) → IfOk result (λ whole. IsCommand whole (with_flags app)) }
 {
     let log_help = "Prints a line of JSON for each exchange on standard output";
     let check_help =
         "Looks for faults in the file's tables first, and answers nothing where there are some";
-    let logging = with_arg(bare, flag(alloc, "log", log_help))?;
+    let logging = with_arg(bare, flag(alloc, "log", log_help));
     with_arg(logging, flag(alloc, "check", check_help))
 }
 
-fn with_timeouts<'a>(alloc: Global, bare: Command<'a>) -> Result<Command<'a>, AllocError>
-    ensures { (app : App) → IsCommand bare.entry app → IfOk result (λ whole. IsCommand whole (with_timeouts app)) }
+fn with_timeouts<'a>(
+    alloc: Global,
+    bare: Result<Command<'a>, AllocError>,
+) -> Result<Command<'a>, AllocError>
+    ensures { (app : App) → IfOk bare.entry (λ it. IsCommand it app) → IfOk result (λ whole. IsCommand whole (with_timeouts app)) }
 {
     let idle_help =
         "A read or a write that gets nothing through for so long ends its connection: 1 to 3600; 10 without";
     let most_help = "A connection that lasts longer is ended: 1 to 3600; 120 without";
-    let waiting = with_arg(bare, option(alloc, "idle", false, "SECONDS", idle_help))?;
+    let waiting = with_arg(bare, option(alloc, "idle", false, "SECONDS", idle_help));
     with_arg(waiting, option(alloc, "most", false, "SECONDS", most_help))
 }
 
@@ -240,12 +256,12 @@ fn compact<'a>(alloc: Global) -> Result<Command<'a>, AllocError>
     let about =
         "Copies every organization to another file; one that is there already stays as it is";
     let bare = command(alloc, "compact", about);
-    let on_file = with_arg(bare, database(alloc))?;
+    let on_file = with_arg(bare, database(alloc));
     with_arg(on_file, target(alloc))
 }
 
-fn replay<'a>(alloc: Global) -> Command<'a>
-    ensures { IsCommand result replay }
+fn replay<'a>(alloc: Global) -> Result<Command<'a>, AllocError>
+    ensures { IfOk result (λ command. IsCommand command replay) }
 {
     let about = "Answers frames of standard input over a database in memory";
     command(alloc, "replay", about)
@@ -262,39 +278,48 @@ fn bare<'a>(alloc: Global) -> Result<Command<'a>, AllocError>
         .bin_name("custody")
 }
 
-fn with_organizations<'a>(alloc: Global, bare: Command<'a>) -> Result<Command<'a>, AllocError>
-    ensures { (app : App) → IsCommand bare.entry app → IfOk result (λ whole. IsCommand whole (with_organizations app)) }
+fn with_organizations<'a>(
+    alloc: Global,
+    bare: Result<Command<'a>, AllocError>,
+) -> Result<Command<'a>, AllocError>
+    ensures { (app : App) → IfOk bare.entry (λ it. IsCommand it app) → IfOk result (λ whole. IsCommand whole (with_organizations app)) }
 {
-    let adding = with_command(bare, org_add(alloc)?)?;
-    let limiting = with_command(adding, org_limit(alloc)?)?;
-    let copying = with_command(limiting, org_copy(alloc)?)?;
-    let removing = with_command(copying, org_remove(alloc)?)?;
-    with_command(removing, org_list(alloc)?)
+    let adding = with_command(bare, org_add(alloc));
+    let limiting = with_command(adding, org_limit(alloc));
+    let copying = with_command(limiting, org_copy(alloc));
+    let removing = with_command(copying, org_remove(alloc));
+    with_command(removing, org_list(alloc))
 }
 
-fn with_tokens<'a>(alloc: Global, bare: Command<'a>) -> Result<Command<'a>, AllocError>
-    ensures { (app : App) → IsCommand bare.entry app → IfOk result (λ whole. IsCommand whole (with_tokens app)) }
+fn with_tokens<'a>(
+    alloc: Global,
+    bare: Result<Command<'a>, AllocError>,
+) -> Result<Command<'a>, AllocError>
+    ensures { (app : App) → IfOk bare.entry (λ it. IsCommand it app) → IfOk result (λ whole. IsCommand whole (with_tokens app)) }
 {
-    let adding = with_command(bare, token_add(alloc)?)?;
-    let listing = with_command(adding, token_list(alloc)?)?;
-    with_command(listing, token_revoke(alloc)?)
+    let adding = with_command(bare, token_add(alloc));
+    let listing = with_command(adding, token_list(alloc));
+    with_command(listing, token_revoke(alloc))
 }
 
-fn with_running<'a>(alloc: Global, bare: Command<'a>) -> Result<Command<'a>, AllocError>
-    ensures { (app : App) → IsCommand bare.entry app → IfOk result (λ whole. IsCommand whole (with_running app)) }
+fn with_running<'a>(
+    alloc: Global,
+    bare: Result<Command<'a>, AllocError>,
+) -> Result<Command<'a>, AllocError>
+    ensures { (app : App) → IfOk bare.entry (λ it. IsCommand it app) → IfOk result (λ whole. IsCommand whole (with_running app)) }
 {
-    let serving = with_command(bare, serve(alloc)?)?;
-    let checking = with_command(serving, check(alloc)?)?;
-    let compacting = with_command(checking, compact(alloc)?)?;
+    let serving = with_command(bare, serve(alloc));
+    let checking = with_command(serving, check(alloc));
+    let compacting = with_command(checking, compact(alloc));
     with_command(compacting, replay(alloc))
 }
 
 fn custody<'a>(alloc: Global) -> Result<Command<'a>, AllocError>
     ensures { IfOk result (λ whole. app_of whole ≡ custody) }
 {
-    let bare = bare(alloc)?;
-    let organizations = with_organizations(alloc, bare)?;
-    let tokens = with_tokens(alloc, organizations)?;
+    let bare = bare(alloc);
+    let organizations = with_organizations(alloc, bare);
+    let tokens = with_tokens(alloc, organizations);
     with_running(alloc, tokens)
 }
 
@@ -350,11 +375,11 @@ pub fn read_words<'a>(alloc: Global, words: &'a [String]) -> Result<Order<'a>, U
     ensures asked { IfOk result (λ order. asked_in (words_bytes words.entry.now) ≡ Some (said_by order)) }
     ensures why { IfErr result (IsWhy (words_bytes words.entry.now)) }
 {
-    let matches = match matched(alloc, words) {
-        Ok(matches) => matches,
+    let found = match matched(alloc, words) {
+        Ok(matches) => ordered(alloc, &matches),
         Err(error) => return Err(unmatched(alloc, error)),
     };
-    match ordered(alloc, &matches) {
+    match found {
         Ok(order) => Ok(order),
         Err(Unfit::Syntax) => Err(Unasked::Value),
         Err(Unfit::Down) => Err(Unasked::Down),

@@ -2,5 +2,5 @@ use Rattle.command_line.proofs.words.compact.Goals as goal
 
 pub returns : goal.returns
 returns c =
-    let first = c.in_ok-on_file.ensures _ _ c.command-bare.ensures c.database.ensures in
-    c.with_arg-2.ensures _ _ first c.target.ensures
+    let first = c.with_arg-on_file.ensures _ _ c.command-bare.ensures c.database.ensures in
+    c.with_arg.ensures _ _ first c.target.ensures

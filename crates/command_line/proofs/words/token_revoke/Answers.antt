@@ -2,6 +2,6 @@ use Rattle.command_line.proofs.words.token_revoke.Goals as goal
 
 pub returns : goal.returns
 returns c =
-    let first = c.in_ok-on_file.ensures _ _ c.command-bare.ensures c.database.ensures in
-    let second = c.in_ok-of_one.ensures _ _ first c.organization.ensures in
-    c.with_arg-3.ensures _ _ second c.token_name.ensures
+    let first = c.with_arg-on_file.ensures _ _ c.command-bare.ensures c.database.ensures in
+    let second = c.with_arg-of_one.ensures _ _ first c.organization.ensures in
+    c.with_arg.ensures _ _ second c.token_name.ensures

@@ -5,4 +5,5 @@ use Rattle.command_line.proofs.words.with_arg.Goals as goal
 
 pub returns : goal.returns
 returns c app rule is_app is_rule =
-    IfOk-weaker c.arg.result _ _ (λ whole added. (added.shape is_rule.1 ∙ ap₂ with_rule is_app.0 is_rule.0, added.globals ∙ ap₂ ◌||◌ is_app.1 is_rule.1)) c.arg.ensures
+    let before = rw c.in_ok-command.was at is_app in
+    IfOk-weaker c.arg.result _ _ (λ whole added. (added.shape is_rule.1 ∙ ap₂ with_rule before.0 is_rule.0, added.globals ∙ ap₂ ◌||◌ before.1 is_rule.1)) c.arg.ensures

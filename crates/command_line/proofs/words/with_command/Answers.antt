@@ -5,4 +5,6 @@ use Rattle.command_line.proofs.words.with_command.Goals as goal
 
 pub returns : goal.returns
 returns c app sub is_app is_sub =
-    IfOk-weaker c.subcommand.result _ _ (λ whole added. (added.shape is_sub.1 ∙ ap₂ with_subcommand is_app.0 (ap (λ (a : App). a.top) is_sub.0), added.globals ∙ ap₂ ◌||◌ is_app.1 is_sub.1)) c.subcommand.ensures
+    let before = rw c.in_ok-command.was at is_app in
+    let one = rw c.in_ok-one.was at is_sub in
+    IfOk-weaker c.subcommand.result _ _ (λ whole added. (added.shape one.1 ∙ ap₂ with_subcommand before.0 (ap (λ (a : App). a.top) one.0), added.globals ∙ ap₂ ◌||◌ before.1 one.1)) c.subcommand.ensures

@@ -2,7 +2,7 @@ use Rattle.command_line.proofs.words.with_running.Goals as goal
 
 pub returns : goal.returns
 returns c app is_app =
-    let first = c.in_ok-serving.ensures _ _ is_app c.in_ok-serve.ensures in
-    let second = c.in_ok-checking.ensures _ _ first c.in_ok-check.ensures in
-    let third = c.in_ok-compacting.ensures _ _ second c.in_ok-compact.ensures in
-    c.with_command-4.ensures _ _ third c.replay.ensures
+    let first = c.with_command-serving.ensures _ _ is_app c.serve.ensures in
+    let second = c.with_command-checking.ensures _ _ first c.check.ensures in
+    let third = c.with_command-compacting.ensures _ _ second c.compact.ensures in
+    c.with_command.ensures _ _ third c.replay.ensures

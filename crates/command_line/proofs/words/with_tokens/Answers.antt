@@ -2,6 +2,6 @@ use Rattle.command_line.proofs.words.with_tokens.Goals as goal
 
 pub returns : goal.returns
 returns c app is_app =
-    let first = c.in_ok-adding.ensures _ _ is_app c.in_ok-token_add.ensures in
-    let second = c.in_ok-listing.ensures _ _ first c.in_ok-token_list.ensures in
-    c.with_command-3.ensures _ _ second c.in_ok-token_revoke.ensures
+    let first = c.with_command-adding.ensures _ _ is_app c.token_add.ensures in
+    let second = c.with_command-listing.ensures _ _ first c.token_list.ensures in
+    c.with_command.ensures _ _ second c.token_revoke.ensures
