@@ -20,13 +20,13 @@ use Rattle.sqlite.specs.Effect.{Database, value_rows}
 use Rattle.sqlite.specs.Rows.{stamped}
 use Rattle.sqlite.specs.State.{State, Executes}
 use Rattle.statements.specs.Place.{tree_of, StandsAt, IsOwn, AreOwn}
-use Rattle.statements.specs.Rows.{Kept, id_of, PageRow, VpageRow, stored}
+use Rattle.statements.specs.Rows.{Kept, id_of, stored}
 use Rattle.statements.specs.declared.making.TheConstants.{NEWEST}
 use Rattle.statements.specs.Tables.{count_in, Tables, Holds, HoldsAll, HoldsIn, HasRows, StoredTable, stored_tables, version_tables, tables_in, our_tables, rowid_of}
 use Rattle.statements.specs.Steps.{LeavesBeside, LeavesForeign}
 use Rattle.statements.specs.Inner.Making.{Moved}
 use Rattle.statements.proofs.Counts.{get_take}
-use Rattle.statements.proofs.Held.{Ours, IsHeld, held, followed, our_follow, pages, vpages, with_rows, rows_keyed, holds_all, tables_taken, own_in, apart_both}
+use Rattle.statements.proofs.Held.{Ours, IsHeld, held, followed, our_follow, with_rows, rows_keyed, holds_all, tables_taken, own_in, apart_both}
 use Rattle.statements.proofs.Follows.{IsFollowing, AllFollow, follows_by}
 use Rattle.statements.proofs.Meaning.{Means}
 use Rattle.statements.proofs.Writes.{plain_program}
@@ -168,18 +168,8 @@ module _ (old new : Database) (same : new.schema ≡ old.schema) where
         (subst (AllByRecursion (Keeps)) (sym (tables_taken k t)) all) in
         (it.0, subst (λ l. LeavesBeside l old new) (tables_taken k t) it.1)
 
-    abbrev pub Written : Type 0
-    Written = IsWritten → IsKeyedBy id_of xs → Turns old new (x.put xs t)
-
     written : Holds old t → FollowersStay → IsWritten → IsKeyedBy id_of xs → Turns old new (x.put xs t)
     written h stay w keyed = let it = written_in (count_in NEWEST) x.low (holds_all old t h) stay w keyed in (record { ours = it.0.own; rows = it.0.rows }, it.1)
-
-  module _ (t : Tables) (h : Holds old t) where
-    pub pages_written : (xs : List (Kept PageRow)) → Written pages t xs
-    pages_written xs = written pages t xs h tt
-
-    pub vpages_written : (xs : List (Kept VpageRow)) → Written vpages t xs
-    vpages_written xs = written vpages t xs h tt
 
 -- ---- what a text does
 

@@ -8,18 +8,14 @@ use Rattle.sqlite_sql.specs.declared.ops.BinaryOp.TheVariants.{Compare}
 use Rattle.sqlite_sql.specs.Ops.{is_true, binary}
 use Rattle.sqlite_typed.proofs.TestLemmas.{then_term, last_term}
 use Rattle.sqlite.specs.State.{State, Executes}
-use Rattle.sqlite_keyed.proofs.KeyedLemmas.{IsKeyedBy-delete_where}
-use Rattle.statements.specs.Place.{tree_of}
-use Rattle.statements.specs.Schema.{vpage_table}
-use Rattle.statements.specs.Rows.{id_of, VpageRow, vpage_cells, number}
-use Rattle.statements.specs.Tables.{Tables, Holds, vpage_layout}
-use Rattle.statements.proofs.Held.{IsHeld, vpages_held}
-use Rattle.statements.proofs.Own.{delete_own, insert_own, keyed_next}
+use Rattle.statements.specs.Rows.{number}
+use Rattle.statements.specs.Tables.{Tables, Holds}
+use Rattle.statements.proofs.Held.{vpages}
 use Rattle.statements.proofs.Casts.{vpage_casts}
 use Rattle.statements.proofs.Conditions.{same_text, same_number}
-use Rattle.statements.proofs.Frames.{Turns, vpages_written}
+use Rattle.statements.proofs.Frames.{Turns, deleted, inserted}
 use Rattle.texts.specs.Texts.{is_place, place_added, place_removed}
-use Rattle.texts.proofs.PlaceTexts.{add_place_text, add_place_means, add_place_terms, remove_place_text, remove_place_means, remove_place_query}
+use Rattle.texts.proofs.PlaceTexts.{add_place_text, add_place_means, remove_place_text, remove_place_means}
 
 -- WHERE of a place of a version
 pub two_texts_two_numbers : (a b c d : List ℕ) (m n p q : ℕ)
@@ -28,20 +24,9 @@ pub two_texts_two_numbers : (a b c d : List ℕ) (m n p q : ℕ)
 two_texts_two_numbers a b c d m n p q = then_term (same_text a b) (then_term (same_text c d) (then_term (same_number m n) (last_term (same_number p q))))
 
 module _ (old new : State) (count : ℕ) (t : Tables) (h : Holds old.now t) where
-  abbrev held : IsHeld vpage_layout old.now t.vpages
-  held = vpages_held old.now t h
-
   pub add_place_does : (org ws : List ℕ) (n place : ℕ) (key : List ℕ) (twin : ℕ) → Executes add_place_text (Text org ∷ Text ws ∷ number n ∷ number place ∷ Blob key ∷ number twin ∷ []) old new (Ok count)
       → Turns old.now new.now (place_added org ws n place key twin t)
-  add_place_does org ws n place key twin ran =
-      let row : VpageRow = record { org = org; ws = ws; number = n; place = place; key = key; twin = twin } in
-      let left = insert_own vpage_cells vpage_table vpage_casts old new held.own held.steady t.vpages held.rows held.keyed add_place_text (Text org ∷ Text ws ∷ number n ∷ number place ∷ Blob key ∷ number twin ∷ []) count ran
-      add_place_terms 7 (add_place_means old.now.schema _ _ held.own.place) refl refl row refl in
-      vpages_written old.now new.now left.1 t h _ left.0 (keyed_next t.vpages row held.keyed)
+  add_place_does org ws n place key twin ran = inserted vpages vpage_casts old new count t h _ _ ran (add_place_means old.now.schema) refl refl (record { org = org; ws = ws; number = n; place = place; key = key; twin = twin }) refl
 
   pub remove_place_does : (org ws : List ℕ) (n place : ℕ) → Executes remove_place_text (Text org ∷ Text ws ∷ number n ∷ number place ∷ []) old new (Ok count) → Turns old.now new.now (place_removed org ws n place t)
-  remove_place_does org ws n place ran =
-      let left = delete_own vpage_cells vpage_table vpage_casts old new held.own held.steady t.vpages held.rows held.keyed remove_place_text (Text org ∷ Text ws ∷ number n ∷ number place ∷ []) count ran
-      (remove_place_query (tree_of old.now.schema vpage_table.name)) (remove_place_means old.now.schema _ _ held.own.place) refl refl refl (λ rows. refl)
-      (is_place org ws n place) (λ x. two_texts_two_numbers x.1.org org x.1.ws ws x.1.number n x.1.place place) (λ x. refl) in
-      vpages_written old.now new.now left.1 t h _ left.0 (IsKeyedBy-delete_where id_of (is_place org ws n place) t.vpages held.keyed)
+  remove_place_does org ws n place ran = deleted vpages vpage_casts old new count t h _ _ ran (remove_place_means old.now.schema) (is_place org ws n place) (λ x. two_texts_two_numbers x.1.org org x.1.ws ws x.1.number n x.1.place place) tt

@@ -1,24 +1,16 @@
 use Rattle.std.proofs.Common.{pos, w64}
 use Rattle.std.proofs.lemmas.Int.{to_z-of_z}
 use Rattle.sqlite.specs.Held.{state}
-use Rattle.statements.proofs.Transactions.{moves_by}
-use Rattle.pages.specs.Rows.{page_removed}
+use Rattle.statements.proofs.Transactions.{writes_by}
 use Rattle.pages.proofs.PageTexts.{remove_page_text}
 use Rattle.pages.proofs.PageWrites.{remove_page_does}
 use Rattle.pages.proofs.Referring.{spared_by, removed_is_sound}
 use Rattle.pages.proofs.rows.remove.Goals as goal
 
 pub returns-clause-writes : goal.returns-clause-writes
-returns-clause-writes g c = record {
-  same_reference = c.write.ensures.same_reference;
-  changed = λ clean inside.
-      let old = state g.S.Store c.args.tx.now.conn.now in
-      let new = state g.S.Store c.write.new.tx.conn.now in
-      moves_by (page_removed c.args.key.now c.args.twin) old new remove_page_text _ c.write.result
-      (rw (c.params-to_sql.ensures, c.params-to_sql-2.ensures, c.signed-twin.ensures, to_z-of_z w64 (pos c.args.twin) (record { sfits = c.requires.twin_fits })) at (c.write.ensures.runs clean inside))
-      (λ count t holds ran. remove_page_does old new count t holds c.args.key.now c.args.twin ran);
-  survives = c.write.ensures.survives;
-}
+returns-clause-writes g c =
+    writes_by _ _ (c.write.ensures.same_reference, (λ clean inside. rw (c.params-to_sql.ensures, c.params-to_sql-2.ensures, c.signed-twin.ensures, to_z-of_z w64 (pos c.args.twin) (record { sfits = c.requires.twin_fits })) at (c.write.ensures.runs clean inside)), c.write.ensures.survives)
+    (λ count t holds. remove_page_does _ _ count t holds c.args.key.now c.args.twin)
 
 pub returns-clause-spares : goal.returns-clause-spares
 returns-clause-spares g c clean inside =

@@ -1,24 +1,16 @@
 use Rattle.std.proofs.Common.{pos, w64}
 use Rattle.std.proofs.lemmas.Int.{to_z-of_z}
 use Rattle.sqlite.specs.Held.{state}
-use Rattle.statements.proofs.Transactions.{moves_by}
-use Rattle.pages.specs.Rows.{page_used}
+use Rattle.statements.proofs.Transactions.{writes_by}
 use Rattle.pages.proofs.PageTexts.{set_page_uses_text}
 use Rattle.pages.proofs.PageWrites.{set_page_uses_does}
 use Rattle.pages.proofs.Referring.{spared_by, used_is_sound}
 use Rattle.pages.proofs.rows.set_uses.Goals as goal
 
 pub returns-clause-writes : goal.returns-clause-writes
-returns-clause-writes g c = record {
-  same_reference = c.write.ensures.same_reference;
-  changed = λ clean inside.
-      let old = state g.S.Store c.args.tx.now.conn.now in
-      let new = state g.S.Store c.write.new.tx.conn.now in
-      moves_by (page_used c.args.key.now c.args.twin c.args.uses) old new set_page_uses_text _ c.write.result
-      (rw (c.params-to_sql.ensures, c.params-to_sql-2.ensures, c.params-to_sql-3.ensures, c.signed-twin.ensures, to_z-of_z w64 (pos c.args.twin) (record { sfits = c.requires.twin_fits }), c.signed-uses.ensures, to_z-of_z w64 (pos c.args.uses) (record { sfits = c.requires.uses_fit })) at (c.write.ensures.runs clean inside))
-      (λ count t holds ran. set_page_uses_does old new count t holds c.args.key.now c.args.twin c.args.uses ran);
-  survives = c.write.ensures.survives;
-}
+returns-clause-writes g c =
+    writes_by _ _ (c.write.ensures.same_reference, (λ clean inside. rw (c.params-to_sql.ensures, c.params-to_sql-2.ensures, c.params-to_sql-3.ensures, c.signed-twin.ensures, to_z-of_z w64 (pos c.args.twin) (record { sfits = c.requires.twin_fits }), c.signed-uses.ensures, to_z-of_z w64 (pos c.args.uses) (record { sfits = c.requires.uses_fit })) at (c.write.ensures.runs clean inside)), c.write.ensures.survives)
+    (λ count t holds. set_page_uses_does _ _ count t holds c.args.key.now c.args.twin c.args.uses)
 
 pub returns-clause-spares : goal.returns-clause-spares
 returns-clause-spares g c clean inside =

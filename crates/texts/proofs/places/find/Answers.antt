@@ -1,21 +1,12 @@
 use Rattle.std.proofs.Common.{pos, w64}
 use Rattle.std.proofs.lemmas.Int.{to_z-of_z}
-use Rattle.sqlite.specs.Held.{state}
-use Rattle.statements.proofs.Transactions.{reads_by}
+use Rattle.statements.proofs.Transactions.{queries_by}
 use Rattle.pages.specs.Rows.{IsPageName}
-use Rattle.texts.specs.Texts.{page_at}
-use Rattle.texts.proofs.PlaceTexts.{page_at_text, page_at_is_query}
+use Rattle.texts.proofs.PlaceTexts.{page_at_is_query}
 use Rattle.texts.proofs.PlaceReads.{page_at_shows}
 use Rattle.texts.proofs.places.find.Goals as goal
 
 pub returns : goal.returns
-returns g c = record {
-  mode = c.first_row-row.ensures.mode;
-  read = λ clean.
-      let old = state g.S.Store c.args.conn.now in
-      let new = state g.S.Store c.first_row-row.new.conn in
-      reads_by (page_at c.args.org.now c.args.ws.now c.args.number c.args.place) IsPageName old new page_at_text _ c.first_row-row.result c.read_one.result
-      (rw (c.get-number.ensures.value, c.signed-place.ensures, to_z-of_z w64 (pos c.args.place) (record { sfits = c.requires.place_fits })) at (rw (c.params-to_sql.ensures, c.params-to_sql-2.ensures, c.params-to_sql-3.ensures, c.params-to_sql-4.ensures) at (c.first_row-row.ensures.row page_at_is_query clean))) (c.first_row-row.ensures.calm page_at_is_query clean) c.read_one.ensures
-      (λ t holds row first. page_at_shows old new t holds c.args.org.now c.args.ws.now c.args.number c.args.place row first);
-  survives = c.first_row-row.ensures.survives page_at_is_query;
-}
+returns g c =
+    queries_by IsPageName _ _ _ (c.first_row-row.ensures.mode, (λ clean. rw (c.get-number.ensures.value, c.signed-place.ensures, to_z-of_z w64 (pos c.args.place) (record { sfits = c.requires.place_fits })) at (rw (c.params-to_sql.ensures, c.params-to_sql-2.ensures, c.params-to_sql-3.ensures, c.params-to_sql-4.ensures) at (c.first_row-row.ensures.row page_at_is_query clean))), c.first_row-row.ensures.calm page_at_is_query, c.first_row-row.ensures.survives page_at_is_query) c.read_one.ensures
+    (λ t holds row first. page_at_shows _ _ t holds c.args.org.now c.args.ws.now c.args.number c.args.place row first)
