@@ -162,19 +162,19 @@ pub(crate) fn optional_seconds(moment: Option<Moment>) -> Option<i64>
     }
 }
 
-pub fn text_in(row: &Row, at: usize) -> Result<Text, Error>
+pub(crate) fn text_in(row: &Row, at: usize) -> Result<Text, Error>
     ensures { IfOk result (λ x. x ≡ bytes_at row.now at) }
 {
     Ok(Text::new(row.get(at)?))
 }
 
-pub fn bytes_in(row: &Row, at: usize) -> Result<Bytes, Error>
+pub(crate) fn bytes_in(row: &Row, at: usize) -> Result<Bytes, Error>
     ensures { IfOk result (λ x. x ≡ bytes_at row.now at) }
 {
     Ok(Bytes::new(row.get(at)?))
 }
 
-pub fn unsigned_in(row: &Row, at: usize) -> Result<u64, Error>
+pub(crate) fn unsigned_in(row: &Row, at: usize) -> Result<u64, Error>
     ensures { IfOk result (λ x. x ≡ number_at row.now at) }
 {
     row.get(at)
