@@ -20,7 +20,7 @@ use Rattle.statements.specs.Tables.{Tables, Holds, our_tables}
 use Rattle.statements.proofs.Frames.{Turns, left_then}
 
 -- a write of rows that obey a law
-pub moves_where : {X E : Type 0} (law : Tables → Type 0) (change : Tables → Tables) (old new : State) (text : List ℕ) (params : Row) (result : Result X E) → Wrote text params old new result
+moves_where : {X E : Type 0} (law : Tables → Type 0) (change : Tables → Tables) (old new : State) (text : List ℕ) (params : Row) (result : Result X E) → Wrote text params old new result
     → ((count : ℕ) (t : Tables) → Holds old.now t → law t → Executes text params old new (Ok count) → Turns old.now new.now (change t)) → OnOk result (Moves law change old new) × OnErr result (KeepsCommit old new)
 moves_where law change old new text params (Ok x) wrote does =
     let ran = wrote.0.1 in (
@@ -35,11 +35,6 @@ moves_where law change old new text params (Ok x) wrote does =
       tt,
     )
 moves_where law change old new text params (Err e) wrote does = (tt, wrote.1)
-
--- and of any rows
-pub moves_by : {X E : Type 0} (change : Tables → Tables) (old new : State) (text : List ℕ) (params : Row) (result : Result X E) → Wrote text params old new result
-    → ((count : ℕ) (t : Tables) → Holds old.now t → Executes text params old new (Ok count) → Turns old.now new.now (change t)) → OnOk result (Moves AnyRows change old new) × OnErr result (KeepsCommit old new)
-moves_by change old new text params result wrote does = moves_where AnyRows change old new text params result wrote (λ count t h any. does count t h)
 
 -- a write that tells whether there were rows to write
 pub any_wrote : {E : Type 0} (old new : State) (text : List ℕ) (params : Row) (result : Result Bool E) → WroteAny text params old new result → Wrote text params old new result
@@ -57,7 +52,7 @@ pub finds_by : {E : Type 0} (has : Tables → Bool) (old new : State) (text : Li
 finds_by has old new text params (Ok any) wrote tells = λ t h. wrote.0.2 ∙ tells wrote.0.0 t h wrote.0.1.0
 finds_by has old new text params (Err e) wrote tells = tt
 
-pub alters_by : {X E : Type 0} (Change : Database → Database → Type 0) (old new : State) (text : List ℕ) (params : Row) (result : Result X E) → Wrote text params old new result
+alters_by : {X E : Type 0} (Change : Database → Database → Type 0) (old new : State) (text : List ℕ) (params : Row) (result : Result X E) → Wrote text params old new result
     → ((count : ℕ) → Executes text params old new (Ok count) → Change old.now new.now) → OnOk result (Alters Change old new) × OnErr result (KeepsCommit old new)
 alters_by Change old new text params (Ok x) wrote does =
     let ran = wrote.0.1 in
@@ -96,7 +91,7 @@ left_calm (Ok x) left = inl left.0
 left_calm (Err e) left = left.1
 
 -- a query whose only row is read as a value
-pub reads_only : {X E F : Type 0} (says : Option X → Tables → Type 0) (Is : Row → X → Type 0) (old new : State) (Gives : List Row → Type 0) (rows : Result (List Row) E) (result : Result (Option X) F)
+reads_only : {X E F : Type 0} (says : Option X → Tables → Type 0) (Is : Row → X → Type 0) (old new : State) (Gives : List Row → Type 0) (rows : Result (List Row) E) (result : Result (Option X) F)
     → IfOk rows Gives → IsCalm old new rows → IsOnly Is rows result
     → ((t : Tables) → Holds old.now t → Gives [] → says None t) → ((t : Tables) → Holds old.now t → (row : Row) (x : X) → Gives (row ∷ []) → Is row x → says (Some x) t)
     → IfOk result (λ x. (t : Tables) → Holds old.now t → says x t) × (OnOk result (IsUnchanged old new) × OnErr result (IsUnchanged old new ⊎ IsRolledBack old new))
@@ -107,7 +102,7 @@ reads_only says Is old new Gives (Ok rs) (Ok None) gives calm is none one = (λ 
 reads_only says Is old new Gives (Ok rs) (Ok (Some x)) gives calm is none one = (λ t h. one t h is.0 x (subst Gives is.1 gives) is.2, (calm.0, tt))
 
 -- a query of many rows, each of which is read as a value
-pub lists_by : {X E F : Type 0} (law : Tables → Type 0) (read : Tables → List X) (Is : Row → X → Type 0) (old new : State) (Gives : List Row → Type 0) (rows : Result (List Row) E) (result : Result (List X) F)
+lists_by : {X E F : Type 0} (law : Tables → Type 0) (read : Tables → List X) (Is : Row → X → Type 0) (old new : State) (Gives : List Row → Type 0) (rows : Result (List Row) E) (result : Result (List X) F)
     → IfOk rows Gives → IsCalm old new rows → AreRead Is rows result
     → ((t : Tables) → Holds old.now t → law t → (rs : List Row) (xs : List X) → Gives rs → AllZip Is rs xs → xs ≡ read t)
     → IfOk result (λ x. (t : Tables) → Holds old.now t → law t → x ≡ read t) × (OnOk result (IsUnchanged old new) × OnErr result (IsUnchanged old new ⊎ IsRolledBack old new))
@@ -124,7 +119,7 @@ holds_by Is old new text (Err e) (Err f) shown calm are = (tt, (tt, calm.1))
 holds_by Is old new text (Err e) (Ok xs) shown calm are = absurd are
 holds_by Is old new text (Ok rs) (Ok xs) shown calm are = (λ t h. (rs, shown, are), (calm.0, tt))
 
-pub counts_by : {E F : Type 0} (read : Tables → ℕ) (old new : State) (text : List ℕ) (params : Row) (row : Result (Option Row) E) (result : Result ℕ F)
+counts_by : {E F : Type 0} (read : Tables → ℕ) (old new : State) (text : List ℕ) (params : Row) (row : Result (Option Row) E) (result : Result ℕ F)
     → IfOk row (FirstRow text params old new) → IsCalm old new row → IsCount row result
     → ((t : Tables) → Holds old.now t → (r : Option Row) → FirstRow text params old new r → r ≡ Some (number (read t) ∷ []))
     → IfOk result (λ x. (t : Tables) → Holds old.now t → x ≡ read t) × (OnOk result (IsUnchanged old new) × OnErr result (IsUnchanged old new ⊎ IsRolledBack old new))
