@@ -5,8 +5,8 @@
 
 A service answers each kind of exchange some times under callgrind, after a few that warm it up. A row of markdown has the
 instructions of one, in thousands, and of these in a hundred: the file's pages, their sums, and the log; SQL's statements;
-SHA-256; messages and documents; the C library (copies, memory); our own code; the library of Rattle, for whichever of
-these. What the system does isn't counted.
+SHA-256; messages and documents; our own code; the library of Rattle, for whichever of these. What the C library does
+(copies, memory) is its caller's; what the system does isn't counted.
 """
 import argparse
 import os
@@ -19,7 +19,7 @@ import exchanges
 
 FILE = ("sqlite_wal", "sqlite_pool", "sqlite_pager", "sqlite_pages", "sqlite_store", "sqlite_std_file", "sqlite_disk", "core::hash::sip")
 PARTS = {"file and log": FILE, "SQL": ("sqlite",), "SHA-256": ("sha2",), "HTTP, JSON": ("http", "json", "serde_json", "fast_float", "itoa", "matchit", "form_urlencoded", "base64")}
-ROW = re.compile(r"^ *([\d,]+) \([ \d.]+%\) +(\S.*)$")
+ROW = re.compile(r"^ *([\d,]+) \([ \d.]+%\) +([<*]) +(\S+)")
 # how often each exchange is made
 TURNS = {"large": 2, "small": 20}
 
@@ -31,14 +31,35 @@ def ours():
 
 
 def part_of(function, names):
-    """The part to which a function belongs, as callgrind names it: `FILE:CRATE::..`."""
+    """The part to which a function belongs, as callgrind names it: `FILE:CRATE::..`. Those of the C library belong to none."""
     source, _, name = function.partition(":")
     for part, crates in PARTS.items():
         if name.startswith(crates):
             return part
     if name.startswith(tuple(f"{crate}::" for crate in names)):
         return "our own"
-    return "C library" if source != "???" or "libc.so" in function else "Rattle's library"
+    return None if source != "???" else "Rattle's library"
+
+
+def shared(told, names):
+    """The instructions by part, of what callgrind says of each function behind those that call it. What the C library does
+    is counted for its caller."""
+    found, callers = dict.fromkeys([*PARTS, "our own", "Rattle's library"], 0), []
+    for line in told.splitlines():
+        row = ROW.match(line)
+        if not row:
+            callers = []
+            continue
+        count, part = int(row[1].replace(",", "")), part_of(row[3], names)
+        if row[2] == "<":
+            callers.append((part, count))
+        elif part:
+            found[part] += count
+        else:
+            for caller, spent in callers:
+                if caller:
+                    found[caller] += spent
+    return found
 
 
 def control(server, *words):
@@ -57,13 +78,8 @@ def counted(server, out, requests):
     before = set(os.listdir(os.path.dirname(out)))
     control(server, "-d")
     new = [name for name in os.listdir(os.path.dirname(out)) if name not in before and name.startswith("shares.")]
-    told = subprocess.run(["callgrind_annotate", "--threshold=100", f"{os.path.dirname(out)}/{new[0]}"], capture_output=True, text=True, check=True)
-    found, names = dict.fromkeys([*PARTS, "C library", "our own", "Rattle's library"], 0), ours()
-    for line in told.stdout.splitlines():
-        row = ROW.match(line)
-        if row and "PROGRAM TOTALS" not in line:
-            found[part_of(row[2], names)] += int(row[1].replace(",", ""))
-    return {part: count / len(requests) for part, count in found.items()}
+    told = subprocess.run(["callgrind_annotate", "--tree=caller", "--threshold=100", f"{os.path.dirname(out)}/{new[0]}"], capture_output=True, text=True, check=True)
+    return {part: count / len(requests) for part, count in shared(told.stdout, ours()).items()}
 
 
 def scenes():
@@ -106,7 +122,7 @@ def main():
         tool = ["valgrind", "--tool=callgrind", "--instr-atstart=no", "--log-file=/dev/null", f"--callgrind-out-file={out}"]
         server = exchanges.Server([*tool, asked.program, *exchanges.SERVERS["program"][1:]], path)
         try:
-            shown = [*PARTS, "C library", "our own", "Rattle's library"]
+            shown = [*PARTS, "our own", "Rattle's library"]
             print("| Request | thousands | " + " | ".join(shown) + " |\n|---|" + "---:|" * (len(shown) + 1))
             for name, before, requests in scenes():
                 for one in before:
