@@ -1,7 +1,8 @@
 -- A row that was read as a value is the row of that value alone, and the row of a value is read as it.
-use Rattle.std.proofs.Common.{◌≡◌, ℕ, unsigned_abs, List, [], ◌∷◌, Option, Some, None, refl, sym, ap, ◌∙◌, subst}
+use Rattle.std.proofs.Common.{◌≡◌, ◌+◌, ℕ, pos, Bool, not, int_eq, unsigned_abs, List, [], ◌∷◌, Option, Some, None, refl, sym, ap, ◌∙◌, subst}
 use Rattle.sqlite_value.specs.declared.value.Value.{Value}
 use Rattle.sqlite_value.specs.declared.value.Value.TheVariants as cell
+use Rattle.sqlite_value.specs.Order.{Row, column}
 use Rattle.sqlite_typed.specs.Columns.{or_null, bytes_of, int_of, unless_null}
 use Rattle.basis.specs.declared.roles.Role.{Role}
 use Rattle.basis.specs.declared.runs.RunStatus.{RunStatus}
@@ -11,12 +12,13 @@ use Rattle.basis.specs.declared.rows.Holder.TheVariants.{Nobody, Lock, Run as He
 use Rattle.statements.specs.declared.rows.Workspace.{Workspace}
 use Rattle.statements.specs.declared.rows.NamedWorkspace.{NamedWorkspace}
 use Rattle.statements.specs.declared.rows.Organization.{Organization}
+use Rattle.basis.specs.declared.rows.VersionRow.{VersionRow as Version}
 use Rattle.basis.specs.declared.rows.RunRow.{RunRow as Run}
 use Rattle.statements.specs.declared.rows.NamedRole.{NamedRole}
 use Rattle.statements.specs.declared.rows.NamedToken.{NamedToken}
 use Rattle.basis.specs.declared.roles.Bounds.{Bounds}
-use Rattle.statements.specs.Rows.{Token, number, flag, role_code, status_code, action_code, run_settings_cells, kind_cell, lock_id_cell, lock_text_cell, run_cell, holder_of, action_at, workspace_in_row, run_in_row}
-use Rattle.statements.specs.Calls.{IsNamedRow, IsOrganization, IsNamedRole, IsNamedToken, IsNumberOrNull, IsBound}
+use Rattle.statements.specs.Rows.{Token, number, flag, role_code, status_code, action_code, run_settings_cells, kind_cell, lock_id_cell, lock_text_cell, run_cell, holder_of, status_at, action_at, number_at, bytes_at, holder_at, workspace_in_row, version_in_row, run_in_row}
+use Rattle.statements.specs.Calls.{IsFlagCell, IsTextOrNull, IsActionOrNull, IsHolderIn, IsWorkspaceIn, IsVersionIn, IsRunIn, IsNamedRow, IsOrganization, IsNamedRole, IsNamedToken, IsNumberOrNull, IsBound}
 use Rattle.statements.proofs.Codes.{same_role, same_status, flag_back, status_back, action_back}
 use Rattle.statements.proofs.RunSettings.{run_settings_back}
 
@@ -37,6 +39,64 @@ role_read a b e = sym (same_role a b (same_code _ _ e))
 
 pub status_read : (a b : RunStatus) → number (status_code a) ≡ number (status_code b) → b ≡ a
 status_read a b e = sym (same_status a b (same_code _ _ e))
+
+-- ---- what a row holds is the value that its cells stand for
+
+number_told : (v : Value) (n : ℕ) → v ≡ number n → n ≡ unsigned_abs (int_of v)
+number_told v n is = ap (λ c. unsigned_abs (int_of c)) (sym is)
+
+text_told : (v : Value) (t : List ℕ) → v ≡ cell.Text t → t ≡ bytes_of v
+text_told v t is = ap bytes_of (sym is)
+
+flag_told : (v : Value) (b : Bool) → IsFlagCell v b → b ≡ not (int_eq (int_of v) (pos 0))
+flag_told v b told = told.2 ∙ ap (λ c. not (int_eq (int_of c) (pos 0))) (sym told.1)
+
+some_text_told : (v : Value) (o : Option (List ℕ)) → IsTextOrNull v o → o ≡ unless_null bytes_of v
+some_text_told v None is = ap (unless_null bytes_of) (sym is)
+some_text_told v (Some t) is = ap (unless_null bytes_of) (sym is)
+
+some_action_told : (v : Value) (o : Option RunAction) → IsActionOrNull v o → o ≡ unless_null (λ c. action_at (unsigned_abs (int_of c))) v
+some_action_told v None is = ap (unless_null (λ c. action_at (unsigned_abs (int_of c)))) (sym is)
+some_action_told v (Some a) is = ap Some (sym (action_back a)) ∙ ap (unless_null (λ c. action_at (unsigned_abs (int_of c)))) (sym is)
+
+status_told : (v : Value) (s : RunStatus) → v ≡ number (status_code s) → s ≡ status_at (unsigned_abs (int_of v))
+status_told v s is = sym (status_back s) ∙ ap (λ c. status_at (unsigned_abs (int_of c))) (sym is)
+
+holder_told : (at : ℕ) (row : Row) (h : Holder) → IsHolderIn at row h → h ≡ holder_at row at
+holder_told at row Nobody is = ap (λ c. holder_of (unsigned_abs (int_of c)) (bytes_at row (at + 1)) (bytes_at row (at + 2)) (number_at row (at + 3))) (sym is)
+holder_told at row (Lock id text) is = λ i. holder_of (number_told (column row at) 1 is.0 i) (text_told (column row (at + 1)) id is.1 i) (ap bytes_of (sym is.2) i) (number_at row (at + 3))
+holder_told at row (HeldByRun n) is = λ i. holder_of (number_told (column row at) 2 is.0 i) (bytes_at row (at + 1)) (bytes_at row (at + 2)) (number_told (column row (at + 3)) n is.1 i)
+
+pub workspace_told : (at settings : ℕ) (row : Row) (w : Workspace) → IsWorkspaceIn at settings row w → w ≡ workspace_in_row row at settings
+workspace_told at settings row w told = λ i. record {
+  runs = told.runs i;
+  holder = holder_told at row w.holder told.holder i;
+  released = some_text_told (column row (at + 4)) w.released told.released i;
+  next_version = number_told (column row (at + 5)) w.next_version told.next_version i;
+  next_run = number_told (column row (at + 6)) w.next_run told.next_run i;
+}
+
+pub version_told : (at : ℕ) (row : Row) (v : Version) → IsVersionIn at row v → v ≡ version_in_row row at
+version_told at row v told = λ i. record {
+  number = number_told (column row at) v.number told.number_is i;
+  serial = number_told (column row (at + 1)) v.serial told.serial i;
+  lineage = text_told (column row (at + 2)) v.lineage told.lineage i;
+  created = number_told (column row (at + 3)) v.created told.created i;
+  size = number_told (column row (at + 4)) v.size told.size i;
+}
+
+pub run_told : (at : ℕ) (row : Row) (r : Run) → IsRunIn at row r → r ≡ run_in_row row at
+run_told at row r told = λ i. record {
+  number = number_told (column row at) r.number told.number_is i;
+  plan_only = flag_told (column row (at + 1)) r.plan_only told.plan_only i;
+  key = some_text_told (column row (at + 2)) r.key told.key i;
+  message = text_told (column row (at + 3)) r.message told.message i;
+  created = number_told (column row (at + 4)) r.created told.created i;
+  status = status_told (column row (at + 5)) r.status told.status i;
+  action = some_action_told (column row (at + 6)) r.action told.action i;
+}
+
+-- ---- and the row of a value is read as it
 
 text_back : (o : Option (List ℕ)) → unless_null bytes_of (or_null cell.Text o) ≡ o
 text_back None = refl
@@ -77,7 +137,7 @@ pub named_workspace_read : (name : List ℕ) (w : Workspace) (kept before : Valu
     → IsNamedRow (kind_cell w.holder ∷ lock_id_cell w.holder ∷ lock_text_cell w.holder ∷ run_cell w.holder ∷ or_null cell.Text w.released ∷ number w.next_version ∷ number w.next_run ∷ cell.Text name ∷ kept ∷ before ∷ run_settings_cells w.runs) v
     → v ≡ record { name = name; it = w; keep = keep; last = last }
 named_workspace_read name w kept before keep last is was v told =
-    let it = told.it ∙ workspace_back w in
+    let it = workspace_told 0 10 _ v.it told.it ∙ workspace_back w in
     let number_kept = optional_number_read keep v.keep (subst (λ c. IsNumberOrNull c v.keep) is told.keep) in
     let number_before = optional_number_read last v.last (subst (λ c. IsNumberOrNull c v.last) was told.last) in
     λ i. record { name = text_read name v.name told.name i; it = it i; keep = number_kept i; last = number_before i }

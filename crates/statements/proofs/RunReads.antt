@@ -16,7 +16,7 @@ use Rattle.statements.specs.Listings.{run_rows_after, RunsApart}
 use Rattle.statements.proofs.Held.{IsHeld, runs_held}
 use Rattle.statements.proofs.Listed.{by_column, numbered_are}
 use Rattle.statements.proofs.PointReads.{first_own, least_own, count_own}
-use Rattle.statements.proofs.ReadBack.{number_read, status_read, run_row_back}
+use Rattle.statements.proofs.ReadBack.{number_read, status_read, run_told, run_row_back}
 use Rattle.statements.proofs.Conditions.{two_texts_number, two_texts_above, two_texts_key, two_texts_open, waits}
 use Rattle.statements.proofs.RunTexts.{list_runs_text, list_runs_means, list_runs_rest, first_waiting_text, first_waiting_means, first_waiting_rest, run_status_text, run_status_means, run_status_rest, run_names, find_run_text, find_run_means, find_run_rest, find_keyed_run_text, find_keyed_run_means, find_keyed_run_rest, count_open_runs_text, count_open_runs_means, count_open_runs_rest}
 
@@ -38,18 +38,18 @@ module _ (old new : State) (t : Tables) (h : Holds old.now t) where
   pub find_run_shows : (org ws : List ℕ) (n : ℕ) (row : Option Row) → FirstRow find_run_text (Text org ∷ Text ws ∷ number n ∷ []) old new row → Pins IsRunRow row (run_at_number org ws n t)
   find_run_shows org ws n row first =
       first_own run_cells run_table old new held.own t.runs held.rows held.keyed find_run_text (Text org ∷ Text ws ∷ number n ∷ []) row first find_run_rest run_names
-      (is_run_row org ws n) (λ x. two_texts_number x.1.org org x.1.ws ws x.1.it.number n) IsRunRow (λ x. x.1.it) (λ x y told. told ∙ run_row_back x.1.it) (find_run_means old.now.schema _ _ held.own.place) (λ l. refl)
+      (is_run_row org ws n) (λ x. two_texts_number x.1.org org x.1.ws ws x.1.it.number n) IsRunRow (λ x. x.1.it) (λ x y told. run_told 0 _ y told ∙ run_row_back x.1.it) (find_run_means old.now.schema _ _ held.own.place) (λ l. refl)
 
   pub find_keyed_run_shows : (org ws key : List ℕ) (row : Option Row) → FirstRow find_keyed_run_text (Text org ∷ Text ws ∷ Text key ∷ []) old new row → Pins IsRunRow row (keyed_run_of org ws key t)
   find_keyed_run_shows org ws key row first =
       first_own run_cells run_table old new held.own t.runs held.rows held.keyed find_keyed_run_text (Text org ∷ Text ws ∷ Text key ∷ []) row first find_keyed_run_rest run_names
-      (is_run_with_key org ws key) (λ x. two_texts_key x.1.org org x.1.ws ws key x.1.it.key) IsRunRow (λ x. x.1.it) (λ x y told. told ∙ run_row_back x.1.it) (find_keyed_run_means old.now.schema _ _ held.own.place) (λ l. refl)
+      (is_run_with_key org ws key) (λ x. two_texts_key x.1.org org x.1.ws ws key x.1.it.key) IsRunRow (λ x. x.1.it) (λ x y told. run_told 0 _ y told ∙ run_row_back x.1.it) (find_keyed_run_means old.now.schema _ _ held.own.place) (λ l. refl)
 
   pub list_runs_shows : (org ws : List ℕ) (after most : ℕ) (rows : List Row) (runs : List Run) → RunsApart org ws t → FirstRows most list_runs_text (Text org ∷ Text ws ∷ number after ∷ []) old new rows → AllZip IsRunRow rows runs
       → runs ≡ run_rows_after org ws after most t
   list_runs_shows org ws after most rows runs apart first read =
       numbered_are run_cells run_table old new held.own t.runs held.rows list_runs_text (Text org ∷ Text ws ∷ number after ∷ []) list_runs_rest 3 run_names
-      IsRunRow (λ r. r.number) (λ x. x.1.it) (is_run_of org ws) after (λ x. two_texts_above x.1.org org x.1.ws ws x.1.it.number after) (λ x y told. told ∙ run_row_back x.1.it)
+      IsRunRow (λ r. r.number) (λ x. x.1.it) (is_run_of org ws) after (λ x. two_texts_above x.1.org org x.1.ws ws x.1.it.number after) (λ x y told. run_told 0 _ y told ∙ run_row_back x.1.it)
       (λ x y. by_column x.1.it.number y.1.it.number) (list_runs_means old.now.schema _ _ held.own.place) (λ l. refl) most rows runs apart first read
 
   pub count_open_runs_shows : (org ws : List ℕ) (row : Option Row) → FirstRow count_open_runs_text (Text org ∷ Text ws ∷ []) old new row → row ≡ Some (number (open_runs_of org ws t) ∷ [])

@@ -29,7 +29,7 @@ use Rattle.sqlite_sql.specs.declared.ops.CompareOp.TheVariants.{Lt, Gt, Ge}
 use Rattle.basis.specs.Names.{admits}
 use Rattle.std.specs.Str.{bytes_eq}
 use Rattle.statements.proofs.PointReads.{first_own, count_own}
-use Rattle.statements.proofs.ReadBack.{text_read, workspace_back, named_workspace_read}
+use Rattle.statements.proofs.ReadBack.{text_read, workspace_told, workspace_back, named_workspace_read}
 use Rattle.statements.proofs.Conditions.{one_text, two_texts, same_text, text_after, one_number, two_texts_one_less}
 use Rattle.statements.proofs.WsListParts.{of_workspace, of_version_before, with_both, list_ws_rest, list_ws_names, list_ws_within_rest}
 use Rattle.statements.proofs.WsListTexts.{list_ws_text, list_ws_means, list_ws_within_text, list_ws_within_means}
@@ -82,7 +82,7 @@ module _ (old new : State) (t : Tables) (h : Holds old.now t) where
   pub find_ws_shows : (org name : List ℕ) (row : Option Row) → FirstRow find_ws_text (Text org ∷ Text name ∷ []) old new row → Pins IsWorkspace row (workspace_of org name t)
   find_ws_shows org name row first =
       first_own ws_cells ws_table old new held.own t.wss held.rows held.keyed find_ws_text (Text org ∷ Text name ∷ []) row first find_ws_rest find_ws_names
-      (is_ws org name) (λ x. two_texts x.1.org org x.1.name name) IsWorkspace (λ x. x.1.it) (λ x y told. told ∙ workspace_back x.1.it) (find_ws_means old.now.schema _ _ held.own.place) (λ l. refl)
+      (is_ws org name) (λ x. two_texts x.1.org org x.1.name name) IsWorkspace (λ x. x.1.it) (λ x y told. workspace_told 0 7 _ y told ∙ workspace_back x.1.it) (find_ws_means old.now.schema _ _ held.own.place) (λ l. refl)
 
   pub count_ws_shows : (org : List ℕ) (row : Option Row) → FirstRow count_ws_text (Text org ∷ []) old new row → row ≡ Some (number (workspaces_of org t) ∷ [])
   count_ws_shows org row first =

@@ -1,5 +1,5 @@
 -- What a text that is run does; what a query gives: the first row of its answer, or none, and the value that this row is read as.
-use Rattle.std.specs.Prelude.{◌≡◌, ◌⊎◌, ◌<◌, ◌≤◌, ◌==◌, ◌^◌, length, ⊤, ℕ, ℤ, pos, negsuc, Bool, not, List, [], ◌∷◌, Option, Some, None, Result, Ok, Err, IfOk, OnOk, OnErr}
+use Rattle.std.specs.Prelude.{◌≡◌, ◌⊎◌, ◌+◌, ◌<◌, ◌≤◌, ◌==◌, ◌^◌, length, ⊤, ℕ, ℤ, pos, negsuc, Bool, not, List, [], ◌∷◌, Option, Some, None, Result, Ok, Err, IfOk, OnOk, OnErr}
 use Rattle.std.specs.List.{AllZip}
 use Rattle.std.specs.Ordering.{int_eq}
 use Rattle.sqlite_ast.specs.declared.Select.{Select}
@@ -11,6 +11,9 @@ use Rattle.sqlite_value.specs.declared.value.Value.TheVariants as cell
 use Rattle.sqlite_value.specs.Order.{Row, column}
 use Rattle.basis.specs.declared.roles.Role.{Role}
 use Rattle.basis.specs.declared.runs.RunStatus.{RunStatus}
+use Rattle.basis.specs.declared.runs.RunAction.{RunAction}
+use Rattle.basis.specs.declared.rows.Holder.{Holder}
+use Rattle.basis.specs.declared.rows.Holder.TheVariants.{Nobody, Lock, Run as HeldByRun}
 use Rattle.basis.specs.declared.rows.VersionRow.{VersionRow as Version}
 use Rattle.statements.specs.declared.rows.Workspace.{Workspace}
 use Rattle.statements.specs.declared.rows.NamedWorkspace.{NamedWorkspace}
@@ -20,7 +23,7 @@ use Rattle.statements.specs.declared.rows.NamedRole.{NamedRole}
 use Rattle.statements.specs.declared.rows.NamedToken.{NamedToken}
 use Rattle.statements.specs.declared.rows.BoundedRole.{BoundedRole}
 use Rattle.basis.specs.declared.roles.Bounds.{Bounds}
-use Rattle.statements.specs.Rows.{number, role_code, status_code, workspace_in_row, version_in_row, run_in_row}
+use Rattle.statements.specs.Rows.{number, role_code, status_code, action_code, run_settings_at}
 use Rattle.sqlite.specs.State.{State, IsUnchanged, IsRolledBack, KeepsCommit, ExecutesInside, QueriesRow, Shown, Begins}
 
 -- a text that was run in a transaction
@@ -82,15 +85,37 @@ AreAllRead Is text old new xs = (rows : List Row) × Shown text [] old new rows 
 abbrev pub IsFlagCell : Value → Bool → Type 0
 IsFlagCell v b = (n : ℤ) × (v ≡ cell.Int n) × (b ≡ not (int_eq n (pos 0)))
 
+abbrev pub IsTextOrNull : Value → Option (List ℕ) → Type 0
+IsTextOrNull v None = v ≡ cell.Null
+IsTextOrNull v (Some t) = v ≡ cell.Text t
+
 abbrev pub IsNumberOrNull : Value → Option ℕ → Type 0
 IsNumberOrNull v None = v ≡ cell.Null
 IsNumberOrNull v (Some n) = v ≡ number n
 
+abbrev pub IsActionOrNull : Value → Option RunAction → Type 0
+IsActionOrNull v None = v ≡ cell.Null
+IsActionOrNull v (Some action) = v ≡ number (action_code action)
+
+-- who holds a workspace, of which the first column is this one: kind, lock_id, lock_text and run
+abbrev pub IsHolderIn : ℕ → Row → Holder → Type 0
+IsHolderIn at row Nobody = column row at ≡ number 0
+IsHolderIn at row (Lock id text) = (column row at ≡ number 1) × (column row (at + 1) ≡ cell.Text id) × (column row (at + 2) ≡ cell.Blob text)
+IsHolderIn at row (HeldByRun n) = (column row at ≡ number 2) × (column row (at + 3) ≡ number n)
+
+-- a workspace, of which the holder begins in this column and how its runs go in the other
+pub record IsWorkspaceIn (at settings : ℕ) (row : Row) (w : Workspace) : Type 0 where
+  pub runs : w.runs ≡ run_settings_at row settings
+  pub holder : IsHolderIn at row w.holder
+  pub released : IsTextOrNull (column row (at + 4)) w.released
+  pub next_version : column row (at + 5) ≡ number w.next_version
+  pub next_run : column row (at + 6) ≡ number w.next_run
+
 abbrev pub IsWorkspace : Row → Workspace → Type 0
-IsWorkspace row w = w ≡ workspace_in_row row 0 7
+IsWorkspace row w = IsWorkspaceIn 0 7 row w
 
 pub record IsNamedRow (row : Row) (w : NamedWorkspace) : Type 0 where
-  pub it : w.it ≡ workspace_in_row row 0 10
+  pub it : IsWorkspaceIn 0 10 row w.it
   pub name : column row 7 ≡ cell.Text w.name
   pub keep : IsNumberOrNull (column row 8) w.keep
   pub last : IsNumberOrNull (column row 9) w.last
@@ -102,11 +127,29 @@ pub record IsOrganization (row : Row) (o : Organization) : Type 0 where
   pub name : column row 0 ≡ cell.Text o.name
   pub cap : column row 1 ≡ number o.cap
 
+-- a version, of which the first column is this one
+pub record IsVersionIn (at : ℕ) (row : Row) (v : Version) : Type 0 where
+  pub number_is : column row at ≡ number v.number
+  pub serial : column row (at + 1) ≡ number v.serial
+  pub lineage : column row (at + 2) ≡ cell.Text v.lineage
+  pub created : column row (at + 3) ≡ number v.created
+  pub size : column row (at + 4) ≡ number v.size
+
 abbrev pub IsVersionRow : Row → Version → Type 0
-IsVersionRow row v = v ≡ version_in_row row 0
+IsVersionRow row v = IsVersionIn 0 row v
+
+-- a run, of which the first column is this one
+pub record IsRunIn (at : ℕ) (row : Row) (r : Run) : Type 0 where
+  pub number_is : column row at ≡ number r.number
+  pub plan_only : IsFlagCell (column row (at + 1)) r.plan_only
+  pub key : IsTextOrNull (column row (at + 2)) r.key
+  pub message : column row (at + 3) ≡ cell.Text r.message
+  pub created : column row (at + 4) ≡ number r.created
+  pub status : column row (at + 5) ≡ number (status_code r.status)
+  pub action : IsActionOrNull (column row (at + 6)) r.action
 
 abbrev pub IsRunRow : Row → Run → Type 0
-IsRunRow row r = r ≡ run_in_row row 0
+IsRunRow row r = IsRunIn 0 row r
 
 pub record IsNamedRole (row : Row) (r : NamedRole) : Type 0 where
   pub name : column row 0 ≡ cell.Text r.name

@@ -2,13 +2,14 @@
 ghost use Rattle.std.specs.Prelude.{◌≡◌, false, ◌^◌, ◌<◌, ◌≤◌, pos, option_map, string_bytes, IsTrue, IfOk};
 ghost use Rattle.std.specs.List.{AllZip};
 ghost use Rattle.sqlite_value.specs.Order.{column, Row as SqlRow};
+ghost use Rattle.sqlite_value.specs.declared.value.Value.TheVariants.{Text as TextCell, Blob as BlobCell};
 ghost use Rattle.sqlite.specs.Values.{bound};
 ghost use Rattle.sqlite.specs.Held.{state};
 ghost use Rattle.sqlite.specs.State.{HasCleanDisk, Survives, Shown};
 ghost use Rattle.basis.specs.declared.numbers.TheConstants.{MAX_MOMENT};
 ghost use Rattle.statements.specs.Rows.{number, role_code, status_code, action_code, number_at, flag_at, bytes_at, some_bytes_at, status_at, some_action_at, version_in_row, run_in_row};
 ghost use Rattle.statements.specs.Steps.{Queries};
-ghost use Rattle.statements.specs.Calls.{Wrote, WroteAny, IsQuery, FirstRow, FirstRows, LimitsTo, IsCalm, AreAllRead, IsRead, IsOnly, AreRead, IsOrganization, IsVersionRow, IsRunRow, IsNamedRole, IsNamedToken, IsNumberOrNull, IsBound, IsBoundedRole, IsBody, IsNumber, IsRole, IsStatus, IsCount};
+ghost use Rattle.statements.specs.Calls.{Wrote, WroteAny, IsQuery, FirstRow, FirstRows, LimitsTo, IsCalm, AreAllRead, IsRead, IsOnly, AreRead, IsOrganization, IsVersionIn, IsVersionRow, IsRunIn, IsRunRow, IsNamedRole, IsNamedToken, IsFlagCell, IsTextOrNull, IsNumberOrNull, IsActionOrNull, IsBound, IsBoundedRole, IsBody, IsNumber, IsRole, IsStatus, IsCount};
 
 use crate::rows::{BoundedRole, NamedRole, NamedToken, Organization, Token};
 use basis::{
@@ -163,37 +164,43 @@ pub(crate) fn optional_seconds(moment: Option<Moment>) -> Option<i64>
 }
 
 pub(crate) fn text_in(row: &Row, at: usize) -> Result<Text, Error>
-    ensures { IfOk result (λ x. x ≡ bytes_at row.now at) }
+    ensures is { IfOk result (λ x. x ≡ bytes_at row.now at) }
+    ensures cell { IfOk result (λ x. column row.now at ≡ TextCell x) }
 {
     Ok(Text::new(row.get(at)?))
 }
 
 pub(crate) fn bytes_in(row: &Row, at: usize) -> Result<Bytes, Error>
-    ensures { IfOk result (λ x. x ≡ bytes_at row.now at) }
+    ensures is { IfOk result (λ x. x ≡ bytes_at row.now at) }
+    ensures cell { IfOk result (λ x. column row.now at ≡ BlobCell x) }
 {
     Ok(Bytes::new(row.get(at)?))
 }
 
 pub(crate) fn unsigned_in(row: &Row, at: usize) -> Result<u64, Error>
-    ensures { IfOk result (λ x. x ≡ number_at row.now at) }
+    ensures is { IfOk result (λ x. x ≡ number_at row.now at) }
+    ensures cell { IfOk result (λ x. column row.now at ≡ number x) }
 {
     row.get(at)
 }
 
 pub(crate) fn number_in(row: &Row, at: usize) -> Result<Number, Error>
-    ensures { IfOk result (λ x. x ≡ number_at row.now at) }
+    ensures is { IfOk result (λ x. x ≡ number_at row.now at) }
+    ensures cell { IfOk result (λ x. column row.now at ≡ number x) }
 {
     number_of(row.get(at)?, at)
 }
 
 pub(crate) fn moment_in(row: &Row, at: usize) -> Result<Moment, Error>
-    ensures { IfOk result (λ x. x ≡ number_at row.now at) }
+    ensures is { IfOk result (λ x. x ≡ number_at row.now at) }
+    ensures cell { IfOk result (λ x. column row.now at ≡ number x) }
 {
     moment_of(row.get(at)?, at)
 }
 
 pub(crate) fn optional_text(row: &Row, at: usize) -> Result<Option<Text>, Error>
-    ensures { IfOk result (λ x. x ≡ some_bytes_at row.now at) }
+    ensures is { IfOk result (λ x. x ≡ some_bytes_at row.now at) }
+    ensures cell { IfOk result (IsTextOrNull (column row.now at)) }
 {
     match row.get::<Option<String>>(at)? {
         Some(text) => Ok(Some(Text::new(text))),
@@ -299,7 +306,8 @@ pub(crate) fn optional_keep(row: &Row, at: usize) -> Result<Option<KeepCount>, E
 }
 
 pub(crate) fn optional_lock_id(row: &Row, at: usize) -> Result<Option<LockId>, Error>
-    ensures { IfOk result (λ x. x ≡ some_bytes_at row.now at) }
+    ensures is { IfOk result (λ x. x ≡ some_bytes_at row.now at) }
+    ensures cell { IfOk result (IsTextOrNull (column row.now at)) }
 {
     match row.get::<Option<String>>(at)? {
         Some(value) => Ok(Some(lock_id_of(value, at)?)),
@@ -321,7 +329,8 @@ pub(crate) fn role_in(row: &Row, at: usize) -> Result<Role, Error>
 
 /// Whether a number in a row is another than 0.
 pub(crate) fn flag_in(row: &Row, at: usize) -> Result<bool, Error>
-    ensures { IfOk result (λ flag. flag ≡ flag_at row.now at) }
+    ensures is { IfOk result (λ flag. flag ≡ flag_at row.now at) }
+    ensures cell { IfOk result (IsFlagCell (column row.now at)) }
 {
     row.get::<bool>(at)
 }
@@ -344,7 +353,8 @@ pub(crate) fn status_in(row: &Row, at: usize) -> Result<RunStatus, Error>
 }
 
 pub(crate) fn action_in(row: &Row, at: usize) -> Result<Option<RunAction>, Error>
-    ensures { IfOk result (λ x. x ≡ some_action_at row.now at) }
+    ensures is { IfOk result (λ x. x ≡ some_action_at row.now at) }
+    ensures cell { IfOk result (IsActionOrNull (column row.now at)) }
 {
     match row.get::<Option<u64>>(at)? {
         None => Ok(None),
@@ -360,14 +370,16 @@ pub(crate) fn action_in(row: &Row, at: usize) -> Result<Option<RunAction>, Error
 }
 
 fn status_of_row(row: &Row, at: usize) -> Result<RunStatus, Error>
-    ensures { IfOk result (λ x. x ≡ status_at (number_at row.now at)) }
+    ensures is { IfOk result (λ x. x ≡ status_at (number_at row.now at)) }
+    ensures cell { IfOk result (λ x. column row.now at ≡ number (status_code x)) }
 {
     status_in(row, at)
 }
 
 /// A version in a row, of which the first column is this one.
 pub(crate) fn version_in(row: &Row, at: u8) -> Result<VersionRow, Error>
-    ensures { IfOk result (λ x. x ≡ version_in_row row.now at) }
+    ensures is { IfOk result (λ x. x ≡ version_in_row row.now at) }
+    ensures cells { IfOk result (IsVersionIn at row.now) }
 {
     let at = usize::from(at);
     Ok(VersionRow {
@@ -381,7 +393,8 @@ pub(crate) fn version_in(row: &Row, at: u8) -> Result<VersionRow, Error>
 
 /// A run in a row, of which the first column is this one.
 pub(crate) fn run_in(row: &Row, at: u8) -> Result<RunRow, Error>
-    ensures { IfOk result (λ x. x ≡ run_in_row row.now at) }
+    ensures is { IfOk result (λ x. x ≡ run_in_row row.now at) }
+    ensures cells { IfOk result (IsRunIn at row.now) }
 {
     let at = usize::from(at);
     Ok(RunRow {

@@ -6,8 +6,9 @@ ghost use Rattle.statements.specs.Steps.{AnyRows, Equals, EqualsWhere, Writes, T
 ghost use Rattle.statements.specs.Changes.{with_run_settings, held_by, released_from, with_next_version, with_next_run, ws_changed, ws_row_added, ws_row_removed, ws_added, ws_removed, HasNoKeeping};
 ghost use Rattle.statements.specs.Listings.{workspace_rows_after, workspace_names_of, WorkspacesApart, NamesApart, later_of, end_of};
 ghost use Rattle.statements.specs.Rows.{run_settings_at, run_settings_cells, bytes_at, holder_at, workspace_in_row};
-ghost use Rattle.statements.specs.Calls.{IsWorkspace, IsNamedRow, IsName};
+ghost use Rattle.statements.specs.Calls.{IsHolderIn, IsWorkspaceIn, IsWorkspace, IsNamedRow, IsName};
 ghost use Rattle.sqlite_value.specs.declared.value.Value.TheVariants.{Text};
+ghost use Rattle.sqlite_value.specs.Order.{column};
 ghost use Rattle.statements.specs.Finds.{workspace_of, workspaces_of};
 ghost use Rattle.basis.specs.declared.rows.Holder.TheVariants.{Lock};
 
@@ -51,14 +52,16 @@ fn params_of<'v>(
 }
 
 fn lock_id_in(row: &Row, at: usize) -> Result<LockId, Error>
-    ensures { IfOk result (λ x. x ≡ bytes_at row.now at) }
+    ensures is { IfOk result (λ x. x ≡ bytes_at row.now at) }
+    ensures cell { IfOk result (λ x. column row.now at ≡ Text x) }
 {
     lock_id_of(row.get(at)?, at)
 }
 
 /// Who holds a workspace, of which the first column is this one.
 fn holder_in(row: &Row, at: u8) -> Result<Holder, Error>
-    ensures { IfOk result (λ x. x ≡ holder_at row.now at) }
+    ensures is { IfOk result (λ x. x ≡ holder_at row.now at) }
+    ensures cells { IfOk result (IsHolderIn at row.now) }
 {
     let at = usize::from(at);
     match unsigned_in(row, at)? {
@@ -74,7 +77,8 @@ fn holder_in(row: &Row, at: u8) -> Result<Holder, Error>
 
 /// A workspace in a row, of which the holder begins in this column and how its runs go in the other.
 pub(crate) fn workspace_in(row: &Row, at: u8, settings: u8) -> Result<Workspace, Error>
-    ensures { IfOk result (λ x. x ≡ workspace_in_row row.now at settings) }
+    ensures is { IfOk result (λ x. x ≡ workspace_in_row row.now at settings) }
+    ensures cells { IfOk result (IsWorkspaceIn at settings row.now) }
 {
     let place = usize::from(at);
     Ok(Workspace {
