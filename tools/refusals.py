@@ -187,20 +187,25 @@ class File:
         self.folder = folder
         self.parts = [folder + "/t.db", folder + "/t.db-wal"]
         self.known = []
+        # What was found last, or put back since.
+        self.held = [None, None]
 
     def bytes(self):
         found = []
         for part in self.parts:
             try:
-                with open(part, "rb") as file:
+                with open(part, "rb", 0) as file:
                     found.append(file.read())
             except FileNotFoundError:
                 found.append(None)
-        return found
+        if found != self.held:
+            self.held = found
+        return self.held
 
     def put_back(self, before):
-        """Writes the bytes into the files that are there, which a process may have open."""
-        for part, was, now in zip(self.parts, before, self.bytes()):
+        """Writes the bytes into the files that are there, which a process may have open, where others were found last."""
+        found, self.held = self.held, before
+        for part, was, now in zip(self.parts, before, found):
             if was is None and now is not None:
                 os.remove(part)
             elif was != now:
@@ -210,7 +215,8 @@ class File:
                     file.truncate()
 
     def rows(self):
-        found = self.bytes()
+        """The rows of what was found last."""
+        found = self.held
         for known, rows in reversed(self.known):
             if known == found:
                 return rows
@@ -235,15 +241,16 @@ class Program:
     """A program of which copies are made, at its start or where it accepts a connection."""
 
     def __init__(self, library, moment, words, folder, given=b""):
-        self.out, self.errors = folder + "/out", folder + "/errors"
         with open(folder + "/in", "wb") as file:
             file.write(given)
+        self.streams = [os.open(folder + name, os.O_RDWR | os.O_APPEND | os.O_CREAT) for name in ("/out", "/errors")]
         asks, self.asks = os.pipe()
         self.tells, tells = os.pipe()
         self.told = b""
-        env = {"LD_PRELOAD": library, "REFUSE": moment, "ASKED": str(asks), "TOLD": str(tells)}
-        with open(folder + "/in", "rb") as into, open(self.out, "ab") as out, open(self.errors, "ab") as errors:
-            how = {"stdin": into, "stdout": out, "stderr": errors, "cwd": folder, "env": env, "pass_fds": [asks, tells]}
+        # (a copy of few large pages is made in less time than one of many small pages)
+        env = {"LD_PRELOAD": library, "REFUSE": moment, "ASKED": str(asks), "TOLD": str(tells), "GLIBC_TUNABLES": "glibc.malloc.hugetlb=1"}
+        with open(folder + "/in", "rb") as into:
+            how = {"stdin": into, "stdout": self.streams[0], "stderr": self.streams[1], "cwd": folder, "env": env, "pass_fds": [asks, tells]}
             self.process = subprocess.Popen(words, start_new_session=True, **how)
         os.close(asks)
         os.close(tells)
@@ -252,8 +259,8 @@ class Program:
         return self
 
     def __exit__(self, *_):
-        os.close(self.asks)
-        os.close(self.tells)
+        for descriptor in [self.asks, self.tells, *self.streams]:
+            os.close(descriptor)
         try:
             self.process.wait(PATIENCE if _[0] is None else 0)
         except subprocess.TimeoutExpired:
@@ -297,10 +304,11 @@ class Program:
     def said(self):
         """What came on the output and the error stream since it was asked last."""
         found = []
-        for path in (self.out, self.errors):
-            with open(path, "r+b") as file:
-                found.append(file.read())
-                file.truncate(0)
+        for stream in self.streams:
+            size = os.fstat(stream).st_size
+            found.append(os.pread(stream, size, 0) if size else b"")
+            if size:
+                os.truncate(stream, 0)
         return found
 
 
@@ -325,7 +333,9 @@ def is_over(met, is_right):
 def exchanged(port, sent):
     """What a request gets."""
     came = b""
-    with socket.create_connection(("127.0.0.1", port), PATIENCE) as stream:
+    with socket.socket() as stream:
+        stream.settimeout(PATIENCE)
+        stream.connect(("127.0.0.1", port))
         # The end is a reset, after which the system keeps nothing of the connection.
         stream.setsockopt(socket.SOL_SOCKET, socket.SO_LINGER, b"\1\0\0\0\0\0\0\0")
         stream.sendall(sent)
@@ -369,10 +379,11 @@ class Service:
         if not out.startswith(b"listening 127.0.0.1:"):
             raise Wrong("the service said %s" % out)
         self.port = int(out.split(b":")[1])
+        file.bytes()
 
     def run(self, asked, first, last):
         """One request of a copy; whether something was refused, and whether all of it was right."""
-        was = self.file.bytes()
+        was = self.file.held
         self.program.ask("try %d %d" % (first, last))
         came = exchanged(self.port, asked.sent)
         word, status, _, met = self.program.counted()
@@ -430,6 +441,7 @@ class Service:
 
     def look(self, asked, place, how):
         """What a right reply leaves in the file and on both streams."""
+        self.file.bytes()
         if self.file.rows() != asked.rows[True]:
             raise Wrong("%s it left other rows" % how)
         said = self.program.said()
@@ -570,10 +582,10 @@ class Command:
         self.words, self.given = [custody] + parts[0].line.split(" ")[1:], parts[0].bytes or b""
         self.status, self.printed = int(parts[1].line[2:]), parts[1].bytes or b""
         self.whys = [part.line[len("? contains ") :].encode() for part in parts[2:]]
-        self.file, self.was, self.rows = file, file.bytes(), {False: before, True: after}
+        self.file, self.rows = file, {False: before, True: after}
         # What a refused run may leave, of which it is known that the command is right over it.
         self.good = []
-        self.errors = self.run_over(self.was)
+        self.errors = self.run_over(file.bytes())
 
     def run_over(self, found):
         """Runs the command over another file of these bytes; what came on the error stream."""
@@ -582,6 +594,7 @@ class Command:
             file.put_back(found)
             done = subprocess.run(self.words, input=self.given, capture_output=True, cwd=room)
             made = NEW_FILE if found[0] is None else b""
+            file.bytes()
             if (done.returncode, done.stdout) != (self.status, self.printed) or file.rows() != self.rows[True]:
                 raise Wrong("with memory: status %d, %s, rows %s" % (done.returncode, done.stdout, file.rows()))
         told = done.stderr.removeprefix(made)
@@ -593,18 +606,18 @@ class Command:
         is_right = (status, out) == (self.status, self.printed)
         if not is_right and (status, out) != REFUSED:
             raise Wrong("status %d, %s, %s" % (status, out, errors))
+        found = self.file.bytes()
         if self.file.rows() != self.rows[is_right]:
             raise Wrong("after %s the rows are %s" % (out, self.file.rows()))
         told = errors.removeprefix(NEW_FILE).removesuffix(LOG_STAYS)
         if told not in ([self.errors.removeprefix(NEW_FILE)] if is_right else CAUSES):
             raise Wrong("after %s the error stream has %s" % (out, errors))
         if not is_right:
-            self.look_again()
+            self.look_again(found)
         return is_right
 
-    def look_again(self):
+    def look_again(self, found):
         """After a refusal the command has its right answer, over what was left."""
-        found = self.file.bytes()
         if found not in self.good:
             self.run_over(found)
             self.good.append(found)

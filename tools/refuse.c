@@ -53,19 +53,14 @@ static int descriptor(const char *name) {
   return atoi(text);
 }
 
-// Whether a line came; none at the end.
+// Whether a line came; none at the end. The next one is written behind an answer.
 static int read_line(char *line) {
-  for (int n = 0; n < LINE - 1; n++) {
-    ssize_t got = read(asks, line + n, 1);
-    if (got < 0) give_up("ASKED");
-    if (got == 0) return 0;
-    if (line[n] == '\n') {
-      line[n] = 0;
-      return 1;
-    }
-  }
-  give_up("a line of ASKED");
-  return 0;
+  ssize_t got = read(asks, line, LINE);
+  if (got < 0) give_up("ASKED");
+  if (got == 0) return 0;
+  if (line[got - 1] != '\n') give_up("a line of ASKED");
+  line[got - 1] = 0;
+  return 1;
 }
 
 static void tell(const char *line, int length) {
