@@ -214,9 +214,7 @@ class File:
                     file.write(was)
                     file.truncate()
 
-    def rows(self):
-        """The rows of what was found last."""
-        found = self.held
+    def rows(self, found):
         for known, rows in reversed(self.known):
             if known == found:
                 return rows
@@ -243,7 +241,7 @@ class Program:
     def __init__(self, library, moment, words, folder, given=b""):
         with open(folder + "/in", "wb") as file:
             file.write(given)
-        self.streams = [os.open(folder + name, os.O_RDWR | os.O_APPEND | os.O_CREAT) for name in ("/out", "/errors")]
+        self.streams = [os.open(folder + name, os.O_RDWR | os.O_APPEND | os.O_CREAT, 0o600) for name in ("/out", "/errors")]
         asks, self.asks = os.pipe()
         self.tells, tells = os.pipe()
         self.told = b""
@@ -303,12 +301,9 @@ class Program:
 
     def said(self):
         """What came on the output and the error stream since it was asked last."""
-        found = []
-        for stream in self.streams:
-            size = os.fstat(stream).st_size
-            found.append(os.pread(stream, size, 0) if size else b"")
-            if size:
-                os.truncate(stream, 0)
+        found = [os.pread(stream, os.fstat(stream).st_size, 0) for stream in self.streams]
+        for stream in self.streams if any(found) else []:
+            os.truncate(stream, 0)
         return found
 
 
@@ -387,12 +382,13 @@ class Service:
         self.program.ask("try %d %d" % (first, last))
         came = exchanged(self.port, asked.sent)
         word, status, _, met = self.program.counted()
-        found = asked.rows[False] if self.file.bytes() == was else self.file.rows()
+        found = self.file.bytes()
+        rows = asked.rows[False] if found == was else self.file.rows(found)
         is_right = came == asked.due
         if not is_right and came not in asked.downs():
             raise Wrong("it was answered %s" % came[:400])
-        if found != asked.rows[is_right]:
-            raise Wrong("after %s the rows are %s" % (came[:40], found))
+        if rows != asked.rows[is_right]:
+            raise Wrong("after %s the rows are %s" % (came[:40], rows))
         is_told = self.is_told(asked, is_right, word, status)
         if not is_right:
             self.counts[len(came)] += 1
@@ -441,8 +437,7 @@ class Service:
 
     def look(self, asked, place, how):
         """What a right reply leaves in the file and on both streams."""
-        self.file.bytes()
-        if self.file.rows() != asked.rows[True]:
+        if self.file.rows(self.file.bytes()) != asked.rows[True]:
             raise Wrong("%s it left other rows" % how)
         said = self.program.said()
         if said != [asked.line(place), b""]:
@@ -594,9 +589,9 @@ class Command:
             file.put_back(found)
             done = subprocess.run(self.words, input=self.given, capture_output=True, cwd=room)
             made = NEW_FILE if found[0] is None else b""
-            file.bytes()
-            if (done.returncode, done.stdout) != (self.status, self.printed) or file.rows() != self.rows[True]:
-                raise Wrong("with memory: status %d, %s, rows %s" % (done.returncode, done.stdout, file.rows()))
+            rows = file.rows(file.bytes())
+            if (done.returncode, done.stdout) != (self.status, self.printed) or rows != self.rows[True]:
+                raise Wrong("with memory: status %d, %s, rows %s" % (done.returncode, done.stdout, rows))
         told = done.stderr.removeprefix(made)
         if not all(why in told for why in self.whys) or told and not self.whys:
             raise Wrong("with memory the error stream has %s" % done.stderr)
@@ -607,8 +602,9 @@ class Command:
         if not is_right and (status, out) != REFUSED:
             raise Wrong("status %d, %s, %s" % (status, out, errors))
         found = self.file.bytes()
-        if self.file.rows() != self.rows[is_right]:
-            raise Wrong("after %s the rows are %s" % (out, self.file.rows()))
+        rows = self.file.rows(found)
+        if rows != self.rows[is_right]:
+            raise Wrong("after %s the rows are %s" % (out, rows))
         told = errors.removeprefix(NEW_FILE).removesuffix(LOG_STAYS)
         if told not in ([self.errors.removeprefix(NEW_FILE)] if is_right else CAUSES):
             raise Wrong("after %s the error stream has %s" % (out, errors))
