@@ -5,7 +5,7 @@ use crate::records::record_of;
 use basis::Down;
 use machine::PlainKeep;
 use pages::{PageKey, ShaKey};
-use sqlite::{Alter, Connection, Error, MemStore};
+use sqlite::{Alter, Connection, Error, MemStore, Row};
 use std::alloc::Global;
 use tables::SqlKeep;
 use telling::breaking::run_broken;
@@ -89,12 +89,19 @@ impl<K: PageKey> Makes<TablesBy<K>> for Sql {
     }
 }
 
-/// The first value of the first row, as text.
-pub fn ask<S: Alter>(alloc: Global, conn: &mut Connection<S>, sql: &str) -> Result<String, Error> {
-    let row = conn.query_row(sql, &[])?;
+// The first value of a row, as text.
+fn first_of(alloc: Global, row: &Row) -> Result<String, Error> {
     match row.get::<i64>(0) {
         Ok(number) => Ok(format!(in alloc; "{number}")?),
         Err(_) => row.get::<String>(0),
+    }
+}
+
+/// The first value of the first row, as text.
+pub fn ask<S: Alter>(alloc: Global, conn: &mut Connection<S>, sql: &str) -> Result<String, Error> {
+    match conn.query_row(sql, &[]) {
+        Ok(row) => first_of(alloc, &row),
+        Err(error) => Err(error),
     }
 }
 
@@ -141,6 +148,16 @@ pub(crate) fn reopened<S: Alter + Drop, K: PageKey>(
     }
 }
 
+// A store that was looked at, and what was found.
+pub(crate) fn with_found<K: Drop, T: Drop>(
+    keep: Result<K, Failure>,
+    found: Result<T, Failure>,
+) -> Result<(K, T), Failure> {
+    let keep = keep?;
+    let found = found?;
+    Ok((keep, found))
+}
+
 impl<S: Alter + Drop, K: PageKey> Looks<SqlKeep<S, K>> for Sql {
     fn recorded(
         &self,
@@ -151,11 +168,7 @@ impl<S: Alter + Drop, K: PageKey> Looks<SqlKeep<S, K>> for Sql {
     ) -> Result<(SqlKeep<S, K>, Vec<u8>), Failure> {
         let mut conn = keep.close();
         let record = lawful_record(alloc, line, &mut conn, is_lawful);
-        let keep = reopened(line, conn)?;
-        match record {
-            Ok(record) => Ok((keep, record)),
-            Err(failure) => Err(failure),
-        }
+        with_found(reopened(line, conn), record)
     }
 
     fn asked(
@@ -176,8 +189,10 @@ impl<S: Alter + Drop, K: PageKey> Looks<SqlKeep<S, K>> for Sql {
 
 fn in_values(alloc: Global, play: &Play, way: Way) -> Result<(), Failure> {
     let keep = PlainKeep::new(alloc);
-    taken_to(alloc, keep, way, play, 0, play.steps.len())?;
-    Ok(())
+    match taken_to(alloc, keep, way, play, 0, play.steps.len()) {
+        Ok(_) => Ok(()),
+        Err(failure) => Err(failure),
+    }
 }
 
 fn in_tables<K: PageKey>(
@@ -187,8 +202,10 @@ fn in_tables<K: PageKey>(
     way: Way,
 ) -> Result<(), Failure> {
     let keep: TablesBy<K> = Sql.made(alloc)?;
-    told_over(alloc, &Sql, keep, play, keyed, way)?;
-    Ok(())
+    match told_over(alloc, &Sql, keep, play, keyed, way) {
+        Ok(_) => Ok(()),
+        Err(failure) => Err(failure),
+    }
 }
 
 fn on_way(alloc: Global, play: &Play, store: Store, way: Way) -> Result<(), Failure> {

@@ -1,5 +1,5 @@
 //! A workspace read whole, as lists of all its rows, and what a decision needs of it, taken from these lists.
-use crate::ways::{Sql, reopened};
+use crate::ways::{Sql, reopened, with_found};
 use basis::{
     Bytes, Holder, Items, KeepCount, Limit, LockId, Moment, Number, OrgName, RunAction, RunRow,
     RunSettings, RunStatus, Settings, Text,
@@ -73,93 +73,126 @@ fn fit<T: Drop>(value: Option<T>, at: usize) -> Result<T, Error> {
 }
 
 fn number_in(row: &Row, at: usize) -> Result<Number, Error> {
-    fit(Number::new(row.get(at)?), at)
+    match row.get(at) {
+        Ok(number) => fit(Number::new(number), at),
+        Err(error) => Err(error),
+    }
 }
 
 fn moment_in(row: &Row, at: usize) -> Result<Moment, Error> {
-    fit(Moment::new(row.get(at)?), at)
+    match row.get(at) {
+        Ok(seconds) => fit(Moment::new(seconds), at),
+        Err(error) => Err(error),
+    }
 }
 
 fn text_in(row: &Row, at: usize) -> Result<Text, Error> {
-    Ok(Text::new(row.get(at)?))
+    match row.get(at) {
+        Ok(text) => Ok(Text::new(text)),
+        Err(error) => Err(error),
+    }
 }
 
 fn key_in(row: &Row, at: usize) -> Result<Option<Text>, Error> {
-    match row.get::<Option<String>>(at)? {
-        Some(key) => Ok(Some(Text::new(key))),
-        None => Ok(None),
+    match row.get(at) {
+        Ok(Some(key)) => Ok(Some(Text::new(key))),
+        Ok(None) => Ok(None),
+        Err(error) => Err(error),
     }
 }
 
-fn id_of(alloc: Global, id: &str, at: usize) -> Result<LockId, Error> {
-    match LockId::read(alloc, id) {
-        Ok(id) => Ok(id),
-        Err(_) => Err(Error::IntegralValueOutOfRange(at)),
+fn optional_id_in(row: &Row, at: usize) -> Result<Option<LockId>, Error> {
+    match row.get::<Option<String>>(at) {
+        Ok(Some(id)) => match LockId::from_string(id) {
+            Some(id) => Ok(Some(id)),
+            None => Err(Error::IntegralValueOutOfRange(at)),
+        },
+        Ok(None) => Ok(None),
+        Err(error) => Err(error),
     }
 }
 
-fn optional_id_in(alloc: Global, row: &Row, at: usize) -> Result<Option<LockId>, Error> {
-    match row.get::<Option<String>>(at)? {
-        Some(id) => Ok(Some(id_of(alloc, id.as_str(), at)?)),
-        None => Ok(None),
+fn lock_in(row: &Row) -> Result<Holder, Error> {
+    let id = fit(LockId::from_string(row.get(2)?), 2)?;
+    match row.get(3) {
+        Ok(text) => Ok(Holder::Lock {
+            id,
+            text: Bytes::new(text),
+        }),
+        Err(error) => Err(error),
     }
 }
 
-fn lock_in(alloc: Global, row: &Row) -> Result<Holder, Error> {
-    let id = row.get::<String>(2)?;
-    let id = id_of(alloc, id.as_str(), 2)?;
-    let text = Bytes::new(row.get(3)?);
-    Ok(Holder::Lock { id, text })
-}
-
-fn holder_in(alloc: Global, row: &Row) -> Result<Holder, Error> {
+fn holder_in(row: &Row) -> Result<Holder, Error> {
     match row.get::<u64>(1)? {
         0 => Ok(Holder::Nobody),
-        1 => lock_in(alloc, row),
+        1 => lock_in(row),
         2 => Ok(Holder::Run(number_in(row, 4)?)),
         _ => Err(Error::IntegralValueOutOfRange(1)),
     }
 }
 
 fn status_in(row: &Row, at: usize) -> Result<RunStatus, Error> {
-    let number = row.get::<u64>(at)?;
-    fit(STATUSES.get(number as usize).copied(), at)
+    match row.get::<u64>(at) {
+        Ok(number) => fit(STATUSES.get(number as usize).copied(), at),
+        Err(error) => Err(error),
+    }
 }
 
 fn action_in(row: &Row, at: usize) -> Result<Option<RunAction>, Error> {
-    let Some(number) = row.get::<Option<u64>>(at)? else {
-        return Ok(None);
-    };
-    let action = fit(ACTIONS.get(number as usize).copied(), at)?;
-    Ok(Some(action))
+    match row.get::<Option<u64>>(at) {
+        Ok(Some(number)) => match ACTIONS.get(number as usize) {
+            Some(action) => Ok(Some(*action)),
+            None => Err(Error::IntegralValueOutOfRange(at)),
+        },
+        Ok(None) => Ok(None),
+        Err(error) => Err(error),
+    }
 }
 
 fn run_in(row: &Row) -> Result<RunRow, Error> {
+    let number = number_in(row, 0)?;
+    let plan_only = row.get(1)?;
+    let created = moment_in(row, 4)?;
+    let status = status_in(row, 5)?;
+    let action = action_in(row, 6)?;
     let key = key_in(row, 2)?;
     let message = text_in(row, 3)?;
     Ok(RunRow {
-        number: number_in(row, 0)?,
-        plan_only: row.get(1)?,
+        number,
+        plan_only,
         key,
         message,
-        created: moment_in(row, 4)?,
-        status: status_in(row, 5)?,
-        action: action_in(row, 6)?,
+        created,
+        status,
+        action,
     })
 }
 
-// All runs of a workspace.
-fn runs_in<S: Alter>(
-    alloc: Global,
+// The rows of a query that asks of a workspace.
+fn rows_of<S: Alter>(
     conn: &mut Connection<S>,
+    sql: &str,
     named: &Named,
-) -> Result<Vec<RunRow>, Error> {
-    let rows = conn.query_all(RUNS, params![named.org.as_str(), named.ws.as_str()])?;
-    let mut runs = Vec::new(alloc);
-    for row in rows.as_slice() {
+) -> Result<Vec<Row>, Error> {
+    conn.query_all(sql, params![named.org.as_str(), named.ws.as_str()])
+}
+
+fn push_runs(runs: &mut Vec<RunRow>, rows: &[Row]) -> Result<(), Error> {
+    for row in rows {
         runs.push(run_in(row)?)?;
     }
-    Ok(runs)
+    Ok(())
+}
+
+// All runs of a workspace.
+fn add_runs<S: Alter>(
+    runs: &mut Vec<RunRow>,
+    conn: &mut Connection<S>,
+    named: &Named,
+) -> Result<(), Error> {
+    let rows = rows_of(conn, RUNS, named)?;
+    push_runs(runs, rows.as_slice())
 }
 
 // The text of the version of a number, from the pages of all texts.
@@ -176,35 +209,47 @@ fn text_from(alloc: Global, pages: &[Row], number: Number) -> Result<Vec<u8>, Er
 
 fn version_in(alloc: Global, row: &Row, pages: &[Row]) -> Result<Version, Error> {
     let number = number_in(row, 0)?;
-    let lineage = text_in(row, 2)?;
+    let serial = row.get(1)?;
+    let created = moment_in(row, 3)?;
     let text = text_from(alloc, pages, number)?;
+    let text = StateText::new(alloc, Bytes::new(text))?;
+    let lineage = text_in(row, 2)?;
     Ok(Version {
         number,
-        serial: row.get(1)?,
+        serial,
         lineage,
-        created: moment_in(row, 3)?,
-        text: StateText::new(alloc, Bytes::new(text))?,
+        created,
+        text,
     })
 }
 
-// All versions of a workspace, with their texts.
-fn versions_in<S: Alter>(
+fn push_versions(
     alloc: Global,
+    versions: &mut Vec<Version>,
+    rows: &[Row],
+    pages: &[Row],
+) -> Result<(), Error> {
+    for row in rows {
+        versions.push(version_in(alloc, row, pages)?)?;
+    }
+    Ok(())
+}
+
+// All versions of a workspace, with their texts.
+fn add_versions<S: Alter>(
+    alloc: Global,
+    versions: &mut Vec<Version>,
     conn: &mut Connection<S>,
     named: &Named,
-) -> Result<Vec<Version>, Error> {
-    let rows = conn.query_all(VERSIONS, params![named.org.as_str(), named.ws.as_str()])?;
-    let pages = conn.query_all(PAGES, params![named.org.as_str(), named.ws.as_str()])?;
-    let mut versions = Vec::new(alloc);
-    for row in rows.as_slice() {
-        versions.push(version_in(alloc, row, pages.as_slice())?)?;
-    }
-    Ok(versions)
+) -> Result<(), Error> {
+    let rows = rows_of(conn, VERSIONS, named)?;
+    let pages = rows_of(conn, PAGES, named)?;
+    push_versions(alloc, versions, rows.as_slice(), pages.as_slice())
 }
 
 // How many versions a workspace keeps. One without a row keeps what one keeps at first.
 fn keep_in<S: Alter>(conn: &mut Connection<S>, named: &Named) -> Result<KeepCount, Error> {
-    let rows = conn.query_all(KEEPING, params![named.org.as_str(), named.ws.as_str()])?;
+    let rows = rows_of(conn, KEEPING, named)?;
     match rows.as_slice().first() {
         Some(row) => fit(KeepCount::new(row.get(0)?), 0),
         None => Ok(KeepCount::first()),
@@ -219,11 +264,15 @@ fn workspace_in<S: Alter>(
     row: &Row,
 ) -> Result<Workspace, Error> {
     let keep_versions = keep_in(conn, named)?;
-    let versions = versions_in(alloc, conn, named)?;
-    let runs = runs_in(alloc, conn, named)?;
-    let holder = holder_in(alloc, row)?;
-    let released = optional_id_in(alloc, row, 5)?;
     let auto_apply = row.get(0)?;
+    let next_version = row.get(6)?;
+    let next_run = row.get(7)?;
+    let released = optional_id_in(row, 5)?;
+    let holder = holder_in(row)?;
+    let mut versions = Vec::new(alloc);
+    add_versions(alloc, &mut versions, conn, named)?;
+    let mut runs = Vec::new(alloc);
+    add_runs(&mut runs, conn, named)?;
     Ok(Workspace {
         settings: Settings {
             runs: RunSettings { auto_apply },
@@ -231,8 +280,8 @@ fn workspace_in<S: Alter>(
         },
         holder,
         released,
-        next_version: row.get(6)?,
-        next_run: row.get(7)?,
+        next_version,
+        next_run,
         versions: Items::new(versions),
         runs: Items::new(runs),
     })
@@ -244,9 +293,12 @@ fn named_in<S: Alter>(
     conn: &mut Connection<S>,
     named: &Named,
 ) -> Result<Option<Workspace>, Error> {
-    let rows = conn.query_all(WORKSPACE, params![named.org.as_str(), named.ws.as_str()])?;
+    let rows = rows_of(conn, WORKSPACE, named)?;
     match rows.as_slice().first() {
-        Some(row) => Ok(Some(workspace_in(alloc, conn, named, row)?)),
+        Some(row) => match workspace_in(alloc, conn, named, row) {
+            Ok(workspace) => Ok(Some(workspace)),
+            Err(error) => Err(error),
+        },
         None => Ok(None),
     }
 }
@@ -256,7 +308,7 @@ fn limit_in<S: Alter>(conn: &mut Connection<S>, org: &OrgName) -> Result<Limit, 
     let rows = conn.query_all(ORGANIZATION, params![org.as_str()])?;
     match rows.as_slice().first() {
         Some(row) => fit(Limit::new(row.get(0)?), 0),
-        None => fit(Limit::new(0), 0),
+        None => Ok(Limit::none()),
     }
 }
 
@@ -309,10 +361,13 @@ fn newest_unit(versions: &[Version], text: Option<&[u8]>) -> Result<Option<Newes
 
 // How many versions have a greater number.
 fn count_above(versions: &[Version], number: Number) -> usize {
-    versions
-        .iter()
-        .filter(|version| version.number.get() > number.get())
-        .count()
+    let mut count: usize = 0;
+    for version in versions {
+        if version.number.get() > number.get() {
+            count = count.saturating_add(1);
+        }
+    }
+    count
 }
 
 fn greater_of(one: Option<Number>, other: Number) -> Option<Number> {
@@ -352,14 +407,21 @@ fn outgoing_of(workspace: &Workspace, staying: Staying) -> Option<Number> {
 }
 
 fn has_version(versions: &[Version], number: Option<Number>) -> bool {
-    match number {
-        Some(number) => versions.iter().any(|version| version.number == number),
-        None => false,
+    for version in versions {
+        if number == Some(version.number) {
+            return true;
+        }
     }
+    false
 }
 
 fn run_of(runs: &[RunRow], number: Number) -> Option<&RunRow> {
-    runs.iter().find(|run| run.number == number)
+    for run in runs {
+        if run.number == number {
+            return Some(run);
+        }
+    }
+    None
 }
 
 fn has_key(run: &RunRow, key: &Text) -> bool {
@@ -371,7 +433,12 @@ fn has_key(run: &RunRow, key: &Text) -> bool {
 
 fn keyed_run<'r>(runs: &'r [RunRow], key: Option<&Text>) -> Option<&'r RunRow> {
     let key = key?;
-    runs.iter().find(|run| has_key(run, key))
+    for run in runs {
+        if has_key(run, key) {
+            return Some(run);
+        }
+    }
+    None
 }
 
 fn asked_run(runs: &[RunRow], needs: &Needs<'_>) -> Result<Option<RunRow>, AllocError> {
@@ -413,7 +480,13 @@ fn has_ended(status: RunStatus) -> bool {
 }
 
 fn count_open(runs: &[RunRow]) -> usize {
-    runs.iter().filter(|run| !has_ended(run.status)).count()
+    let mut count: usize = 0;
+    for run in runs {
+        if !has_ended(run.status) {
+            count = count.saturating_add(1);
+        }
+    }
+    count
 }
 
 fn settings_unit(settings: &Settings, needed: bool) -> Settings {
@@ -464,14 +537,6 @@ fn present(workspace: &Workspace, needs: &Needs<'_>) -> Result<WorkspaceUnit, Al
     })
 }
 
-fn nothing_needed() -> Result<Unit, Error> {
-    let limit = fit(Limit::new(0), 0)?;
-    Ok(Unit::Absent {
-        workspaces: 0,
-        limit,
-    })
-}
-
 // What a decision on an act needs.
 fn unit_of(whole: &Whole, act: &Act) -> Result<Unit, Error> {
     let needs = act.needs();
@@ -481,22 +546,43 @@ fn unit_of(whole: &Whole, act: &Act) -> Result<Unit, Error> {
             workspaces: whole.workspaces,
             limit: whole.limit,
         }),
-        None => nothing_needed(),
+        None => Ok(Unit::Absent {
+            workspaces: 0,
+            limit: Limit::none(),
+        }),
     }
+}
+
+fn push_units(units: &mut Vec<Unit>, whole: &Whole, acts: &[Act]) -> Result<(), Error> {
+    for act in acts {
+        units.push(unit_of(whole, act)?)?;
+    }
+    Ok(())
+}
+
+fn add_units<S: Alter>(
+    alloc: Global,
+    units: &mut Vec<Unit>,
+    conn: &mut Connection<S>,
+    named: &Named,
+    acts: &[Act],
+) -> Result<(), Error> {
+    let whole = whole_in(alloc, conn, named)?;
+    push_units(units, &whole, acts)
 }
 
 fn units_in<S: Alter>(
     alloc: Global,
     conn: &mut Connection<S>,
+    line: usize,
     named: &Named,
     acts: &[Act],
-) -> Result<Vec<Unit>, Error> {
-    let whole = whole_in(alloc, conn, named)?;
+) -> Result<Vec<Unit>, Failure> {
     let mut units = Vec::new(alloc);
-    for act in acts {
-        units.push(unit_of(&whole, act)?)?;
+    match add_units(alloc, &mut units, conn, named, acts) {
+        Ok(()) => Ok(units),
+        Err(_) => Err(Failure::refused(line, "the tables don't answer")),
     }
-    Ok(units)
 }
 
 impl<S: Alter + Drop, K: PageKey> ReadsWhole<SqlKeep<S, K>> for Sql {
@@ -509,11 +595,7 @@ impl<S: Alter + Drop, K: PageKey> ReadsWhole<SqlKeep<S, K>> for Sql {
         acts: &[Act],
     ) -> Result<(SqlKeep<S, K>, Vec<Unit>), Failure> {
         let mut conn = keep.close();
-        let units = units_in(alloc, &mut conn, named, acts);
-        let keep = reopened(line, conn)?;
-        match units {
-            Ok(units) => Ok((keep, units)),
-            Err(_) => Err(Failure::refused(line, "the tables don't answer")),
-        }
+        let units = units_in(alloc, &mut conn, line, named, acts);
+        with_found(reopened(line, conn), units)
     }
 }
