@@ -110,24 +110,42 @@ impl Image {
     }
 }
 
+fn push_image(alloc: Global, images: &mut Vec<Image>, files: &Pair) -> Result<(), AllocError> {
+    images.push(Image::of(alloc, files)?)?;
+    Ok(())
+}
+
+// Behind what was written and what was synced, or in place of the latter where both are the same.
+fn push_third(alloc: Global, images: &mut Vec<Image>) -> Result<(), AllocError> {
+    let [written, synced] = images.as_slice() else {
+        return Ok(());
+    };
+    if written.is_same(synced) {
+        images.truncate(1);
+        return Ok(());
+    }
+    let torn = written.torn(alloc, synced)?;
+    images.push(torn)?;
+    Ok(())
+}
+
+fn push_images(alloc: Global, images: &mut Vec<Image>, files: &mut Pair) -> Result<(), AllocError> {
+    push_image(alloc, images, files)?;
+    files.log.crash();
+    files.db.crash();
+    push_image(alloc, images, files)?;
+    push_third(alloc, images)
+}
+
 // What may stand on the disk once the power is cut: all that was written; what was synced alone; of what wasn't synced
 // every other sector. One image, where all was synced.
 fn images_of(alloc: Global, files: Pair) -> Result<Vec<Image>, AllocError> {
     let mut files = files;
     let mut images = Vec::new(alloc);
-    let written = Image::of(alloc, &files)?;
-    files.log.crash();
-    files.db.crash();
-    let synced = Image::of(alloc, &files)?;
-    if written.is_same(&synced) {
-        images.push(written)?;
-        return Ok(images);
+    match push_images(alloc, &mut images, &mut files) {
+        Ok(()) => Ok(images),
+        Err(error) => Err(error),
     }
-    let torn = written.torn(alloc, &synced)?;
-    images.push(written)?;
-    images.push(synced)?;
-    images.push(torn)?;
-    Ok(images)
 }
 
 fn options() -> Options {

@@ -12,20 +12,38 @@ const EVERY: usize = 10;
 /// What may be left, by its place among the images of a stop.
 const WAYS: &[&str] = &["written", "synced", "torn"];
 
-fn write_pair(rt: &HostRuntime, path: &str, image: &Image) -> io::Result<()> {
-    let alloc = rt.alloc();
-    let db = format!(in alloc; "{path}.db")?;
-    let log = format!(in alloc; "{path}.db-wal")?;
-    fs::write(rt, db.as_str(), image.db.as_slice())?;
-    fs::write(rt, log.as_str(), image.log.as_slice())
+// Writes a file whose path ends so.
+fn write_at(rt: &HostRuntime, path: &str, end: &str, bytes: &[u8]) -> io::Result<()> {
+    let path = format!(in rt.alloc(); "{path}.{end}")?;
+    fs::write(rt, path.as_str(), bytes)
 }
 
-fn write_around(rt: &HostRuntime, path: &str, before: &[u8], after: &[u8]) -> io::Result<()> {
-    let alloc = rt.alloc();
-    let earlier = format!(in alloc; "{path}.before")?;
-    let later = format!(in alloc; "{path}.after")?;
-    fs::write(rt, earlier.as_str(), before)?;
-    fs::write(rt, later.as_str(), after)
+fn write_pair(rt: &HostRuntime, path: &str, image: &Image) -> io::Result<()> {
+    write_at(rt, path, "db", image.db.as_slice())?;
+    write_at(rt, path, "db-wal", image.log.as_slice())
+}
+
+fn write_around(rt: &HostRuntime, path: &str, around: (&[u8], &[u8])) -> io::Result<()> {
+    let (before, after) = around;
+    write_at(rt, path, "before", before)?;
+    write_at(rt, path, "after", after)
+}
+
+fn write_way(rt: &HostRuntime, path: &str, way: &str, image: &Image) -> io::Result<()> {
+    let path = format!(in rt.alloc(); "{path}-{way}")?;
+    write_pair(rt, path.as_str(), image)
+}
+
+fn write_each(
+    rt: &HostRuntime,
+    path: &str,
+    images: &[Image],
+    around: (&[u8], &[u8]),
+) -> io::Result<()> {
+    for (way, image) in WAYS.iter().zip(images.iter()) {
+        write_way(rt, path, way, image)?;
+    }
+    write_around(rt, path, around)
 }
 
 fn write_all(
@@ -36,13 +54,8 @@ fn write_all(
     images: &[Image],
     around: (&[u8], &[u8]),
 ) -> io::Result<()> {
-    let alloc = rt.alloc();
-    let path = format!(in alloc; "{folder}/{line}-{stop}")?;
-    for (way, image) in WAYS.iter().zip(images.iter()) {
-        let pair = format!(in alloc; "{}-{way}", path.as_str())?;
-        write_pair(rt, pair.as_str(), image)?;
-    }
-    write_around(rt, path.as_str(), around.0, around.1)
+    let path = format!(in rt.alloc(); "{folder}/{line}-{stop}")?;
+    write_each(rt, path.as_str(), images, around)
 }
 
 /// Writes what a stop leaves, and what stood in the tables before its step and behind it; of every tenth stop, where the

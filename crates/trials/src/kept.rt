@@ -36,21 +36,19 @@ fn number() -> Result<Number, Error> {
     }
 }
 
-fn put<K: PageKey>(conn: &mut Tables, text: &[u8]) -> Result<(), Error> {
+fn put<K: PageKey>(conn: &mut Tables, number: Number, text: &[u8]) -> Result<(), Error> {
     if !conn.is_autocommit() {
         return Err(Error::QueryReturnedNoRows);
     }
-    let number = number()?;
     let mut tx = conn.transaction();
     add_text::<K, MemStore>(&mut tx, ORG, WS, number, None, text)?;
     tx.commit()
 }
 
-fn take_away(conn: &mut Tables, size: usize) -> Result<(), Error> {
+fn take_away(conn: &mut Tables, number: Number, size: usize) -> Result<(), Error> {
     if !conn.is_autocommit() {
         return Err(Error::QueryReturnedNoRows);
     }
-    let number = number()?;
     let mut tx = conn.transaction();
     remove_text(&mut tx, ORG, WS, number, size as u64)?;
     tx.commit()
@@ -68,8 +66,7 @@ fn add_counts(alloc: Global, conn: &mut Tables, told: &mut String) -> Result<(),
 }
 
 // Whether the text is read as it is, and is the same as itself, and not as another of its size.
-fn is_kept(alloc: Global, conn: &mut Tables, due: &[u8]) -> Result<bool, Error> {
-    let number = number()?;
+fn is_kept(alloc: Global, conn: &mut Tables, number: Number, due: &[u8]) -> Result<bool, Error> {
     let read = texts::text(alloc, conn, ORG, WS, number, due.len() as u64)?;
     let turned = turned(alloc, due)?;
     Ok(
@@ -90,12 +87,13 @@ fn is_left(alloc: Global, conn: &mut Tables) -> Result<bool, Error> {
 }
 
 fn told_of<K: PageKey>(alloc: Global, conn: &mut Tables, due: &[u8]) -> Result<String, Error> {
+    let number = number()?;
+    put::<K>(conn, number, due)?;
     let mut told = String::new(alloc);
-    put::<K>(conn, due)?;
     add_counts(alloc, conn, &mut told)?;
-    let is_kept = is_kept(alloc, conn, due)?;
+    let is_kept = is_kept(alloc, conn, number, due)?;
     told.push_str(if is_kept { "kept\n" } else { "not kept\n" })?;
-    take_away(conn, due.len())?;
+    take_away(conn, number, due.len())?;
     let is_left = is_left(alloc, conn)?;
     told.push_str(if is_left { "left" } else { "gone" })?;
     Ok(told)

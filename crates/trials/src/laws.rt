@@ -62,18 +62,23 @@ const LAWS: &[(&str, &str)] = &[
     ),
 ];
 
-fn count_of<S: Alter>(conn: &mut Connection<S>, sql: &str) -> Result<i64, Error> {
-    conn.query_row(sql, &[])?.get(0)
+/// The number that a query counts.
+pub(crate) fn count_of<S: Alter>(conn: &mut Connection<S>, sql: &str) -> Result<i64, Error> {
+    match conn.query_row(sql, &[]) {
+        Ok(row) => row.get(0),
+        Err(error) => Err(error),
+    }
 }
 
 /// That the tables obey their laws.
 pub fn check_laws<S: Alter>(line: usize, conn: &mut Connection<S>) -> Result<(), Failure> {
     for (sql, broken) in LAWS {
-        match count_of(conn, sql) {
-            Ok(0) => {}
-            Ok(_) => return Err(Failure::refused(line, broken)),
-            Err(_) => return Err(Failure::refused(line, "the tables don't answer")),
-        }
+        let why = match count_of(conn, sql) {
+            Ok(0) => continue,
+            Ok(_) => broken,
+            Err(_) => "the tables don't answer",
+        };
+        return Err(Failure::refused(line, why));
     }
     Ok(())
 }

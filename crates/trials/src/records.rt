@@ -1,4 +1,5 @@
 //! All that stands in the tables, as bytes that are compared.
+use crate::laws::count_of;
 use sqlite::types::ValueRef;
 use sqlite::{Alter, Connection, Error, Row};
 use std::alloc::{AllocError, Global};
@@ -78,10 +79,6 @@ fn put_record<S: Alter>(all: &mut Vec<u8>, conn: &mut Connection<S>) -> Result<(
     put_tables(all, conn, FIRST)?;
     put_tables(all, conn, SECOND)?;
     put_tables(all, conn, THIRD)
-}
-
-fn count_of<S: Alter>(conn: &mut Connection<S>, sql: &str) -> Result<i64, Error> {
-    conn.query_row(sql, &[])?.get(0)
 }
 
 fn put_earlier<S: Alter>(all: &mut Vec<u8>, conn: &mut Connection<S>) -> Result<(), Error> {

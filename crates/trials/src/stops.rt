@@ -94,8 +94,10 @@ fn recovered(
     cut: Cut,
     image: &Image,
 ) -> Result<(), Failure> {
-    over_whole(alloc, cut.line, image, play, Work::GoOn(cut, records))?;
-    Ok(())
+    match over_whole(alloc, cut.line, image, play, Work::GoOn(cut, records)) {
+        Ok(_) => Ok(()),
+        Err(failure) => Err(failure),
+    }
 }
 
 /// What stands in the tables.
