@@ -8,7 +8,7 @@ use program::lines::split_line;
 use std::alloc::{AllocError, Global};
 use telling::books::{Part, Plot};
 use telling::definitions::Unread;
-use telling::failures::Failure;
+use telling::failures::{Failure, compare_bytes};
 use telling::lines::Mark;
 use telling::messages::show_message;
 use telling::routes::{show_asks, show_route};
@@ -75,8 +75,15 @@ fn kind_of<'a>(head: &Part<'a>) -> Option<(Kind, &'a str)> {
 /// What a value comes to: the lines of the step's result.
 type Shown = Result<String, Failure>;
 
+fn shown(text: Result<String, AllocError>) -> Shown {
+    match text {
+        Ok(text) => Ok(text),
+        Err(refused) => Err(Failure::from(refused)),
+    }
+}
+
 fn text_of(alloc: Global, text: &str) -> Shown {
-    Ok(String::from_str(alloc, text)?)
+    shown(String::from_str(alloc, text))
 }
 
 fn refused(alloc: Global, fault: DocFault) -> Shown {
@@ -104,14 +111,14 @@ fn state_text(alloc: Global, head: &StateHead) -> Result<String, AllocError> {
 
 fn show_state(alloc: Global, bytes: &[u8]) -> Shown {
     match read_state(alloc, bytes) {
-        Ok(head) => Ok(state_text(alloc, &head)?),
+        Ok(head) => shown(state_text(alloc, &head)),
         Err(fault) => refused(alloc, fault),
     }
 }
 
 fn show_lock(alloc: Global, bytes: &[u8]) -> Shown {
     match read_lock(alloc, bytes) {
-        Ok(id) => Ok(format!(in alloc; "id {}", id.as_str())?),
+        Ok(id) => shown(format!(in alloc; "id {}", id.as_str())),
         Err(fault) => refused(alloc, fault),
     }
 }
@@ -126,7 +133,7 @@ fn settings_text(alloc: Global, settings: &SettingsAsk) -> Result<String, AllocE
 
 fn show_settings(alloc: Global, bytes: &[u8]) -> Shown {
     match read_settings(alloc, bytes) {
-        Ok(settings) => Ok(settings_text(alloc, &settings)?),
+        Ok(settings) => shown(settings_text(alloc, &settings)),
         Err(fault) => refused(alloc, fault),
     }
 }
@@ -146,7 +153,7 @@ fn run_text(alloc: Global, ask: &RunAsk) -> Result<String, AllocError> {
 
 fn show_run(alloc: Global, bytes: &[u8]) -> Shown {
     match read_run(alloc, bytes) {
-        Ok(ask) => Ok(run_text(alloc, &ask)?),
+        Ok(ask) => shown(run_text(alloc, &ask)),
         Err(fault) => refused(alloc, fault),
     }
 }
@@ -198,7 +205,7 @@ fn show_secret(alloc: Global, text: &str) -> Shown {
 
 fn show_value(alloc: Global, value: Option<u64>) -> Shown {
     match value {
-        Some(value) => Ok(format!(in alloc; "{value}")?),
+        Some(value) => shown(format!(in alloc; "{value}")),
         None => text_of(alloc, "bad"),
     }
 }
@@ -224,7 +231,7 @@ fn limit_in(text: &str) -> Option<u64> {
 // How many bytes the first line of a frame has, and how many follow it.
 fn show_front(alloc: Global, bytes: &[u8]) -> Shown {
     match split_line(bytes) {
-        Some((line, rest)) => Ok(format!(in alloc; "{} then {}", line.len(), rest.len())?),
+        Some((line, rest)) => shown(format!(in alloc; "{} then {}", line.len(), rest.len())),
         None => text_of(alloc, "bad"),
     }
 }
@@ -292,13 +299,12 @@ fn bytes_in<'a>(part: &'a Part<'_>) -> Option<&'a [u8]> {
     }
 }
 
-fn differs(alloc: Global, head: &Part<'_>, due: &str, came: &str) -> Result<(), Failure> {
-    if due == came {
-        return Ok(());
+// What is due, compared with what a value comes to.
+fn compare(alloc: Global, head: &Part<'_>, due: &str, came: Shown) -> Result<(), Failure> {
+    match came {
+        Ok(came) => compare_bytes(alloc, head.line, due.as_bytes(), came.as_str().as_bytes()),
+        Err(failure) => Err(failure),
     }
-    let due = Vec::from_slice(alloc, due.as_bytes())?;
-    let came = Vec::from_slice(alloc, came.as_bytes())?;
-    Err(Failure::differs(head.line, due, came))
 }
 
 // Where ` -> ` stands last, what is before it and what is behind it.
@@ -326,6 +332,16 @@ fn result_lines(alloc: Global, parts: &[Part<'_>]) -> Result<String, Unread> {
     Ok(lines)
 }
 
+// The query behind the pieces of a field, where one is given, and the lines of the result.
+fn query_in<'s, 'a>(kind: Kind, parts: &'s [Part<'a>]) -> (Option<&'s [u8]>, &'s [Part<'a>]) {
+    match (kind, parts) {
+        (Kind::Asks, [query, results @ ..]) if query.mark == Mark::Query => {
+            (bytes_in(query), results)
+        }
+        _ => (None, parts),
+    }
+}
+
 // A step whose value stands in pieces.
 fn take_block(
     alloc: Global,
@@ -334,23 +350,13 @@ fn take_block(
     words: &str,
     parts: &[Part<'_>],
 ) -> Result<(), Failure> {
-    match (kind, parts) {
-        (Kind::Asks, [query, results @ ..]) if query.mark == Mark::Query => {
-            let due = result_lines(alloc, results)?;
-            let came = show_asks(alloc, bytes_in(head), bytes_in(query))?;
-            differs(alloc, head, due.as_str(), came.as_str())
-        }
-        (Kind::Asks, _) => {
-            let due = result_lines(alloc, parts)?;
-            let came = show_asks(alloc, bytes_in(head), None)?;
-            differs(alloc, head, due.as_str(), came.as_str())
-        }
-        _ => {
-            let due = result_lines(alloc, parts)?;
-            let came = show_bytes(alloc, kind, words, head.written())?;
-            differs(alloc, head, due.as_str(), came.as_str())
-        }
-    }
+    let (query, results) = query_in(kind, parts);
+    let due = result_lines(alloc, results)?;
+    let came = match kind {
+        Kind::Asks => show_asks(alloc, bytes_in(head), query),
+        _ => show_bytes(alloc, kind, words, head.written()),
+    };
+    compare(alloc, head, due.as_str(), came)
 }
 
 /// Takes a step of values.
@@ -367,8 +373,7 @@ pub fn take_value(alloc: Global, plot: &Plot<'_>) -> Result<(), Failure> {
     let Some((text, due)) = parted(rest) else {
         return Err(Failure::from(head.unread("no result is given")));
     };
-    let came = show_line(alloc, kind, text)?;
-    differs(alloc, head, due, came.as_str())
+    compare(alloc, head, due, show_line(alloc, kind, text))
 }
 
 /// Whether a step is one of values.
