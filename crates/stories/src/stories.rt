@@ -16,7 +16,7 @@ use telling::refusals::run_refused;
 use trials::resuming::run_resumed;
 use trials::stops;
 use trials::stops::run_stops;
-use trials::ways::{run_beside, run_in_breaks, run_in_memory, run_large_in_memory};
+use trials::ways::{run_in_breaks, run_in_memory, run_large_in_memory};
 
 // The earlier stories and this one, in turn.
 fn run_store(
@@ -49,7 +49,6 @@ fn run_made(
     run_in_memory(rt.alloc(), play)?;
     run_in_file(rt, play)?;
     run_over_copy(rt, play, modes)?;
-    run_beside(rt.alloc(), play)?;
     run_in_breaks(rt.alloc(), play, modes, counts)?;
     run_over_refusals(rt.alloc(), play, modes, counts)?;
     run_in_stops(rt, play, modes, counts)

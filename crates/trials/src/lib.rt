@@ -10,4 +10,3 @@ mod records;
 pub mod resuming;
 pub mod stops;
 pub mod ways;
-mod whole;

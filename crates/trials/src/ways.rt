@@ -8,6 +8,7 @@ use pages::{PageKey, ShaKey};
 use sqlite::{Alter, Connection, Error, MemStore, Row};
 use std::alloc::Global;
 use tables::SqlKeep;
+use telling::breaking;
 use telling::breaking::run_broken;
 use telling::devices::ALL;
 use telling::failures::{Failure, compare_bytes};
@@ -16,9 +17,6 @@ use telling::modes::{Counts, Modes};
 use telling::plays::{Play, Question};
 use telling::stores::{Looks, Makes, told_over};
 use telling::taking::{Way, taken_to};
-use telling::units::run_by_units;
-use telling::whole::run_by_whole;
-use telling::{breaking, units, whole};
 
 #[derive(Clone, Copy)]
 enum Store {
@@ -135,7 +133,7 @@ fn lawful_record<S: Alter>(
 }
 
 // The store over tables that were asked.
-pub(crate) fn reopened<S: Alter + Drop, K: PageKey>(
+fn reopened<S: Alter + Drop, K: PageKey>(
     line: usize,
     conn: Connection<S>,
 ) -> Result<SqlKeep<S, K>, Failure> {
@@ -148,16 +146,6 @@ pub(crate) fn reopened<S: Alter + Drop, K: PageKey>(
     }
 }
 
-// A store that was looked at, and what was found.
-pub(crate) fn with_found<K: Drop, T: Drop>(
-    keep: Result<K, Failure>,
-    found: Result<T, Failure>,
-) -> Result<(K, T), Failure> {
-    let keep = keep?;
-    let found = found?;
-    Ok((keep, found))
-}
-
 impl<S: Alter + Drop, K: PageKey> Looks<SqlKeep<S, K>> for Sql {
     fn recorded(
         &self,
@@ -168,7 +156,11 @@ impl<S: Alter + Drop, K: PageKey> Looks<SqlKeep<S, K>> for Sql {
     ) -> Result<(SqlKeep<S, K>, Vec<u8>), Failure> {
         let mut conn = keep.close();
         let record = lawful_record(alloc, line, &mut conn, is_lawful);
-        with_found(reopened(line, conn), record)
+        let keep = reopened(line, conn)?;
+        match record {
+            Ok(record) => Ok((keep, record)),
+            Err(failure) => Err(failure),
+        }
     }
 
     fn asked(
@@ -236,30 +228,6 @@ pub fn run_in_memory(alloc: Global, play: &Play) -> Result<(), Failure> {
 /// Runs a large story on few ways in memory.
 pub fn run_large_in_memory(alloc: Global, play: &Play) -> Result<(), Failure> {
     run_on(alloc, play, FEW_IN_MEMORY)
-}
-
-fn beside_values<K: PageKey>(alloc: Global, play: &Play) -> Result<(), Failure> {
-    let tables: TablesBy<K> = Sql.made(alloc)?;
-    match run_by_units(alloc, tables, play) {
-        Ok(()) => Ok(()),
-        Err(failure) => Err(failure.on(units::WAY)),
-    }
-}
-
-// Over pages that have numbers of their own under one key, which no text has by SHA-256.
-fn by_whole(alloc: Global, play: &Play) -> Result<(), Failure> {
-    let tables: TablesBy<FirstByte> = Sql.made(alloc)?;
-    match run_by_whole(alloc, &Sql, tables, play) {
-        Ok(()) => Ok(()),
-        Err(failure) => Err(failure.on(whole::WAY)),
-    }
-}
-
-/// Tells a story to values and to tables side by side, by the one key of their pages and by the other, and to tables that are read whole.
-pub fn run_beside(alloc: Global, play: &Play) -> Result<(), Failure> {
-    beside_values::<ShaKey>(alloc, play)?;
-    beside_values::<FirstByte>(alloc, play)?;
-    by_whole(alloc, play)
 }
 
 /// Tells a story over links that break, over tables in memory.
