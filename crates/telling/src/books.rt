@@ -1,8 +1,7 @@
 //! The text of the stories: of each its name and the parts of its steps.
 use crate::definitions::{Definitions, Unread};
-use crate::keyed::Keyed;
 use crate::lines::{Line, Mark, Piece, read_line, write_escaped};
-use crate::modes::{Modes, NONE};
+use crate::modes::{Modes, NONE, Setting};
 use basis::numbers::whole_number;
 use std::alloc::{AllocError, Global};
 
@@ -53,9 +52,7 @@ impl<'a> Part<'a> {
     }
 
     fn add_field(&mut self, field: &str) -> Result<(), Unread> {
-        self.fields.extend_from_slice(field.as_bytes())?;
-        self.fields.extend_from_slice(b"\r\n")?;
-        Ok(())
+        write_row(&mut self.fields, field)
     }
 
     fn add_piece(
@@ -65,19 +62,43 @@ impl<'a> Part<'a> {
         piece: Piece,
         text: &str,
     ) -> Result<(), Unread> {
+        let is_row = piece == Piece::Row;
+        let is_behind_row = is_row && self.is_row;
+        self.is_row = is_row;
         let mut bytes = match self.bytes.take() {
             Some(bytes) => bytes,
             None => Vec::new(alloc),
         };
-        let is_row = piece == Piece::Row;
-        if is_row && self.is_row {
-            bytes.push(b'\n')?;
-        }
-        self.is_row = is_row;
-        write_piece(alloc, &mut bytes, line, piece, text)?;
+        let written = write_behind(alloc, &mut bytes, is_behind_row, line, piece, text);
         self.bytes = Some(bytes);
-        Ok(())
+        written
     }
+}
+
+fn write(bytes: &mut Vec<u8>, more: &[u8]) -> Result<(), Unread> {
+    bytes.extend_from_slice(more)?;
+    Ok(())
+}
+
+// Writes a text, and CR LF.
+fn write_row(bytes: &mut Vec<u8>, text: &str) -> Result<(), Unread> {
+    write(bytes, text.as_bytes())?;
+    write(bytes, b"\r\n")
+}
+
+// Writes a piece, behind a line feed where it comes behind a row.
+fn write_behind(
+    alloc: Global,
+    bytes: &mut Vec<u8>,
+    is_behind_row: bool,
+    line: usize,
+    piece: Piece,
+    text: &str,
+) -> Result<(), Unread> {
+    if is_behind_row {
+        write(bytes, b"\n")?;
+    }
+    write_piece(alloc, bytes, line, piece, text)
 }
 
 fn write_piece(
@@ -88,15 +109,11 @@ fn write_piece(
     text: &str,
 ) -> Result<(), Unread> {
     match piece {
-        Piece::Row => bytes.extend_from_slice(text.as_bytes())?,
-        Piece::Field => {
-            bytes.extend_from_slice(text.as_bytes())?;
-            bytes.extend_from_slice(b"\r\n")?;
-        }
-        Piece::Escaped => write_times(alloc, bytes, line, 1, text)?,
-        Piece::Repeated => write_repeated(alloc, bytes, line, text)?,
+        Piece::Row => write(bytes, text.as_bytes()),
+        Piece::Field => write_row(bytes, text),
+        Piece::Escaped => write_times(alloc, bytes, line, 1, text),
+        Piece::Repeated => write_repeated(alloc, bytes, line, text),
     }
-    Ok(())
 }
 
 fn write_repeated(
@@ -129,18 +146,22 @@ fn write_times(
             why: "the escapes are \\r \\n \\t \\\\ and \\xHH",
         });
     }
-    repeat(alloc, bytes, once, times)?;
+    repeat(alloc, bytes, &mut once, times)?;
     Ok(())
 }
 
-// Writes a piece so many times: each power of two of it that the number has.
+fn double(alloc: Global, bytes: &mut Vec<u8>) -> Result<(), AllocError> {
+    let again = Vec::from_slice(alloc, bytes.as_slice())?;
+    bytes.extend_from_slice(again.as_slice())
+}
+
+// Writes a piece so many times: each power of two of it that the number has. The piece grows to the largest of them.
 fn repeat(
     alloc: Global,
     bytes: &mut Vec<u8>,
-    piece: Vec<u8>,
+    power: &mut Vec<u8>,
     times: u64,
 ) -> Result<(), AllocError> {
-    let mut power = piece;
     let mut left = times;
     for _ in 0..u64::BITS {
         if left % 2 == 1 {
@@ -150,8 +171,7 @@ fn repeat(
         if left == 0 {
             return Ok(());
         }
-        let again = Vec::from_slice(alloc, power.as_slice())?;
-        power.extend_from_slice(again.as_slice())?;
+        double(alloc, power)?;
     }
     Ok(())
 }
@@ -190,7 +210,63 @@ pub struct Book<'a> {
 
 // The place of the story of this name.
 fn place_of(stories: &[Story<'_>], name: &str) -> Option<usize> {
-    stories.iter().position(|story| story.name == name)
+    for (place, story) in stories.iter().enumerate() {
+        if story.name == name {
+            return Some(place);
+        }
+    }
+    None
+}
+
+// The stories that come before one at this place, and that one.
+fn chain_behind(alloc: Global, story: &Story<'_>, place: usize) -> Result<Vec<usize>, Unread> {
+    let mut chain = Vec::from_slice(alloc, story.before.as_slice())?;
+    chain.push(place)?;
+    Ok(chain)
+}
+
+impl<'a> Plot<'a> {
+    fn push(&mut self, part: Part<'a>) -> Result<(), Unread> {
+        self.parts.push(part)?;
+        Ok(())
+    }
+}
+
+impl<'a> Story<'a> {
+    // Whether neither a step of it has come nor the file that it begins with.
+    fn is_bare(&self) -> bool {
+        self.plots.is_empty() && self.begins.is_none()
+    }
+
+    // Whether it may still begin with a file.
+    fn is_first(&self) -> bool {
+        self.plots.is_empty() && self.before.is_empty()
+    }
+
+    // Whether this may still be said of it.
+    fn may_set(&self, setting: Setting) -> bool {
+        match setting {
+            Setting::Stops(_) | Setting::Resumes => self.plots.is_empty(),
+            Setting::Large => self.is_bare(),
+            Setting::Copied => self.plots.is_empty() && !self.before.is_empty(),
+        }
+    }
+
+    fn set_links(&mut self, line: usize, links: Modes) -> Result<(), Unread> {
+        if !self.is_bare() {
+            return Err(Unread {
+                line,
+                why: "`links` stands before the first step of a story that begins with no file",
+            });
+        }
+        self.modes = self.modes.with_links(links);
+        Ok(())
+    }
+
+    fn push(&mut self, plot: Plot<'a>) -> Result<(), Unread> {
+        self.plots.push(plot)?;
+        Ok(())
+    }
 }
 
 impl<'a> Book<'a> {
@@ -229,15 +305,20 @@ impl<'a> Book<'a> {
                 why: "a story that begins with a file comes before no other",
             });
         }
-        let mut chain = Vec::from_slice(alloc, story.before.as_slice())?;
-        chain.push(place)?;
-        Ok(chain)
+        chain_behind(alloc, story, place)
     }
 
     fn set_before(&mut self, alloc: Global, line: usize, name: &str) -> Result<(), Unread> {
-        let chain = self.chain_to(alloc, line, name)?;
+        match self.chain_to(alloc, line, name) {
+            Ok(chain) => self.set_chain(line, chain),
+            Err(unread) => Err(unread),
+        }
+    }
+
+    // Of the story that begins.
+    fn set_chain(&mut self, line: usize, chain: Vec<usize>) -> Result<(), Unread> {
         match self.stories.last_mut() {
-            Some(story) if story.plots.is_empty() && story.begins.is_none() => {
+            Some(story) if story.is_bare() => {
                 story.before = chain;
                 Ok(())
             }
@@ -257,21 +338,7 @@ impl<'a> Book<'a> {
             });
         };
         match self.stories.last_mut() {
-            Some(story) if story.plots.is_empty() && story.begins.is_none() => {
-                story.modes = Modes {
-                    cut: modes.cut,
-                    reads: modes.reads,
-                    writes: modes.writes,
-                    again: modes.again,
-                    refused: modes.refused,
-                    ..story.modes
-                };
-                Ok(())
-            }
-            Some(_) => Err(Unread {
-                line,
-                why: "`links` stands before the first step of a story that begins with no file",
-            }),
+            Some(story) => story.set_links(line, modes),
             None => {
                 self.modes = modes;
                 Ok(())
@@ -280,57 +347,15 @@ impl<'a> Book<'a> {
     }
 
     // Of the story that begins.
-    fn set_stops(&mut self, line: usize, keyed: Keyed) -> Result<(), Unread> {
+    fn set(&mut self, line: usize, setting: Setting) -> Result<(), Unread> {
         match self.stories.last_mut() {
-            Some(story) if story.plots.is_empty() => {
-                story.modes.stops = Some(keyed);
+            Some(story) if story.may_set(setting) => {
+                story.modes.set(setting);
                 Ok(())
             }
             _ => Err(Unread {
                 line,
-                why: "`stops` stands before the first step of a story",
-            }),
-        }
-    }
-
-    // Of the story that begins.
-    fn set_large(&mut self, line: usize) -> Result<(), Unread> {
-        match self.stories.last_mut() {
-            Some(story) if story.plots.is_empty() && story.begins.is_none() => {
-                story.modes.large = true;
-                Ok(())
-            }
-            _ => Err(Unread {
-                line,
-                why: "`large` stands before the first step of a story that begins with no file",
-            }),
-        }
-    }
-
-    // Of the story that begins.
-    fn set_resumes(&mut self, line: usize) -> Result<(), Unread> {
-        match self.stories.last_mut() {
-            Some(story) if story.plots.is_empty() => {
-                story.modes.resumes = true;
-                Ok(())
-            }
-            _ => Err(Unread {
-                line,
-                why: "`resumes` stands before the first step of a story",
-            }),
-        }
-    }
-
-    // Of the story that begins.
-    fn set_copied(&mut self, line: usize) -> Result<(), Unread> {
-        match self.stories.last_mut() {
-            Some(story) if story.plots.is_empty() && !story.before.is_empty() => {
-                story.modes.copied = true;
-                Ok(())
-            }
-            _ => Err(Unread {
-                line,
-                why: "`copied` stands before the first step of a story that comes after another",
+                why: setting.place(),
             }),
         }
     }
@@ -338,7 +363,7 @@ impl<'a> Book<'a> {
     // Of the story that begins.
     fn set_begins(&mut self, line: usize, path: &'a str) -> Result<(), Unread> {
         match self.stories.last_mut() {
-            Some(story) if story.plots.is_empty() && story.before.is_empty() => {
+            Some(story) if story.is_first() => {
                 story.begins = Some(path);
                 story.modes = NONE;
                 Ok(())
@@ -350,35 +375,49 @@ impl<'a> Book<'a> {
         }
     }
 
-    fn begin_plot(&mut self, alloc: Global, part: Part<'a>) -> Result<(), Unread> {
-        let at = self.definitions.at;
-        let date = self.definitions.date;
-        let unread = part.unread("a step stands in a story");
-        let Some(story) = self.stories.last_mut() else {
-            return Err(unread);
-        };
-        let mut parts = Vec::new(alloc);
-        parts.push(part)?;
-        story.plots.push(Plot { at, date, parts })?;
-        Ok(())
+    fn begin_plot(&mut self, alloc: Global, line: usize) -> Result<(), Unread> {
+        let (at, date) = (self.definitions.at, self.definitions.date);
+        match self.stories.last_mut() {
+            Some(story) => story.push(Plot {
+                at,
+                date,
+                parts: Vec::new(alloc),
+            }),
+            None => Err(Unread {
+                line,
+                why: "a step stands in a story",
+            }),
+        }
     }
 
-    fn begin_part(&mut self, part: Part<'a>) -> Result<(), Unread> {
-        let unread = part.unread("it stands in no step");
-        let Some(story) = self.stories.last_mut() else {
-            return Err(unread);
-        };
-        let Some(plot) = story.plots.last_mut() else {
-            return Err(unread);
-        };
-        plot.parts.push(part)?;
-        Ok(())
+    fn last_plot(&mut self) -> Option<&mut Plot<'a>> {
+        match self.stories.last_mut() {
+            Some(story) => story.plots.last_mut(),
+            None => None,
+        }
+    }
+
+    fn begin_part(
+        &mut self,
+        alloc: Global,
+        line: usize,
+        mark: Mark,
+        text: &'a str,
+    ) -> Result<(), Unread> {
+        match self.last_plot() {
+            Some(plot) => plot.push(Part::new(alloc, line, mark, text)),
+            None => Err(Unread {
+                line,
+                why: "it stands in no step",
+            }),
+        }
     }
 
     fn last_part(&mut self) -> Option<&mut Part<'a>> {
-        let story = self.stories.last_mut()?;
-        let plot = story.plots.last_mut()?;
-        plot.parts.last_mut()
+        match self.last_plot() {
+            Some(plot) => plot.parts.last_mut(),
+            None => None,
+        }
     }
 
     fn add_field(&mut self, line: usize, field: &str) -> Result<(), Unread> {
@@ -414,12 +453,10 @@ impl<'a> Book<'a> {
         mark: Mark,
         text: &'a str,
     ) -> Result<(), Unread> {
-        let part = Part::new(alloc, line, mark, text);
         if mark == Mark::Head {
-            self.begin_plot(alloc, part)
-        } else {
-            self.begin_part(part)
+            self.begin_plot(alloc, line)?;
         }
+        self.begin_part(alloc, line, mark, text)
     }
 
     fn take(&mut self, alloc: Global, line: usize, text: &'a str) -> Result<(), Unread> {
@@ -429,15 +466,21 @@ impl<'a> Book<'a> {
             Line::Story(name) => self.begin_story(alloc, line, name),
             Line::After(name) => self.set_before(alloc, line, name),
             Line::Links(words) => self.set_modes(line, words),
-            Line::Stops(keyed) => self.set_stops(line, keyed),
-            Line::Large => self.set_large(line),
-            Line::Resumes => self.set_resumes(line),
-            Line::Copied => self.set_copied(line),
+            Line::Sets(setting) => self.set(line, setting),
             Line::FromFile(path) => self.set_begins(line, path),
             Line::Field(field) => self.add_field(line, field),
             Line::Piece(piece, text) => self.add_piece(alloc, line, piece, text),
             Line::Begins(mark, text) => self.begin(alloc, line, mark, text),
         }
+    }
+
+    fn take_all(&mut self, alloc: Global, text: &'a str) -> Result<(), Unread> {
+        let mut line = 0usize;
+        for text in text.split('\n') {
+            line = line.saturating_add(1);
+            self.take(alloc, line, text)?;
+        }
+        Ok(())
     }
 }
 
@@ -448,10 +491,6 @@ pub fn read_book(alloc: Global, text: &str) -> Result<Book<'_>, Unread> {
         modes: NONE,
         stories: Vec::new(alloc),
     };
-    let mut line = 0usize;
-    for text in text.split('\n') {
-        line = line.saturating_add(1);
-        book.take(alloc, line, text)?;
-    }
+    book.take_all(alloc, text)?;
     Ok(book)
 }

@@ -51,6 +51,11 @@ fn find<'a>(shorts: &[Short<'a>], name: &str) -> Option<&'a str> {
     None
 }
 
+fn put<'a>(shorts: &mut Vec<Short<'a>>, short: Short<'a>) -> Result<(), Unread> {
+    shorts.push(short)?;
+    Ok(())
+}
+
 /// What the text defines.
 #[derive(Drop)]
 pub struct Definitions<'a> {
@@ -102,20 +107,30 @@ impl<'a> Definitions<'a> {
         }
     }
 
+    fn put(
+        &mut self,
+        line: usize,
+        defines: Defines,
+        name: &'a str,
+        text: &'a str,
+    ) -> Result<(), Unread> {
+        let short = Short { name, text };
+        match defines {
+            Defines::Token => put(&mut self.tokens, short),
+            Defines::Reason => put(&mut self.reasons, short),
+            Defines::Challenge => put(&mut self.challenges, short),
+            Defines::Moment => self.set_moment(line, name, text),
+        }
+    }
+
     /// Takes a definition.
     pub fn define(&mut self, line: usize, defines: Defines, text: &'a str) -> Result<(), Unread> {
-        let Some((name, text)) = text.split_once(' ') else {
-            return Err(Unread {
+        match text.split_once(' ') {
+            Some((name, text)) => self.put(line, defines, name, text),
+            None => Err(Unread {
                 line,
                 why: "a definition is a name and what it stands for",
-            });
-        };
-        match defines {
-            Defines::Token => self.tokens.push(Short { name, text })?,
-            Defines::Reason => self.reasons.push(Short { name, text })?,
-            Defines::Challenge => self.challenges.push(Short { name, text })?,
-            Defines::Moment => self.set_moment(line, name, text)?,
+            }),
         }
-        Ok(())
     }
 }

@@ -1,5 +1,6 @@
 //! One line of the text: what it is by how it begins, and the bytes that a piece writes.
 use crate::keyed::Keyed;
+use crate::modes::Setting;
 use std::alloc::AllocError;
 
 /// What a line of a step begins: the step itself, or a part of what is due.
@@ -49,14 +50,8 @@ pub enum Line<'a> {
     After(&'a str),
     /// `links`: what breaks under the steps of a story.
     Links(&'a str),
-    /// `stops`, or `stops first-byte`: the power is cut under the steps of a story, over tables whose pages have this key.
-    Stops(Keyed),
-    /// `large`: a story is told on few ways.
-    Large,
-    /// `resumes`: a replay may give up, and is gone on with.
-    Resumes,
-    /// `copied`: a story's own steps are taken over a copy, too.
-    Copied,
+    /// What is said of a story by a word that stands alone.
+    Sets(Setting),
     /// `begins`: a story begins with the tables of a file.
     FromFile(&'a str),
     Piece(Piece, &'a str),
@@ -67,91 +62,92 @@ pub enum Line<'a> {
 
 // What stands behind a mark and one blank, or behind the mark at the end of the line.
 fn behind<'a>(line: &'a str, mark: &str) -> Option<&'a str> {
-    let rest = line.strip_prefix(mark)?;
-    if rest.is_empty() {
-        return Some(rest);
+    match line.strip_prefix(mark) {
+        Some("") => Some(""),
+        Some(rest) => rest.strip_prefix(' '),
+        None => None,
     }
-    rest.strip_prefix(' ')
 }
 
-const DEFINITIONS: &[(&str, Defines)] = &[
-    ("token", Defines::Token),
-    ("at", Defines::Moment),
-    ("reason", Defines::Reason),
-    ("challenge", Defines::Challenge),
-];
-
-const PIECES: &[(&str, Piece)] = &[
-    ("|", Piece::Row),
-    (">", Piece::Field),
-    ("\\", Piece::Escaped),
-    ("*", Piece::Repeated),
-];
-
-const MARKS: &[(&str, Mark)] = &[
-    ("=", Mark::Answer),
-    ("?", Mark::Errors),
-    ("->", Mark::Outcome),
-    ("query", Mark::Query),
-];
-
-fn definition_in(line: &str) -> Option<Line<'_>> {
-    for (word, defines) in DEFINITIONS {
-        if let Some(rest) = behind(line, word) {
-            return Some(Line::Definition(*defines, rest));
-        }
-    }
-    None
+/// What a mark at the front of a line says of it.
+#[derive(Clone, Copy)]
+enum Front {
+    Piece(Piece),
+    Begins(Mark),
+    Story,
+    After,
+    Links,
+    FromFile,
+    Field,
+    Defines(Defines),
 }
 
-fn piece_in(line: &str) -> Option<Line<'_>> {
-    for (mark, piece) in PIECES {
+const FRONTS: &[(&str, Front)] = &[
+    ("|", Front::Piece(Piece::Row)),
+    (">", Front::Piece(Piece::Field)),
+    ("\\", Front::Piece(Piece::Escaped)),
+    ("*", Front::Piece(Piece::Repeated)),
+    ("=", Front::Begins(Mark::Answer)),
+    ("?", Front::Begins(Mark::Errors)),
+    ("->", Front::Begins(Mark::Outcome)),
+    ("query", Front::Begins(Mark::Query)),
+    ("story", Front::Story),
+    ("after", Front::After),
+    ("links", Front::Links),
+    ("begins", Front::FromFile),
+    ("+", Front::Field),
+    ("token", Front::Defines(Defines::Token)),
+    ("at", Front::Defines(Defines::Moment)),
+    ("reason", Front::Defines(Defines::Reason)),
+    ("challenge", Front::Defines(Defines::Challenge)),
+];
+
+const SETTINGS: &[(&str, Setting)] = &[
+    ("stops", Setting::Stops(Keyed::Sha)),
+    ("stops first-byte", Setting::Stops(Keyed::FirstByte)),
+    ("large", Setting::Large),
+    ("resumes", Setting::Resumes),
+    ("copied", Setting::Copied),
+];
+
+// A line of this front, by what stands behind it.
+fn line_of(front: Front, rest: &str) -> Line<'_> {
+    match front {
+        Front::Piece(piece) => Line::Piece(piece, rest),
+        Front::Begins(mark) => Line::Begins(mark, rest),
+        Front::Story => Line::Story(rest),
+        Front::After => Line::After(rest),
+        Front::Links => Line::Links(rest),
+        Front::FromFile => Line::FromFile(rest),
+        Front::Field => Line::Field(rest),
+        Front::Defines(defines) => Line::Definition(defines, rest),
+    }
+}
+
+fn marked(line: &str) -> Option<Line<'_>> {
+    for (mark, front) in FRONTS {
         if let Some(rest) = behind(line, mark) {
-            return Some(Line::Piece(*piece, rest));
+            return Some(line_of(*front, rest));
         }
     }
     None
 }
 
-fn mark_in(line: &str) -> Option<Line<'_>> {
-    for (word, mark) in MARKS {
-        if let Some(rest) = behind(line, word) {
-            return Some(Line::Begins(*mark, rest));
+fn setting_in(line: &str) -> Option<Setting> {
+    for (word, setting) in SETTINGS {
+        if line == *word {
+            return Some(*setting);
         }
     }
     None
 }
 
-fn story_in(line: &str) -> Option<Line<'_>> {
-    if let Some(name) = behind(line, "story") {
-        return Some(Line::Story(name));
+// What a line is that has no mark.
+fn unmarked(line: &str) -> Line<'_> {
+    match setting_in(line) {
+        Some(setting) => Line::Sets(setting),
+        None => Line::Begins(Mark::Head, line),
     }
-    if let Some(name) = behind(line, "after") {
-        return Some(Line::After(name));
-    }
-    if let Some(words) = behind(line, "links") {
-        return Some(Line::Links(words));
-    }
-    if line == "stops" {
-        return Some(Line::Stops(Keyed::Sha));
-    }
-    if line == "stops first-byte" {
-        return Some(Line::Stops(Keyed::FirstByte));
-    }
-    if line == "large" {
-        return Some(Line::Large);
-    }
-    if line == "resumes" {
-        return Some(Line::Resumes);
-    }
-    if line == "copied" {
-        return Some(Line::Copied);
-    }
-    if let Some(path) = behind(line, "begins") {
-        return Some(Line::FromFile(path));
-    }
-    let field = behind(line, "+")?;
-    Some(Line::Field(field))
 }
 
 /// What a line is.
@@ -159,18 +155,9 @@ pub fn read_line(line: &str) -> Line<'_> {
     if line.is_empty() || line.starts_with('#') {
         return Line::Nothing;
     }
-    if let Some(found) = piece_in(line) {
-        return found;
-    }
-    if let Some(found) = mark_in(line) {
-        return found;
-    }
-    if let Some(found) = story_in(line) {
-        return found;
-    }
-    match definition_in(line) {
+    match marked(line) {
         Some(found) => found,
-        None => Line::Begins(Mark::Head, line),
+        None => unmarked(line),
     }
 }
 

@@ -24,6 +24,35 @@ pub struct Modes {
     pub copied: bool,
 }
 
+/// What is said of a story that begins, by words that stand alone.
+#[derive(Clone, Copy)]
+pub enum Setting {
+    /// `stops`, or `stops first-byte`: the power is cut under the steps of a story, over tables whose pages have this key.
+    Stops(Keyed),
+    /// `large`: a story is told on few ways.
+    Large,
+    /// `resumes`: a replay may give up, and is gone on with.
+    Resumes,
+    /// `copied`: a story's own steps are taken over a copy, too.
+    Copied,
+}
+
+impl Setting {
+    /// Where it may stand.
+    pub fn place(self) -> &'static str {
+        match self {
+            Setting::Stops(_) => "`stops` stands before the first step of a story",
+            Setting::Large => {
+                "`large` stands before the first step of a story that begins with no file"
+            }
+            Setting::Resumes => "`resumes` stands before the first step of a story",
+            Setting::Copied => {
+                "`copied` stands before the first step of a story that comes after another"
+            }
+        }
+    }
+}
+
 /// Nothing breaks.
 pub const NONE: Modes = Modes {
     cut: false,
@@ -61,6 +90,27 @@ impl Modes {
             modes = more;
         }
         Some(modes)
+    }
+
+    /// Links break as others say, and what is set stays.
+    pub fn with_links(self, links: Modes) -> Modes {
+        Modes {
+            stops: self.stops,
+            large: self.large,
+            resumes: self.resumes,
+            copied: self.copied,
+            ..links
+        }
+    }
+
+    /// Sets what is said.
+    pub fn set(&mut self, setting: Setting) {
+        match setting {
+            Setting::Stops(keyed) => self.stops = Some(keyed),
+            Setting::Large => self.large = true,
+            Setting::Resumes => self.resumes = true,
+            Setting::Copied => self.copied = true,
+        }
     }
 }
 
