@@ -34,6 +34,22 @@ fn method_of(alloc: Global, method: &str) -> Result<Method, Failure> {
     }
 }
 
+// Fills a message with these parts.
+fn fill(
+    alloc: Global,
+    message: &mut Message,
+    path: &str,
+    query: Option<&str>,
+    authorization: Option<&[u8]>,
+    body: &[u8],
+) -> Result<(), Failure> {
+    message.path = Text::copy_of(alloc, path)?;
+    message.query = text_of(alloc, query)?;
+    message.authorization = bytes_of(alloc, authorization)?;
+    message.body = Bytes::copy_of(alloc, body)?;
+    Ok(())
+}
+
 // A message of these parts.
 fn message_of(
     alloc: Global,
@@ -43,19 +59,16 @@ fn message_of(
     authorization: Option<&[u8]>,
     body: &[u8],
 ) -> Result<Message, Failure> {
-    let method = method_of(alloc, method)?;
-    let path = Text::copy_of(alloc, path)?;
-    let query = text_of(alloc, query)?;
-    let authorization = bytes_of(alloc, authorization)?;
-    let body = Bytes::copy_of(alloc, body)?;
-    Ok(Message {
-        method,
-        path,
-        query,
-        authorization,
+    let mut message = Message {
+        method: method_of(alloc, method)?,
+        path: Text::new(String::new(alloc)),
+        query: None,
+        authorization: None,
         content_md5: None,
-        body,
-    })
+        body: Bytes::new(Vec::new(alloc)),
+    };
+    fill(alloc, &mut message, path, query, authorization, body)?;
+    Ok(message)
 }
 
 fn asked_by(alloc: Global, message: &Message) -> Result<Result<Asked, Refusal>, Failure> {
@@ -97,8 +110,8 @@ fn asked_act(alloc: Global, role: &str, act: &AskedAct) -> Result<String, AllocE
     }
 }
 
-fn asked_text(alloc: Global, asked: &Asked) -> Result<String, AllocError> {
-    let mut text = asked_act(alloc, role_word(alloc, asked), &asked.act)?;
+// The ID of a lock and the organization, where they are to be shown.
+fn put_rest(text: &mut String, asked: &Asked) -> Result<(), AllocError> {
     if let Some(id) = &asked.lock_id {
         text.push_str(" with ID ")?;
         text.push_str(id.as_str())?;
@@ -107,6 +120,12 @@ fn asked_text(alloc: Global, asked: &Asked) -> Result<String, AllocError> {
         text.push_str(" in ")?;
         text.push_str(asked.org.as_str())?;
     }
+    Ok(())
+}
+
+fn asked_text(alloc: Global, asked: &Asked) -> Result<String, AllocError> {
+    let mut text = asked_act(alloc, role_word(alloc, asked), &asked.act)?;
+    put_rest(&mut text, asked)?;
     Ok(text)
 }
 
@@ -127,6 +146,18 @@ fn path_and_query(target: &str) -> (&str, Option<&str>) {
     }
 }
 
+fn route_text(alloc: Global, asked: &Result<Asked, Refusal>) -> Result<String, AllocError> {
+    match asked {
+        Ok(asked) => asked_text(alloc, asked),
+        Err(refusal) => refusal_text(alloc, *refusal),
+    }
+}
+
+fn route_of(alloc: Global, message: &Message) -> Result<String, Failure> {
+    let asked = asked_by(alloc, message)?;
+    Ok(route_text(alloc, &asked)?)
+}
+
 /// What a route with this body asks.
 pub fn show_route(alloc: Global, words: &str, body: &[u8]) -> Result<String, Failure> {
     let Some((method, target)) = words.split_once(' ') else {
@@ -134,15 +165,24 @@ pub fn show_route(alloc: Global, words: &str, body: &[u8]) -> Result<String, Fai
     };
     let (path, query) = path_and_query(target);
     let message = message_of(alloc, method, path, query, Some(WRITER), body)?;
-    match asked_by(alloc, &message)? {
-        Ok(asked) => Ok(asked_text(alloc, &asked)?),
-        Err(refusal) => Ok(refusal_text(alloc, refusal)?),
-    }
+    route_of(alloc, &message)
 }
 
 fn token_text(alloc: Global, asked: &Asked) -> Result<String, AllocError> {
     let (caller, secret) = (asked.caller.as_str(), asked.secret.as_str());
     format!(in alloc; "token {caller} {secret}")
+}
+
+fn asks_text(alloc: Global, asked: &Result<Asked, Refusal>) -> Result<String, AllocError> {
+    match asked {
+        Ok(asked) => token_text(alloc, asked),
+        Err(refusal) => refusal_text(alloc, *refusal),
+    }
+}
+
+fn asks_of(alloc: Global, message: &Message) -> Result<String, Failure> {
+    let asked = asked_by(alloc, message)?;
+    Ok(asks_text(alloc, &asked)?)
 }
 
 fn query_of(query: Option<&[u8]>) -> Result<Option<&str>, Failure> {
@@ -164,8 +204,5 @@ pub fn show_asks(
     let query = query_of(query)?;
     let path = "/v1/acme/state/net";
     let message = message_of(alloc, "GET", path, query, authorization, b"")?;
-    match asked_by(alloc, &message)? {
-        Ok(asked) => Ok(token_text(alloc, &asked)?),
-        Err(refusal) => Ok(refusal_text(alloc, refusal)?),
-    }
+    asks_of(alloc, &message)
 }
