@@ -4,8 +4,7 @@ use crate::ways::{Sql, TablesBy, ask};
 use basis::Number;
 use pages::{PageKey, ShaKey};
 use sqlite::{Connection, Error, MemStore};
-use std::alloc::Global;
-use telling::acts::turned;
+use std::alloc::{AllocError, Global};
 use telling::failures::Failure;
 use telling::stores::Makes;
 use texts::{add_text, remove_text, same_text};
@@ -63,6 +62,15 @@ fn add_counts(alloc: Global, conn: &mut Tables, told: &mut String) -> Result<(),
         told.push('\n')?;
     }
     Ok(())
+}
+
+// The text with another last byte.
+fn turned(alloc: Global, text: &[u8]) -> Result<Vec<u8>, AllocError> {
+    let mut turned = Vec::from_slice(alloc, text)?;
+    if let Some(last) = turned.last_mut() {
+        *last ^= 1;
+    }
+    Ok(turned)
 }
 
 // Whether the text is read as it is, and is the same as itself, and not as another of its size.
