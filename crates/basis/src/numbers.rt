@@ -154,11 +154,11 @@ impl Limit {
 
 /// How many versions a workspace keeps: 1 to 1,000.
 #[derive(Clone, Copy, PartialEq, Eq)]
-pub struct KeepCount {
+pub struct Retention {
     value: u32,
 }
 
-impl Model for KeepCount {
+impl Model for Retention {
     ghost Value = { ℕ };
 
     ghost view = { λ k. k.value };
@@ -168,12 +168,12 @@ impl Model for KeepCount {
     ghost inverse = { λ n. record { value = n } };
 }
 
-impl KeepCount {
-    pub fn new(value: u64) -> Option<KeepCount>
+impl Retention {
+    pub fn new(value: u64) -> Option<Retention>
         ensures { result ≡ within 1 MAX_KEPT value }
     {
         if 1 <= value && value <= MAX_KEPT as u64 {
-            Some(KeepCount {
+            Some(Retention {
                 value: value as u32,
             })
         } else {
@@ -182,10 +182,10 @@ impl KeepCount {
     }
 
     /// What a workspace keeps that isn't set to keep another number: 100.
-    pub fn first() -> KeepCount
+    pub fn first() -> Retention
         ensures { result ≡ FIRST_KEPT }
     {
-        KeepCount { value: FIRST_KEPT }
+        Retention { value: FIRST_KEPT }
     }
 
     pub fn get(self) -> u32

@@ -4,7 +4,7 @@ ghost use Rattle.basis.specs.Listings.{listing_of};
 
 use crate::memory::Down;
 use crate::names::{LockId, WsName};
-use crate::numbers::{KeepCount, Moment, Number};
+use crate::numbers::{Moment, Number, Retention};
 use crate::runs::{RunAction, RunStatus};
 use crate::texts::{Bytes, Items, Text};
 use std::alloc::Global;
@@ -35,7 +35,7 @@ pub struct RunSettings {
 pub struct Settings {
     pub runs: RunSettings,
     /// How many versions are kept: as one more comes, the oldest go.
-    pub keep_versions: KeepCount,
+    pub retention: Retention,
 }
 
 /// What the document of a workspace's settings asks.
@@ -44,7 +44,7 @@ pub struct SettingsAsk {
     pub runs: RunSettings,
     /// How many versions are to be kept. Without it a new workspace keeps 100, and one that is there
     /// what it kept.
-    pub keep_versions: Option<KeepCount>,
+    pub retention: Option<Retention>,
 }
 
 /// What is told of a workspace; nothing changes by it.

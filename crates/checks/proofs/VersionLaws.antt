@@ -8,7 +8,7 @@ use Rattle.sqlite_keyed.proofs.ListLemmas.{map-map}
 use Rattle.sqlite_keyed.proofs.SortLemmas.{sort_by-map}
 use Rattle.sqlite_keyed.proofs.RuleLemmas.{first_of_both, second_of_both}
 use Rattle.machine.specs.Laws.{Rises, HasNoGap, IsVersion, AreVersions, IsNext}
-use Rattle.machine.specs.Ranges.{IsKeepCount}
+use Rattle.machine.specs.Ranges.{IsRetention}
 use Rattle.machine.specs.declared.records.Version.{Version}
 use Rattle.statements.specs.Rows.{Kept, VersionRow}
 use Rattle.statements.specs.Tables.{Tables}
@@ -91,7 +91,7 @@ module _ (t : Tables) (org ws : List ℕ) where
       (le-leb x.1.it.created 253_402_300_799 v.created)
 
   -- the rows that pass denote lawful versions
-  pub versions_by_test : (keep next : ℕ) → IsKeepCount keep → IsNext next → are_versions keep next rows ≡ true → AreVersions keep next (versions_at t org ws)
+  pub versions_by_test : (keep next : ℕ) → IsRetention keep → IsNext next → are_versions keep next rows ≡ true → AreVersions keep next (versions_at t org ws)
   versions_by_test keep next kept nexts h =
       let ns = sorted (map version_number rows) in
       let three = first_of_both (nat_le (length ns) keep && rises 0 ns next && reaches ns next) (list_all is_version_row rows) h in

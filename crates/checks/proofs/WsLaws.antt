@@ -8,18 +8,18 @@ use Rattle.sqlite_keyed.proofs.RuleLemmas.{first_of_both, second_of_both}
 use Rattle.basis.specs.Names.{is_ws_name, is_free_id}
 use Rattle.basis.specs.declared.numbers.TheConstants.{MAX_NUMBER, FIRST_KEPT}
 use Rattle.machine.specs.Laws.{IsNext, IsNamedWorkspace}
-use Rattle.machine.specs.Ranges.{IsKeepCount}
+use Rattle.machine.specs.Ranges.{IsRetention}
 use Rattle.statements.specs.Rows.{Kept, WsRow, VersionRow, RunRow, KeepingRow}
 use Rattle.statements.specs.Tables.{Tables}
 use Rattle.statements.specs.declared.rows.Rows.{Rows}
 use Rattle.statements.specs.Changes.{is_keeping, is_version_of, is_run_of}
-use Rattle.tables.specs.Records.{keep_at, workspace_at}
+use Rattle.tables.specs.Records.{retention_at, workspace_at}
 use Rattle.checks.specs.declared.found.Found.{Found}
 use Rattle.checks.specs.declared.workspaces.Grouped.{Grouped}
 use Rattle.checks.specs.Judging.{Judges}
 use Rattle.checks.specs.Inner.Groups.{picked, places_in}
 use Rattle.checks.specs.Inner.Versions.{are_versions}
-use Rattle.checks.specs.Inner.Workspaces.{is_next, is_free_if, kept_in, keep_among, IsLawfulRow, IsLawfulAt, AreAllGrouped, HasWsRows, AreLawfulWss}
+use Rattle.checks.specs.Inner.Workspaces.{is_next, is_free_if, kept_in, retention_among, IsLawfulRow, IsLawfulAt, AreAllGrouped, HasWsRows, AreLawfulWss}
 use Rattle.checks.proofs.JudgingLemmas.{judges_as}
 use Rattle.checks.proofs.VersionLaws.{versions_by_test, test_of_versions}
 use Rattle.checks.proofs.RunLaws.{runs_by_test, test_of_runs}
@@ -54,8 +54,8 @@ module _ (t : Tables) (x : Kept WsRow) where
   abbrev Named : Type 0
   Named = IsNamedWorkspace x.1.name (workspace_at t x.1.org x.1.name x.1.it)
 
-  keep_is : keep_among (filter (is_keeping x.1.org x.1.name) t.keepings) ≡ keep_at t x.1.org x.1.name
-  keep_is = ap (λ o. unwrap_or o FIRST_KEPT) (kept_is (is_keeping x.1.org x.1.name) t.keepings)
+  retention_is : retention_among (filter (is_keeping x.1.org x.1.name) t.keepings) ≡ retention_at t x.1.org x.1.name
+  retention_is = ap (λ o. unwrap_or o FIRST_KEPT) (kept_is (is_keeping x.1.org x.1.name) t.keepings)
 
   -- a row that passes denotes a lawful workspace
   named_by_tests : Lawful → Named
@@ -69,8 +69,8 @@ module _ (t : Tables) (x : Kept WsRow) where
       record {
         named = first_of_both a b two;
         lawful = record {
-          versions = versions_by_test t x.1.org x.1.name (keep_at t x.1.org x.1.name) x.1.it.next_version (subst IsKeepCount keep_is law.keep) (next_by_test x.1.it.next_version (second_of_both a b two))
-              (subst (λ n. are_versions n x.1.it.next_version (filter (is_version_of x.1.org x.1.name) t.versions) ≡ true) keep_is law.versions);
+          versions = versions_by_test t x.1.org x.1.name (retention_at t x.1.org x.1.name) x.1.it.next_version (subst IsRetention retention_is law.keep) (next_by_test x.1.it.next_version (second_of_both a b two))
+              (subst (λ n. are_versions n x.1.it.next_version (filter (is_version_of x.1.org x.1.name) t.versions) ≡ true) retention_is law.versions);
           runs = runs_by_test t x.1.org x.1.name x.1.it.holder x.1.it.next_run (next_by_test x.1.it.next_run (second_of_both (a && b) c three)) law.runs;
           released = free_by_test x.1.it.released (second_of_both (a && b && c) d law.own);
         };
@@ -83,9 +83,9 @@ module _ (t : Tables) (x : Kept WsRow) where
       let c = is_next x.1.it.next_run in
       let d = is_free_if x.1.it.released in
       record {
-        keep = subst IsKeepCount (sym keep_is) it.lawful.versions.keep;
+        keep = subst IsRetention (sym retention_is) it.lawful.versions.keep;
         own = and_from (a && b && c) d (and_from (a && b) c (and_from a b it.named (test_of_next x.1.it.next_version it.lawful.versions.next)) (test_of_next x.1.it.next_run it.lawful.runs.next)) (test_of_free x.1.it.released it.lawful.released);
-        versions = subst (λ n. are_versions n x.1.it.next_version (filter (is_version_of x.1.org x.1.name) t.versions) ≡ true) (sym keep_is) (test_of_versions t x.1.org x.1.name (keep_at t x.1.org x.1.name) x.1.it.next_version it.lawful.versions);
+        versions = subst (λ n. are_versions n x.1.it.next_version (filter (is_version_of x.1.org x.1.name) t.versions) ≡ true) (sym retention_is) (test_of_versions t x.1.org x.1.name (retention_at t x.1.org x.1.name) x.1.it.next_version it.lawful.versions);
         runs = test_of_runs t x.1.org x.1.name x.1.it.holder x.1.it.next_run it.lawful.runs;
       }
 

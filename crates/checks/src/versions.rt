@@ -16,14 +16,14 @@ pub fn are_versions(
     alloc: Global,
     rows: &[(i64, VersionRow)],
     places: &[usize],
-    keep: u32,
+    retention: u32,
     next: u64,
 ) -> Result<bool, Down>
-    ensures { IfOk result (λ lawful. lawful ≡ are_versions keep next (picked rows.now places.now)) }
+    ensures { IfOk result (λ lawful. lawful ≡ are_versions retention next (picked rows.now places.now)) }
 {
     let mut numbers = version_numbers(alloc, rows, places)?;
     sort(&mut numbers);
-    let numbered = numbers.len() as u64 <= u64::from(keep)
+    let numbered = numbers.len() as u64 <= u64::from(retention)
         && rise(&numbers, next)
         && reach(&numbers, next);
     Ok(numbered && are_version_rows(rows, places))

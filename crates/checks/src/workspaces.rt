@@ -5,14 +5,14 @@ ghost use Rattle.basis.specs.Names.{is_ws_name};
 ghost use Rattle.statements.specs.Tables.{Tables};
 ghost use Rattle.checks.specs.Judging.{Judges};
 ghost use Rattle.checks.specs.Inner.Groups.{picked};
-ghost use Rattle.checks.specs.Inner.Workspaces.{is_next, is_free_if, is_own, kept_in, keep_among, IsLawfulAt, AreAllGrouped, HasWsRows, AreLawfulWss};
+ghost use Rattle.checks.specs.Inner.Workspaces.{is_next, is_free_if, is_own, kept_in, retention_among, IsLawfulAt, AreAllGrouped, HasWsRows, AreLawfulWss};
 
 use crate::found::{FaultKind, Found};
 use crate::groups::{Groups, group};
 use crate::runs::{are_runs, unfit_run};
 use crate::versions::{are_versions, unfit_version};
 use basis::numbers::MAX_NUMBER;
-use basis::{Down, KeepCount, LockId, Unfit, WsName, is_free_id};
+use basis::{Down, LockId, Retention, Unfit, WsName, is_free_id};
 use statements::rows::{KeepingRow, Rows, WsRow};
 use std::alloc::Global;
 
@@ -71,13 +71,13 @@ fn judge_row(
     let own = is_own(alloc, &row.1)?;
     found.judge(alloc, own, FaultKind::Unlawful, org, ws, None)?;
     let places = groups.keepings.places(org, ws);
-    let keep = keep_among(rows.keepings.as_slice(), places).get();
+    let retention = retention_among(rows.keepings.as_slice(), places).get();
     let places = groups.versions.places(org, ws);
     let versions = are_versions(
         alloc,
         rows.versions.as_slice(),
         places,
-        keep,
+        retention,
         row.1.it.next_version,
     )?;
     let number = unfit_version(rows.versions.as_slice(), places);
@@ -96,27 +96,27 @@ fn judge_row(
 }
 
 // How many versions are kept, by the first of these rows.
-fn keep_among(rows: &[(i64, KeepingRow)], places: &[usize]) -> KeepCount
-    ensures { result ≡ keep_among (picked rows.now places.now) }
+fn retention_among(rows: &[(i64, KeepingRow)], places: &[usize]) -> Retention
+    ensures { result ≡ retention_among (picked rows.now places.now) }
 {
     match kept_in(rows, places) {
-        Some(keep) => keep,
-        None => KeepCount::first(),
+        Some(retention) => retention,
+        None => Retention::first(),
     }
 }
 
-fn kept_in(rows: &[(i64, KeepingRow)], places: &[usize]) -> Option<KeepCount>
+fn kept_in(rows: &[(i64, KeepingRow)], places: &[usize]) -> Option<Retention>
     ensures { result ≡ kept_in (picked rows.now places.now) }
 {
     for place in places {
-        if let Some(keep) = kept_at(rows, *place) {
-            return Some(keep);
+        if let Some(retention) = kept_at(rows, *place) {
+            return Some(retention);
         }
     }
     None
 }
 
-fn kept_at(rows: &[(i64, KeepingRow)], place: usize) -> Option<KeepCount>
+fn kept_at(rows: &[(i64, KeepingRow)], place: usize) -> Option<Retention>
     ensures { result ≡ kept_in (picked rows.now (place ∷ [])) }
 {
     match rows.get(place) {

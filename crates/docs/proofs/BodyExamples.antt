@@ -17,20 +17,20 @@ down : error_text Unavailable ≡ codes "{\"error\":\"down\"}"
 unfolding serde_json_on_literals digits run_id error_text ws_text run_text run_holder_text ws_list_text version_list_text run_list_text
 down = refl
 
-new_workspace : ws_text (record { settings = record { runs = record { auto_apply = false }; keep_versions = 100 }; holder = None; name = codes "net"; version = None }) ≡ codes "{\"auto_apply\":false,\"holder\":null,\"keep_versions\":100,\"name\":\"net\",\"version\":null}"
+new_workspace : ws_text (record { settings = record { runs = record { auto_apply = false }; retention = 100 }; holder = None; name = codes "net"; version = None }) ≡ codes "{\"auto_apply\":false,\"holder\":null,\"keep_versions\":100,\"name\":\"net\",\"version\":null}"
 unfolding serde_json_on_literals digits run_id error_text ws_text run_text run_holder_text ws_list_text version_list_text run_list_text
 new_workspace = refl
 
-locked_workspace : ws_text (record { settings = record { runs = record { auto_apply = true }; keep_versions = 5 }; holder = Some (Lock (codes "x1")); name = codes "net"; version = Some 12 }) ≡ codes "{\"auto_apply\":true,\"holder\":\"x1\",\"keep_versions\":5,\"name\":\"net\",\"version\":12}"
+locked_workspace : ws_text (record { settings = record { runs = record { auto_apply = true }; retention = 5 }; holder = Some (Lock (codes "x1")); name = codes "net"; version = Some 12 }) ≡ codes "{\"auto_apply\":true,\"holder\":\"x1\",\"keep_versions\":5,\"name\":\"net\",\"version\":12}"
 unfolding serde_json_on_literals digits run_id error_text ws_text run_text run_holder_text ws_list_text version_list_text run_list_text
 locked_workspace = refl
 
-running_workspace : ws_text (record { settings = record { runs = record { auto_apply = false }; keep_versions = 100 }; holder = Some (Run 30); name = codes "net"; version = None }) ≡ codes "{\"auto_apply\":false,\"holder\":\"run-30\",\"keep_versions\":100,\"name\":\"net\",\"version\":null}"
+running_workspace : ws_text (record { settings = record { runs = record { auto_apply = false }; retention = 100 }; holder = Some (Run 30); name = codes "net"; version = None }) ≡ codes "{\"auto_apply\":false,\"holder\":\"run-30\",\"keep_versions\":100,\"name\":\"net\",\"version\":null}"
 unfolding serde_json_on_literals digits run_id error_text ws_text run_text run_holder_text ws_list_text version_list_text run_list_text
 running_workspace = refl
 
 -- a run of the greatest number holds
-held_by_the_greatest : ws_text (record { settings = record { runs = record { auto_apply = false }; keep_versions = 100 }; holder = Some (Run 1_000_000_000); name = codes "net"; version = Some 7 }) ≡ codes "{\"auto_apply\":false,\"holder\":\"run-1000000000\",\"keep_versions\":100,\"name\":\"net\",\"version\":7}"
+held_by_the_greatest : ws_text (record { settings = record { runs = record { auto_apply = false }; retention = 100 }; holder = Some (Run 1_000_000_000); name = codes "net"; version = Some 7 }) ≡ codes "{\"auto_apply\":false,\"holder\":\"run-1000000000\",\"keep_versions\":100,\"name\":\"net\",\"version\":7}"
 unfolding serde_json_on_literals digits run_id error_text ws_text run_text run_holder_text ws_list_text version_list_text run_list_text
 held_by_the_greatest = refl
 

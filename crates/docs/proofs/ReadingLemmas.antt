@@ -15,8 +15,8 @@ use Rattle.basis.specs.declared.rows.TheConstants.{MAX_LINEAGE, MAX_SERIAL}
 use Rattle.basis.specs.Names.{is_free_id}
 use Rattle.basis.specs.Numbers.{within}
 use Rattle.docs.specs.declared.documents.TheConstants.{MAX_SMALL, MAX_KEY, MAX_MESSAGE}
-use Rattle.docs.specs.Documents.{state_head, lock_id_of, settings_of, run_ask, object_of, serial_of, text_within, optional_text, make_head, head_in, free_id, lock_id_in, small_object_of, keep_of, make_settings, settings_in, key_of, make_ask, ask_in}
-use Rattle.docs.specs.Readings.{IsObject, IsText, IsState, IsLock, IsSmallObject, IsKeep, IsSettings, IsKey, IsAsk, StateLaw, LockLaw, SettingsLaw, AskLaw}
+use Rattle.docs.specs.Documents.{state_head, lock_id_of, settings_of, run_ask, object_of, serial_of, text_within, optional_text, make_head, head_in, free_id, lock_id_in, small_object_of, retention_of, make_settings, settings_in, key_of, make_ask, ask_in}
+use Rattle.docs.specs.Readings.{IsObject, IsText, IsState, IsLock, IsSmallObject, IsRetentionAsked, IsSettings, IsKey, IsAsk, StateLaw, LockLaw, SettingsLaw, AskLaw}
 use Rattle.docs.specs.Flags.{flag_of}
 use Rattle.docs.specs.RunSettings.{run_settings_in}
 use Rattle.docs.proofs.FlagLemmas.{option_map_some, flag_read, flag_said}
@@ -161,40 +161,40 @@ small_said : (bytes : List ℕ) (ms : Members) → IsSmallObject bytes ms → sm
 small_said [] ms is = ap Some (sym is)
 small_said (b ∷ bytes) ms is = rw (le-leb _ _ is.1, object_said (b ∷ bytes) ms is.0) refl
 
-keep_number_read : (d : Data) (keep : ℕ) → option_and_then (within 1 MAX_KEPT) (option_and_then as_u64 (as_number d)) ≡ Some keep → (d ≡ number (unsigned keep)) × (1 ≤ keep) × (keep ≤ MAX_KEPT)
-keep_number_read (number (unsigned k)) keep is =
+retention_number_read : (d : Data) (keep : ℕ) → option_and_then (within 1 MAX_KEPT) (option_and_then as_u64 (as_number d)) ≡ Some keep → (d ≡ number (unsigned keep)) × (1 ≤ keep) × (keep ≤ MAX_KEPT)
+retention_number_read (number (unsigned k)) keep is =
     let found = cond_some (nat_le 1 k && nat_le k MAX_KEPT) k keep is in
     let bounds = both (nat_le 1 k) (nat_le k MAX_KEPT) found.0 in
     (ap (λ x. number (unsigned x)) found.1, rw (← found.1) (leb-true 1 k bounds.0), rw (← found.1) (leb-true k MAX_KEPT bounds.1))
-keep_number_read (number (negative z)) keep is = absurd (cc)
-keep_number_read (number (float x)) keep is = absurd (cc)
-keep_number_read null keep is = absurd (cc)
-keep_number_read (boolean b) keep is = absurd (cc)
-keep_number_read (string s) keep is = absurd (cc)
-keep_number_read (array ds) keep is = absurd (cc)
-keep_number_read (object ms) keep is = absurd (cc)
+retention_number_read (number (negative z)) keep is = absurd (cc)
+retention_number_read (number (float x)) keep is = absurd (cc)
+retention_number_read null keep is = absurd (cc)
+retention_number_read (boolean b) keep is = absurd (cc)
+retention_number_read (string s) keep is = absurd (cc)
+retention_number_read (array ds) keep is = absurd (cc)
+retention_number_read (object ms) keep is = absurd (cc)
 
-keep_read : (found : Option Data) (keep : Option ℕ) → keep_of found ≡ Some keep → IsKeep found keep
-keep_read None keep is = cc
-keep_read (Some value) None is = option_map_some Some (option_and_then (within 1 MAX_KEPT) (option_and_then as_u64 (as_number value))) None is (λ n said made. absurd (cc))
-keep_read (Some value) (Some keep) is =
+retention_read : (found : Option Data) (keep : Option ℕ) → retention_of found ≡ Some keep → IsRetentionAsked found keep
+retention_read None keep is = cc
+retention_read (Some value) None is = option_map_some Some (option_and_then (within 1 MAX_KEPT) (option_and_then as_u64 (as_number value))) None is (λ n said made. absurd (cc))
+retention_read (Some value) (Some keep) is =
     option_map_some Some (option_and_then (within 1 MAX_KEPT) (option_and_then as_u64 (as_number value))) (Some keep) is (λ n said made.
-    let same : n ≡ keep = cc in keep_number_read value keep (said ∙ ap Some same))
+    let same : n ≡ keep = cc in retention_number_read value keep (said ∙ ap Some same))
 
-keep_said : (found : Option Data) (keep : Option ℕ) → IsKeep found keep → keep_of found ≡ Some keep
-keep_said None keep is = ap Some (sym is)
-keep_said (Some value) None is = absurd is
-keep_said (Some value) (Some keep) is = rw (is.0, le-leb _ _ is.1, le-leb _ _ is.2) refl
+retention_said : (found : Option Data) (keep : Option ℕ) → IsRetentionAsked found keep → retention_of found ≡ Some keep
+retention_said None keep is = ap Some (sym is)
+retention_said (Some value) None is = absurd is
+retention_said (Some value) (Some keep) is = rw (is.0, le-leb _ _ is.1, le-leb _ _ is.2) refl
 
 settings_read : (bytes : List ℕ) (ms : Members) (settings : SettingsAsk) → IsSmallObject bytes ms → settings_in ms ≡ Some settings → IsSettings bytes settings
 settings_read bytes ms settings document is =
     option_and_then_some _ (run_settings_in ms) settings is (λ runs runs_are rest.
-    option_map_some (make_settings runs) (keep_of (get_member (codes "keep_versions") ms)) settings rest (λ keep keep_is made.
+    option_map_some (make_settings runs) (retention_of (get_member (codes "keep_versions") ms)) settings rest (λ keep retention_is made.
     rw (← made) (record {
       members = ms;
       document = document;
       runs = run_settings_read ms runs runs_are;
-      keep_versions = keep_read (get_member (codes "keep_versions") ms) keep keep_is;
+      retention = retention_read (get_member (codes "keep_versions") ms) keep retention_is;
     })))
 
 -- settings are what `settings_of` gives
@@ -202,7 +202,7 @@ pub settings_law : (bytes : List ℕ) → SettingsLaw bytes
 unfolding settings_of
 settings_law bytes settings = (
   (λ is. option_and_then_some settings_in (small_object_of bytes) settings is (λ ms document found. settings_read bytes ms settings (small_read bytes ms document) found)),
-  (λ is. rw (small_said bytes is.members is.document, run_settings_said is.members settings.runs is.runs, keep_said (get_member (codes "keep_versions") is.members) settings.keep_versions is.keep_versions) refl),
+  (λ is. rw (small_said bytes is.members is.document, run_settings_said is.members settings.runs is.runs, retention_said (get_member (codes "keep_versions") is.members) settings.retention is.retention) refl),
 )
 
 -- ---- runs

@@ -40,7 +40,7 @@ abbrev pub ws_members : WsRow → Members
 ws_members row =
     run_settings_members row.settings.runs (
     member (codes "holder") (holder_value row.holder) (
-    member (codes "keep_versions") (number (unsigned row.settings.keep_versions)) (
+    member (codes "keep_versions") (number (unsigned row.settings.retention)) (
     member (codes "name") (string row.name) (
     member (codes "version") (number_value row.version) no_members))))
 

@@ -66,18 +66,18 @@ small_object_of [] = Some no_members
 small_object_of (b ∷ bytes) = if nat_le (length (b ∷ bytes)) MAX_SMALL then object_of (b ∷ bytes) else None
 
 -- a whole number that the reading holds as one, so neither 2.0 nor 1e0: 1 to MAX_KEPT; the key may be absent
-abbrev pub keep_of : Option Data → Option (Option ℕ)
-keep_of None = Some None
-keep_of (Some value) = option_map Some (option_and_then (within 1 MAX_KEPT) (option_and_then as_u64 (as_number value)))
+abbrev pub retention_of : Option Data → Option (Option ℕ)
+retention_of None = Some None
+retention_of (Some value) = option_map Some (option_and_then (within 1 MAX_KEPT) (option_and_then as_u64 (as_number value)))
 
 -- what is set of a workspace
 abbrev pub make_settings : RunSettings → Option ℕ → SettingsAsk
-make_settings runs keep_versions = record { runs = runs; keep_versions = keep_versions }
+make_settings runs retention = record { runs = runs; retention = retention }
 
 -- how runs go and how many versions are to be kept, where they are there
 abbrev pub settings_in : Members → Option SettingsAsk
 settings_in members =
-    option_and_then (λ runs. option_map (make_settings runs) (keep_of (get_member (codes "keep_versions") members)))
+    option_and_then (λ runs. option_map (make_settings runs) (retention_of (get_member (codes "keep_versions") members)))
     (run_settings_in members)
 
 -- what is asked of a workspace's settings

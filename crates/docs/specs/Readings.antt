@@ -48,17 +48,17 @@ IsSmallObject [] members = members ≡ no_members
 IsSmallObject (b ∷ bytes) members = IsObject (b ∷ bytes) members × (length (b ∷ bytes) ≤ MAX_SMALL)
 
 -- absent, or a whole number of 1 to MAX_KEPT
-abbrev pub IsKeep : Option Data → Option ℕ → Type 0
-IsKeep None keep = keep ≡ None
-IsKeep (Some value) None = ⊥
-IsKeep (Some value) (Some keep) = (value ≡ number (unsigned keep)) × (1 ≤ keep) × (keep ≤ MAX_KEPT)
+abbrev pub IsRetentionAsked : Option Data → Option ℕ → Type 0
+IsRetentionAsked None keep = keep ≡ None
+IsRetentionAsked (Some value) None = ⊥
+IsRetentionAsked (Some value) (Some keep) = (value ≡ number (unsigned keep)) × (1 ≤ keep) × (keep ≤ MAX_KEPT)
 
 -- settings: how runs go, and how many versions are to be kept
 pub record IsSettings (bytes : List ℕ) (settings : SettingsAsk) : Type 0 where
   pub members : Members
   pub document : IsSmallObject bytes members
   pub runs : AreRunSettings members settings.runs
-  pub keep_versions : IsKeep (get_member (codes "keep_versions") members) settings.keep_versions
+  pub retention : IsRetentionAsked (get_member (codes "keep_versions") members) settings.retention
 
 -- absent, or a text of 1 to MAX_KEY bytes
 abbrev pub IsKey : Option Data → Option (List ℕ) → Type 0

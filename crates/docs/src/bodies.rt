@@ -70,8 +70,8 @@ impl Shown for WsRow {
     fn put(&self, writer: &mut Writer) -> Result<(), AllocError> {
         put_run_settings(writer, self.settings.runs)?;
         put_holder(writer, &self.holder)?;
-        let keep = u64::from(self.settings.keep_versions.get());
-        put_number(writer, "keep_versions", Some(keep))?;
+        let retention = u64::from(self.settings.retention.get());
+        put_number(writer, "keep_versions", Some(retention))?;
         put_text(writer, "name", Some(self.name.as_str()))?;
         put_number(writer, "version", self.version.map(whole_number))
     }

@@ -4,13 +4,13 @@ ghost use Rattle.serde_json.specs.Data.{Members, object};
 ghost use Rattle.serde_json.specs.Find.{get};
 ghost use Rattle.serde_json.specs.View.{view};
 ghost use Rattle.docs.specs.Readings.{StateLaw, LockLaw, SettingsLaw, AskLaw};
-ghost use Rattle.docs.specs.Documents.{object_of, optional_text, state_head, lock_id_of, small_object_of, keep_of, settings_of, key_of, run_ask};
+ghost use Rattle.docs.specs.Documents.{object_of, optional_text, state_head, lock_id_of, small_object_of, retention_of, settings_of, key_of, run_ask};
 
 use crate::faults::DocFault;
 use crate::flags::read_flag;
 use crate::heads::read_head;
 use crate::run_settings::read_run_settings;
-use basis::{KeepCount, LockId, RunAsk, SettingsAsk, StateHead, Text, is_free_id};
+use basis::{LockId, Retention, RunAsk, SettingsAsk, StateHead, Text, is_free_id};
 use json::Scratch;
 use serde_json::{Map, Value};
 use std::alloc::Global;
@@ -73,11 +73,8 @@ pub fn read_settings(alloc: Global, bytes: &[u8]) -> Result<SettingsAsk, DocFaul
     let Some(runs) = read_run_settings(&value) else {
         return Err(DocFault::Bad);
     };
-    let keep_versions = read_keep(&value)?;
-    Ok(SettingsAsk {
-        runs,
-        keep_versions,
-    })
+    let retention = read_retention(&value)?;
+    Ok(SettingsAsk { runs, retention })
 }
 
 /// What the creation of a run asks: no bytes, or a JSON object with `key`, `message` and `plan_only`, each or none.
@@ -135,15 +132,15 @@ fn read_small_object(alloc: Global, bytes: &[u8]) -> Result<Value, DocFault>
 }
 
 // How many versions are to be kept, which may be absent.
-fn read_keep(value: &Value) -> Result<Option<KeepCount>, DocFault>
-    ensures ok { IfOk result (λ keep. keep_of (get (codes "keep_versions") (view value.now)) ≡ Some keep) }
-    ensures bad { OnErr result (keep_of (get (codes "keep_versions") (view value.now)) ≡ None) }
+fn read_retention(value: &Value) -> Result<Option<Retention>, DocFault>
+    ensures ok { IfOk result (λ retention. retention_of (get (codes "keep_versions") (view value.now)) ≡ Some retention) }
+    ensures bad { OnErr result (retention_of (get (codes "keep_versions") (view value.now)) ≡ None) }
     ensures never_down { result ≢ Err DocFault.Down }
 {
     let Some(found) = value.get("keep_versions") else {
         return Ok(None);
     };
-    match found.as_u64().and_then(KeepCount::new) {
+    match found.as_u64().and_then(Retention::new) {
         Some(count) => Ok(Some(count)),
         None => Err(DocFault::Bad),
     }

@@ -68,7 +68,7 @@ newest_push (u ∷ x ∷ vs) v = newest_push (x ∷ vs) v
 pub newest_with : (w : Workspace) (n : ℕ) (head : StateHead) (text : List ℕ) (now : ℕ)
     → newest (with_version w n head text now).versions ≡ Some (record { number = n; serial = head.serial; lineage = head.lineage; created = now; text = text })
 newest_with w n head text now =
-    newest_push (last_of (w.settings.keep_versions - 1) w.versions) (record { number = n; serial = head.serial; lineage = head.lineage; created = now; text = text })
+    newest_push (last_of (w.settings.retention - 1) w.versions) (record { number = n; serial = head.serial; lineage = head.lineage; created = now; text = text })
 
 pub bytes_same : (a : List ℕ) → bytes_eq a a ≡ true
 bytes_same a = (bytes_eq-Decides a a).1 refl
@@ -304,10 +304,10 @@ put_again ask now later w (inr h) =
     let start : Option ℕ = to_start u.holder (first_waiting u.runs) in
     let has : (settled u).settings ≡ settings_for ask (Some (settled u).settings) =
     settings_stay u start ∙ sym (asked_once ask (Some w.settings)) ∙ ap (λ (x : Settings). settings_for ask (Some x)) (sym (settings_stay u start)) in
-    let keeps : (settings_for ask (Some (settled u).settings)).keep_versions ≡ settings.keep_versions = ap (λ (x : Settings). x.keep_versions) (sym has ∙ settings_stay u start) in
+    let keeps : (settings_for ask (Some (settled u).settings)).retention ≡ settings.retention = ap (λ (x : Settings). x.retention) (sym has ∙ settings_stay u start) in
     let left : length (settled u).versions ≡ length u.versions = ap (λ (vs : List Version). length vs) (versions_stay u start) in
     again (PutWorkspace ask) now later w (settled u) h
-    (put_once (settings_for ask (Some (settled u).settings)) (settled u) has (omega (arith, keeps, left, last_length settings.keep_versions w.versions)) (settled_twice u))
+    (put_once (settings_for ask (Some (settled u).settings)) (settled u) has (omega (arith, keeps, left, last_length settings.retention w.versions)) (settled_twice u))
 
 -- repeats change nothing
 pub repeats : RepeatsChangeNothing

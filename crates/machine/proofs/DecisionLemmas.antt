@@ -50,7 +50,7 @@ use Rattle.machine.specs.Inner.Decisions.{AsksInRange, shown_as, decided_put, de
 use Rattle.machine.specs.Meaning.{meaning, Meets, ChangeIsDue}
 use Rattle.machine.specs.Laws.{is_nobody, AreVersions, IsRun, IsLawful, IsLawfulIfThere, IsLawfulOrganization, is_pending}
 use Rattle.machine.specs.Records.{Seen, seen_by, standing, count_of, seen_in}
-use Rattle.machine.specs.Ranges.{IsKeepCount, IsSettingsAsk, IsInRange, IsMoment}
+use Rattle.machine.specs.Ranges.{IsRetention, IsSettingsAsk, IsInRange, IsMoment}
 use Rattle.machine.proofs.LookLemmas.{all_looks}
 use Rattle.machine.proofs.Rulings.{IsPut, Misses, put_or_missed}
 
@@ -65,7 +65,7 @@ number_model w head text id now lawful None e = refl
 number_model w head text id now lawful (Some n) e =
     let v : Version = record { number = n; serial = head.serial; lineage = head.lineage; created = now; text = text } in
     ap (λ (versions : List Version). effect done (Some (record w { next_version = n + 1; versions = versions })))
-    (left_before (w.settings.keep_versions - 1) w.next_version w.versions v lawful.versions.next.0 (number_left-is w.next_version n e).0 lawful.versions.rise)
+    (left_before (w.settings.retention - 1) w.next_version w.versions v lawful.versions.next.0 (number_left-is w.next_version n e).0 lawful.versions.rise)
     ∙ ap (λ (start : Option ℕ). effect done (Some (started_if start (with_version w n head text now)))) (sym (none_starts w lawful))
 
 after_model : (w : Workspace) (head : StateHead) (text : List ℕ) (id : Option (List ℕ)) (now : ℕ) → IsLawful w → (o : Option Version)
@@ -131,8 +131,8 @@ kept_same : (asked : Option ℕ) (keep : ℕ) → kept_for asked (cond (is_none 
 kept_same None keep = refl
 kept_same (Some k) keep = refl
 
-settings_same : (ask : SettingsAsk) (s : Settings) → settings_for ask (Some (settings_unit (is_none ask.keep_versions) s)) ≡ settings_for ask (Some s)
-settings_same ask s = λ i. record { runs = ask.runs; keep_versions = kept_same ask.keep_versions s.keep_versions i }
+settings_same : (ask : SettingsAsk) (s : Settings) → settings_for ask (Some (settings_unit (is_none ask.retention) s)) ≡ settings_for ask (Some s)
+settings_same ask s = λ i. record { runs = ask.runs; retention = kept_same ask.retention s.retention i }
 
 -- which versions go by a PUT: those before the last ones, and none where no number is asked for, whatever number is told
 record GoesBy (going : Option ℕ) (keep : ℕ) (versions : List Version) : Type 0 where
@@ -140,7 +140,7 @@ record GoesBy (going : Option ℕ) (keep : ℕ) (versions : List Version) : Type
   left : left_above going versions ≡ last_of keep versions
   newest_one : newest (last_of keep versions) ≡ newest versions
 
-goes_by : (asked : Option ℕ) (told keep top : ℕ) (versions : List Version) → IfSome asked IsKeepCount → AreVersions keep top versions
+goes_by : (asked : Option ℕ) (told keep top : ℕ) (versions : List Version) → IfSome asked IsRetention → AreVersions keep top versions
     → GoesBy (outgoing_by (staying_for asked) told versions) (kept_for asked keep) versions
 goes_by None told keep top versions range are = record {
   some = sym (le-ltb keep (length versions) are.kept);
@@ -155,24 +155,24 @@ number_shown (Some v) = refl
 
 put_model : (w : Workspace) (ask : SettingsAsk) → IsLawful w → IsSettingsAsk ask
     → meaning (decided_put (settings_for ask (Some w.settings)) (workspace_unit (PutWorkspace ask) w)) (Some w) ≡ put (settings_for ask (Some w.settings)) w
-put_model w ask lawful range = chosen (not (is_nobody w.holder) && is_some going) (not (is_nobody w.holder) && nat_lt settings.keep_versions (length w.versions)) (ap (λ (b : Bool). not (is_nobody w.holder) && b) goes.some)
+put_model w ask lawful range = chosen (not (is_nobody w.holder) && is_some going) (not (is_nobody w.holder) && nat_lt settings.retention (length w.versions)) (ap (λ (b : Bool). not (is_nobody w.holder) && b) goes.some)
   where
     settings : Settings
     settings = settings_for ask (Some w.settings)
 
     told : ℕ
-    told = (settings_unit (is_none ask.keep_versions) w.settings).keep_versions
+    told = (settings_unit (is_none ask.retention) w.settings).retention
 
     going : Option ℕ
-    going = outgoing_by (staying_for ask.keep_versions) told w.versions
+    going = outgoing_by (staying_for ask.retention) told w.versions
 
-    goes : GoesBy going settings.keep_versions w.versions
-    goes = goes_by ask.keep_versions told w.settings.keep_versions w.next_version w.versions range lawful.versions
+    goes : GoesBy going settings.retention w.versions
+    goes = goes_by ask.retention told w.settings.retention w.next_version w.versions range lawful.versions
 
     shown_from : Option ℕ → Shown
     shown_from version = record { settings = settings; holder = holder_id w.holder; version = version }
 
-    number : option_map (λ (v : Newest). v.number) (option_map (newest_unit None) (newest w.versions)) ≡ option_map (λ (v : Version). v.number) (newest (last_of settings.keep_versions w.versions))
+    number : option_map (λ (v : Newest). v.number) (option_map (newest_unit None) (newest w.versions)) ≡ option_map (λ (v : Version). v.number) (newest (last_of settings.retention w.versions))
     number = number_shown (newest w.versions) ∙ ap (option_map (λ (v : Version). v.number)) (sym goes.newest_one)
 
     set : effect (workspace (shown_from (option_map (λ (v : Newest). v.number) (option_map (newest_unit None) (newest w.versions))))) (Some (record w { settings = settings; versions = left_above going w.versions }))

@@ -21,7 +21,7 @@ use Rattle.machine.specs.Writing.{may_write}
 use Rattle.machine.specs.Rules.{refused, held, done, no_state, state, workspace, the_run, versions, rules}
 use Rattle.machine.specs.Showing.{shown_of, row_of, comes_after, workspaces_listed}
 use Rattle.basis.specs.Listings.{listing_of}
-use Rattle.machine.specs.Ranges.{IsKeepCount}
+use Rattle.machine.specs.Ranges.{IsRetention}
 use Rattle.machine.specs.Laws.{Rises, HasNoGap, AreVersions, IsRun, IsHolder, KeysDiffer, IsLawful}
 use Rattle.machine.specs.Settling.{is_waiting}
 use Rattle.machine.specs.Queue.{is_active_run, GoesOn}
@@ -63,7 +63,7 @@ abbrev a1 : List ℕ
 a1 = codes "a1"
 
 abbrev empty : Workspace
-empty = new_workspace (record { runs = record { auto_apply = false }; keep_versions = 100 })
+empty = new_workspace (record { runs = record { auto_apply = false }; retention = 100 })
 
 abbrev under_x1 : Workspace
 under_x1 = record empty { holder = Lock x1 t1 }
@@ -243,8 +243,8 @@ two status action = record empty { holder = HoldingRun 1; next_run = 3; runs = r
 planned_now : rules (ReportRun 1 ReportPlanned) 1_700_000_000 (there (two Planning None)) ≡ effect (the_run (run 1 Planned (Some ReportPlanned))) (Some (two Planned (Some ReportPlanned)))
 planned_now = refl
 
-applied_at_once : rules (ReportRun 1 ReportPlanned) 1_700_000_000 (there (record (two Planning None) { settings = record { runs = record { auto_apply = true }; keep_versions = 100 } }))
-    ≡ effect (the_run (run 1 Applying (Some ReportPlanned))) (Some (record (two Applying (Some ReportPlanned)) { settings = record { runs = record { auto_apply = true }; keep_versions = 100 } }))
+applied_at_once : rules (ReportRun 1 ReportPlanned) 1_700_000_000 (there (record (two Planning None) { settings = record { runs = record { auto_apply = true }; retention = 100 } }))
+    ≡ effect (the_run (run 1 Applying (Some ReportPlanned))) (Some (record (two Applying (Some ReportPlanned)) { settings = record { runs = record { auto_apply = true }; retention = 100 } }))
 applied_at_once = refl
 
 -- the action that was taken last is answered again, any other that no step has is refused
@@ -374,10 +374,10 @@ open_run_keeps_it : rules DeleteWorkspace 1_700_000_000 (there with_run_1) ≡ e
 open_run_keeps_it = refl
 
 -- one of its name begins anew
-made_anew : rules (PutWorkspace (record { runs = record { auto_apply = false }; keep_versions = None })) 1_700_000_000 (missing true) ≡ effect (workspace (shown_of empty)) (Some empty)
+made_anew : rules (PutWorkspace (record { runs = record { auto_apply = false }; retention = None })) 1_700_000_000 (missing true) ≡ effect (workspace (shown_of empty)) (Some empty)
 made_anew = refl
 
-no_room : rules (PutWorkspace (record { runs = record { auto_apply = false }; keep_versions = None })) 1_700_000_000 (missing false) ≡ effect (refused OverLimit) None
+no_room : rules (PutWorkspace (record { runs = record { auto_apply = false }; retention = None })) 1_700_000_000 (missing false) ≡ effect (refused OverLimit) None
 no_room = refl
 
 -- ---- how many versions are kept
@@ -387,7 +387,7 @@ abbrev last_two : List Version
 last_two = version 2 2 a1 s2 ∷ version 3 3 a1 t1 ∷ []
 
 abbrev keeping : ℕ → List Version → Workspace
-keeping keep stored = record empty { settings = record { runs = record { auto_apply = false }; keep_versions = keep }; next_version = 4; versions = stored }
+keeping keep stored = record empty { settings = record { runs = record { auto_apply = false }; retention = keep }; next_version = 4; versions = stored }
 
 abbrev three : Workspace
 three = keeping 3 (version 1 1 a1 s1 ∷ last_two)
@@ -396,20 +396,20 @@ abbrev held_three : Workspace
 held_three = record three { holder = Lock x1 t1 }
 
 -- a lower number lets the oldest go at once
-lowered : rules (PutWorkspace (record { runs = record { auto_apply = false }; keep_versions = Some 2 })) 1_700_000_000 (there three) ≡ effect (workspace (shown_of (keeping 2 last_two))) (Some (keeping 2 last_two))
+lowered : rules (PutWorkspace (record { runs = record { auto_apply = false }; retention = Some 2 })) 1_700_000_000 (there three) ≡ effect (workspace (shown_of (keeping 2 last_two))) (Some (keeping 2 last_two))
 lowered = refl
 
 -- but none while somebody holds, who is told
-lowered_under_a_lock : rules (PutWorkspace (record { runs = record { auto_apply = true }; keep_versions = Some 2 })) 1_700_000_000 (there held_three) ≡ effect (held (Lock x1 t1)) (Some held_three)
+lowered_under_a_lock : rules (PutWorkspace (record { runs = record { auto_apply = true }; retention = Some 2 })) 1_700_000_000 (there held_three) ≡ effect (held (Lock x1 t1)) (Some held_three)
 lowered_under_a_lock = refl
 
 -- any other PUT changes the settings under a lock, too, and without a number it keeps the one that is there
-raised_under_a_lock : (rules (PutWorkspace (record { runs = record { auto_apply = false }; keep_versions = Some 4 })) 1_700_000_000 (there held_three)).left
-    ≡ Some (record held_three { settings = record { runs = record { auto_apply = false }; keep_versions = 4 } })
+raised_under_a_lock : (rules (PutWorkspace (record { runs = record { auto_apply = false }; retention = Some 4 })) 1_700_000_000 (there held_three)).left
+    ≡ Some (record held_three { settings = record { runs = record { auto_apply = false }; retention = 4 } })
 raised_under_a_lock = refl
 
-number_kept : (rules (PutWorkspace (record { runs = record { auto_apply = true }; keep_versions = None })) 1_700_000_000 (there held_three)).left
-    ≡ Some (record held_three { settings = record { runs = record { auto_apply = true }; keep_versions = 3 } })
+number_kept : (rules (PutWorkspace (record { runs = record { auto_apply = true }; retention = None })) 1_700_000_000 (there held_three)).left
+    ≡ Some (record held_three { settings = record { runs = record { auto_apply = true }; retention = 3 } })
 number_kept = refl
 
 -- as one more comes, the oldest goes
@@ -431,7 +431,7 @@ gap_between h = omega (arith, h.0)
 newest_gone : HasNoGap (1 ∷ 2 ∷ []) 4 → ⊥
 newest_gone h = omega (arith, h.1)
 
-no_such_number : (IsKeepCount 0 → ⊥) × (IsKeepCount 1_001 → ⊥)
+no_such_number : (IsRetention 0 → ⊥) × (IsRetention 1_001 → ⊥)
 no_such_number = ((λ is. omega (arith, is.0)), (λ is. omega (arith, is.1)))
 
 -- a version by its number, and one that isn't kept

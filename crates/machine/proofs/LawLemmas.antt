@@ -6,7 +6,7 @@ use Rattle.std.proofs.lemmas.Bool.{leb-true, le-leb}
 use Rattle.basis.specs.declared.rows.Settings.{Settings}
 use Rattle.basis.specs.declared.rows.StateHead.{StateHead}
 use Rattle.machine.specs.Laws.{IsLawful, IsVersion, Rises, HasNoGap, IsRun, is_pending, is_nobody}
-use Rattle.machine.specs.Ranges.{IsHeadInRange, IsKeepCount}
+use Rattle.machine.specs.Ranges.{IsHeadInRange, IsRetention}
 use Rattle.machine.specs.Workspaces.{last_of}
 use Rattle.machine.specs.Rules.{number_left, with_version, max_number, with_settings, purged, locked}
 use Rattle.machine.specs.Settling.{is_waiting, first_waiting, to_start, started_if, settled}
@@ -77,9 +77,9 @@ version_is_lawful w n head text now e range moment lawful =
     let most : n + 1 ≤ 1_000_000_001 = omega (arith, left.2) in
     let rose : Rises 0 (map (λ (u : Version). u.number) w.versions) n = subst (λ (t : ℕ). Rises 0 (map (λ (u : Version). u.number) w.versions) t) (sym left.0) lawful.versions.rise in
     let follow : HasNoGap (map (λ (u : Version). u.number) w.versions) n = subst (λ (t : ℕ). HasNoGap (map (λ (u : Version). u.number) w.versions) t) (sym left.0) lawful.versions.gapless in
-    let staying : ℕ = w.settings.keep_versions - 1 in
+    let staying : ℕ = w.settings.retention - 1 in
     let k : ℕ = length w.versions - staying in
-    let kept : length (last_of staying w.versions ++ v ∷ []) ≤ w.settings.keep_versions = rw length-append (omega (arith, last_length staying w.versions, lawful.versions.keep.0)) in
+    let kept : length (last_of staying w.versions ++ v ∷ []) ≤ w.settings.retention = rw length-append (omega (arith, last_length staying w.versions, lawful.versions.keep.0)) in
     record {
       versions = record {
         keep = lawful.versions.keep;
@@ -119,9 +119,9 @@ purged_is_lawful w lawful = record {
 }
 
 -- with other settings, of which the number is in range
-pub set_is_lawful : (settings : Settings) (w : Workspace) → IsKeepCount settings.keep_versions → IsLawful w → IsLawful (with_settings w settings)
+pub set_is_lawful : (settings : Settings) (w : Workspace) → IsRetention settings.retention → IsLawful w → IsLawful (with_settings w settings)
 set_is_lawful settings w range lawful =
-    let k : ℕ = length w.versions - settings.keep_versions in
+    let k : ℕ = length w.versions - settings.retention in
     record {
       versions = record {
         keep = range;
@@ -129,7 +129,7 @@ set_is_lawful settings w range lawful =
         rise = Rises-drop k 0 w.versions w.next_version lawful.versions.rise;
         gapless = no_gap-drop k w.versions w.next_version lawful.versions.gapless;
         each = All-drop k w.versions lawful.versions.each;
-        kept = last_length settings.keep_versions w.versions;
+        kept = last_length settings.retention w.versions;
       };
       runs = lawful.runs;
       released = lawful.released;

@@ -7,7 +7,7 @@ use Rattle.basis.specs.declared.rows.Settings.{Settings}
 use Rattle.basis.specs.declared.rows.SettingsAsk.{SettingsAsk}
 use Rattle.machine.specs.Effects.{effect}
 use Rattle.machine.specs.Laws.{is_nobody}
-use Rattle.machine.specs.Ranges.{IsKeepCount}
+use Rattle.machine.specs.Ranges.{IsRetention}
 use Rattle.machine.specs.Settling.{settled}
 use Rattle.machine.specs.Rules.{Ruling, refused_by, shown_with, kept_before, kept_for, settings_for, with_settings, takes_held, put}
 use Rattle.machine.specs.declared.records.Version.{Version}
@@ -18,15 +18,15 @@ use Rattle.machine.proofs.DeletionLemmas.{IsKept}
 -- it gets the settings: no version goes from under a holder
 pub record IsSet (ruling : Ruling) (settings : Settings) (w : Workspace) : Type 0 where
   pub is : ruling ≡ shown_with (with_settings w settings)
-  pub free : takes_held settings.keep_versions w ≡ false
+  pub free : takes_held settings.retention w ≡ false
 
 pub put_comes : (settings : Settings) (w : Workspace) → IsKept (put settings w) w ⊎ IsSet (put settings w) settings w
-put_comes settings w = by_test (takes_held settings.keep_versions w) refl
+put_comes settings w = by_test (takes_held settings.retention w) refl
   where
     ruling : Bool → Ruling
     ruling b = cond b (effect (refused_by Locked w.holder) (Some w)) (shown_with (with_settings w settings))
 
-    by_test : (b : Bool) → takes_held settings.keep_versions w ≡ b → IsKept (ruling b) w ⊎ IsSet (ruling b) settings w
+    by_test : (b : Bool) → takes_held settings.retention w ≡ b → IsKept (ruling b) w ⊎ IsSet (ruling b) settings w
     by_test true e = inl (record { left = refl; refusal = tt; tells = λ holder t. cc; unlocked = λ t. cc })
     by_test false e = inr (record { is = refl; free = e })
 
@@ -38,12 +38,12 @@ put_becomes settings w = by_case (put_comes settings w)
     by_case (inr set) = inr (ap (λ (r : Ruling). r.left) set.is)
 
 -- while somebody holds, no more stand there than are to stay
-under_keep : (keep : ℕ) (w : Workspace) (b : Bool) → b ≡ false → (not b && nat_lt keep (length w.versions)) ≡ false → length w.versions ≤ keep
-under_keep keep w true somebody free = absurd (let none : ⊥ = cc in none)
-under_keep keep w false somebody free = omega (arith, ltb-false keep (length w.versions) free)
+under_retention : (keep : ℕ) (w : Workspace) (b : Bool) → b ≡ false → (not b && nat_lt keep (length w.versions)) ≡ false → length w.versions ≤ keep
+under_retention keep w true somebody free = absurd (let none : ⊥ = cc in none)
+under_retention keep w false somebody free = omega (arith, ltb-false keep (length w.versions) free)
 
-pub held_stay : (settings : Settings) (w : Workspace) → is_nobody w.holder ≡ false → takes_held settings.keep_versions w ≡ false → (with_settings w settings).versions ≡ w.versions
-held_stay settings w somebody free = all_last settings.keep_versions w.versions (under_keep settings.keep_versions w (is_nobody w.holder) somebody free)
+pub held_stay : (settings : Settings) (w : Workspace) → is_nobody w.holder ≡ false → takes_held settings.retention w ≡ false → (with_settings w settings).versions ≡ w.versions
+held_stay settings w somebody free = all_last settings.retention w.versions (under_retention settings.retention w (is_nobody w.holder) somebody free)
 
 -- where no more stand there than are to stay, none goes
 takes_none : (keep : ℕ) (w : Workspace) → length w.versions ≤ keep → takes_held keep w ≡ false
@@ -54,14 +54,14 @@ takes_none keep w le = ap (λ (b : Bool). not (is_nobody w.holder) && b) (le-ltb
     both_false false = refl
 
 -- and settings that it has change nothing
-same_settings : (settings : Settings) (w : Workspace) → w.settings ≡ settings → length w.versions ≤ settings.keep_versions → with_settings w settings ≡ w
+same_settings : (settings : Settings) (w : Workspace) → w.settings ≡ settings → length w.versions ≤ settings.retention → with_settings w settings ≡ w
 same_settings settings w e le =
-    subst (λ (x : Settings). length w.versions ≤ x.keep_versions → with_settings w x ≡ w) e
-    (λ most. ap (λ (vs : List Version). record w { versions = vs }) (all_last w.settings.keep_versions w.versions most)) le
+    subst (λ (x : Settings). length w.versions ≤ x.retention → with_settings w x ≡ w) e
+    (λ most. ap (λ (vs : List Version). record w { versions = vs }) (all_last w.settings.retention w.versions most)) le
 
-pub put_once : (settings : Settings) (w : Workspace) → w.settings ≡ settings → length w.versions ≤ settings.keep_versions → settled w ≡ w → (put settings w).left ≡ Some w
+pub put_once : (settings : Settings) (w : Workspace) → w.settings ≡ settings → length w.versions ≤ settings.retention → settled w ≡ w → (put settings w).left ≡ Some w
 put_once settings w e le still =
-    ap (λ (b : Bool). (cond b (effect (refused_by Locked w.holder) (Some w)) (shown_with (with_settings w settings))).left) (takes_none settings.keep_versions w le)
+    ap (λ (b : Bool). (cond b (effect (refused_by Locked w.holder) (Some w)) (shown_with (with_settings w settings))).left) (takes_none settings.retention w le)
     ∙ ap Some (ap settled (same_settings settings w e le) ∙ still)
 
 -- what is asked for once is kept
@@ -70,12 +70,12 @@ kept_twice None before = refl
 kept_twice (Some keep) before = refl
 
 abbrev settings_of : RunSettings → ℕ → Settings
-settings_of runs keep = record { runs = runs; keep_versions = keep }
+settings_of runs keep = record { runs = runs; retention = keep }
 
 pub asked_once : (ask : SettingsAsk) (before : Option Settings) → settings_for ask (Some (settings_for ask before)) ≡ settings_for ask before
-asked_once ask before = ap (settings_of ask.runs) (kept_twice ask.keep_versions (kept_before before))
+asked_once ask before = ap (settings_of ask.runs) (kept_twice ask.retention (kept_before before))
 
 -- the settings that are asked for are in range
-pub kept_in_range : (asked : Option ℕ) (before : ℕ) → IfSome asked IsKeepCount → IsKeepCount before → IsKeepCount (kept_for asked before)
+pub kept_in_range : (asked : Option ℕ) (before : ℕ) → IfSome asked IsRetention → IsRetention before → IsRetention (kept_for asked before)
 kept_in_range None before range was = was
 kept_in_range (Some keep) before range was = range

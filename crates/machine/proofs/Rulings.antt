@@ -16,7 +16,7 @@ use Rattle.basis.specs.declared.runs.RunAction.{RunAction}
 use Rattle.machine.specs.Custody.{IsRefusal, IsUnlocked, IsWriter, WritesWith, Releases}
 use Rattle.machine.specs.Effects.{effect}
 use Rattle.machine.specs.Inner.Decisions.{decision_missing}
-use Rattle.machine.specs.Ranges.{IsHeadInRange, IsKeepCount, IsRunAsk, IsInRange}
+use Rattle.machine.specs.Ranges.{IsHeadInRange, IsRetention, IsRunAsk, IsInRange}
 use Rattle.machine.specs.Records.{there}
 use Rattle.machine.specs.Rules.{Outcome, refused, held, done, workspace, the_run, Ruling, rules, rules_missing, refused_by, by_may_write, by_succession, numbered_update, number_left, with_version, settings_for, with_settings, takes_held, put, done_with, done_already, purge, purged, lock, locked, unlock, released, is_released, force_unlock, new_run, with_run, numbered_run, make_run}
 use Rattle.machine.specs.Settling.{settled}
@@ -101,8 +101,8 @@ pub record VersionsGo (act : Act) (w u : Workspace) (answer : Outcome) : Type 0 
 -- other settings come: no version goes from under a holder
 pub record SettingsCome (act : Act) (w u : Workspace) : Type 0 where
   pub settings : Settings
-  pub range : IsInRange act → IsKeepCount w.settings.keep_versions → IsKeepCount settings.keep_versions
-  pub free : takes_held settings.keep_versions w ≡ false
+  pub range : IsInRange act → IsRetention w.settings.retention → IsRetention settings.retention
+  pub free : takes_held settings.retention w ≡ false
   pub is : u ≡ with_settings w settings
 
 -- a lock comes to hold, where nobody does
@@ -224,7 +224,7 @@ set_comes ask now w settings e (inr set) = it_changes (record {
   answer = workspace (shown_of (settled (with_settings w settings)));
   way = settings_come (record {
     settings = settings;
-    range = λ range was. subst (λ (x : Settings). IsKeepCount x.keep_versions) e (kept_in_range ask.keep_versions w.settings.keep_versions range was);
+    range = λ range was. subst (λ (x : Settings). IsRetention x.retention) e (kept_in_range ask.retention w.settings.retention range was);
     free = set.free;
     is = refl;
   });

@@ -185,7 +185,7 @@ held_begun n (r ∷ runs) f found at waiting = passed (r.number == n) refl (is_w
     passed false e false w is more = more is
 
 -- where nobody holds, and all else is as it may be under a lock, a workspace settles
-pub freed_is_lawful : (id text : List ℕ) (w : Workspace) → w.holder ≡ Nobody → AreVersions w.settings.keep_versions w.next_version w.versions → AreRuns (Lock id text) w.next_run w.runs
+pub freed_is_lawful : (id text : List ℕ) (w : Workspace) → w.holder ≡ Nobody → AreVersions w.settings.retention w.next_version w.versions → AreRuns (Lock id text) w.next_run w.runs
     → IfSome w.released (λ x. IsTrue (is_free_id x)) → IsLawful (settled w)
 freed_is_lawful id text w e versions runs released =
     subst (λ (h : Holder). IsLawful (started_if (to_start h (first_waiting w.runs)) w)) (sym e) (settling (find is_waiting w.runs) refl)

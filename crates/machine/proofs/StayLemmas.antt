@@ -64,13 +64,13 @@ become act now w v e = by_case (leaves act now w v e)
 
     by_way : (u : Workspace) (answer : Outcome) → Way act now w u answer → Become w.versions u.versions
     by_way u answer (version_comes x) = inr (inr (
-      length w.versions - (w.settings.keep_versions - 1),
+      length w.versions - (w.settings.retention - 1),
       posted x.number x.head x.text now,
       ap (λ (y : Workspace). y.versions) x.is,
       λ older e. judged x.text x.head x.number older e x.judged,
     ))
     by_way u answer (versions_go x) = inr (inl (ap (λ (y : Workspace). y.versions) x.is))
-    by_way u answer (settings_come x) = inl (length w.versions - x.settings.keep_versions, ap (λ (y : Workspace). y.versions) x.is)
+    by_way u answer (settings_come x) = inl (length w.versions - x.settings.retention, ap (λ (y : Workspace). y.versions) x.is)
     by_way u answer (lock_comes x) = kept u (ap (λ (y : Workspace). y.versions) x.is)
     by_way u answer (lock_goes x) = kept u (ap (λ (y : Workspace). y.versions) x.is)
     by_way u answer (run_comes x) = kept u (ap (λ (y : Workspace). y.versions) x.made.2)
@@ -161,7 +161,7 @@ newest_with_one most vs v some =
 
 -- ---- a text that is accepted
 
-number_stands : (head : StateHead) (text : List ℕ) (now : ℕ) (w v : Workspace) → 1 ≤ w.settings.keep_versions → (n : Option ℕ) → number_left w.next_version ≡ n
+number_stands : (head : StateHead) (text : List ℕ) (now : ℕ) (w v : Workspace) → 1 ≤ w.settings.retention → (n : Option ℕ) → number_left w.next_version ≡ n
     → (numbered_update n w head text now).answer ≡ done → (numbered_update n w head text now).left ≡ Some v → TextComes head text now w v
 number_stands head text now w v some None left is e = absurd (let none : ⊥ = cc in none)
 number_stands head text now w v some (Some n) left is e = subst (TextComes head text now w) settles behind
@@ -178,8 +178,8 @@ number_stands head text now w v some (Some n) left is e = subst (TextComes head 
     made : Version
     made = posted w.next_version head text now
 
-    are : (settled u).versions ≡ last_of (w.settings.keep_versions - 1) w.versions ++ made ∷ []
-    are = settled_versions u ∙ ap (λ (m : ℕ). last_of (w.settings.keep_versions - 1) w.versions ++ posted m head text now ∷ []) own
+    are : (settled u).versions ≡ last_of (w.settings.retention - 1) w.versions ++ made ∷ []
+    are = settled_versions u ∙ ap (λ (m : ℕ). last_of (w.settings.retention - 1) w.versions ++ posted m head text now ∷ []) own
 
     next_is : (settled u).next_version ≡ n + 1
     next_is = next_stays (to_start u.holder (first_waiting u.runs))
@@ -190,11 +190,11 @@ number_stands head text now w v some (Some n) left is e = subst (TextComes head 
 
     behind : TextComes head text now w (settled u)
     behind = record {
-      stay = subst (AreNewest w.settings.keep_versions (w.versions ++ made ∷ [])) (sym are) (newest_with_one w.settings.keep_versions w.versions made some);
+      stay = subst (AreNewest w.settings.retention (w.versions ++ made ∷ [])) (sym are) (newest_with_one w.settings.retention w.versions made some);
       found =
           ap (version_of w.next_version) are
-          ∙ find_last_push (λ (x : Version). x.number == w.next_version) (last_of (w.settings.keep_versions - 1) w.versions) made
-          ∙ ap (λ (b : Bool). cond b (Some made) (version_of w.next_version (last_of (w.settings.keep_versions - 1) w.versions))) (eq-eqb w.next_version w.next_version refl);
+          ∙ find_last_push (λ (x : Version). x.number == w.next_version) (last_of (w.settings.retention - 1) w.versions) made
+          ∙ ap (λ (b : Bool). cond b (Some made) (version_of w.next_version (last_of (w.settings.retention - 1) w.versions))) (eq-eqb w.next_version w.next_version refl);
       next = next_is ∙ ap (λ (m : ℕ). m + 1) own;
     }
 
@@ -212,7 +212,7 @@ same_is_there head text w (Some u) at t = chosen (bytes_eq u.text text) (lineage
 abbrev Stands : StateHead → List ℕ → ℕ → Workspace → Workspace → Type 0
 Stands head text now w v = TextIsThere text w v ⊎ TextComes head text now w v
 
-succession_stands : (head : StateHead) (text : List ℕ) (now : ℕ) (w v : Workspace) → 1 ≤ w.settings.keep_versions → (s : Succession) → succession w.versions text head ≡ s
+succession_stands : (head : StateHead) (text : List ℕ) (now : ℕ) (w v : Workspace) → 1 ≤ w.settings.retention → (s : Succession) → succession w.versions text head ≡ s
     → (by_succession s w head text now).answer ≡ done → (by_succession s w head text now).left ≡ Some v → Stands head text now w v
 succession_stands head text now w v some first t is e = inr (number_stands head text now w v some (number_left w.next_version) refl is e)
 succession_stands head text now w v some same t is e = inl (subst (TextIsThere text w) (one_left w v e) (same_is_there head text w (newest w.versions) refl t))
@@ -220,7 +220,7 @@ succession_stands head text now w v some other_lineage t is e = absurd (let none
 succession_stands head text now w v some old_serial t is e = absurd (let none : ⊥ = cc in none)
 succession_stands head text now w v some next t is e = inr (number_stands head text now w v some (number_left w.next_version) refl is e)
 
-update_stands : (head : StateHead) (text : List ℕ) (now : ℕ) (w v : Workspace) → 1 ≤ w.settings.keep_versions → (m : Option Refusal)
+update_stands : (head : StateHead) (text : List ℕ) (now : ℕ) (w v : Workspace) → 1 ≤ w.settings.retention → (m : Option Refusal)
     → (by_may_write m w head text now).answer ≡ done → (by_may_write m w head text now).left ≡ Some v → Stands head text now w v
 update_stands head text now w v some (Some refusal) is e = absurd (never_done refusal w.holder is)
 update_stands head text now w v some None is e = succession_stands head text now w v some (succession w.versions text head) refl is e
@@ -265,7 +265,7 @@ asked_are ask before = record {
 }
 
 abbrev LeavesAsked : SettingsAsk → Workspace → Workspace → Type 0
-LeavesAsked ask w v = AreAsked ask w.settings.keep_versions v.settings × AreNewest v.settings.keep_versions w.versions v.versions
+LeavesAsked ask w v = AreAsked ask w.settings.retention v.settings × AreNewest v.settings.retention w.versions v.versions
 
 pub puts_leave_what_they_ask : PutsLeaveWhatTheyAsk
 puts_leave_what_they_ask ask now w v accepted e = by_case (put_comes settings w)
@@ -281,9 +281,9 @@ puts_leave_what_they_ask ask now w v accepted e = by_case (put_comes settings w)
 
     after : LeavesAsked ask w (settled u)
     after = (
-      subst (AreAsked ask w.settings.keep_versions) (sym set_is) (asked_are ask (Some w.settings)),
-      subst (λ (s : Settings). AreNewest s.keep_versions w.versions (settled u).versions) (sym set_is)
-          (subst (AreNewest settings.keep_versions w.versions) (sym (settled_versions u)) (newest_are settings.keep_versions w.versions)),
+      subst (AreAsked ask w.settings.retention) (sym set_is) (asked_are ask (Some w.settings)),
+      subst (λ (s : Settings). AreNewest s.retention w.versions (settled u).versions) (sym set_is)
+          (subst (AreNewest settings.retention w.versions) (sym (settled_versions u)) (newest_are settings.retention w.versions)),
     )
 
     by_case : IsKept (put settings w) w ⊎ IsSet (put settings w) settings w → LeavesAsked ask w v

@@ -121,14 +121,14 @@ made_numbers w n head text now e =
         number = is;
         newest = newest_with w n head text now;
         next = ap (λ (m : ℕ). m + 1) is;
-        left = λ m u found. found_or_made m (length w.versions - (w.settings.keep_versions - 1)) w.versions made u found;
+        left = λ m u found. found_or_made m (length w.versions - (w.settings.retention - 1)) w.versions made u found;
       }),
     )
 
 -- what is left after a PUT was there
 set_numbers : (w : Workspace) (settings : Settings) → Numbers w (with_settings w settings)
 set_numbers w settings =
-    (omega arith, inl (record { next = refl; left = λ n u e. found_in_last (λ (v : Version). v.number == n) (length w.versions - settings.keep_versions) w.versions u e }))
+    (omega arith, inl (record { next = refl; left = λ n u e. found_in_last (λ (v : Version). v.number == n) (length w.versions - settings.retention) w.versions u e }))
 
 -- none are left after a purge
 purged_numbers : (w : Workspace) → Numbers w (purged w)

@@ -8,7 +8,7 @@ use Rattle.basis.specs.declared.runs.RunStatus.{RunStatus}
 use Rattle.basis.specs.declared.runs.RunStatus.TheVariants.{Pending, Planning, Planned, Applying, Applied, PlannedAndFinished, Errored, Discarded, Canceled}
 use Rattle.basis.specs.declared.runs.RunAction.{RunAction}
 use Rattle.basis.specs.declared.numbers.TheConstants.{MAX_NUMBER}
-use Rattle.machine.specs.Ranges.{IsKeepCount, IsMoment}
+use Rattle.machine.specs.Ranges.{IsRetention, IsMoment}
 use Rattle.machine.specs.RunSteps.{RunStep, plan_only_steps, auto_apply_steps, confirmed_steps, is_status, is_action}
 use Rattle.machine.specs.Workspaces.{max_open_runs, run_of, open_runs}
 use Rattle.basis.specs.declared.rows.Holder.{Holder}
@@ -117,7 +117,7 @@ pub record AreRuns (holder : Holder) (next_run : ℕ) (runs : List Run) : Type 0
 
 -- the laws of the versions, of which a workspace keeps so many
 pub record AreVersions (most next_version : ℕ) (versions : List Version) : Type 0 where
-  pub keep : IsKeepCount most
+  pub keep : IsRetention most
   pub next : IsNext next_version
   pub rise : Rises 0 (map (λ (v : Version). v.number) versions) next_version
   pub gapless : HasNoGap (map (λ (v : Version). v.number) versions) next_version
@@ -126,7 +126,7 @@ pub record AreVersions (most next_version : ℕ) (versions : List Version) : Typ
 
 -- the laws of a workspace
 pub record IsLawful (w : Workspace) : Type 0 where
-  pub versions : AreVersions w.settings.keep_versions w.next_version w.versions
+  pub versions : AreVersions w.settings.retention w.next_version w.versions
   pub runs : AreRuns w.holder w.next_run w.runs
   pub released : IfSome w.released (λ id. IsTrue (is_free_id id))
 

@@ -12,7 +12,7 @@ pub record Needed : Type 0 where
   -- the act makes the workspace where there is none: how many the organization has there, and how many it may have
   pub makes : Bool
   -- how many versions the workspace keeps
-  pub keep_versions : Bool
+  pub retention : Bool
   -- the status of the run that holds
   pub holder_status : Bool
   -- the newest version
@@ -32,11 +32,11 @@ pub record Needed : Type 0 where
   pub open_runs : Bool
 
 abbrev pub nothing : Needed
-nothing = record { makes = false; keep_versions = false; holder_status = false; newest = false; text = None; outgoing = StayAll; version = None; run = None; key = None; waiting = false; open_runs = false }
+nothing = record { makes = false; retention = false; holder_status = false; newest = false; text = None; outgoing = StayAll; version = None; run = None; key = None; waiting = false; open_runs = false }
 
 -- what is told of a workspace needs what it tells
 abbrev pub needs_of_look : AnyLook → Needed
-needs_of_look look.Workspace = record nothing { keep_versions = true; newest = true }
+needs_of_look look.Workspace = record nothing { retention = true; newest = true }
 needs_of_look look.State = record nothing { newest = true }
 needs_of_look (look.Version n) = record nothing { version = Some n }
 needs_of_look (look.Versions after) = nothing
@@ -50,9 +50,9 @@ staying_for (Some keep) = StayAtMost keep
 
 abbrev pub needs : Act → Needed
 needs (Look what) = needs_of_look what
-needs (PutWorkspace ask) = record nothing { makes = true; keep_versions = is_none ask.keep_versions; newest = true; outgoing = staying_for ask.keep_versions }
+needs (PutWorkspace ask) = record nothing { makes = true; retention = is_none ask.retention; newest = true; outgoing = staying_for ask.retention }
 needs DeleteWorkspace = record nothing { open_runs = true }
-needs (UpdateState head text id) = record nothing { keep_versions = true; holder_status = true; newest = true; text = Some text; outgoing = MakeRoom }
+needs (UpdateState head text id) = record nothing { retention = true; holder_status = true; newest = true; text = Some text; outgoing = MakeRoom }
 needs (PurgeState id) = record nothing { holder_status = true }
 needs (Lock id text) = nothing
 needs (Unlock id) = record nothing { waiting = true }
@@ -64,7 +64,7 @@ needs (ReportRun n action) = record nothing { run = Some n; waiting = true }
 abbrev pub needed_of : Needs → Needed
 needed_of n = record {
   makes = n.makes;
-  keep_versions = n.keep_versions;
+  retention = n.retention;
   holder_status = n.holder_status;
   newest = n.newest;
   text = option_copied n.text;

@@ -17,12 +17,12 @@ abbrev pub IsRunAsk : RunAsk → Type 0
 IsRunAsk ask = IfSome ask.key (λ key. IsTrue (has_length 1 64 key)) × (length ask.message ≤ 1_000)
 
 -- how many versions a workspace keeps
-abbrev pub IsKeepCount : ℕ → Type 0
-IsKeepCount keep = (1 ≤ keep) × (keep ≤ MAX_KEPT)
+abbrev pub IsRetention : ℕ → Type 0
+IsRetention keep = (1 ≤ keep) × (keep ≤ MAX_KEPT)
 
 -- what a PUT asks of a workspace's settings is in range
 abbrev pub IsSettingsAsk : SettingsAsk → Type 0
-IsSettingsAsk ask = IfSome ask.keep_versions IsKeepCount
+IsSettingsAsk ask = IfSome ask.retention IsRetention
 
 -- a moment, in seconds since 1970
 abbrev pub IsMoment : ℕ → Type 0

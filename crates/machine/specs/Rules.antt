@@ -70,7 +70,7 @@ abbrev pub with_version : Workspace → ℕ → StateHead → List ℕ → ℕ �
 with_version w number head text now =
     record w {
       next_version = number + 1;
-      versions = last_of (w.settings.keep_versions - 1) w.versions ++ (record { number = number; serial = head.serial; lineage = head.lineage; created = now; text = text }) ∷ [];
+      versions = last_of (w.settings.retention - 1) w.versions ++ (record { number = number; serial = head.serial; lineage = head.lineage; created = now; text = text }) ∷ [];
     }
 
 -- an accepted change: the workspace settles, and what is shown is the workspace after that
@@ -121,7 +121,7 @@ state_answer (Some v) = state v.text
 -- how many versions are kept: as many as are asked for; where none are, as many as before, and FIRST_KEPT of a workspace that is made
 abbrev pub kept_before : Option Settings → ℕ
 kept_before None = FIRST_KEPT
-kept_before (Some settings) = settings.keep_versions
+kept_before (Some settings) = settings.retention
 
 abbrev pub kept_for : Option ℕ → ℕ → ℕ
 kept_for None before = before
@@ -129,11 +129,11 @@ kept_for (Some asked) before = asked
 
 -- the settings that a PUT asks for, of a workspace that is there with settings or is to be made
 abbrev pub settings_for : SettingsAsk → Option Settings → Settings
-settings_for ask before = record { runs = ask.runs; keep_versions = kept_for ask.keep_versions (kept_before before) }
+settings_for ask before = record { runs = ask.runs; retention = kept_for ask.retention (kept_before before) }
 
 -- other settings: of more versions than they keep, the oldest go
 abbrev pub with_settings : Workspace → Settings → Workspace
-with_settings w settings = record w { settings = settings; versions = last_of settings.keep_versions w.versions }
+with_settings w settings = record w { settings = settings; versions = last_of settings.retention w.versions }
 
 -- whether versions would go while somebody holds, where no more than so many stay
 abbrev pub takes_held : ℕ → Workspace → Bool
@@ -141,7 +141,7 @@ takes_held keep w = not (is_nobody w.holder) && nat_lt keep (length w.versions)
 
 -- PUT of a workspace that is there: it gets the settings, but while somebody holds no version goes by them
 abbrev pub put : Settings → Workspace → Ruling
-put settings w = cond (takes_held settings.keep_versions w) (effect (refused_by Locked w.holder) (Some w)) (shown_with (with_settings w settings))
+put settings w = cond (takes_held settings.retention w) (effect (refused_by Locked w.holder) (Some w)) (shown_with (with_settings w settings))
 
 -- a purge: every version goes, and the next number stays
 abbrev pub purged : Workspace → Workspace

@@ -52,7 +52,7 @@ if_needed false part = None
 
 -- the settings of a workspace, with the number of versions kept where that is needed, else with that of one that is made
 abbrev pub settings_unit : Bool → Settings → Settings
-settings_unit needed s = record s { keep_versions = cond needed s.keep_versions FIRST_KEPT }
+settings_unit needed s = record s { retention = cond needed s.retention FIRST_KEPT }
 
 -- the greatest number of the versions that go, of a workspace that keeps so many: one more that comes is one of those
 abbrev pub outgoing_by : Staying → ℕ → List Version → Option ℕ
@@ -65,14 +65,14 @@ newest_unit text v = record { number = v.number; serial = v.serial; lineage = v.
 
 abbrev pub unit_for : Needed → Workspace → WorkspaceUnit
 unit_for need w = record {
-  settings = settings_unit need.keep_versions w.settings;
+  settings = settings_unit need.retention w.settings;
   holder = w.holder;
   holder_status = if_needed need.holder_status (holder_status w.holder w.runs);
   released = w.released;
   next_version = w.next_version;
   next_run = w.next_run;
   newest = if_needed need.newest (option_map (newest_unit need.text) (newest w.versions));
-  outgoing = outgoing_by need.outgoing (settings_unit need.keep_versions w.settings).keep_versions w.versions;
+  outgoing = outgoing_by need.outgoing (settings_unit need.retention w.settings).retention w.versions;
   first_waiting = if_needed need.waiting (first_waiting w.runs);
   has_version = has_version need.version w.versions;
   asked_run = asked_run need.run need.key w.runs;

@@ -48,7 +48,7 @@ posted number head text now = record { number = number; serial = head.serial; li
 
 -- a text comes: it is there under the next number, and with those before it the newest stay, as many as the workspace keeps
 pub record TextComes (head : StateHead) (text : List ℕ) (now : ℕ) (w v : Workspace) : Type 0 where
-  pub stay : AreNewest w.settings.keep_versions (w.versions ++ posted w.next_version head text now ∷ []) v.versions
+  pub stay : AreNewest w.settings.retention (w.versions ++ posted w.next_version head text now ∷ []) v.versions
   pub found : version_of w.next_version v.versions ≡ Some (posted w.next_version head text now)
   pub next : v.next_version ≡ w.next_version + 1
 
@@ -61,7 +61,7 @@ pub record TextIsThere (text : List ℕ) (w v : Workspace) : Type 0 where
 
 -- a text that is accepted is there afterwards
 abbrev pub AcceptedTextsStand : Type 0
-AcceptedTextsStand = (head : StateHead) (text : List ℕ) (id : Option (List ℕ)) (now : ℕ) (w v : Workspace) → 1 ≤ w.settings.keep_versions
+AcceptedTextsStand = (head : StateHead) (text : List ℕ) (id : Option (List ℕ)) (now : ℕ) (w v : Workspace) → 1 ≤ w.settings.retention
     → (rules (UpdateState head text id) now (there w)).answer ≡ done → (rules (UpdateState head text id) now (there w)).left ≡ Some v
     → TextIsThere text w v ⊎ TextComes head text now w v
 
@@ -74,14 +74,14 @@ FollowingTextsAreAccepted = (head : StateHead) (text : List ℕ) (id : Option (L
 -- the settings that a PUT asks for: how runs go as asked, and as many versions as asked, or as before where no number is given
 pub record AreAsked (ask : SettingsAsk) (before : ℕ) (settings : Settings) : Type 0 where
   pub runs : settings.runs ≡ ask.runs
-  pub given : (keep : ℕ) → ask.keep_versions ≡ Some keep → settings.keep_versions ≡ keep
-  pub not_given : ask.keep_versions ≡ None → settings.keep_versions ≡ before
+  pub given : (keep : ℕ) → ask.retention ≡ Some keep → settings.retention ≡ keep
+  pub not_given : ask.retention ≡ None → settings.retention ≡ before
 
 -- an accepted PUT leaves the settings asked for, and of the versions the newest, as many as the workspace keeps then
 abbrev pub PutsLeaveWhatTheyAsk : Type 0
 PutsLeaveWhatTheyAsk = (ask : SettingsAsk) (now : ℕ) (w v : Workspace)
     → (IsRefusal (rules (PutWorkspace ask) now (there w)).answer → ⊥) → (rules (PutWorkspace ask) now (there w)).left ≡ Some v
-    → AreAsked ask w.settings.keep_versions v.settings × AreNewest v.settings.keep_versions w.versions v.versions
+    → AreAsked ask w.settings.retention v.settings × AreNewest v.settings.retention w.versions v.versions
 
 -- one that makes the workspace leaves the settings asked for, and 100 versions where no number is given
 abbrev pub PutsMakeWhatTheyAsk : Type 0

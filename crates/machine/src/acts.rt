@@ -5,7 +5,7 @@ ghost use Rattle.machine.specs.Needs.{needs, needs_of_look, nothing, staying_for
 use crate::records::Version;
 use crate::texts::StateText;
 use basis::{
-    Bytes, Holder, HolderId, KeepCount, Limit, LockId, Look, Moment, Number, Refusal, RunAction,
+    Bytes, Holder, HolderId, Limit, LockId, Look, Moment, Number, Refusal, Retention, RunAction,
     RunAsk, RunRow, RunStatus, Settings, SettingsAsk, StateHead, Text,
 };
 
@@ -51,7 +51,7 @@ pub enum Staying {
     /// One more comes: the last that stay beside it, of as many as the workspace keeps.
     MakeRoom,
     /// The last so many.
-    StayAtMost(KeepCount),
+    StayAtMost(Retention),
 }
 
 /// What a decision on an act needs of its workspace besides the workspace's own row: a store is asked
@@ -62,7 +62,7 @@ pub struct Needs<'a> {
     /// organization has, and how many it may have.
     pub makes: bool,
     /// Whether it is needed how many versions the workspace keeps.
-    pub keep_versions: bool,
+    pub retention: bool,
     /// Whether the status of the run that holds is needed.
     pub holder_status: bool,
     /// Whether the newest version is needed.
@@ -89,7 +89,7 @@ fn nothing<'a>() -> Needs<'a>
 {
     Needs {
         makes: false,
-        keep_versions: false,
+        retention: false,
         holder_status: false,
         newest: false,
         text: None,
@@ -107,7 +107,7 @@ fn needs_of_look<'a>(look: Look) -> Needs<'a>
 {
     match look {
         Look::Workspace => Needs {
-            keep_versions: true,
+            retention: true,
             newest: true,
             ..nothing()
         },
@@ -137,11 +137,11 @@ fn key_of(ask: &RunAsk) -> Option<&Text>
 }
 
 // A PUT that asks for no number of versions lets none go.
-fn staying_for(keep: Option<KeepCount>) -> Staying
-    ensures { result ≡ staying_for keep }
+fn staying_for(retention: Option<Retention>) -> Staying
+    ensures { result ≡ staying_for retention }
 {
-    match keep {
-        Some(keep) => Staying::StayAtMost(keep),
+    match retention {
+        Some(retention) => Staying::StayAtMost(retention),
         None => Staying::StayAll,
     }
 }
@@ -155,9 +155,9 @@ impl Act {
             Act::Look(look) => needs_of_look(*look),
             Act::PutWorkspace(ask) => Needs {
                 makes: true,
-                keep_versions: ask.keep_versions.is_none(),
+                retention: ask.retention.is_none(),
                 newest: true,
-                outgoing: staying_for(ask.keep_versions),
+                outgoing: staying_for(ask.retention),
                 ..nothing()
             },
             Act::DeleteWorkspace => Needs {
@@ -165,7 +165,7 @@ impl Act {
                 ..nothing()
             },
             Act::UpdateState { text, .. } => Needs {
-                keep_versions: true,
+                retention: true,
                 holder_status: true,
                 newest: true,
                 text: Some(text.as_slice()),

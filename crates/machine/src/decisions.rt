@@ -10,7 +10,7 @@ ghost use Rattle.machine.specs.Writing.{may_write, is_applying};
 ghost use Rattle.machine.specs.Succession.{lineages_differ};
 ghost use Rattle.machine.specs.Showing.{holder_id};
 ghost use Rattle.machine.specs.Rules.{is_released, number_left, new_run, kept_before, kept_for, settings_for};
-ghost use Rattle.machine.specs.Ranges.{IsKeepCount, IsSettingsAsk};
+ghost use Rattle.machine.specs.Ranges.{IsRetention, IsSettingsAsk};
 ghost use Rattle.machine.specs.Laws.{holds, is_nobody};
 ghost use Rattle.machine.specs.RunSteps.{is_last};
 ghost use Rattle.machine.specs.declared.records.Organization.{Organization as AnyOrganization};
@@ -27,7 +27,7 @@ use crate::run_steps::next_status;
 use crate::texts::StateText;
 use basis::numbers::MAX_KEPT;
 use basis::{
-    Bytes, Down, Holder, HolderId, KeepCount, LockId, Look, Moment, Number, Refusal, RunAction,
+    Bytes, Down, Holder, HolderId, LockId, Look, Moment, Number, Refusal, Retention, RunAction,
     RunAsk, RunRow, RunStatus, Settings, SettingsAsk, StateHead, Text, is_run_id,
 };
 use std::alloc::Global;
@@ -226,27 +226,27 @@ fn settings_for(ask: SettingsAsk, before: Option<Settings>) -> Settings
 {
     Settings {
         runs: ask.runs,
-        keep_versions: kept_for(ask.keep_versions, kept_before(before)),
+        retention: kept_for(ask.retention, kept_before(before)),
     }
 }
 
-fn kept_before(before: Option<Settings>) -> KeepCount
+fn kept_before(before: Option<Settings>) -> Retention
     ensures { result ≡ kept_before before }
 {
     match before {
-        Some(settings) => settings.keep_versions,
-        None => KeepCount::first(),
+        Some(settings) => settings.retention,
+        None => Retention::first(),
     }
 }
 
-fn kept_for(asked: Option<KeepCount>, before: KeepCount) -> KeepCount
+fn kept_for(asked: Option<Retention>, before: Retention) -> Retention
     ensures is { result ≡ kept_for asked before }
-    ensures range { IfSome asked IsKeepCount }
+    ensures range { IfSome asked IsRetention }
 {
     match asked {
-        Some(keep) => {
-            prove!(1 <= keep.get() && keep.get() <= MAX_KEPT);
-            keep
+        Some(retention) => {
+            prove!(1 <= retention.get() && retention.get() <= MAX_KEPT);
+            retention
         }
         None => before,
     }

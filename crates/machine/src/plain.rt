@@ -29,8 +29,8 @@ use crate::records::{Organization, Token, Version, Workspace, is_waiting};
 use crate::texts::StateText;
 use basis::numbers::MAX_LIMIT;
 use basis::{
-    Bounds, Bytes, Caller, Down, Holder, Items, KeepCount, Limit, Listing, LockId, Moment, Number,
-    OrgName, Prefix, Role, RunAction, RunAsk, RunRow, RunStatus, Settings, Text, VersionRow,
+    Bounds, Bytes, Caller, Down, Holder, Items, Limit, Listing, LockId, Moment, Number, OrgName,
+    Prefix, Retention, Role, RunAction, RunAsk, RunRow, RunStatus, Settings, Text, VersionRow,
     WsName, WsRow,
 };
 use std::alloc::Global;
@@ -499,7 +499,7 @@ impl Workspace {
     fn unit(&self, needs: &Needs<'_>) -> Result<WorkspaceUnit, Down>
         ensures { IfOk result (λ unit. unit ≡ unit_for (needed_of needs.now) self.now) }
     {
-        let settings = settings_unit(needs.keep_versions, &self.settings);
+        let settings = settings_unit(needs.retention, &self.settings);
         let versions = self.versions.as_slice();
         let runs = self.runs.as_slice();
         Ok(WorkspaceUnit {
@@ -510,7 +510,7 @@ impl Workspace {
             next_version: self.next_version,
             next_run: self.next_run,
             newest: newest_if(needs.newest, needs.text, versions)?,
-            outgoing: outgoing_by(needs.outgoing, settings.keep_versions, versions),
+            outgoing: outgoing_by(needs.outgoing, settings.retention, versions),
             first_waiting: first_waiting_if(needs.waiting, runs),
             has_version: has_version(needs.version, versions),
             asked_run: asked_run(needs.run, needs.key, runs)?,
@@ -745,10 +745,10 @@ fn settings_unit(needed: bool, settings: &Settings) -> Settings
 {
     Settings {
         runs: settings.runs,
-        keep_versions: if needed {
-            settings.keep_versions
+        retention: if needed {
+            settings.retention
         } else {
-            KeepCount::first()
+            Retention::first()
         },
     }
 }
@@ -762,12 +762,12 @@ fn outgoing(staying: usize, versions: &[Version]) -> Option<Number>
 }
 
 // The greatest number of the versions that go, of a workspace that keeps so many.
-fn outgoing_by(staying: Staying, keep: KeepCount, versions: &[Version]) -> Option<Number>
-    ensures { result ≡ outgoing_by staying keep versions.now }
+fn outgoing_by(staying: Staying, retention: Retention, versions: &[Version]) -> Option<Number>
+    ensures { result ≡ outgoing_by staying retention versions.now }
 {
     match staying {
         Staying::StayAll => None,
-        Staying::MakeRoom => outgoing(keep.get() as usize - 1, versions),
+        Staying::MakeRoom => outgoing(retention.get() as usize - 1, versions),
         Staying::StayAtMost(staying) => outgoing(staying.get() as usize, versions),
     }
 }

@@ -13,11 +13,11 @@ use Rattle.basis.specs.declared.runs.RunAction.{RunAction}
 use Rattle.serde_json.specs.Data.{Data}
 use Rattle.serde_json.specs.Find.{get_member}
 use Rattle.docs.specs.Documents.{state_head, lock_id_of, settings_of, run_ask}
-use Rattle.docs.specs.Readings.{IsState, IsLock, IsText, IsKeep, IsSettings, IsKey, IsAsk}
+use Rattle.docs.specs.Readings.{IsState, IsLock, IsText, IsRetentionAsked, IsSettings, IsKey, IsAsk}
 use Rattle.docs.proofs.ReadingLemmas.{state_law, lock_law, settings_law, ask_law}
 use Rattle.machine.specs.Custody.{WritesWith}
 use Rattle.machine.specs.Effects.{effect}
-use Rattle.machine.specs.Ranges.{IsKeepCount, IsHeadInRange, IsRunAsk, IsSettingsAsk, IsInRange}
+use Rattle.machine.specs.Ranges.{IsRetention, IsHeadInRange, IsRunAsk, IsSettingsAsk, IsInRange}
 use Rattle.machine.specs.Records.{seen_by}
 use Rattle.machine.specs.Rules.{Outcome, refused, rules, report}
 use Rattle.machine.specs.Workspaces.{run_of}
@@ -95,13 +95,13 @@ text_most (Some value) lineage h = h.1
 head_in_range : (body : List ℕ) (head : StateHead) → state_head body ≡ Some head → IsHeadInRange head
 head_in_range body head t = let is : IsState body head = (state_law body head).0 t in (is.signed, text_most (get_member (codes "lineage") is.members) head.lineage is.lineage)
 
-keep_within : (o : Option Data) (keep : Option ℕ) → IsKeep o keep → IfSome keep IsKeepCount
-keep_within o None h = tt
-keep_within None (Some keep) h = absurd (let none : ⊥ = cc in none)
-keep_within (Some value) (Some keep) h = (h.1, h.2)
+retention_within : (o : Option Data) (keep : Option ℕ) → IsRetentionAsked o keep → IfSome keep IsRetention
+retention_within o None h = tt
+retention_within None (Some keep) h = absurd (let none : ⊥ = cc in none)
+retention_within (Some value) (Some keep) h = (h.1, h.2)
 
 settings_in_range : (body : List ℕ) (ask : SettingsAsk) → settings_of body ≡ Some ask → IsSettingsAsk ask
-settings_in_range body ask t = let is : IsSettings body ask = (settings_law body ask).0 t in keep_within (get_member (codes "keep_versions") is.members) ask.keep_versions is.keep_versions
+settings_in_range body ask t = let is : IsSettings body ask = (settings_law body ask).0 t in retention_within (get_member (codes "keep_versions") is.members) ask.retention is.retention
 
 -- an ID that is read names no run
 id_free : (body id : List ℕ) → lock_id_of body ≡ Some id → IsTrue (is_free_id id)

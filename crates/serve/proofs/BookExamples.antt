@@ -40,7 +40,7 @@ abbrev x1 : List ℕ
 x1 = codes "x1"
 
 abbrev empty : Workspace
-empty = new_workspace (record { runs = record { auto_apply = false }; keep_versions = 100 })
+empty = new_workspace (record { runs = record { auto_apply = false }; retention = 100 })
 
 -- the lock x1 holds, and from it with so many versions behind
 abbrev locked_before : ℕ → Workspace
@@ -159,7 +159,7 @@ version_let_go_under_a_lock law =
 
 -- one that is as it was is not let go
 abbrev settings_alone : Entry
-settings_alone = accepted (asks Put None) keeps_two (record keeps_two { settings = record { runs = record { auto_apply = true }; keep_versions = 2 } })
+settings_alone = accepted (asks Put None) keeps_two (record keeps_two { settings = record { runs = record { auto_apply = true }; retention = 2 } })
 
 version_that_stays : LosesVersion settings_alone → ⊥
 version_that_stays loses = loses.2 loses.1

@@ -7,7 +7,7 @@ use Rattle.std.proofs.lemmas.Bool.Decides.{nat_tests}
 use Rattle.sqlite_trees.specs.Tree.{IsAscending}
 use Rattle.statements.specs.declared.making.TheConstants.{NEWEST}
 use Rattle.sqlite_keyed.proofs.ListLemmas.{all-slice_get}
-use Rattle.statements.specs.Tables.{table_counts, is_known, count_in, version_tables, added_by, our_tables}
+use Rattle.statements.specs.Tables.{table_counts, is_known, count_in, schema_tables, added_by, our_tables}
 
 module _ {X : Type 0} where
   -- of two in a list that rises, the one behind is the greater
@@ -65,10 +65,10 @@ more_tables m zero low is = absurd (omega (arith, low))
 more_tables m (suc n) low is = rises table_counts m (suc n) counts_rise low is
 
 -- the tables of a version are those of the one before, and those that it added
-pub version_grows : (n : ℕ) → is_known (suc n) ≡ true → version_tables n ++ added_by (suc n) ≡ version_tables (suc n)
+pub version_grows : (n : ℕ) → is_known (suc n) ≡ true → schema_tables n ++ added_by (suc n) ≡ schema_tables (suc n)
 version_grows n is =
     let more = more_tables n (suc n) (omega arith) is in
-    ap (λ l. l ++ added_by (suc n)) (sym (take_front (count_in n) (count_in (suc n)) our_tables (omega (arith, more)))) ∙ take-append-drop (count_in n) (version_tables (suc n))
+    ap (λ l. l ++ added_by (suc n)) (sym (take_front (count_in n) (count_in (suc n)) our_tables (omega (arith, more)))) ∙ take-append-drop (count_in n) (schema_tables (suc n))
 
 within : (xs : List ℕ) (n : ℕ) → n < length xs → is_some (slice_get xs n) ≡ true
 within [] n low = absurd (omega (arith, low))

@@ -30,7 +30,7 @@ use Rattle.statements.specs.Place.{StandsAt, tree_of}
 use Rattle.statements.specs.Schema.{edition_table}
 use Rattle.statements.specs.Rows.{Kept, id_of, stored, number, edition_cells}
 use Rattle.statements.specs.Tables.{Tables, Holds, HoldsIn, count_in, edition_layout}
-use Rattle.statements.specs.Making.{HasEdition, like_edition, told_version, edition_in}
+use Rattle.statements.specs.Making.{HasEdition, like_edition, told_schema_version, edition_in}
 use Rattle.statements.specs.Inner.Making.{Moved, Told, edition_set, edition_moved}
 use Rattle.statements.specs.Calls.{IsQuery, FirstRow, Pins, IsNumber}
 use Rattle.statements.proofs.SyntaxTrees as st
@@ -49,10 +49,10 @@ use Rattle.statements.proofs.ReadBack.{number_read}
 abbrev pub set_version_text : List ℕ
 set_version_text = SET_VERSION.now
 
-abbrev set_version : Statement
-set_version = st.insert (codes "edition") (codes "one" ∷ codes "version" ∷ []) (st.one ∷ Parameter 1 ∷ [])
+abbrev set_schema_version : Statement
+set_schema_version = st.insert (codes "edition") (codes "one" ∷ codes "version" ∷ []) (st.one ∷ Parameter 1 ∷ [])
 
-set_version_reads : first set_version_text ≡ Ok (as_read (some_parsed (first set_version_text)) set_version)
+set_version_reads : first set_version_text ≡ Ok (as_read (some_parsed (first set_version_text)) set_schema_version)
 unfolding everything
 set_version_reads = refl
 
@@ -62,10 +62,10 @@ set_version_terms = lit (Int (pos 1)) ∷ lit Null ∷ col 0 0 ∷ []
 abbrev pub move_version_text : List ℕ
 move_version_text = MOVE_VERSION.now
 
-abbrev move_version : Statement
-move_version = written.Update (codes "edition") ((codes "version", Parameter 1) ∷ []) None []
+abbrev move_schema_version : Statement
+move_schema_version = written.Update (codes "edition") ((codes "version", Parameter 1) ∷ []) None []
 
-move_version_reads : first move_version_text ≡ Ok (as_read (some_parsed (first move_version_text)) move_version)
+move_version_reads : first move_version_text ≡ Ok (as_read (some_parsed (first move_version_text)) move_schema_version)
 unfolding everything
 move_version_reads = refl
 
@@ -92,21 +92,21 @@ abbrev edition_rest : Query
 edition_rest = point_rest (is_number 0 1 ∷ []) (col 1 2 ∷ []) no_page
 
 module _ (s : Schema) (at tree : ℕ) (h : StandsAt s (codes "edition") edition_table at tree) where
-  set_version_is : (base : ℕ) → command s [] base set_version ≡ Ok (Insert at (Values set_version_terms 3))
+  set_version_is : (base : ℕ) → command s [] base set_schema_version ≡ Ok (Insert at (Values set_version_terms 3))
   unfolding everything
   set_version_is base = rw (h.named, h.found) refl
 
   set_version_means : Means s (Insert at (Values set_version_terms 3)) set_version_text
   unfolding everything
-  set_version_means = means s set_version _ (rw (h.named, h.found) refl) (λ _. refl) set_version_is set_version_text (some_parsed (first set_version_text)) set_version_reads
+  set_version_means = means s set_schema_version _ (rw (h.named, h.found) refl) (λ _. refl) set_version_is set_version_text (some_parsed (first set_version_text)) set_version_reads
 
-  move_version_is : (base : ℕ) → command s [] base move_version ≡ Ok (Update at (plain_program (move_version_query tree)))
+  move_version_is : (base : ℕ) → command s [] base move_schema_version ≡ Ok (Update at (plain_program (move_version_query tree)))
   unfolding everything
   move_version_is base = rw (h.named, h.found, h.treed, h.low) refl
 
   move_version_means : Means s (Update at (plain_program (move_version_query tree))) move_version_text
   unfolding everything
-  move_version_means = means s move_version _ refl (λ _. refl) move_version_is move_version_text (some_parsed (first move_version_text)) move_version_reads
+  move_version_means = means s move_schema_version _ refl (λ _. refl) move_version_is move_version_text (some_parsed (first move_version_text)) move_version_reads
 
 -- the query of its version, over each table of edition's columns
 module _ (s : Schema) (at tree : ℕ) (table : Table) (h : StandsAt s (codes "edition") (like_edition table) at tree) where
@@ -127,7 +127,7 @@ module _ (s : Schema) (at tree : ℕ) (table : Table) (h : StandsAt s (codes "ed
   unfolding timed returning
   edition_means = means s (written.Select edition_select) _ refl (λ _. refl) edition_is edition_text (some_parsed (first edition_text)) edition_reads
 
-pub edition_told : (old new : State) (table : Table) (editions : List (Kept ℕ)) → HasEdition old.now table editions → (row : Option Row) → FirstRow edition_text [] old new row → Pins IsNumber row (told_version editions)
+pub edition_told : (old new : State) (table : Table) (editions : List (Kept ℕ)) → HasEdition old.now table editions → (row : Option Row) → FirstRow edition_text [] old new row → Pins IsNumber row (told_schema_version editions)
 edition_told old new table editions has row first =
     let tree = tree_of old.now.schema edition_table.name in
     let got = answered edition_text [] old new (point edition_rest tree false) (codes "version" ∷ []) (edition_means old.now.schema _ _ table has.place) row first in

@@ -22,7 +22,7 @@ use Rattle.sqlite.specs.State.{State, Executes}
 use Rattle.statements.specs.Place.{tree_of, StandsAt, IsOwn, AreOwn}
 use Rattle.statements.specs.Rows.{Kept, id_of, stored}
 use Rattle.statements.specs.declared.making.TheConstants.{NEWEST}
-use Rattle.statements.specs.Tables.{count_in, Tables, Holds, HoldsAll, HoldsIn, HasRows, StoredTable, stored_tables, version_tables, tables_in, our_tables, rowid_of}
+use Rattle.statements.specs.Tables.{count_in, Tables, Holds, HoldsAll, HoldsIn, HasRows, StoredTable, stored_tables, schema_tables, tables_in, our_tables, rowid_of}
 use Rattle.statements.specs.Steps.{LeavesBeside, LeavesForeign}
 use Rattle.statements.specs.Inner.Making.{Moved}
 use Rattle.statements.proofs.Counts.{get_take}
@@ -66,7 +66,7 @@ abbrev pub Turns : Database → Database → Tables → Type 0
 Turns old new u = Holds new u × LeavesForeign old new
 
 -- so it is of the tables of a version
-pub moved_by : (n : ℕ) (change : Tables → Tables) (old new : Database) → ((t : Tables) → HoldsIn n old t → HoldsIn n new (change t) × LeavesBeside (version_tables n) old new) → Moved n change old new
+pub moved_by : (n : ℕ) (change : Tables → Tables) (old new : Database) → ((t : Tables) → HoldsIn n old t → HoldsIn n new (change t) × LeavesBeside (schema_tables n) old new) → Moved n change old new
 moved_by n change old new does = record { rows = λ t h. (does t h).0; others = λ t h. (does t h).1 }
 
 pub left_then : (tables : List Table) (a b c : Database) → LeavesBeside tables a b → LeavesBeside tables b c → LeavesBeside tables a c

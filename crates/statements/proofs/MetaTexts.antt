@@ -27,8 +27,8 @@ use Rattle.statements.specs.Place.{StandsAt, tree_of}
 use Rattle.statements.specs.Schema.{meta_table}
 use Rattle.statements.specs.Rows.{Kept, id_of, stored, meta_cells}
 use Rattle.statements.specs.Tables.{Tables, Holds, HoldsIn, count_in}
-use Rattle.statements.specs.Making.{HasMeta, like_meta, told_version, version_in}
-use Rattle.statements.specs.Inner.Making.{Moved, version_cleared}
+use Rattle.statements.specs.Making.{HasMeta, like_meta, told_schema_version, schema_version_in}
+use Rattle.statements.specs.Inner.Making.{Moved, schema_version_cleared}
 use Rattle.statements.specs.Calls.{IsQuery, FirstRow, Pins, IsNumber}
 use Rattle.statements.proofs.SyntaxTrees as st
 use Rattle.statements.proofs.Meaning.{Means, means, some_parsed, as_read}
@@ -46,7 +46,7 @@ use Rattle.statements.proofs.ReadBack.{number_read}
 abbrev pub clear_version_text : List ℕ
 clear_version_text = CLEAR_VERSION.now
 
-clear_version_reads : first clear_version_text ≡ Ok (as_read (some_parsed (first clear_version_text)) st.clear_version)
+clear_version_reads : first clear_version_text ≡ Ok (as_read (some_parsed (first clear_version_text)) st.clear_schema_version)
 unfolding everything
 clear_version_reads = refl
 
@@ -73,13 +73,13 @@ abbrev version_rest : Query
 version_rest = point_rest (is_number 0 1 ∷ []) (col 1 2 ∷ []) no_page
 
 module _ (s : Schema) (at tree : ℕ) (h : StandsAt s (codes "meta") meta_table at tree) where
-  clear_version_is : (base : ℕ) → command s [] base st.clear_version ≡ Ok (Delete at (plain_program (clear_version_query tree)))
+  clear_version_is : (base : ℕ) → command s [] base st.clear_schema_version ≡ Ok (Delete at (plain_program (clear_version_query tree)))
   unfolding everything
   clear_version_is base = rw (h.named, h.found, h.treed, h.low) refl
 
   clear_version_means : Means s (Delete at (plain_program (clear_version_query tree))) clear_version_text
   unfolding everything
-  clear_version_means = means s st.clear_version _ refl (λ _. refl) clear_version_is clear_version_text (some_parsed (first clear_version_text)) clear_version_reads
+  clear_version_means = means s st.clear_schema_version _ refl (λ _. refl) clear_version_is clear_version_text (some_parsed (first clear_version_text)) clear_version_reads
 
 -- the query of the version, over each table of meta's columns
 module _ (s : Schema) (at tree : ℕ) (table : Table) (h : StandsAt s (codes "meta") (like_meta table) at tree) where
@@ -100,7 +100,7 @@ module _ (s : Schema) (at tree : ℕ) (table : Table) (h : StandsAt s (codes "me
   unfolding timed returning
   version_means = means s (written.Select version_select) _ refl (λ _. refl) version_is version_text (some_parsed (first version_text)) version_reads
 
-pub version_told : (old new : State) (table : Table) (metas : List (Kept ℕ)) → HasMeta old.now table metas → (row : Option Row) → FirstRow version_text [] old new row → Pins IsNumber row (told_version metas)
+pub version_told : (old new : State) (table : Table) (metas : List (Kept ℕ)) → HasMeta old.now table metas → (row : Option Row) → FirstRow version_text [] old new row → Pins IsNumber row (told_schema_version metas)
 version_told old new table metas has row first =
     let tree = tree_of old.now.schema meta_table.name in
     let got = answered version_text [] old new (point version_rest tree false) (codes "version" ∷ []) (version_means old.now.schema _ _ table has.place) row first in
@@ -116,13 +116,13 @@ all_gone : {X : Type 0} (xs : List X) → delete_where (λ x. true) xs ≡ []
 all_gone [] = refl
 all_gone (x ∷ xs) = all_gone xs
 
-pub clear_version_does : (old new : State) (count : ℕ) → Executes clear_version_text [] old new (Ok count) → Moved 2 version_cleared old.now new.now
-clear_version_does old new count ran = moved_by 2 version_cleared old.now new.now (λ t h.
+pub clear_version_does : (old new : State) (count : ℕ) → Executes clear_version_text [] old new (Ok count) → Moved 2 schema_version_cleared old.now new.now
+clear_version_does old new count ran = moved_by 2 schema_version_cleared old.now new.now (λ t h.
     let held = held_in metas 10 (omega arith) old.now t h in
     let left = delete_own meta_cells meta_table meta_casts old new held.own held.steady t.metas held.rows held.keyed clear_version_text [] count ran
     (clear_version_query (tree_of old.now.schema meta_table.name)) (clear_version_means old.now.schema _ _ held.own.place) refl refl refl (λ rows. refl) (λ x. true) (λ x. refl) (λ x. refl) in
     let leads = subst (λ (l : List (Kept ℕ)). Leads old.now.schema (tree_of old.now.schema meta_table.name) (map (stored meta_cells) l) old.now.trees new.now.trees) (all_gone t.metas) left.0 in
     written_in old.now new.now left.1 metas t [] 10 (omega arith) h tt leads tt)
 
-pub version_shows : (old new : State) (t : Tables) → Holds old.now t → (row : Option Row) → FirstRow version_text [] old new row → Pins IsNumber row (version_in t)
+pub version_shows : (old new : State) (t : Tables) → Holds old.now t → (row : Option Row) → FirstRow version_text [] old new row → Pins IsNumber row (schema_version_in t)
 version_shows old new t h = version_told old new meta_table t.metas (has_meta NEWEST (omega arith) old.now t (holds_all old.now t h))

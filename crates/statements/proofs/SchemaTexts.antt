@@ -38,9 +38,9 @@ make_ws : IsTableText MAKE_WS.now ws_table
 unfolding everything
 make_ws = record { def = table_text (some_parsed (first MAKE_WS.now)).statement; parsed = some_parsed (first MAKE_WS.now); reads = refl; whole = refl; defines = refl }
 
-make_version : IsTableText MAKE_VERSION.now version_table
+make_tables_of : IsTableText MAKE_VERSION.now version_table
 unfolding everything
-make_version = record { def = table_text (some_parsed (first MAKE_VERSION.now)).statement; parsed = some_parsed (first MAKE_VERSION.now); reads = refl; whole = refl; defines = refl }
+make_tables_of = record { def = table_text (some_parsed (first MAKE_VERSION.now)).statement; parsed = some_parsed (first MAKE_VERSION.now); reads = refl; whole = refl; defines = refl }
 
 make_run : IsTableText MAKE_RUN.now run_table
 unfolding everything
@@ -84,7 +84,7 @@ abbrev pub first_made : List (List Table)
 first_made = (meta_table ∷ []) ∷ (org_table ∷ []) ∷ (token_table ∷ []) ∷ (ws_table ∷ []) ∷ (version_table ∷ []) ∷ (run_table ∷ []) ∷ [] ∷ [] ∷ (page_table ∷ []) ∷ (vpage_table ∷ []) ∷ [] ∷ []
 
 pub first_are : AllZip IsMaker (map (λ x. x.now) FIRST.now) first_made
-first_are = (make_meta, (make_org, (make_token, (make_ws, (make_version, (make_run, (make_run_index, (make_version_index, (make_page, (make_vpage, (make_vpage_index, tt)))))))))))
+first_are = (make_meta, (make_org, (make_token, (make_ws, (make_tables_of, (make_run, (make_run_index, (make_version_index, (make_page, (make_vpage, (make_vpage_index, tt)))))))))))
 
 abbrev pub second_made : List (List Table)
 second_made = (bound_table ∷ []) ∷ (edition_table ∷ []) ∷ []

@@ -18,7 +18,7 @@ use Rattle.statements.specs.Place.{IsOwn, RefersPassively, at_of, tree_of}
 use Rattle.statements.specs.Schema.{edition_table}
 use Rattle.statements.specs.Steps.{LeavesBeside}
 use Rattle.statements.specs.declared.making.TheConstants.{NEWEST}
-use Rattle.statements.specs.Tables.{Tables, HoldsAll, HoldsIn, StoredTable, no_rows, our_tables, is_known, count_in, stored_in, version_tables, added_by, up_to, tables_in}
+use Rattle.statements.specs.Tables.{Tables, HoldsAll, HoldsIn, StoredTable, no_rows, our_tables, is_known, count_in, stored_in, schema_tables, added_by, up_to, tables_in}
 use Rattle.statements.specs.Making.{bare_table, IsNotNamed, KeepsTables, HasSchema, Alters, AltersBy, MakesBy, IsBeside, KeepsForeign, Raises, raised}
 use Rattle.statements.specs.Inner.Making.{Grows, IsMaker, texts_in, all_of, Moved, Told}
 use Rattle.statements.proofs.Begin.{none_made}
@@ -198,7 +198,7 @@ module _ (before added : List Table) (a b e : Database) (grown : Grows added a b
 
 -- one write, and others
 pub moved_then : (n : ℕ) (f h : Tables → Tables) (a b c : Database) → Moved n f a b → Moved n h b c → Moved n (λ t. h (f t)) a c
-moved_then n f h a b c one two = record { rows = λ t held. two.rows (f t) (one.rows t held); others = λ t held. left_then (version_tables n) a b c (one.others t held) (two.others (f t) (one.rows t held)) }
+moved_then n f h a b c one two = record { rows = λ t held. two.rows (f t) (one.rows t held); others = λ t held. left_then (schema_tables n) a b c (one.others t held) (two.others (f t) (one.rows t held)) }
 
 -- A version is raised to the next: its tables are made behind those that there were, and rows are written.
 module _ (n : ℕ) (is : is_known (suc n) ≡ true) (change : Tables → Tables) (behind : (t : Tables) → stored_in n t ++ map bare_table (added_by (suc n)) ≡ stored_in (suc n) (up_to n t))
@@ -212,6 +212,6 @@ module _ (n : ℕ) (is : is_known (suc n) ≡ true) (change : Tables → Tables)
     names = λ t h name engine apart none. ap (λ s. table_named s name) (two.others (up_to n t) (bare a b one t h)).schema ∙ one.names name engine apart none;
     foreign = λ t h.
         let left = subst (λ l. LeavesBeside l b c) (sym (version_grows n is)) (two.others (up_to n t) (bare a b one t h)) in
-        subst (λ l. KeepsForeign (version_tables n) l a c) (version_grows n is)
-        (foreign_kept (version_tables n) (added_by (suc n)) a b c one left (subst (AllByRecursion (IsOwn a.schema)) (tables_taken (count_in n) t) h.own.own));
+        subst (λ l. KeepsForeign (schema_tables n) l a c) (version_grows n is)
+        (foreign_kept (schema_tables n) (added_by (suc n)) a b c one left (subst (AllByRecursion (IsOwn a.schema)) (tables_taken (count_in n) t) h.own.own));
   }

@@ -186,8 +186,8 @@ fill_keepings_core = from_all (One (named (codes "org")) None (codes "org") ∷ 
 abbrev pub fill_keepings : Statement
 fill_keepings = written.Insert Abort (codes "keeping") keeping_columns (Selected (select fill_keepings_core (by_rowid false) None)) [] []
 
-abbrev pub clear_version : Statement
-clear_version = written.Delete (codes "meta") None []
+abbrev pub clear_schema_version : Statement
+clear_schema_version = written.Delete (codes "meta") None []
 
 abbrev pub remove_token : Statement
 remove_token = delete (codes "token") (at_key (codes "org") (codes "name"))

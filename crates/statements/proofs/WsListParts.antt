@@ -70,11 +70,11 @@ list_ws_within_rest = point_rest (is_at 1 0 ∷ is_above 2 1 ∷ is_from 2 2 ∷
 abbrev left_behind : ℕ → ℕ
 left_behind steps = 100_000 - (length list_ws_names + steps)
 
-module _ (s : Schema) (at tree : ℕ) (h : StandsAt s (codes "ws") ws_table at tree) (keep_at keepings : ℕ) (k : StandsAt s (codes "keeping") keeping_table keep_at keepings)
+module _ (s : Schema) (at tree : ℕ) (h : StandsAt s (codes "ws") ws_table at tree) (retention_at keepings : ℕ) (k : StandsAt s (codes "keeping") keeping_table retention_at keepings)
     (version_at versions : ℕ) (v : StandsAt s (codes "version") version_table version_at versions) where
   abbrev pub list_ws_tables : List Bound
   list_ws_tables =
-      record { name = codes "ws"; table = at; slot = 1; shared = [] } ∷ record { name = codes "keeping"; table = keep_at; slot = 2; shared = [] }
+      record { name = codes "ws"; table = at; slot = 1; shared = [] } ∷ record { name = codes "keeping"; table = retention_at; slot = 2; shared = [] }
       ∷ record { name = codes "version"; table = version_at; slot = 3; shared = [] } ∷ []
 
   abbrev pub list_ws_level : List Output → Level

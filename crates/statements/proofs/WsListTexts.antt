@@ -46,7 +46,7 @@ list_ws_within_reads = refl
 pub list_ws_within_is_query : IsQuery list_ws_within_text
 list_ws_within_is_query = (list_ws_within_select, some_parsed (first list_ws_within_text), list_ws_within_reads)
 
-module _ (s : Schema) (at tree : ℕ) (h : StandsAt s (codes "ws") ws_table at tree) (keep_at keepings : ℕ) (k : StandsAt s (codes "keeping") keeping_table keep_at keepings)
+module _ (s : Schema) (at tree : ℕ) (h : StandsAt s (codes "ws") ws_table at tree) (retention_at keepings : ℕ) (k : StandsAt s (codes "keeping") keeping_table retention_at keepings)
     (version_at versions : ℕ) (v : StandsAt s (codes "version") version_table version_at versions) where
   list_ws_fits : program s [] (joined_draft list_ws_rest tree (with_both keepings versions) 2) ≡ Ok (plain_program (joined_listing list_ws_rest tree (with_both keepings versions) 2))
   unfolding everything
@@ -55,7 +55,7 @@ module _ (s : Schema) (at tree : ℕ) (h : StandsAt s (codes "ws") ws_table at t
   list_ws_is : (base : ℕ) → command s [] base (written.Select list_ws_select) ≡ Ok (Select (plain_program (joined_listing list_ws_rest tree (with_both keepings versions) 2)) list_ws_names)
   unfolding everything
   list_ws_is base =
-      read_is s list_ws_select st.list_ws_core (st.by_column (codes "name")) (page_to 2) ((joined_draft list_ws_rest tree (with_both keepings versions) 2), list_ws_names, list_ws_orders) refl refl refl refl refl (λ again. refl) (list_ws_named s at tree h keep_at keepings k version_at versions v) (plain_program (joined_listing list_ws_rest tree (with_both keepings versions) 2)) list_ws_fits base
+      read_is s list_ws_select st.list_ws_core (st.by_column (codes "name")) (page_to 2) ((joined_draft list_ws_rest tree (with_both keepings versions) 2), list_ws_names, list_ws_orders) refl refl refl refl refl (λ again. refl) (list_ws_named s at tree h retention_at keepings k version_at versions v) (plain_program (joined_listing list_ws_rest tree (with_both keepings versions) 2)) list_ws_fits base
 
   pub list_ws_means : Means s (Select (plain_program (joined_listing list_ws_rest tree (with_both keepings versions) 2)) list_ws_names) list_ws_text
   unfolding timed returning
@@ -68,7 +68,7 @@ module _ (s : Schema) (at tree : ℕ) (h : StandsAt s (codes "ws") ws_table at t
   list_ws_within_is : (base : ℕ) → command s [] base (written.Select list_ws_within_select) ≡ Ok (Select (plain_program (joined_listing list_ws_within_rest tree (with_both keepings versions) 2)) list_ws_names)
   unfolding everything
   list_ws_within_is base =
-      read_is s list_ws_within_select st.list_ws_within_core (st.by_column (codes "name")) (page_to 4) ((joined_draft list_ws_within_rest tree (with_both keepings versions) 2), list_ws_names, list_ws_orders) refl refl refl refl refl (λ again. refl) (list_ws_within_named s at tree h keep_at keepings k version_at versions v) (plain_program (joined_listing list_ws_within_rest tree (with_both keepings versions) 2)) list_ws_within_fits base
+      read_is s list_ws_within_select st.list_ws_within_core (st.by_column (codes "name")) (page_to 4) ((joined_draft list_ws_within_rest tree (with_both keepings versions) 2), list_ws_names, list_ws_orders) refl refl refl refl refl (λ again. refl) (list_ws_within_named s at tree h retention_at keepings k version_at versions v) (plain_program (joined_listing list_ws_within_rest tree (with_both keepings versions) 2)) list_ws_within_fits base
 
   pub list_ws_within_means : Means s (Select (plain_program (joined_listing list_ws_within_rest tree (with_both keepings versions) 2)) list_ws_names) list_ws_within_text
   unfolding timed returning

@@ -14,7 +14,7 @@ use Rattle.statements.specs.Schema.{ws_table, keeping_table, version_table}
 use Rattle.statements.specs.Rows.{Kept, WsRow, VersionRow, KeepingRow, stored, ws_cells, version_cells, keeping_cells, number}
 use Rattle.statements.specs.Tables.{Tables, Holds, ws_layout, version_layout, keeping_layout}
 use Rattle.statements.specs.Changes.{is_ws, is_ws_of, is_keeping, is_version}
-use Rattle.statements.specs.Finds.{workspace_of, workspaces_of, keep_of, is_one_less, is_version_before, version_before}
+use Rattle.statements.specs.Finds.{workspace_of, workspaces_of, retention_of, is_one_less, is_version_before, version_before}
 use Rattle.statements.specs.Calls.{FirstRow, FirstRows, LimitsTo, Pins, IsWorkspace, IsNamedRow, IsName}
 use Rattle.statements.specs.declared.rows.NamedWorkspace.{NamedWorkspace}
 use Rattle.statements.specs.Listings.{named_row, is_behind, workspace_rows_after, workspace_names_of, later_of, end_of, WorkspacesApart, NamesApart}
@@ -96,7 +96,7 @@ module _ (old new : State) (t : Tables) (h : Holds old.now t) where
   abbrev kept_row : List ℕ → Kept WsRow → Row
   kept_row org x = row_or (stored keeping_cells) (find (is_keeping org x.1.name) t.keepings)
 
-  kept_cell : (org : List ℕ) (x : Kept WsRow) → column (kept_row org x) 3 ≡ or_null number (keep_of org x.1.name t)
+  kept_cell : (org : List ℕ) (x : Kept WsRow) → column (kept_row org x) 3 ≡ or_null number (retention_of org x.1.name t)
   kept_cell org x = by_row (find (is_keeping org x.1.name) t.keepings)
     where
       by_row : (o : Option (Kept KeepingRow)) → column (row_or (stored keeping_cells) o) 3 ≡ or_null number (option_map (λ (y : Kept KeepingRow). y.1.keep) o)
@@ -137,7 +137,7 @@ module _ (old new : State) (t : Tables) (h : Holds old.now t) where
       → wss ≡ workspace_rows_after org after [] most t
   list_ws_shows org after most limit limits rows wss apart first read =
       names_within ws_cells ws_table old new held.own t.wss held.rows list_ws_text (Text org ∷ Text after ∷ Int limit ∷ []) list_ws_rest 2 list_ws_names joined (both_rows org) (both_found org (Text after ∷ Int limit ∷ []) apart)
-      IsNamedRow (λ x. x.1.name) (λ x. x.1.it) (named_row org t) (λ x y told. named_workspace_read x.1.name x.1.it _ _ (keep_of org x.1.name t) (version_before org x.1.name x.1.it.next_version t) (kept_cell org x) (before_cell org x) y told)
+      IsNamedRow (λ x. x.1.name) (λ x. x.1.it) (named_row org t) (λ x y told. named_workspace_read x.1.name x.1.it _ _ (retention_of org x.1.name t) (version_before org x.1.name x.1.it.next_version t) (kept_cell org x) (before_cell org x) y told)
       (λ x y. by_text x.1.name y.1.name) (list_ws_means old.now.schema _ _ held.own.place _ _ kept.own.place _ _ made.own.place) most (λ l. limit_enough most limit limits l) (is_ws_of org) (λ n. is_behind after n && admits [] n)
       (λ x. text_after x.1.org org x.1.name after ∙ ap (λ b. bytes_eq x.1.org org && b) (all_admitted (is_behind after x.1.name) x.1.name)) (wss_apart org t.wss apart.wss) rows wss first read
 
@@ -146,7 +146,7 @@ module _ (old new : State) (t : Tables) (h : Holds old.now t) where
       → wss ≡ workspace_rows_after org after prefix most t
   list_ws_within_shows org after prefix some most limit limits rows wss apart first read =
       names_within ws_cells ws_table old new held.own t.wss held.rows list_ws_within_text (Text org ∷ Text after ∷ Text (later_of after prefix) ∷ Text (end_of prefix) ∷ Int limit ∷ []) list_ws_within_rest 2 list_ws_names joined (both_rows org) (both_found org (Text after ∷ Text (later_of after prefix) ∷ Text (end_of prefix) ∷ Int limit ∷ []) apart)
-      IsNamedRow (λ x. x.1.name) (λ x. x.1.it) (named_row org t) (λ x y told. named_workspace_read x.1.name x.1.it _ _ (keep_of org x.1.name t) (version_before org x.1.name x.1.it.next_version t) (kept_cell org x) (before_cell org x) y told)
+      IsNamedRow (λ x. x.1.name) (λ x. x.1.it) (named_row org t) (λ x y told. named_workspace_read x.1.name x.1.it _ _ (retention_of org x.1.name t) (version_before org x.1.name x.1.it.next_version t) (kept_cell org x) (before_cell org x) y told)
       (λ x y. by_text x.1.name y.1.name) (list_ws_within_means old.now.schema _ _ held.own.place _ _ kept.own.place _ _ made.own.place) most (λ l. limit_enough most limit limits l) (is_ws_of org) (λ n. is_behind after n && admits prefix n)
       (λ x. then_term (same_text x.1.org org) (then_term (at_texts _ Gt x.1.name after) (then_term (at_texts _ Ge x.1.name (later_of after prefix)) (last_term (at_texts _ Lt x.1.name (end_of prefix)))))
       ∙ ap (λ b. bytes_eq x.1.org org && b) (within after prefix x.1.name some)) (wss_apart org t.wss apart.wss) rows wss first read

@@ -58,8 +58,8 @@ abbrev pub workspace_of : List ℕ → List ℕ → Tables → Option Workspace
 workspace_of org name t = option_map (λ x. x.1.it) (find (is_ws org name) t.wss)
 
 -- how many versions a workspace of this name keeps
-abbrev pub keep_of : List ℕ → List ℕ → Tables → Option ℕ
-keep_of org ws t = option_map (λ x. x.1.keep) (find (is_keeping org ws) t.keepings)
+abbrev pub retention_of : List ℕ → List ℕ → Tables → Option ℕ
+retention_of org ws t = option_map (λ x. x.1.keep) (find (is_keeping org ws) t.keepings)
 
 abbrev pub workspaces_of : List ℕ → Tables → ℕ
 workspaces_of org t = counted (filter (is_ws_of org) t.wss)

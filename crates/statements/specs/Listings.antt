@@ -18,7 +18,7 @@ use Rattle.basis.specs.declared.rows.RunRow.{RunRow as Run}
 use Rattle.statements.specs.declared.rows.Organization.{Organization}
 use Rattle.statements.specs.Rows.{Kept, Token, TokenRow}
 use Rattle.statements.specs.Tables.{Tables}
-use Rattle.statements.specs.Finds.{keep_of, version_before, version_cmp, run_cmp}
+use Rattle.statements.specs.Finds.{retention_of, version_before, version_cmp, run_cmp}
 use Rattle.statements.specs.Changes.{is_org, is_token, is_ws_of, is_ws, is_keeping, is_version_of, is_version, is_run_of}
 
 -- the order of names: that of their bytes
@@ -77,7 +77,7 @@ abbrev pub workspaces_by_name : List ℕ → Tables → FinMap text_cmp Workspac
 workspaces_by_name org t = from_entries (map (λ x. (x.1.name, x.1.it)) (filter (is_ws_of org) t.wss))
 
 abbrev pub named_row : List ℕ → Tables → List ℕ × Workspace → NamedWorkspace
-named_row org t e = record { name = e.0; it = e.1; keep = keep_of org e.0 t; last = version_before org e.0 e.1.next_version t }
+named_row org t e = record { name = e.0; it = e.1; keep = retention_of org e.0 t; last = version_before org e.0 e.1.next_version t }
 
 -- those of an organization that come after a name and begin with a prefix, each with how many versions it keeps and the number before its next one's, in the order of their names and no more than so many
 abbrev pub workspace_rows_after : List ℕ → List ℕ → List ℕ → ℕ → Tables → List NamedWorkspace

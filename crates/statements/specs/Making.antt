@@ -15,7 +15,7 @@ use Rattle.statements.specs.declared.making.TheConstants.{NEWEST}
 use Rattle.statements.specs.Place.{at_of, tree_of, StandsAt, IsOwn, RefersPassively}
 use Rattle.statements.specs.Schema.{meta_table, edition_table}
 use Rattle.statements.specs.Rows.{Kept, id_of, stored, meta_cells, edition_cells}
-use Rattle.statements.specs.Tables.{Tables, Holds, HoldsIn, StoredTable, version_tables, added_by, no_rows}
+use Rattle.statements.specs.Tables.{Tables, Holds, HoldsIn, StoredTable, schema_tables, added_by, no_rows}
 use Rattle.statements.specs.Changes.{with_all, unbounded, kept_first}
 
 -- a table with no row
@@ -86,14 +86,14 @@ pub record KeepsForeign (before after : List Table) (old new : Database) : Type 
 pub record Raises (n : ℕ) (old new : Database) : Type 0 where
   pub holds : (t : Tables) → HoldsIn n old t → HoldsIn (suc n) new (raised n t)
   pub names : (t : Tables) → HoldsIn n old t → NamesNoOther (added_by (suc n)) old new
-  pub foreign : (t : Tables) → HoldsIn n old t → KeepsForeign (version_tables n) (version_tables (suc n)) old new
+  pub foreign : (t : Tables) → HoldsIn n old t → KeepsForeign (schema_tables n) (schema_tables (suc n)) old new
 
 -- the version in row 1 of meta, or of edition
-abbrev pub told_version : List (Kept ℕ) → Option ℕ
-told_version metas = option_map (λ x. x.1) (get_by id_of metas (pos 1))
+abbrev pub told_schema_version : List (Kept ℕ) → Option ℕ
+told_schema_version metas = option_map (λ x. x.1) (get_by id_of metas (pos 1))
 
-abbrev pub version_in : Tables → Option ℕ
-version_in t = told_version t.metas
+abbrev pub schema_version_in : Tables → Option ℕ
+schema_version_in t = told_schema_version t.metas
 
 -- a table of meta's name and columns, whatever it checks, refers to and keeps unique
 abbrev pub like_meta : Table → Table
@@ -108,7 +108,7 @@ pub record HasMeta (db : Database) (table : Table) (metas : List (Kept ℕ)) : T
 -- ---- and of edition likewise
 
 abbrev pub edition_in : Tables → Option ℕ
-edition_in t = told_version t.editions
+edition_in t = told_schema_version t.editions
 
 -- a table of edition's name and columns, whatever it checks, refers to and keeps unique
 abbrev pub like_edition : Table → Table

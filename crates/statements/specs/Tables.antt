@@ -105,15 +105,15 @@ abbrev pub stored_in : ℕ → Tables → List StoredTable
 stored_in n t = take (count_in n) (stored_tables t)
 
 -- the tables of a version, those that later ones add, and those that it added
-abbrev pub version_tables : ℕ → List Table
-version_tables n = take (count_in n) our_tables
+abbrev pub schema_tables : ℕ → List Table
+schema_tables n = take (count_in n) our_tables
 
 abbrev pub later_tables : ℕ → List Table
 later_tables n = drop (count_in n) our_tables
 
 abbrev pub added_by : ℕ → List Table
 added_by zero = []
-added_by (suc n) = drop (count_in n) (version_tables (suc n))
+added_by (suc n) = drop (count_in n) (schema_tables (suc n))
 
 abbrev pub IsOurs : Schema → Type 0
 IsOurs s = AreOwn s our_tables

@@ -13,7 +13,7 @@ ghost use Rattle.statements.specs.Calls.{Wrote, WroteAny, IsQuery, FirstRow, Fir
 
 use crate::rows::{BoundedRole, NamedRole, NamedToken, Organization, Token};
 use basis::{
-    Bounds, Bytes, Items, KeepCount, Limit, LockId, Moment, Number, Prefix, Role, RunAction,
+    Bounds, Bytes, Items, Limit, LockId, Moment, Number, Prefix, Retention, Role, RunAction,
     RunRow, RunStatus, Text, VersionRow, WsName,
 };
 use sqlite::types::{Type, ValueRef};
@@ -229,11 +229,11 @@ pub(crate) fn moment_of(seconds: u64, at: usize) -> Result<Moment, Error>
 }
 
 /// How many versions a workspace keeps.
-pub(crate) fn keep_of(keep: u64, at: usize) -> Result<KeepCount, Error>
-    ensures { IfOk result (λ x. x ≡ keep) }
+pub(crate) fn retention_of(count: u64, at: usize) -> Result<Retention, Error>
+    ensures { IfOk result (λ x. x ≡ count) }
 {
-    match KeepCount::new(keep) {
-        Some(keep) => Ok(keep),
+    match Retention::new(count) {
+        Some(count) => Ok(count),
         None => Err(Error::IntegralValueOutOfRange(at)),
     }
 }
@@ -296,11 +296,11 @@ pub(crate) fn optional_moment(row: &Row, at: usize) -> Result<Option<Moment>, Er
     }
 }
 
-pub(crate) fn optional_keep(row: &Row, at: usize) -> Result<Option<KeepCount>, Error>
+pub(crate) fn optional_retention(row: &Row, at: usize) -> Result<Option<Retention>, Error>
     ensures { IfOk result (IsNumberOrNull (column row.now at)) }
 {
     match row.get::<Option<u64>>(at)? {
-        Some(value) => Ok(Some(keep_of(value, at)?)),
+        Some(value) => Ok(Some(retention_of(value, at)?)),
         None => Ok(None),
     }
 }
@@ -543,11 +543,11 @@ impl Read for Role {
     }
 }
 
-impl Read for KeepCount {
+impl Read for Retention {
     ghost is_in = { IsNumber };
 
-    fn of_row(row: &Row) -> Result<KeepCount, Error> {
-        keep_of(row.get(0)?, 0)
+    fn of_row(row: &Row) -> Result<Retention, Error> {
+        retention_of(row.get(0)?, 0)
     }
 }
 

@@ -1,12 +1,12 @@
 //! Statements on the table keeping: how many versions each workspace keeps.
 ghost use Rattle.statements.specs.Steps.{AnyRows, Equals, Writes, Queries};
 ghost use Rattle.statements.specs.Changes.{keeping_row_added, keeping_changed, keeping_row_removed, keepings_filled};
-ghost use Rattle.statements.specs.Finds.{keep_of};
+ghost use Rattle.statements.specs.Finds.{retention_of};
 ghost use Rattle.statements.specs.Making.{MakesBy};
 ghost use Rattle.statements.specs.Inner.Making.{Moved};
 
 use crate::calls::{first_row, read_one, write};
-use basis::KeepCount;
+use basis::Retention;
 use sqlite::{Alter, Connection, Error, Transaction, params};
 
 const FIND_KEEPING: &str = "SELECT keep FROM keeping WHERE org = ?1 AND ws = ?2 ORDER BY rowid";
@@ -16,8 +16,8 @@ pub fn find<S: Alter>(
     conn: &mut Connection<S>,
     org: &str,
     ws: &str,
-) -> Result<Option<KeepCount>, Error>
-    ensures { Queries S.Store (Equals (keep_of org.now ws.now)) conn.old conn.new result }
+) -> Result<Option<Retention>, Error>
+    ensures { Queries S.Store (Equals (retention_of org.now ws.now)) conn.old conn.new result }
 {
     let row = first_row(conn, FIND_KEEPING, params![org, ws]);
     read_one(row)
@@ -30,12 +30,12 @@ pub fn add<S: Alter>(
     tx: &mut Transaction<'_, S>,
     org: &str,
     ws: &str,
-    keep: KeepCount,
+    retention: Retention,
 ) -> Result<(), Error>
-    ensures { Writes S.Store AnyRows (keeping_row_added org.now ws.now keep) tx.old tx.new result }
+    ensures { Writes S.Store AnyRows (keeping_row_added org.now ws.now retention) tx.old tx.new result }
 {
-    let keep = keep.get();
-    write(tx, ADD_KEEPING, params![org, ws, keep])
+    let retention = retention.get();
+    write(tx, ADD_KEEPING, params![org, ws, retention])
 }
 
 const SET_KEEPING: &str = "UPDATE keeping SET keep = ?3 WHERE org = ?1 AND ws = ?2";
@@ -45,12 +45,12 @@ pub fn set<S: Alter>(
     tx: &mut Transaction<'_, S>,
     org: &str,
     ws: &str,
-    keep: KeepCount,
+    retention: Retention,
 ) -> Result<(), Error>
-    ensures { Writes S.Store AnyRows (keeping_changed keep org.now ws.now) tx.old tx.new result }
+    ensures { Writes S.Store AnyRows (keeping_changed retention org.now ws.now) tx.old tx.new result }
 {
-    let keep = keep.get();
-    write(tx, SET_KEEPING, params![org, ws, keep])
+    let retention = retention.get();
+    write(tx, SET_KEEPING, params![org, ws, retention])
 }
 
 const REMOVE_KEEPING: &str = "DELETE FROM keeping WHERE org = ?1 AND ws = ?2";

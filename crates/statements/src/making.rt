@@ -7,8 +7,8 @@ ghost use Rattle.sqlite.specs.Held.{state};
 ghost use Rattle.sqlite.specs.State.{HasCleanDisk};
 ghost use Rattle.statements.specs.Steps.{Equals, Queries};
 ghost use Rattle.statements.specs.Tables.{count_in, added_by, our_tables};
-ghost use Rattle.statements.specs.Making.{MakesBy, HasSchema, Raises, HasMeta, HasEdition, told_version, version_in, edition_in};
-ghost use Rattle.statements.specs.Inner.Making.{Grows, IsMaker, texts_in, all_of, Moved, Told, edition_moved, version_cleared};
+ghost use Rattle.statements.specs.Making.{MakesBy, HasSchema, Raises, HasMeta, HasEdition, told_schema_version, schema_version_in, edition_in};
+ghost use Rattle.statements.specs.Inner.Making.{Grows, IsMaker, texts_in, all_of, Moved, Told, edition_moved, schema_version_cleared};
 ghost use Rattle.statements.specs.Rows.{Kept};
 
 use crate::calls::{first_row, read_one, signed, write};
@@ -110,10 +110,10 @@ fn make_all<S: Alter>(tx: &mut Transaction<'_, S>, texts: &[&str]) -> Result<(),
 }
 
 /// Makes the tables that a version adds, and the indexes on them.
-fn make_version<S: Alter>(tx: &mut Transaction<'_, S>, version: u64) -> Result<(), Error>
-    ensures { MakesBy S.Store (Grows (added_by version)) tx.old tx.new result }
+fn make_tables_of<S: Alter>(tx: &mut Transaction<'_, S>, schema_version: u64) -> Result<(), Error>
+    ensures { MakesBy S.Store (Grows (added_by schema_version)) tx.old tx.new result }
 {
-    match version {
+    match schema_version {
         1 => make_all(tx, FIRST),
         2 => make_all(tx, SECOND),
         3 => make_all(tx, THIRD),
@@ -125,8 +125,8 @@ fn make_version<S: Alter>(tx: &mut Transaction<'_, S>, version: u64) -> Result<(
 fn make_tables<S: Alter>(tx: &mut Transaction<'_, S>) -> Result<(), Error>
     ensures { MakesBy S.Store (Grows our_tables) tx.old tx.new result }
 {
-    for version in 0..NEWEST {
-        make_version(tx, version + 1)?;
+    for schema_version in 0..NEWEST {
+        make_tables_of(tx, schema_version + 1)?;
     }
     Ok(())
 }
@@ -134,32 +134,38 @@ fn make_tables<S: Alter>(tx: &mut Transaction<'_, S>) -> Result<(), Error>
 const SET_VERSION: &str = "INSERT INTO edition (one, version) VALUES (1, ?1)";
 
 /// Says which version a database has, in one that has the tables of that and tells none.
-fn set_version<S: Alter>(tx: &mut Transaction<'_, S>, version: u64) -> Result<(), Error>
-    requires fits { version < 2 ^ 63 }
-    requires there { 9 < count_in version }
-    ensures { MakesBy S.Store (Told version) tx.old tx.new result }
+fn set_schema_version<S: Alter>(
+    tx: &mut Transaction<'_, S>,
+    schema_version: u64,
+) -> Result<(), Error>
+    requires fits { schema_version < 2 ^ 63 }
+    requires there { 9 < count_in schema_version }
+    ensures { MakesBy S.Store (Told schema_version) tx.old tx.new result }
 {
-    let version = signed(version);
-    write(tx, SET_VERSION, params![&version])
+    let schema_version = signed(schema_version);
+    write(tx, SET_VERSION, params![&schema_version])
 }
 
 const MOVE_VERSION: &str = "UPDATE edition SET version = ?1";
 
 /// Says which version a database has, in one that has the tables of that and tells another.
-fn move_version<S: Alter>(tx: &mut Transaction<'_, S>, version: u64) -> Result<(), Error>
-    requires fits { version < 2 ^ 63 }
-    requires there { 9 < count_in version }
-    ensures { MakesBy S.Store (Moved version (edition_moved version)) tx.old tx.new result }
+fn move_schema_version<S: Alter>(
+    tx: &mut Transaction<'_, S>,
+    schema_version: u64,
+) -> Result<(), Error>
+    requires fits { schema_version < 2 ^ 63 }
+    requires there { 9 < count_in schema_version }
+    ensures { MakesBy S.Store (Moved schema_version (edition_moved schema_version)) tx.old tx.new result }
 {
-    let version = signed(version);
-    write(tx, MOVE_VERSION, params![&version])
+    let schema_version = signed(schema_version);
+    write(tx, MOVE_VERSION, params![&schema_version])
 }
 
 const CLEAR_VERSION: &str = "DELETE FROM meta";
 
 /// Takes away what meta tells, in a database that has the tables of schema 2.
-fn clear_version<S: Alter>(tx: &mut Transaction<'_, S>) -> Result<(), Error>
-    ensures { MakesBy S.Store (Moved 2 version_cleared) tx.old tx.new result }
+fn clear_schema_version<S: Alter>(tx: &mut Transaction<'_, S>) -> Result<(), Error>
+    ensures { MakesBy S.Store (Moved 2 schema_version_cleared) tx.old tx.new result }
 {
     write(tx, CLEAR_VERSION, &[])
 }
@@ -169,26 +175,26 @@ pub fn make_schema<S: Alter>(tx: &mut Transaction<'_, S>) -> Result<(), Error>
     ensures { MakesBy S.Store HasSchema tx.old tx.new result }
 {
     make_tables(tx)?;
-    set_version(tx, NEWEST)
+    set_schema_version(tx, NEWEST)
 }
 
 /// Takes schema 1 to schema 2: each token gets its row of bound, and edition tells the version in meta's place.
 fn raise_first<S: Alter>(tx: &mut Transaction<'_, S>) -> Result<(), Error>
     ensures { MakesBy S.Store (Raises 1) tx.old tx.new result }
 {
-    make_version(tx, 2)?;
+    make_tables_of(tx, 2)?;
     bounds::fill(tx)?;
-    clear_version(tx)?;
-    set_version(tx, 2)
+    clear_schema_version(tx)?;
+    set_schema_version(tx, 2)
 }
 
 /// Takes schema 2 to schema 3: each workspace gets its row of keeping, and edition tells the version.
 fn raise_second<S: Alter>(tx: &mut Transaction<'_, S>) -> Result<(), Error>
     ensures { MakesBy S.Store (Raises 2) tx.old tx.new result }
 {
-    make_version(tx, 3)?;
+    make_tables_of(tx, 3)?;
     keepings::fill(tx)?;
-    move_version(tx, 3)
+    move_schema_version(tx, 3)
 }
 
 /// Takes a schema to the next, if there is one.
@@ -205,9 +211,9 @@ pub fn raise<S: Alter>(tx: &mut Transaction<'_, S>, from: u64) -> Result<(), Err
 const VERSION: &str = "SELECT version FROM meta WHERE one = 1 ORDER BY rowid";
 
 /// The version that meta tells, if it tells one: schema 1 does.
-pub fn version<S: Alter>(conn: &mut Connection<S>) -> Result<Option<u64>, Error>
-    ensures reads { Queries S.Store (Equals version_in) conn.old conn.new result }
-    ensures told { HasCleanDisk (state S.Store conn.new) → IfOk result (λ version. (table : Table) (metas : List (Kept ℕ)) → HasMeta (state S.Store conn.old).now table metas → version ≡ told_version metas) }
+pub fn schema_version<S: Alter>(conn: &mut Connection<S>) -> Result<Option<u64>, Error>
+    ensures reads { Queries S.Store (Equals schema_version_in) conn.old conn.new result }
+    ensures told { HasCleanDisk (state S.Store conn.new) → IfOk result (λ schema_version. (table : Table) (metas : List (Kept ℕ)) → HasMeta (state S.Store conn.old).now table metas → schema_version ≡ told_schema_version metas) }
 {
     let row = first_row(conn, VERSION, &[]);
     read_one(row)
@@ -218,7 +224,7 @@ const EDITION: &str = "SELECT version FROM edition WHERE one = 1 ORDER BY rowid"
 /// The version that edition tells, if it tells one: each schema from 2 on does.
 pub fn edition<S: Alter>(conn: &mut Connection<S>) -> Result<Option<u64>, Error>
     ensures reads { Queries S.Store (Equals edition_in) conn.old conn.new result }
-    ensures told { HasCleanDisk (state S.Store conn.new) → IfOk result (λ version. (table : Table) (editions : List (Kept ℕ)) → HasEdition (state S.Store conn.old).now table editions → version ≡ told_version editions) }
+    ensures told { HasCleanDisk (state S.Store conn.new) → IfOk result (λ schema_version. (table : Table) (editions : List (Kept ℕ)) → HasEdition (state S.Store conn.old).now table editions → schema_version ≡ told_schema_version editions) }
 {
     let row = first_row(conn, EDITION, &[]);
     read_one(row)

@@ -6,14 +6,14 @@ ghost use Rattle.statements.specs.Steps.{Equals, Queries};
 ghost use Rattle.statements.specs.Rows.{kept_by, org_at, token_at, ws_at, version_at, run_at, vpage_at, bound_at, keeping_at, number_at, bytes_at, role_at};
 
 use crate::calls::{
-    Read, bytes_in, keep_of, limit_of, optional_moment, role_in, run_in, scan, text_in,
+    Read, bytes_in, limit_of, optional_moment, retention_of, role_in, run_in, scan, text_in,
     unsigned_in, version_in,
 };
 use crate::rows::{
     BoundRow, KeepingRow, OrgRow, RunRow, Token, TokenRow, VersionRow, VpageRow, WsRow,
 };
 use crate::workspaces::{BEHIND_RUN_SETTINGS, workspace_in};
-use basis::{Items, KeepCount, Limit, Moment, Role, Text};
+use basis::{Items, Limit, Moment, Retention, Role, Text};
 use sqlite::{Alter, Connection, Error, Row};
 use std::alloc::Global;
 
@@ -30,10 +30,10 @@ fn limit_in(row: &Row, at: usize) -> Result<Limit, Error>
     limit_of(row.get(at)?, at)
 }
 
-fn keep_in(row: &Row, at: usize) -> Result<KeepCount, Error>
+fn retention_in(row: &Row, at: usize) -> Result<Retention, Error>
     ensures { IfOk result (λ x. x ≡ number_at row.now at) }
 {
-    keep_of(row.get(at)?, at)
+    retention_of(row.get(at)?, at)
 }
 
 fn some_moment_in(row: &Row, at: usize) -> Result<Option<Moment>, Error>
@@ -162,7 +162,7 @@ impl Read for (i64, KeepingRow) {
     ghost is_in = { λ row x. x ≡ kept_by keeping_at row };
 
     fn of_row(row: &Row) -> Result<(i64, KeepingRow), Error> {
-        let keep = keep_in(row, 3)?;
+        let keep = retention_in(row, 3)?;
         let (id, org, ws) = head_in(row)?;
         Ok((id, KeepingRow { org, ws, keep }))
     }

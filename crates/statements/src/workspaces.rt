@@ -14,12 +14,12 @@ ghost use Rattle.basis.specs.declared.rows.Holder.TheVariants.{Lock};
 
 use crate::calls::{
     Read, all_rows, bytes_in, count_of, first_row, first_rows, flag_in, limit, lock_id_of, name_of,
-    number_in, optional_keep, optional_lock_id, optional_number, read_all, read_one, unsigned_in,
-    update, write,
+    number_in, optional_lock_id, optional_number, optional_retention, read_all, read_one,
+    unsigned_in, update, write,
 };
 use crate::keepings;
 use crate::rows::{NamedWorkspace, Workspace};
-use basis::{Holder, Items, KeepCount, LockId, Number, Prefix, RunSettings, WsName};
+use basis::{Holder, Items, LockId, Number, Prefix, Retention, RunSettings, WsName};
 use sqlite::types::{ToSql, ValueRef};
 use sqlite::{Alter, Connection, Error, Row, Transaction, params};
 use std::alloc::Global;
@@ -103,7 +103,7 @@ impl Read for NamedWorkspace {
 
     fn of_row(row: &Row) -> Result<NamedWorkspace, Error> {
         Ok(NamedWorkspace {
-            keep: optional_keep(row, 8)?,
+            keep: optional_retention(row, 8)?,
             last: optional_number(row, 9)?,
             name: name_of(row.get(7)?, 7)?,
             it: workspace_in(row, 0, 10)?,
@@ -275,13 +275,13 @@ pub fn add<S: Alter>(
     org: &str,
     name: &str,
     runs: RunSettings,
-    keep: KeepCount,
+    retention: Retention,
 ) -> Result<(), Error>
-    ensures writes { Writes S.Store AnyRows (ws_added org.now name.now runs keep) tx.old tx.new result }
+    ensures writes { Writes S.Store AnyRows (ws_added org.now name.now runs retention) tx.old tx.new result }
     ensures fresh { Tells (λ _ t. workspace_of org.now name.now t ≡ None) (state S.Store tx.old.conn.now) (state S.Store tx.new.conn.now) result }
 {
     add_row(tx, org, name, runs)?;
-    keepings::add(tx, org, name, keep)
+    keepings::add(tx, org, name, retention)
 }
 
 const SET_RUN_SETTINGS: &str = "UPDATE ws SET auto = ?3 WHERE org = ?1 AND name = ?2";

@@ -12,7 +12,7 @@ use Rattle.sqlite.specs.Files.{HoldsDatabase, image_of}
 use Rattle.machine.specs.declared.records.Organization.{Organization}
 use Rattle.tables.specs.Opening.{any_there, all_there, newest_there, tells_edition}
 use Rattle.tables.specs.Stores.{records_of, IsSoundStore}
-use Rattle.tables.specs.Versions.{HoldsVersion, version_records}
+use Rattle.tables.specs.Versions.{HoldsSchema, schema_records}
 
 -- The database that a file and its log hold was found. Where it has one of our tables, it has all those of a version. Where
 -- they are those of this version, the store has its records, and is sound where the database is; of whatever version it is,
@@ -24,7 +24,7 @@ pub record OpensOn (image : Image) (rows : List ℕ → Option Organization) (Is
   pub holds : (trees : Trees) → HoldsDatabase image trees → found.trees ≡ trees
   pub whole : any_there found.schema ≡ true → (all_there 1 found.schema ≡ true) ⊎ (tells_edition found.schema ≡ true)
   pub there : newest_there found.schema ≡ true → ((org : List ℕ) → rows org ≡ records_of found org) × (IsSoundStore found → IsSound)
-  pub climbed : (version : ℕ) → HoldsVersion version found → ((org : List ℕ) → rows org ≡ version_records version found org) × IsSound
+  pub climbed : (version : ℕ) → HoldsSchema version found → ((org : List ℕ) → rows org ≡ schema_records version found org) × IsSound
   pub fresh : any_there found.schema ≡ false → ((org : List ℕ) → rows org ≡ None) × IsSound
 
 -- A database lies in the file and its log, and in the file with no log, as they read now and as a crash may leave them.

@@ -7,7 +7,7 @@ use Rattle.sqlite_keyed.proofs.SliceLemmas.{any_is_found}
 use Rattle.statements.specs.Rows.{Kept, WsRow}
 use Rattle.statements.specs.Tables.{Tables}
 use Rattle.statements.specs.Changes.{is_ws, is_keeping, HasNoKeeping}
-use Rattle.statements.specs.Finds.{workspace_of, keep_of}
+use Rattle.statements.specs.Finds.{workspace_of, retention_of}
 use Rattle.statements.proofs.Fresh.{none_found}
 use Rattle.tables.specs.Sound.{IsSound}
 use Rattle.tables.proofs.Names.{pair_first, pair_second}
@@ -27,5 +27,5 @@ module _ (org ws : List ℕ) (t : Tables) (none : workspace_of org ws t ≡ None
       subst (λ (a : List ℕ). list_any (is_ws a ws) t.wss ≡ true) (pair_first org ws x.1.org x.1.ws mine) (subst (λ (b : List ℕ). list_any (is_ws x.1.org b) t.wss ≡ true) (pair_second org ws x.1.org x.1.ws mine) owned) in
       let no_one : ⊥ = cc (sym here ∙ none_there) in no_one)) t.keepings sound.keepings_owned
 
-  pub none_kept : IsSound t → keep_of org ws t ≡ None
+  pub none_kept : IsSound t → retention_of org ws t ≡ None
   none_kept sound = none_found (is_keeping org ws) (λ x. x.1.keep) t.keepings (no_keeping sound)

@@ -21,7 +21,7 @@ use Rattle.statements.specs.Finds.{version_cmp, run_cmp, cap_of, workspace_of, s
 use Rattle.texts.specs.Texts.{pages_for}
 use Rattle.texts.proofs.TextLaws.{carried_whole, carried_text, carried_sound}
 use Rattle.tables.specs.Laws.{RowsStandInAnyOrder}
-use Rattle.tables.specs.Records.{version_of_cells, workspace_of_cells, keep_at, versions_at, runs_at, workspace_by, tokens_at, record_of}
+use Rattle.tables.specs.Records.{version_of_cells, workspace_of_cells, retention_at, versions_at, runs_at, workspace_by, tokens_at, record_of}
 use Rattle.tables.specs.Sound.{IsPlaced, HasText, IsSound}
 use Rattle.tables.proofs.Finding.{find_same, three}
 use Rattle.tables.proofs.Listed.{versions_apart, runs_apart}
@@ -101,13 +101,13 @@ module _ (t : Tables) (versions : List (Kept VersionRow)) (runs : List (Kept Run
   runs_same o w = ap (map (λ (x : Kept RunRow). x.1.it)) (run_rows o w)
 
   workspace_same : (o w : List ℕ) → workspace_by u o w ≡ workspace_by t o w
-  workspace_same o w = λ i. option_map (λ (c : WorkspaceCells). workspace_of_cells (keep_at t o w) c (versions_same o w i) (runs_same o w i)) (workspace_of o w t)
+  workspace_same o w = λ i. option_map (λ (c : WorkspaceCells). workspace_of_cells (retention_at t o w) c (versions_same o w i) (runs_same o w i)) (workspace_of o w t)
 
   record_same : (o : List ℕ) → record_of u o ≡ record_of t o
   record_same o = λ i. option_map (λ (cap : ℕ). record {
     limit = cap;
     tokens = tokens_at t o;
-    workspaces = from_entries {R = name_cmp} (map (λ (x : Kept WsRow). (x.1.name, workspace_of_cells (keep_at t o x.1.name) x.1.it (versions_same o x.1.name i) (runs_same o x.1.name i))) (filter (is_ws_of o) t.wss));
+    workspaces = from_entries {R = name_cmp} (map (λ (x : Kept WsRow). (x.1.name, workspace_of_cells (retention_at t o x.1.name) x.1.it (versions_same o x.1.name i) (runs_same o x.1.name i))) (filter (is_ws_of o) t.wss));
   }) (cap_of o t)
 
   -- the row of a version, found in the order of numbers

@@ -10,17 +10,17 @@ use Rattle.sqlite.proofs.InsideLemmas.{keeps_then}
 use Rattle.statements.proofs.EditionTexts.{has_edition}
 use Rattle.statements.proofs.Counts.{known_within, later_has_edition}
 use Rattle.statements.proofs.MetaTexts.{has_meta}
-use Rattle.statements.specs.Making.{HasMeta, HasEdition, told_version, KeepsForeign}
+use Rattle.statements.specs.Making.{HasMeta, HasEdition, told_schema_version, KeepsForeign}
 use Rattle.statements.specs.Rows.{Kept}
 use Rattle.statements.specs.Schema.{meta_table, edition_table}
-use Rattle.statements.specs.Tables.{Tables, HoldsIn, version_tables}
+use Rattle.statements.specs.Tables.{Tables, HoldsIn, schema_tables}
 use Rattle.statements.specs.declared.making.TheConstants.{NEWEST}
 use Rattle.tables.specs.declared.opening.Found.{Found}
 use Rattle.tables.specs.declared.opening.Found.TheVariants.{Nothing, Version, Other}
 use Rattle.tables.specs.Inner.Making.{IsTold, found_in, TellsFound, FindsOurs, Climbs, IsClimbed, IsOnWay}
 use Rattle.tables.specs.Inner.Steps.{IsSettled}
 use Rattle.tables.specs.Opening.{any_there, all_there, told_in, TellsIn, ToldBy, IsOther, GivesBack}
-use Rattle.tables.specs.Versions.{HoldsVersion, version_records, Becomes, KeepsBeside}
+use Rattle.tables.specs.Versions.{HoldsSchema, schema_records, Becomes, KeepsBeside}
 use Rattle.tables.proofs.There.{version_is_there, known_there, one_there}
 
 -- the steps so far
@@ -31,7 +31,7 @@ pub record ClimbsSoFar (from at : ℕ) (old new : State) : Type 0 where
   pub is_open : HasCleanDisk new → IsTrue old.is_open → IsTrue new.is_open
 
 -- the version that is told is the one that the database has
-version_is_told : (m n : ℕ) (old new : State) → IsTold m old new → HoldsVersion n old.now → n ≡ m
+version_is_told : (m n : ℕ) (old new : State) → IsTold m old new → HoldsSchema n old.now → n ≡ m
 version_is_told m n old new told h = one_there n m old.now.schema (version_is_there n old.now h) told.there
 
 -- ---- a step, and others
@@ -40,7 +40,7 @@ module _ (i j k : ℕ) (a b c : Database) where
   becomes_then : Becomes i j a b → Becomes j k b c → Becomes i k a c
   becomes_then one two = record { holds = λ h. two.holds (one.holds h); records = λ h org. two.records (one.holds h) org ∙ one.records h org }
 
-  foreign_then : KeepsForeign (version_tables i) (version_tables j) a b → KeepsForeign (version_tables j) (version_tables k) b c → KeepsForeign (version_tables i) (version_tables k) a c
+  foreign_then : KeepsForeign (schema_tables i) (schema_tables j) a b → KeepsForeign (schema_tables j) (schema_tables k) b c → KeepsForeign (schema_tables i) (schema_tables k) a c
   foreign_then one two = record {
     owns = λ other own. two.owns other (one.owns other own);
     stands = λ other own. ((two.stands other (one.owns other own)).0 ∙ (one.stands other own).0, (two.stands other (one.owns other own)).1 ∙ (one.stands other own).1);
@@ -66,12 +66,12 @@ module _ (m : ℕ) (old mid new : State) (told : IsTold m old mid) (climbed : Is
   climbs : Climbs m NEWEST mid new
   climbs = climbed.climbs (known_within m (known_there m old.now.schema told.there)).1
 
-  pub climbed_by : (n : ℕ) → HoldsVersion n old.now → HoldsVersion NEWEST new.committed × ((o : List ℕ) → version_records NEWEST new.committed o ≡ version_records n old.now o)
+  pub climbed_by : (n : ℕ) → HoldsSchema n old.now → HoldsSchema NEWEST new.committed × ((o : List ℕ) → schema_records NEWEST new.committed o ≡ schema_records n old.now o)
   climbed_by n h =
       let is : n ≡ m = version_is_told m n old mid told h in
       let becomes : Becomes m NEWEST old.now new.committed = subst (λ (db : Database). Becomes m NEWEST db new.committed) told.same (climbs.becomes (climbed.is_open told.is_open)) in
-      let held : HoldsVersion m old.now = subst (λ (k : ℕ). HoldsVersion k old.now) is h in
-      (becomes.holds held, λ o. becomes.records held o ∙ ap (λ (k : ℕ). version_records k old.now o) (sym is))
+      let held : HoldsSchema m old.now = subst (λ (k : ℕ). HoldsSchema k old.now) is h in
+      (becomes.holds held, λ o. becomes.records held o ∙ ap (λ (k : ℕ). schema_records k old.now o) (sym is))
 
   -- and tables of others are kept
   pub kept_beside : (n : ℕ) → all_there n old.now.schema ≡ true → KeepsBeside n NEWEST old.now new.committed
@@ -123,11 +123,11 @@ module _ (n : ℕ) (told : Option ℕ) (old new : State) (there : all_there n ol
       by_told (Some k) e = by_number k e (k == n) refl
 
 -- what meta tells is the first version, or none of ours
-pub first_tells : (told : Option ℕ) (old new : State) → all_there 1 old.now.schema ≡ true → IsSettled old → IsUnchanged old new → ((table : Table) (metas : List (Kept ℕ)) → HasMeta old.now table metas → told ≡ told_version metas) → TellsFound (found_in 1 told) old new
+pub first_tells : (told : Option ℕ) (old new : State) → all_there 1 old.now.schema ≡ true → IsSettled old → IsUnchanged old new → ((table : Table) (metas : List (Kept ℕ)) → HasMeta old.now table metas → told ≡ told_schema_version metas) → TellsFound (found_in 1 told) old new
 first_tells told old new there settled same reads = found_by 1 told old new there settled same (λ t h. reads meta_table t.metas (has_meta 1 (omega arith) old.now t h)) (λ one table metas has. sym (reads table metas has) ∙ one)
 
 -- what edition tells is this version, or none of ours
-pub later_tells : (told : Option ℕ) (old new : State) → IsSettled old → IsUnchanged old new → ((table : Table) (editions : List (Kept ℕ)) → HasEdition old.now table editions → told ≡ told_version editions)
+pub later_tells : (told : Option ℕ) (old new : State) → IsSettled old → IsUnchanged old new → ((table : Table) (editions : List (Kept ℕ)) → HasEdition old.now table editions → told ≡ told_schema_version editions)
     → (n : ℕ) → 2 ≤ n → all_there n old.now.schema ≡ true → TellsFound (found_in n told) old new
 later_tells told old new settled same reads zero least there = absurd (omega (arith, least))
 later_tells told old new settled same reads (suc zero) least there = absurd (omega (arith, least))

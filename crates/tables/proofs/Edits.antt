@@ -27,8 +27,8 @@ use Rattle.statements.specs.declared.rows.Workspace.{Workspace as WorkspaceCells
 use Rattle.statements.specs.Rows.{Kept, WsRow, KeepingRow, VersionRow, RunRow}
 use Rattle.statements.specs.Tables.{Tables}
 use Rattle.statements.specs.Changes.{is_ws, is_keeping, is_run_of, with_run_settings, held_by, released_from, with_next_version, with_next_run, ws_changed, ws_added, runs_removed, run_made as new_run_cells, run_added, run_acted}
-use Rattle.statements.specs.Finds.{workspace_of, keep_of}
-use Rattle.tables.specs.Records.{version_at, workspace_of_cells, keep_at, workspace_by}
+use Rattle.statements.specs.Finds.{workspace_of, retention_of}
+use Rattle.tables.specs.Records.{version_at, workspace_of_cells, retention_at, workspace_by}
 use Rattle.tables.proofs.Ordered.{versions_in, runs_in, workspace_of_rows, ordered, workspace_ordered, changed_ordered}
 use Rattle.tables.specs.Inner.Edits.{all_gone, removed_rows, made_rows, settings_rows, configured_rows, numbered_rows, if_there, versioned_rows, run_put, run_counted, run_rows, freed_rows, edited_rows, started_rows, changed_rows, TakesVersion, TakesEdit}
 use Rattle.tables.specs.Sound.{IsSound}
@@ -36,7 +36,7 @@ use Rattle.tables.proofs.Absent.{none_kept}
 use Rattle.tables.proofs.Finding.{no_version_rows, no_run_rows}
 use Rattle.tables.proofs.TextRows.{KeepsRest, Becomes, versions_carried}
 use Rattle.tables.proofs.VersionEdits.{all_go, settings_leave, versions_come}
-use Rattle.tables.proofs.Parts.{row_changed, row_unchanged, row_removed, row_left, row_added, row_added_other, keep_left, keep_added, keep_added_other, keep_set, keep_set_other, runs_begun, runs_begun_other, runs_pushed, runs_pushed_other, runs_acted, runs_acted_other, runs_gone, runs_gone_other}
+use Rattle.tables.proofs.Parts.{row_changed, row_unchanged, row_removed, row_left, row_added, row_added_other, retention_left, retention_added, retention_added_other, retention_set, retention_set_other, runs_begun, runs_begun_other, runs_pushed, runs_pushed_other, runs_acted, runs_acted_other, runs_gone, runs_gone_other}
 use Rattle.tables.proofs.Names.{is_pair, pair_first, pair_second}
 use Rattle.tables.proofs.Sets.{Puts, same_parts}
 
@@ -89,8 +89,8 @@ module _ (t u : Tables) (rest : KeepsRest t u) (a b : List ℕ) where
   row_stays : workspace_of a b u ≡ workspace_of a b t
   row_stays = ap (λ (wss : List (Kept WsRow)). option_map (λ (x : Kept WsRow). x.1.it) (find (is_ws a b) wss)) rest.wss
 
-  keep_stays : keep_at u a b ≡ keep_at t a b
-  keep_stays = ap (λ (ks : List (Kept KeepingRow)). kept_among a b ks) rest.keepings
+  retention_stays : retention_at u a b ≡ retention_at t a b
+  retention_stays = ap (λ (ks : List (Kept KeepingRow)). kept_among a b ks) rest.keepings
 
   runs_stay : runs_in u a b ≡ runs_in t a b
   runs_stay = ap (λ (rs : List (Kept RunRow)). map (λ (x : Kept RunRow). x.1.it) (filter (is_run_of a b) rs)) rest.runs
@@ -107,23 +107,23 @@ module _ (org ws : List ℕ) (t : Tables) where
     tokens = refl;
     bounds = refl;
     own = same_parts _ _ _ _ _ _ _ _ (row_changed org ws g t) refl (versions_carried t (ws_changed g org ws t) refl refl refl org ws) refl
-        ∙ changed_row g f (keep_at t org ws) (versions_in t org ws) (versions_in t org ws) (runs_in t org ws) (runs_in t org ws) (λ c. same c (keep_at t org ws) (versions_in t org ws) (runs_in t org ws)) (workspace_of org ws t);
+        ∙ changed_row g f (retention_at t org ws) (versions_in t org ws) (versions_in t org ws) (runs_in t org ws) (runs_in t org ws) (λ c. same c (retention_at t org ws) (versions_in t org ws) (runs_in t org ws)) (workspace_of org ws t);
     others = λ a b other. same_parts _ _ _ _ _ _ _ _ (row_unchanged org ws g t a b other) refl (versions_carried t (ws_changed g org ws t) refl refl refl a b) refl;
   }
 
   -- a workspace where there is no row of its name
-  added_puts : (settings : Settings) → workspace_of org ws t ≡ None → keep_of org ws t ≡ None → versions_in t org ws ≡ [] → runs_in t org ws ≡ []
-      → Stands org ws (Some (new_workspace settings)) t (ws_added org ws settings.runs settings.keep_versions t)
-  added_puts settings none no_keep no_version no_run =
+  added_puts : (settings : Settings) → workspace_of org ws t ≡ None → retention_of org ws t ≡ None → versions_in t org ws ≡ [] → runs_in t org ws ≡ []
+      → Stands org ws (Some (new_workspace settings)) t (ws_added org ws settings.runs settings.retention t)
+  added_puts settings none no_keeping_row no_version no_run =
       let of_runs : RunSettings = settings.runs in
-      let keep : ℕ = settings.keep_versions in
-      let after : Tables = ws_added org ws settings.runs settings.keep_versions t in
+      let keep : ℕ = settings.retention in
+      let after : Tables = ws_added org ws settings.runs settings.retention t in
       record {
         orgs = refl;
         tokens = refl;
         bounds = refl;
-        own = same_parts _ _ _ _ _ _ _ _ (row_added org ws t of_runs keep none) (keep_added org ws t of_runs keep no_keep) (versions_carried t after refl refl refl org ws ∙ no_version) no_run;
-        others = λ a b other. same_parts _ _ _ _ _ _ _ _ (row_added_other org ws t of_runs keep a b other) (keep_added_other org ws t of_runs keep a b other) (versions_carried t after refl refl refl a b) refl;
+        own = same_parts _ _ _ _ _ _ _ _ (row_added org ws t of_runs keep none) (retention_added org ws t of_runs keep no_keeping_row) (versions_carried t after refl refl refl org ws ∙ no_version) no_run;
+        others = λ a b other. same_parts _ _ _ _ _ _ _ _ (row_added_other org ws t of_runs keep a b other) (retention_added_other org ws t of_runs keep a b other) (versions_carried t after refl refl refl a b) refl;
       }
 
   -- versions come and go, and nothing else
@@ -132,9 +132,9 @@ module _ (org ws : List ℕ) (t : Tables) where
     orgs = made.rest.orgs;
     tokens = made.rest.tokens;
     bounds = made.rest.bounds;
-    own = same_parts _ _ _ _ _ _ _ _ (row_stays t u made.rest org ws ∙ sym (kept_row (workspace_of org ws t))) (keep_stays t u made.rest org ws) made.own (runs_stay t u made.rest org ws)
-        ∙ changed_row (λ c. c) (λ (w : Workspace). record w { versions = f w.versions }) (keep_at t org ws) (versions_in t org ws) (f (versions_in t org ws)) (runs_in t org ws) (runs_in t org ws) (λ c. refl) (workspace_of org ws t);
-    others = λ a b other. same_parts _ _ _ _ _ _ _ _ (row_stays t u made.rest a b) (keep_stays t u made.rest a b) (made.others a b other) (runs_stay t u made.rest a b);
+    own = same_parts _ _ _ _ _ _ _ _ (row_stays t u made.rest org ws ∙ sym (kept_row (workspace_of org ws t))) (retention_stays t u made.rest org ws) made.own (runs_stay t u made.rest org ws)
+        ∙ changed_row (λ c. c) (λ (w : Workspace). record w { versions = f w.versions }) (retention_at t org ws) (versions_in t org ws) (f (versions_in t org ws)) (runs_in t org ws) (runs_in t org ws) (λ c. refl) (workspace_of org ws t);
+    others = λ a b other. same_parts _ _ _ _ _ _ _ _ (row_stays t u made.rest a b) (retention_stays t u made.rest a b) (made.others a b other) (runs_stay t u made.rest a b);
   }
 
   -- a run comes behind the others, and nothing else
@@ -144,7 +144,7 @@ module _ (org ws : List ℕ) (t : Tables) where
     tokens = refl;
     bounds = refl;
     own = same_parts _ _ _ _ _ _ _ _ (sym (kept_row (workspace_of org ws t))) refl (versions_carried t (run_added org ws r t) refl refl refl org ws) (runs_pushed org ws t r)
-        ∙ changed_row (λ c. c) (λ (w : Workspace). record w { runs = w.runs ++ r ∷ [] }) (keep_at t org ws) (versions_in t org ws) (versions_in t org ws) (runs_in t org ws) (runs_in t org ws ++ r ∷ []) (λ c. refl) (workspace_of org ws t);
+        ∙ changed_row (λ c. c) (λ (w : Workspace). record w { runs = w.runs ++ r ∷ [] }) (retention_at t org ws) (versions_in t org ws) (versions_in t org ws) (runs_in t org ws) (runs_in t org ws ++ r ∷ []) (λ c. refl) (workspace_of org ws t);
     others = λ a b other. same_parts _ _ _ _ _ _ _ _ refl refl (versions_carried t (run_added org ws r t) refl refl refl a b) (runs_pushed_other org ws t r a b other);
   }
 
@@ -162,7 +162,7 @@ module _ (org ws : List ℕ) (t : Tables) where
       tokens = gone.rest.tokens;
       bounds = gone.rest.bounds;
       own = same_parts _ _ _ _ _ _ _ _ (row_removed org ws (runs_removed org ws purged_rows)) refl (versions_carried purged_rows (removed_rows org ws t) refl refl refl org ws ∙ gone.own) (runs_gone org ws purged_rows);
-      others = λ a b other. same_parts _ _ _ _ _ _ _ _ (row_left org ws (runs_removed org ws purged_rows) a b other ∙ row_stays t purged_rows gone.rest a b) (keep_left org ws (runs_removed org ws purged_rows) a b other ∙ keep_stays t purged_rows gone.rest a b)
+      others = λ a b other. same_parts _ _ _ _ _ _ _ _ (row_left org ws (runs_removed org ws purged_rows) a b other ∙ row_stays t purged_rows gone.rest a b) (retention_left org ws (runs_removed org ws purged_rows) a b other ∙ retention_stays t purged_rows gone.rest a b)
           (versions_carried purged_rows (removed_rows org ws t) refl refl refl a b ∙ gone.others a b other) (runs_gone_other org ws purged_rows a b other ∙ runs_stay t purged_rows gone.rest a b);
     }
 
@@ -182,7 +182,7 @@ module _ (org ws : List ℕ) (t : Tables) where
         tokens = refl;
         bounds = refl;
         own = same_parts _ _ _ _ _ _ _ _ (row_changed org ws g t) refl (versions_carried t (started_rows org ws (Some n) t) refl refl refl org ws) (runs_begun org ws t n)
-            ∙ changed_row (held_by (HeldByRun n)) (started n) (keep_at t org ws) (versions_in t org ws) (versions_in t org ws) (runs_in t org ws) (map (begun n) (runs_in t org ws)) (λ c. refl) (workspace_of org ws t);
+            ∙ changed_row (held_by (HeldByRun n)) (started n) (retention_at t org ws) (versions_in t org ws) (versions_in t org ws) (runs_in t org ws) (map (begun n) (runs_in t org ws)) (λ c. refl) (workspace_of org ws t);
         others = λ a b other. same_parts _ _ _ _ _ _ _ _ (row_unchanged org ws g t a b other) refl (versions_carried t (started_rows org ws (Some n) t) refl refl refl a b) (runs_begun_other org ws t n a b other);
       }
 
@@ -192,8 +192,8 @@ module _ (org ws : List ℕ) (t : Tables) where
   with_fewer settings outgoing w = record w { settings = settings; versions = left_above outgoing w.versions }
 
   -- a workspace that has a row has one of keeping
-  keep_there : IsSound t → (c : WorkspaceCells) → workspace_of org ws t ≡ Some c → is_some (find (is_keeping org ws) t.keepings) ≡ true
-  keep_there sound c e = by_row (find (is_ws org ws) t.wss) refl e
+  retention_there : IsSound t → (c : WorkspaceCells) → workspace_of org ws t ≡ Some c → is_some (find (is_keeping org ws) t.keepings) ≡ true
+  retention_there sound c e = by_row (find (is_ws org ws) t.wss) refl e
     where
       by_row : (r : Option (Kept WsRow)) → find (is_ws org ws) t.wss ≡ r → option_map (λ (x : Kept WsRow). x.1.it) r ≡ Some c → is_some (find (is_keeping org ws) t.keepings) ≡ true
       by_row None f e = absurd (let none : ⊥ = cc in none)
@@ -218,18 +218,18 @@ module _ (org ws : List ℕ) (t : Tables) where
       orgs = leave.rest.orgs;
       tokens = leave.rest.tokens;
       bounds = leave.rest.bounds;
-      own = same_parts _ _ _ _ _ _ _ _ (row_stays with_set configured leave.rest org ws ∙ row_changed org ws (with_run_settings settings.runs) t) (keep_stays with_set configured leave.rest org ws) (leave.own ∙ ap (left_above outgoing) (versions_carried t with_set refl refl refl org ws)) (runs_stay with_set configured leave.rest org ws)
+      own = same_parts _ _ _ _ _ _ _ _ (row_stays with_set configured leave.rest org ws ∙ row_changed org ws (with_run_settings settings.runs) t) (retention_stays with_set configured leave.rest org ws) (leave.own ∙ ap (left_above outgoing) (versions_carried t with_set refl refl refl org ws)) (runs_stay with_set configured leave.rest org ws)
           ∙ by_row (workspace_of org ws t) refl;
-      others = λ a b other. same_parts _ _ _ _ _ _ _ _ (row_stays with_set configured leave.rest a b ∙ row_unchanged org ws (with_run_settings settings.runs) t a b other) (keep_stays with_set configured leave.rest a b ∙ keep_set_other org ws t settings.keep_versions a b other)
+      others = λ a b other. same_parts _ _ _ _ _ _ _ _ (row_stays with_set configured leave.rest a b ∙ row_unchanged org ws (with_run_settings settings.runs) t a b other) (retention_stays with_set configured leave.rest a b ∙ retention_set_other org ws t settings.retention a b other)
           (leave.others a b other ∙ versions_carried t with_set refl refl refl a b) (runs_stay with_set configured leave.rest a b);
     }
       where
         by_row : (r : Option WorkspaceCells) → workspace_of org ws t ≡ r
-            → option_map (λ (c : WorkspaceCells). workspace_of_cells (keep_at with_set org ws) c (left_above outgoing (versions_in t org ws)) (runs_in t org ws)) (option_map (with_run_settings settings.runs) r)
-            ≡ option_map (with_fewer settings outgoing) (option_map (λ (c : WorkspaceCells). workspace_of_cells (keep_at t org ws) c (versions_in t org ws) (runs_in t org ws)) r)
+            → option_map (λ (c : WorkspaceCells). workspace_of_cells (retention_at with_set org ws) c (left_above outgoing (versions_in t org ws)) (runs_in t org ws)) (option_map (with_run_settings settings.runs) r)
+            ≡ option_map (with_fewer settings outgoing) (option_map (λ (c : WorkspaceCells). workspace_of_cells (retention_at t org ws) c (versions_in t org ws) (runs_in t org ws)) r)
         by_row None e = refl
         by_row (Some c) e =
-            ap (λ (k : ℕ). Some (workspace_of_cells k (with_run_settings settings.runs c) (left_above outgoing (versions_in t org ws)) (runs_in t org ws))) (keep_set org ws t settings.keep_versions (keep_there sound c e))
+            ap (λ (k : ℕ). Some (workspace_of_cells k (with_run_settings settings.runs c) (left_above outgoing (versions_in t org ws)) (runs_in t org ws))) (retention_set org ws t settings.retention (retention_there sound c e))
 
   -- ---- a version more, a run more
 
@@ -238,7 +238,7 @@ module _ (org ws : List ℕ) (t : Tables) where
   there_puts f after puts = by_row (workspace_of org ws t) refl
     where
       by_row : (r : Option WorkspaceCells) → workspace_of org ws t ≡ r → Stands org ws (option_map f (workspace_of_rows t org ws)) t (if_there r after t)
-      by_row None e = record { orgs = refl; tokens = refl; bounds = refl; own = no_row f (keep_at t org ws) (versions_in t org ws) (runs_in t org ws) (workspace_of org ws t) e; others = λ a b other. refl }
+      by_row None e = record { orgs = refl; tokens = refl; bounds = refl; own = no_row f (retention_at t org ws) (versions_in t org ws) (runs_in t org ws) (workspace_of org ws t) e; others = λ a b other. refl }
       by_row (Some w) e = puts
 
   abbrev one_more : Version → Option ℕ → Workspace → Workspace
@@ -259,10 +259,10 @@ module _ (org ws : List ℕ) (t : Tables) where
       orgs = come.rest.orgs;
       tokens = come.rest.tokens;
       bounds = come.rest.bounds;
-      own = same_parts _ _ _ _ _ _ _ _ (row_stays with_number versioned come.rest org ws ∙ row_changed org ws (with_next_version (v.number + 1)) t) (keep_stays with_number versioned come.rest org ws)
+      own = same_parts _ _ _ _ _ _ _ _ (row_stays with_number versioned come.rest org ws ∙ row_changed org ws (with_next_version (v.number + 1)) t) (retention_stays with_number versioned come.rest org ws)
           (come.own ∙ ap (λ (vs : List Version). left_above outgoing (vs ++ v ∷ [])) (versions_carried t with_number refl refl refl org ws)) (runs_stay with_number versioned come.rest org ws)
-          ∙ changed_row (with_next_version (v.number + 1)) (one_more v outgoing) (keep_at t org ws) (versions_in t org ws) (left_above outgoing (versions_in t org ws ++ v ∷ [])) (runs_in t org ws) (runs_in t org ws) (λ c. refl) (workspace_of org ws t);
-      others = λ a b other. same_parts _ _ _ _ _ _ _ _ (row_stays with_number versioned come.rest a b ∙ row_unchanged org ws (with_next_version (v.number + 1)) t a b other) (keep_stays with_number versioned come.rest a b)
+          ∙ changed_row (with_next_version (v.number + 1)) (one_more v outgoing) (retention_at t org ws) (versions_in t org ws) (left_above outgoing (versions_in t org ws ++ v ∷ [])) (runs_in t org ws) (runs_in t org ws) (λ c. refl) (workspace_of org ws t);
+      others = λ a b other. same_parts _ _ _ _ _ _ _ _ (row_stays with_number versioned come.rest a b ∙ row_unchanged org ws (with_next_version (v.number + 1)) t a b other) (retention_stays with_number versioned come.rest a b)
           (come.others a b other ∙ versions_carried t with_number refl refl refl a b) (runs_stay with_number versioned come.rest a b);
     }
 
@@ -275,7 +275,7 @@ module _ (org ws : List ℕ) (t : Tables) where
           tokens = refl;
           bounds = refl;
           own = same_parts _ _ _ _ _ _ _ _ (row_changed org ws (with_next_run (number + 1)) t) refl (versions_carried t (run_put org ws number ask created (run_counted org ws number t)) refl refl refl org ws) (runs_pushed org ws t new)
-              ∙ changed_row (with_next_run (number + 1)) (with_run (new_run number ask created)) (keep_at t org ws) (versions_in t org ws) (versions_in t org ws) (runs_in t org ws) (runs_in t org ws ++ new ∷ []) (λ c. refl) (workspace_of org ws t);
+              ∙ changed_row (with_next_run (number + 1)) (with_run (new_run number ask created)) (retention_at t org ws) (versions_in t org ws) (versions_in t org ws) (runs_in t org ws) (runs_in t org ws ++ new ∷ []) (λ c. refl) (workspace_of org ws t);
           others = λ a b other. same_parts _ _ _ _ _ _ _ _ (row_unchanged org ws (with_next_run (number + 1)) t a b other) refl (versions_carried t (run_put org ws number ask created (run_counted org ws number t)) refl refl refl a b) (runs_pushed_other org ws t new a b other);
         })
 
@@ -286,7 +286,7 @@ module _ (org ws : List ℕ) (t : Tables) where
       tokens = refl;
       bounds = refl;
       own = same_parts _ _ _ _ _ _ _ _ (row_changed org ws (held_by Nobody) t) refl (versions_carried t (freed_rows true org ws (run_acted status action org ws n t)) refl refl refl org ws) (runs_acted org ws t status action n)
-          ∙ changed_row (held_by Nobody) (after_report n action status true) (keep_at t org ws) (versions_in t org ws) (versions_in t org ws) (runs_in t org ws) (map (reported n action status) (runs_in t org ws)) (λ c. refl) (workspace_of org ws t);
+          ∙ changed_row (held_by Nobody) (after_report n action status true) (retention_at t org ws) (versions_in t org ws) (versions_in t org ws) (runs_in t org ws) (map (reported n action status) (runs_in t org ws)) (λ c. refl) (workspace_of org ws t);
       others = λ a b other. same_parts _ _ _ _ _ _ _ _ (row_unchanged org ws (held_by Nobody) t a b other) refl (versions_carried t (freed_rows true org ws (run_acted status action org ws n t)) refl refl refl a b) (runs_acted_other org ws t status action n a b other);
     }
     report_puts false = record {
@@ -294,7 +294,7 @@ module _ (org ws : List ℕ) (t : Tables) where
       tokens = refl;
       bounds = refl;
       own = same_parts _ _ _ _ _ _ _ _ (sym (kept_row (workspace_of org ws t))) refl (versions_carried t (run_acted status action org ws n t) refl refl refl org ws) (runs_acted org ws t status action n)
-          ∙ changed_row (λ c. c) (after_report n action status false) (keep_at t org ws) (versions_in t org ws) (versions_in t org ws) (runs_in t org ws) (map (reported n action status) (runs_in t org ws)) (λ c. refl) (workspace_of org ws t);
+          ∙ changed_row (λ c. c) (after_report n action status false) (retention_at t org ws) (versions_in t org ws) (versions_in t org ws) (runs_in t org ws) (map (reported n action status) (runs_in t org ws)) (λ c. refl) (workspace_of org ws t);
       others = λ a b other. same_parts _ _ _ _ _ _ _ _ refl refl (versions_carried t (run_acted status action org ws n t) refl refl refl a b) (runs_acted_other org ws t status action n a b other);
     }
 

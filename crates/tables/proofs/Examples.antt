@@ -113,10 +113,10 @@ acme_has w = Some (record {
 })
 
 abbrev of_globex : Workspace
-of_globex = record { settings = record { runs = record { auto_apply = true }; keep_versions = 1 }; holder = Nobody; released = None; next_version = 2; next_run = 1; versions = version 1 s1 ∷ []; runs = [] }
+of_globex = record { settings = record { runs = record { auto_apply = true }; retention = 1 }; holder = Nobody; released = None; next_version = 2; next_run = 1; versions = version 1 s1 ∷ []; runs = [] }
 
 abbrev of_acme : Workspace
-of_acme = record { settings = record { runs = record { auto_apply = false }; keep_versions = 2 }; holder = Lock x1 text; released = None; next_version = 3; next_run = 2; versions = version 1 s1 ∷ version 2 s2 ∷ []; runs = run 1 Pending ∷ [] }
+of_acme = record { settings = record { runs = record { auto_apply = false }; retention = 2 }; holder = Lock x1 text; released = None; next_version = 3; next_run = 2; versions = version 1 s1 ∷ version 2 s2 ∷ []; runs = run 1 Pending ∷ [] }
 
 -- ---- records
 
@@ -148,7 +148,7 @@ restored_other = refl
 -- ---- changes: the organization's own record has it, and that of the other is as before
 
 abbrev keeping_five : Settings
-keeping_five = record { runs = record { auto_apply = true }; keep_versions = 5 }
+keeping_five = record { runs = record { auto_apply = true }; retention = 5 }
 
 configured : record_of (edited_rows first_byte acme prod (Configure keeping_five None) two) acme ≡ acme_has (record of_acme { settings = keeping_five })
 configured = refl
@@ -158,7 +158,7 @@ configured_other = refl
 
 -- a lower number of versions, of which the oldest goes at once
 abbrev keeping_one : Settings
-keeping_one = record { runs = record { auto_apply = false }; keep_versions = 1 }
+keeping_one = record { runs = record { auto_apply = false }; retention = 1 }
 
 lowered : record_of (edited_rows first_byte acme prod (Configure keeping_one (Some 1)) two) acme ≡ acme_has (record of_acme { settings = keeping_one; versions = version 2 s2 ∷ [] })
 unfolding so_many_gone gone_below
@@ -296,7 +296,7 @@ first = record two { metas = (pos 1, 1) ∷ []; bounds = []; editions = []; keep
 first_record : record_of first acme ≡ Some (record {
   limit = 10;
   tokens = from_entries ((codes "ci", record ci { caller = record { role = Write; until = None; prefix = [] } }) ∷ []);
-  workspaces = from_entries ((prod, record of_acme { settings = record { runs = record { auto_apply = false }; keep_versions = 100 } }) ∷ []);
+  workspaces = from_entries ((prod, record of_acme { settings = record { runs = record { auto_apply = false }; retention = 100 } }) ∷ []);
 })
 first_record = refl
 
@@ -634,7 +634,7 @@ abbrev keepless : Tables
 keepless = record two { keepings = (pos 1, record { org = globex; ws = prod; keep = 0 }) ∷ (pos 2, record { org = acme; ws = prod; keep = 2 }) ∷ [] }
 
 keepless_is_not : IsSound keepless → ⊥
-keepless_is_not sound = absurd (let least = (sound.workspaces globex prod (record of_globex { settings = record { runs = record { auto_apply = true }; keep_versions = 0 } }) refl).lawful.versions.keep.0 in omega (arith, least))
+keepless_is_not sound = absurd (let least = (sound.workspaces globex prod (record of_globex { settings = record { runs = record { auto_apply = true }; retention = 0 } }) refl).lawful.versions.keep.0 in omega (arith, least))
 
 -- two rows of one organization
 abbrev doubled : Tables

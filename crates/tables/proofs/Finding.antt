@@ -58,7 +58,7 @@ use Rattle.tables.proofs.Names.{same_name, apart_name, names_apart, pair_first, 
 use Rattle.tables.proofs.Parts.{none_mapped}
 use Rattle.tables.proofs.Sets.{entry_found, got_workspace, workspace_there, one_of}
 use Rattle.tables.proofs.Lawful.{limit_there}
-use Rattle.tables.specs.Inner.Units.{holder_status_in, text_in, has_text, newest_by, newest_in, keep_in, has_version_in, number_before, number_behind, outgoing_in, keyed_run_in, asked_run_in, unit_at, unit_in}
+use Rattle.tables.specs.Inner.Units.{holder_status_in, text_in, has_text, newest_by, newest_in, retention_in, has_version_in, number_before, number_behind, outgoing_in, keyed_run_in, asked_run_in, unit_at, unit_in}
 
 -- ---- lists
 
@@ -448,14 +448,14 @@ module _ (t : Tables) (sound : IsSound t) (org : List ℕ) where
           let stands : workspace_by t org ws ≡ Some (workspace_at t org ws w) = ap (option_map (workspace_at t org ws)) f in
           let lawful = (sound.workspaces org ws _ stands).lawful in
           λ i. Present (record {
-            settings = settings_of_cells (keep_in (needs act).keep_versions org ws t) w;
+            settings = settings_of_cells (retention_in (needs act).retention org ws t) w;
             holder = w.holder;
             holder_status = if_needed (needs act).holder_status (holder_status_found t org ws w.holder i);
             released = w.released;
             next_version = w.next_version;
             next_run = w.next_run;
             newest = if_needed (needs act).newest (newest_unit_found t org ws w.next_version lawful.versions.rise (sound_texts t sound) (needs act).text i);
-            outgoing = outgoing_found t org ws w.next_version lawful.versions.rise lawful.versions.gapless lawful.versions.next.1 (needs act).outgoing (keep_in (needs act).keep_versions org ws t) i;
+            outgoing = outgoing_found t org ws w.next_version lawful.versions.rise lawful.versions.gapless lawful.versions.next.1 (needs act).outgoing (retention_in (needs act).retention org ws t) i;
             first_waiting = if_needed (needs act).waiting (first_waiting_found t org ws i);
             has_version = has_version_found t org ws w.next_version lawful.versions.rise (needs act).version i;
             asked_run = asked_run_found t org ws lawful.runs.keys (needs act).run (needs act).key i;

@@ -33,7 +33,7 @@ use Rattle.statements.specs.Finds.{version_cmp, run_cmp, is_version_before, vers
 use Rattle.statements.specs.Listings.{is_behind, workspaces_by_name, named_row as named_at, WorkspacesApart, VersionsApart, RunsApart}
 use Rattle.statements.proofs.Conditions.{one_less_is}
 use Rattle.statements.proofs.Sorting.{all_sorted}
-use Rattle.tables.specs.Records.{settings_of_cells, keep_at, version_at, versions_at, runs_at, workspace_at, workspaces_at, organization_at, record_of}
+use Rattle.tables.specs.Records.{settings_of_cells, retention_at, version_at, versions_at, runs_at, workspace_at, workspaces_at, organization_at, record_of}
 use Rattle.tables.specs.Sound.{IsSound}
 use Rattle.texts.specs.Texts.{IsWhole}
 use Rattle.texts.proofs.PieceLaws.{whole_size}
@@ -236,7 +236,7 @@ module _ (t : Tables) (org : List ℕ) where
     -- a row as it is shown is the workspace as it is shown
     row_shown : (e : List ℕ × WorkspaceCells) → IsNamedWorkspace e.0 (workspace_at t org e.0 e.1) → ws_row_in org t (named_at org t e) ≡ showing.row_of e.0 (showing.shown_of (workspace_at t org e.0 e.1))
     row_shown e named =
-        ap (λ (version : Option ℕ). record { settings = settings_of_cells (keep_at t org e.0) e.1; holder = showing.holder_id e.1.holder; name = e.0; version = version })
+        ap (λ (version : Option ℕ). record { settings = settings_of_cells (retention_at t org e.0) e.1; holder = showing.holder_id e.1.holder; name = e.0; version = version })
         (newest_is_shown t org e.0 e.1.next_version named.lawful.versions.next.1 named.lawful.versions.rise ∙ newest_number_found t org e.0 e.1.next_version named.lawful.versions.rise)
 
     and_turned : (a b : Bool) → (a && b) ≡ (b && a)

@@ -22,7 +22,7 @@ use Rattle.statements.specs.Tables.{Tables}
 use Rattle.statements.specs.Changes.{is_version_of, is_run_of}
 use Rattle.statements.specs.Finds.{version_cmp, run_cmp, workspace_of}
 use Rattle.statements.proofs.Sorting.{sorted_already, filter-sort_by}
-use Rattle.tables.specs.Records.{version_at, workspace_of_cells, keep_at, versions_at, runs_at, workspace_by}
+use Rattle.tables.specs.Records.{version_at, workspace_of_cells, retention_at, versions_at, runs_at, workspace_by}
 use Rattle.tables.proofs.Ranks.{rising}
 use Rattle.tables.proofs.Sorted.{sorted_with, map-sorted}
 pub use Rattle.tables.specs.Inner.Standing.{versions_in, runs_in, workspace_of_rows}
@@ -64,10 +64,10 @@ ordered w = record w { versions = sort_by by_version w.versions; runs = sort_by 
 pub workspace_ordered : (t : Tables) (org ws : List ℕ) → workspace_by t org ws ≡ option_map ordered (workspace_of_rows t org ws)
 workspace_ordered t org ws = by_row (workspace_of org ws t)
   where
-    by_row : (r : Option WorkspaceCells) → option_map (λ (c : WorkspaceCells). workspace_of_cells (keep_at t org ws) c (versions_at t org ws) (runs_at t org ws)) r
-        ≡ option_map ordered (option_map (λ (c : WorkspaceCells). workspace_of_cells (keep_at t org ws) c (versions_in t org ws) (runs_in t org ws)) r)
+    by_row : (r : Option WorkspaceCells) → option_map (λ (c : WorkspaceCells). workspace_of_cells (retention_at t org ws) c (versions_at t org ws) (runs_at t org ws)) r
+        ≡ option_map ordered (option_map (λ (c : WorkspaceCells). workspace_of_cells (retention_at t org ws) c (versions_in t org ws) (runs_in t org ws)) r)
     by_row None = refl
-    by_row (Some c) = λ i. Some (workspace_of_cells (keep_at t org ws) c (versions_sorted t org ws i) (runs_sorted t org ws i))
+    by_row (Some c) = λ i. Some (workspace_of_cells (retention_at t org ws) c (versions_sorted t org ws i) (runs_sorted t org ws i))
 
 -- a lawful workspace is in order
 pub lawful_ordered : (w : Workspace) → IsLawful w → ordered w ≡ w

@@ -187,16 +187,16 @@ module _ (org ws : List ℕ) (t : Tables) (owned : AreOwned t) where
 
   -- a workspace where there is no row of its name
   owned_added : (of_runs : RunSettings) (keep : ℕ) → AllByRecursion (λ x. is_ws org ws x ≡ false) t.wss → HasNoKeeping org ws t → list_any (is_org org) t.orgs ≡ true → AreOwned (ws_added org ws of_runs keep t)
-  owned_added of_runs keep none no_keep there = record {
+  owned_added of_runs keep none no_keeping_row there = record {
     wss_apart = apart_pushed (λ a b. is_ws a.1.org a.1.name b) t.wss new owned.wss_apart
         (all_weaker (λ x. is_ws org ws x ≡ false) (λ x. is_ws x.1.org x.1.name new ≡ false) (λ x e. pair_turned org ws x.1.org x.1.name e) t.wss none);
-    keepings_apart = apart_pushed (λ a b. is_keeping a.1.org a.1.ws b) t.keepings new_keep owned.keepings_apart
-        (all_weaker (λ x. is_keeping org ws x ≡ false) (λ x. is_keeping x.1.org x.1.ws new_keep ≡ false) (λ x e. pair_turned org ws x.1.org x.1.ws e) t.keepings no_keep);
-    wss_kept = all-append (λ x. list_any (is_keeping x.1.org x.1.name) (t.keepings ++ new_keep ∷ []) ≡ true) t.wss (new ∷ [])
-        (all_weaker (λ x. list_any (is_keeping x.1.org x.1.name) t.keepings ≡ true) (λ x. list_any (is_keeping x.1.org x.1.name) (t.keepings ++ new_keep ∷ []) ≡ true) (λ x h. any_pushed (is_keeping x.1.org x.1.name) t.keepings new_keep h) t.wss owned.wss_kept)
-        (last_found (is_keeping org ws) t.keepings new_keep (pair_is org ws), tt);
+    keepings_apart = apart_pushed (λ a b. is_keeping a.1.org a.1.ws b) t.keepings new_keeping owned.keepings_apart
+        (all_weaker (λ x. is_keeping org ws x ≡ false) (λ x. is_keeping x.1.org x.1.ws new_keeping ≡ false) (λ x e. pair_turned org ws x.1.org x.1.ws e) t.keepings no_keeping_row);
+    wss_kept = all-append (λ x. list_any (is_keeping x.1.org x.1.name) (t.keepings ++ new_keeping ∷ []) ≡ true) t.wss (new ∷ [])
+        (all_weaker (λ x. list_any (is_keeping x.1.org x.1.name) t.keepings ≡ true) (λ x. list_any (is_keeping x.1.org x.1.name) (t.keepings ++ new_keeping ∷ []) ≡ true) (λ x h. any_pushed (is_keeping x.1.org x.1.name) t.keepings new_keeping h) t.wss owned.wss_kept)
+        (last_found (is_keeping org ws) t.keepings new_keeping (pair_is org ws), tt);
     wss_owned = all-append (λ x. list_any (is_org x.1.org) t.orgs ≡ true) t.wss (new ∷ []) owned.wss_owned (there, tt);
-    keepings_owned = all-append (λ x. list_any (is_ws x.1.org x.1.ws) (t.wss ++ new ∷ []) ≡ true) t.keepings (new_keep ∷ [])
+    keepings_owned = all-append (λ x. list_any (is_ws x.1.org x.1.ws) (t.wss ++ new ∷ []) ≡ true) t.keepings (new_keeping ∷ [])
         (all_weaker (λ x. list_any (is_ws x.1.org x.1.ws) t.wss ≡ true) (λ x. list_any (is_ws x.1.org x.1.ws) (t.wss ++ new ∷ []) ≡ true) (λ x h. any_pushed (is_ws x.1.org x.1.ws) t.wss new h) t.keepings owned.keepings_owned)
         (last_found (is_ws org ws) t.wss new (pair_is org ws), tt);
     versions_owned = all_weaker (λ x. list_any (is_ws x.1.org x.1.ws) t.wss ≡ true) (λ x. list_any (is_ws x.1.org x.1.ws) (t.wss ++ new ∷ []) ≡ true) (λ x h. any_pushed (is_ws x.1.org x.1.ws) t.wss new h) t.versions owned.versions_owned;
@@ -206,8 +206,8 @@ module _ (org ws : List ℕ) (t : Tables) (owned : AreOwned t) where
       new : Kept WsRow
       new = (next_key id_of t.wss, record { org = org; name = ws; it = workspace_made of_runs })
 
-      new_keep : Kept KeepingRow
-      new_keep = (next_key id_of t.keepings, record { org = org; ws = ws; keep = keep })
+      new_keeping : Kept KeepingRow
+      new_keeping = (next_key id_of t.keepings, record { org = org; ws = ws; keep = keep })
 
 module _ (org ws : List ℕ) (t : Tables) (sound : IsSound t) where
   abbrev purged_rows : Tables
@@ -220,11 +220,11 @@ module _ (org ws : List ℕ) (t : Tables) (sound : IsSound t) where
   owned_removed = owned_taken org ws purged_rows owned_purged (all_go org ws t sound).own
 
   pub owned_made : (settings : Settings) → workspace_of org ws t ≡ None → list_any (is_org org) t.orgs ≡ true → AreOwned (made_rows org ws settings t)
-  owned_made settings none there = owned_added org ws t (sound_are_owned t sound) settings.runs settings.keep_versions (no_row org ws t none) (no_keeping org ws t none sound) there
+  owned_made settings none there = owned_added org ws t (sound_are_owned t sound) settings.runs settings.retention (no_row org ws t none) (no_keeping org ws t none sound) there
 
   owned_configured : (settings : Settings) (outgoing : Option ℕ) → AreOwned (configured_rows org ws settings outgoing t)
   owned_configured settings outgoing =
-      owned_becomes org ws (settings_rows org ws settings t) (owned_kept org ws (ws_changed (with_run_settings settings.runs) org ws t) (owned_row org ws t (sound_are_owned t sound) (with_run_settings settings.runs)) settings.keep_versions)
+      owned_becomes org ws (settings_rows org ws settings t) (owned_kept org ws (ws_changed (with_run_settings settings.runs) org ws t) (owned_row org ws t (sound_are_owned t sound) (with_run_settings settings.runs)) settings.retention)
       (left_above outgoing) org ws (configured_rows org ws settings outgoing t) (settings_leave org ws t sound settings outgoing)
 
   owned_versioned : (keys : ℕ → List ℕ) (v : Version) (takes : TakesVersion keys org ws v t) (outgoing : Option ℕ) → AreOwned (versioned_rows keys org ws v outgoing t)

@@ -16,10 +16,10 @@ use Rattle.statements.specs.declared.rows.Workspace.{Workspace as WorkspaceCells
 use Rattle.statements.specs.Rows.{Kept, id_of, WsRow, KeepingRow, RunRow}
 use Rattle.statements.specs.Tables.{Tables}
 use Rattle.statements.specs.Changes.{is_ws, is_keeping, ws_changed, ws_added, ws_removed, keeping_changed, workspace_made, is_run_of, is_run_row, run_changed_to, run_acted, run_added, runs_removed}
-use Rattle.statements.specs.Finds.{workspace_of, keep_of}
+use Rattle.statements.specs.Finds.{workspace_of, retention_of}
 use Rattle.statements.proofs.Found.{find_changed, find_unchanged, find_deleted, find_left, find_pushed, find_pushed_other, filter_deleted}
 use Rattle.basis.specs.declared.numbers.TheConstants.{FIRST_KEPT}
-use Rattle.tables.specs.Records.{keep_at}
+use Rattle.tables.specs.Records.{retention_at}
 use Rattle.tables.proofs.Ordered.{runs_in}
 use Rattle.tables.proofs.Names.{is_pair, pair_is, pair_apart}
 
@@ -86,27 +86,27 @@ module _ (org ws : List ℕ) where
 
     -- ---- how many versions it keeps
 
-    pub keep_left : (a b : List ℕ) → is_pair org ws a b ≡ false → keep_at (ws_removed org ws t) a b ≡ keep_at t a b
-    keep_left a b other = ap kept_in (find_left (is_keeping a b) (is_keeping org ws) (λ x. pair_apart org ws a b x.1.org x.1.ws other) t.keepings)
+    pub retention_left : (a b : List ℕ) → is_pair org ws a b ≡ false → retention_at (ws_removed org ws t) a b ≡ retention_at t a b
+    retention_left a b other = ap kept_in (find_left (is_keeping a b) (is_keeping org ws) (λ x. pair_apart org ws a b x.1.org x.1.ws other) t.keepings)
 
-    pub keep_added : (of_runs : RunSettings) (keep : ℕ) → keep_of org ws t ≡ None → keep_at (ws_added org ws of_runs keep t) org ws ≡ keep
-    keep_added of_runs keep none =
+    pub retention_added : (of_runs : RunSettings) (keep : ℕ) → retention_of org ws t ≡ None → retention_at (ws_added org ws of_runs keep t) org ws ≡ keep
+    retention_added of_runs keep none =
         ap kept_in (find_pushed (is_keeping org ws) t.keepings (next_key id_of t.keepings, record { org = org; ws = ws; keep = keep }) (none_mapped (λ (x : Kept KeepingRow). x.1.keep) _ none) (pair_is org ws))
 
-    pub keep_added_other : (of_runs : RunSettings) (keep : ℕ) (a b : List ℕ) → is_pair org ws a b ≡ false → keep_at (ws_added org ws of_runs keep t) a b ≡ keep_at t a b
-    keep_added_other of_runs keep a b other =
+    pub retention_added_other : (of_runs : RunSettings) (keep : ℕ) (a b : List ℕ) → is_pair org ws a b ≡ false → retention_at (ws_added org ws of_runs keep t) a b ≡ retention_at t a b
+    retention_added_other of_runs keep a b other =
         ap kept_in (find_pushed_other (is_keeping a b) t.keepings (next_key id_of t.keepings, record { org = org; ws = ws; keep = keep }) (pair_apart org ws a b org ws other (pair_is org ws)))
 
     -- a number is set where there is a row for it
-    pub keep_set : (keep : ℕ) → is_some (find (is_keeping org ws) t.keepings) ≡ true → keep_at (keeping_changed keep org ws t) org ws ≡ keep
-    keep_set keep there = ap kept_in (find_changed (is_keeping org ws) (λ x. (x.0, record x.1 { keep = keep })) (λ x. refl) t.keepings) ∙ by_row (find (is_keeping org ws) t.keepings) there
+    pub retention_set : (keep : ℕ) → is_some (find (is_keeping org ws) t.keepings) ≡ true → retention_at (keeping_changed keep org ws t) org ws ≡ keep
+    retention_set keep there = ap kept_in (find_changed (is_keeping org ws) (λ x. (x.0, record x.1 { keep = keep })) (λ x. refl) t.keepings) ∙ by_row (find (is_keeping org ws) t.keepings) there
       where
         by_row : (r : Option (Kept KeepingRow)) → is_some r ≡ true → kept_in (option_map (λ (x : Kept KeepingRow). (x.0, record x.1 { keep = keep })) r) ≡ keep
         by_row None e = absurd (let none : ⊥ = cc in none)
         by_row (Some x) e = refl
 
-    pub keep_set_other : (keep : ℕ) (a b : List ℕ) → is_pair org ws a b ≡ false → keep_at (keeping_changed keep org ws t) a b ≡ keep_at t a b
-    keep_set_other keep a b other =
+    pub retention_set_other : (keep : ℕ) (a b : List ℕ) → is_pair org ws a b ≡ false → retention_at (keeping_changed keep org ws t) a b ≡ retention_at t a b
+    retention_set_other keep a b other =
         ap kept_in (find_unchanged (is_keeping a b) (is_keeping org ws) (λ x. pair_apart org ws a b x.1.org x.1.ws other) (λ x. (x.0, record x.1 { keep = keep })) (λ x. refl) t.keepings)
 
     -- ---- its runs

@@ -26,10 +26,10 @@ use Rattle.statements.specs.Making.{sequence_name, IsNotNamed, NamesNoOther, rai
 use Rattle.statements.proofs.Counts.{next_version, more_tables}
 use Rattle.statements.proofs.Decoding.{tables_at-held}
 use Rattle.statements.proofs.Found.{found_holds}
-use Rattle.tables.specs.Records.{no_bounds, bounds_at, keep_at, token_of_cells, is_token_of, tokens_at, record_of}
+use Rattle.tables.specs.Records.{no_bounds, bounds_at, retention_at, token_of_cells, is_token_of, tokens_at, record_of}
 use Rattle.tables.specs.Sound.{IsBoundRow, IsSoundIn}
 use Rattle.tables.specs.Stores.{is_in_schema}
-use Rattle.tables.specs.Versions.{HoldsVersion, Becomes, KeepsBeside}
+use Rattle.tables.specs.Versions.{HoldsSchema, Becomes, KeepsBeside}
 use Rattle.tables.proofs.TextRows.{AreTexts, texts_carried, KeepsWorkspaces, workspace_carried, workspaces_carried, organization_carried}
 use Rattle.tables.proofs.Names.{pair_is}
 
@@ -209,18 +209,18 @@ module _ (t : Tables) (none : t.keepings ≡ []) where
   third = raised 2 t
 
   -- each workspace keeps what one keeps at first
-  keep_filled : (org ws : List ℕ) → keep_at third org ws ≡ FIRST_KEPT
-  keep_filled org ws = by_row (find (is_keeping org ws) third.keepings) refl
+  retention_filled : (org ws : List ℕ) → retention_at third org ws ≡ FIRST_KEPT
+  retention_filled org ws = by_row (find (is_keeping org ws) third.keepings) refl
     where
       by_row : (o : Option (Kept KeepingRow)) → find (is_keeping org ws) third.keepings ≡ o → unwrap_or (option_map (λ (x : Kept KeepingRow). x.1.keep) o) FIRST_KEPT ≡ FIRST_KEPT
       by_row None e = refl
       by_row (Some x) e = found_holds KeepsFirst (is_keeping org ws) third.keepings x (all_kept_first t.wss) e
 
-  keep_none : (org ws : List ℕ) → keep_at t org ws ≡ FIRST_KEPT
-  keep_none org ws = ap (λ (ks : List (Kept KeepingRow)). unwrap_or (option_map (λ (x : Kept KeepingRow). x.1.keep) (find (is_keeping org ws) ks)) FIRST_KEPT) none
+  retention_none : (org ws : List ℕ) → retention_at t org ws ≡ FIRST_KEPT
+  retention_none org ws = ap (λ (ks : List (Kept KeepingRow)). unwrap_or (option_map (λ (x : Kept KeepingRow). x.1.keep) (find (is_keeping org ws) ks)) FIRST_KEPT) none
 
   kept_workspaces : KeepsWorkspaces t third
-  kept_workspaces = record { wss = refl; versions = refl; runs = refl; pages = refl; vpages = refl; kept = λ org ws. keep_filled org ws ∙ sym (keep_none org ws) }
+  kept_workspaces = record { wss = refl; versions = refl; runs = refl; pages = refl; vpages = refl; kept = λ org ws. retention_filled org ws ∙ sym (retention_none org ws) }
 
   pub third_record : (org : List ℕ) → record_of third org ≡ record_of t org
   third_record org = organization_carried t third kept_workspaces refl refl org (cap_of org t)
@@ -320,14 +320,14 @@ module _ (n : ℕ) (low : n < NEWEST) (old new : Database) (raises : Raises n ol
   abbrev rows : Tables
   rows = tables_at n old
 
-  module _ (h : HoldsVersion n old) where
+  module _ (h : HoldsSchema n old) where
     step : Step n
     step = step_of n h.known low
 
     rows_are : tables_at (suc n) new ≡ raised n rows
     rows_are = tables_at-held (suc n) new (raised n rows) (raises.holds rows h.holds) ∙ step.still (tables_of old)
 
-    next_holds : HoldsVersion (suc n) new
+    next_holds : HoldsSchema (suc n) new
     next_holds =
         let known = next_version n (omega (arith, low)) in
         let more = more_tables n (suc n) (omega arith) known in

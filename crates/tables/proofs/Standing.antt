@@ -17,7 +17,7 @@ use Rattle.statements.specs.declared.rows.Workspace.{Workspace as WorkspaceCells
 use Rattle.statements.specs.Tables.{Tables}
 use Rattle.statements.specs.Changes.{is_ws, with_next_version, with_next_run, held_by, released_from, ws_changed, ws_added, run_added}
 use Rattle.statements.specs.Finds.{workspace_of, size_of}
-use Rattle.tables.specs.Records.{workspace_of_cells, keep_at, record_of}
+use Rattle.tables.specs.Records.{workspace_of_cells, retention_at, record_of}
 use Rattle.tables.specs.Sound.{IsSound}
 use Rattle.tables.specs.Inner.Edits.{made_rows, added_rows, FitsTwins}
 use Rattle.tables.specs.Inner.Copies.{released_rows, held_rows, head_rows, Carries, with_versions, with_runs, Begins}
@@ -77,7 +77,7 @@ module _ (org ws : List ℕ) where
   stands_there : (first t : Tables) (w : Workspace) → StandsSoFar org ws w first t → list_any (is_ws org ws) t.wss ≡ true
   stands_there first t w stands = by_row (workspace_of org ws t) refl stands.own
     where
-      by_row : (r : Option WorkspaceCells) → workspace_of org ws t ≡ r → option_map (λ (c : WorkspaceCells). workspace_of_cells (keep_at t org ws) c (versions_in t org ws) (runs_in t org ws)) r ≡ Some w → list_any (is_ws org ws) t.wss ≡ true
+      by_row : (r : Option WorkspaceCells) → workspace_of org ws t ≡ r → option_map (λ (c : WorkspaceCells). workspace_of_cells (retention_at t org ws) c (versions_in t org ws) (runs_in t org ws)) r ≡ Some w → list_any (is_ws org ws) t.wss ≡ true
       by_row None e f = absurd (let none : ⊥ = cc in none)
       by_row (Some c) e f = row_there org ws t c e
 
@@ -132,7 +132,7 @@ module _ (org ws : List ℕ) where
   hold_carries (HeldByRun n) t = row_carries (held_by (HeldByRun n)) (held_after (HeldByRun n)) (λ c k vs rs. refl) t
 
   head_is : (holder : Holder) (released : Option (List ℕ)) (of_runs : RunSettings) (version run keep : ℕ)
-      → held_after holder (released_after released (counted version run (new_workspace (record { runs = of_runs; keep_versions = keep }))))
+      → held_after holder (released_after released (counted version run (new_workspace (record { runs = of_runs; retention = keep }))))
       ≡ workspace_of_cells keep (record { runs = of_runs; holder = holder; released = released; next_version = version; next_run = run }) [] []
   head_is Nobody None of_runs version run keep = refl
   head_is Nobody (Some id) of_runs version run keep = refl
@@ -144,7 +144,7 @@ module _ (org ws : List ℕ) where
   -- a workspace comes without its versions and runs
   pub head_begins : (c : WorkspaceCells) (keep : ℕ) (t : Tables) → workspace_of org ws t ≡ None → Begins org ws (workspace_of_cells keep c [] []) t (head_rows org ws c keep t)
   head_begins c keep t none =
-      let settings : Settings = record { runs = c.runs; keep_versions = keep } in
+      let settings : Settings = record { runs = c.runs; retention = keep } in
       let made : Tables = ws_added org ws c.runs keep t in
       let numbered : Tables = ws_changed (with_next_run c.next_run) org ws (ws_changed (with_next_version c.next_version) org ws made) in
       let freed : Tables = released_rows org ws c.released numbered in

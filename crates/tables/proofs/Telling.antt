@@ -16,7 +16,7 @@ use Rattle.tables.specs.Sound.{TellsVersion, IsSound}
 use Rattle.tables.proofs.TextRows.{KeepsRest}
 use Rattle.tables.proofs.VersionEdits.{all_go, settings_leave, versions_come}
 use Rattle.tables.specs.Opening.{told_in, IsOther}
-use Rattle.tables.specs.Versions.{HoldsVersion}
+use Rattle.tables.specs.Versions.{HoldsSchema}
 use Rattle.tables.proofs.There.{version_is_there}
 
 abbrev SameTold : Tables → Tables → Type 0
@@ -62,5 +62,5 @@ told_is (suc zero) t told = ap (λ (ms : List (Kept ℕ)). option_map (λ x. x.1
 told_is (suc (suc n)) t told = ap (λ (es : List (Kept ℕ)). option_map (λ x. x.1) (get_by id_of es (pos 1))) told.0
 
 -- a sound database of any version tells it
-pub sound_is_not_other : (s : State) → IsOther s → (n : ℕ) → HoldsVersion n s.now → ⊥
+pub sound_is_not_other : (s : State) → IsOther s → (n : ℕ) → HoldsSchema n s.now → ⊥
 sound_is_not_other s other n h = other n (version_is_there n s.now h) (tables_at n s.now) h.holds (told_is n (tables_at n s.now) h.sound.told)

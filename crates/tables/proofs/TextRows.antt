@@ -25,7 +25,7 @@ use Rattle.texts.specs.Texts.{is_place_of, pages_for, text_removed, text_of, IsW
 use Rattle.texts.proofs.PieceLists.{none_passes, none_found}
 use Rattle.texts.proofs.PlaceLaws.{IsOtherVersion, version_parts, version_from}
 use Rattle.texts.proofs.TextLaws.{text_added_keeps, text_added_whole, text_added_text, text_added_others_whole, text_added_others_text, text_added_places, text_added_metas, text_added_orgs, text_added_tokens, text_added_wss, text_added_versions, text_added_runs, text_added_bounds, text_added_editions, text_added_keepings, text_removed_keeps, text_removed_others_whole, text_removed_others_text, text_removed_places, text_removed_none, text_removed_metas, text_removed_orgs, text_removed_tokens, text_removed_wss, text_removed_versions, text_removed_runs, text_removed_bounds, text_removed_editions, text_removed_keepings, carried_whole, carried_text, carried_sound}
-use Rattle.tables.specs.Records.{version_of_cells, no_bounds, token_of_cells, workspace_of_cells, keep_at, version_at, versions_at, workspace_by, is_token_of, tokens_at, workspaces_at, organization_at}
+use Rattle.tables.specs.Records.{version_of_cells, no_bounds, token_of_cells, workspace_of_cells, retention_at, version_at, versions_at, workspace_by, is_token_of, tokens_at, workspaces_at, organization_at}
 use Rattle.tables.specs.Sound.{IsPlaced, HasText, IsSound}
 use Rattle.tables.specs.Inner.Edits.{first_gone, so_many_gone, gone_below, row_added, added_rows, FitsTwins}
 use Rattle.tables.proofs.Ordered.{versions_total, versions_in}
@@ -148,7 +148,7 @@ pub record KeepsWorkspaces (t u : Tables) : Type 0 where
   pub runs : u.runs ≡ t.runs
   pub pages : u.pages ≡ t.pages
   pub vpages : u.vpages ≡ t.vpages
-  pub kept : (o w : List ℕ) → keep_at u o w ≡ keep_at t o w
+  pub kept : (o w : List ℕ) → retention_at u o w ≡ retention_at t o w
 
 module _ (t u : Tables) (keeps : KeepsWorkspaces t u) where
   pub workspace_carried : (o w : List ℕ) → workspace_by u o w ≡ workspace_by t o w

@@ -10,21 +10,21 @@ use Rattle.sqlite_schema.specs.declared.schema.Table.{Table}
 use Rattle.sqlite_schema.specs.Names.{table_named}
 use Rattle.sqlite.specs.Effect.{Database}
 use Rattle.statements.specs.Place.{IsOwn}
-use Rattle.statements.specs.Tables.{is_known, count_in, our_tables, version_tables, tables_at}
+use Rattle.statements.specs.Tables.{is_known, count_in, our_tables, schema_tables, tables_at}
 use Rattle.statements.proofs.Counts.{more_tables, most_tables}
 use Rattle.statements.proofs.Held.{tables_taken}
 use Rattle.tables.specs.Opening.{all_there}
 use Rattle.tables.specs.Stores.{is_in_schema}
-use Rattle.tables.specs.Versions.{HoldsVersion}
+use Rattle.tables.specs.Versions.{HoldsSchema}
 
 own_there : (s : Schema) (tables : List Table) → AllByRecursion (IsOwn s) tables → list_all (is_in_schema s) tables ≡ true
 own_there s [] own = refl
 own_there s (t ∷ tables) own = and_from _ _ (ap is_some own.0.place.named) (own_there s tables own.1)
 
 -- a database of some version has all tables of that, and none of a later one
-pub version_is_there : (n : ℕ) (db : Database) → HoldsVersion n db → all_there n db.schema ≡ true
+pub version_is_there : (n : ℕ) (db : Database) → HoldsSchema n db → all_there n db.schema ≡ true
 version_is_there n db h =
-    and_from _ _ h.known (and_from _ _ (own_there db.schema (version_tables n) (subst (AllByRecursion (IsOwn db.schema)) (tables_taken (count_in n) (tables_at n db)) h.holds.own.own)) (ap not h.alone))
+    and_from _ _ h.known (and_from _ _ (own_there db.schema (schema_tables n) (subst (AllByRecursion (IsOwn db.schema)) (tables_taken (count_in n) (tables_at n db)) h.holds.own.own)) (ap not h.alone))
 
 -- ---- no database has the tables of two versions
 
@@ -40,8 +40,8 @@ some_behind p (x ∷ xs) (suc j) (suc k) low most all = some_behind p xs j k (om
 
 apart : (m n : ℕ) (s : Schema) → m < n → all_there m s ≡ true → all_there n s ≡ true → ⊥
 apart m n s low e f =
-    let lacks = (and_parts (list_all (is_in_schema s) (version_tables m)) _ (and_parts (is_known m) _ e).1).1 in
-    let has = (and_parts (list_all (is_in_schema s) (version_tables n)) _ (and_parts (is_known n) _ f).1).0 in
+    let lacks = (and_parts (list_all (is_in_schema s) (schema_tables m)) _ (and_parts (is_known m) _ e).1).1 in
+    let has = (and_parts (list_all (is_in_schema s) (schema_tables n)) _ (and_parts (is_known n) _ f).1).0 in
     true≢false (sym lacks ∙ ap not (some_behind (is_in_schema s) our_tables (count_in m) (count_in n) (more_tables m n low (known_there n s f)) (most_tables n) has))
 
 pub one_there : (m n : ℕ) (s : Schema) → all_there m s ≡ true → all_there n s ≡ true → m ≡ n

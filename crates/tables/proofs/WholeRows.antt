@@ -17,10 +17,10 @@ use Rattle.statements.specs.Rows.{Kept, VersionRow}
 use Rattle.statements.specs.Tables.{Tables}
 use Rattle.statements.specs.Steps.{Equals, EqualsWhere, Queries, Sees}
 use Rattle.statements.specs.Changes.{is_version_of}
-use Rattle.statements.specs.Finds.{version_cmp, workspace_of, keep_of}
+use Rattle.statements.specs.Finds.{version_cmp, workspace_of, retention_of}
 use Rattle.statements.specs.Listings.{version_rows_after, run_rows_after, VersionsApart, RunsApart}
 use Rattle.texts.proofs.Many.{sees_by, sees_as}
-use Rattle.tables.specs.Records.{keep_at, version_at, versions_at, runs_at, workspace_of_cells, workspace_at}
+use Rattle.tables.specs.Records.{retention_at, version_at, versions_at, runs_at, workspace_of_cells, workspace_at}
 use Rattle.tables.specs.Sound.{IsSound}
 use Rattle.tables.specs.Inner.Copies.{IsWhole}
 use Rattle.tables.specs.declared.wholes.Whole.{Whole}
@@ -78,10 +78,10 @@ module _ (org ws : List ℕ) (t : Tables) (sound : IsSound t) (it : WorkspaceCel
       first_are_all (λ (r : Run). r.number) 1_000_000_000 it.next_run (runs_at t org ws) lawful.runs.rise (omega (arith, few, next.1, as_runs))
 
   -- what four queries read of it is the workspace
-  whole_read : (keep : ℕ) (versions : List Head) (runs : List Run) → keep_of org ws t ≡ Some keep → versions ≡ version_rows_after org ws 0 1_000 t → runs ≡ run_rows_after org ws 0 1_000_000_000 t → IsWhole org ws t it keep versions runs
+  whole_read : (keep : ℕ) (versions : List Head) (runs : List Run) → retention_of org ws t ≡ Some keep → versions ≡ version_rows_after org ws 0 1_000 t → runs ≡ run_rows_after org ws 0 1_000_000_000 t → IsWhole org ws t it keep versions runs
   whole_read keep versions runs kept heads rows = record { is = ap (option_map (workspace_at t org ws)) there ∙ (λ i. Some (workspace_of_cells (keeps i) it (versions_are i) (runs_are i))) }
     where
-      keeps : keep_at t org ws ≡ keep
+      keeps : retention_at t org ws ≡ keep
       keeps = ap (λ (o : Option ℕ). unwrap_or o FIRST_KEPT) kept
 
       versions_are : versions_at t org ws ≡ map (version_at t org ws) versions
@@ -96,8 +96,8 @@ module _ {S : Type 0} (g : Ghosts S) (E : Type 0) (org ws : List ℕ) where
   abbrev row_is : Option WorkspaceCells → Tables → Type 0
   row_is = Equals (workspace_of org ws)
 
-  abbrev keep_is : Option ℕ → Tables → Type 0
-  keep_is = Equals (keep_of org ws)
+  abbrev retention_is : Option ℕ → Tables → Type 0
+  retention_is = Equals (retention_of org ws)
 
   abbrev versions_are : List Head → Tables → Type 0
   versions_are = EqualsWhere (VersionsApart org ws) (version_rows_after org ws 0 1_000)
@@ -106,11 +106,11 @@ module _ {S : Type 0} (g : Ghosts S) (E : Type 0) (org ws : List ℕ) where
   runs_are = EqualsWhere (RunsApart org ws) (run_rows_after org ws 0 1_000_000_000)
 
   pub whole_seen : (row : Option WorkspaceCells) (kept : Option ℕ) (it : WorkspaceCells) (keep : ℕ) (versions : List Head) (runs : List Run) (a b c d e : Held S) → row ≡ Some it → kept ≡ Some keep
-      → Queries {E = E} g row_is a b (Ok row) → Queries {E = E} g keep_is b c (Ok kept) → Queries {E = E} g versions_are c d (Ok versions) → Queries {E = E} g runs_are d e (Ok runs)
-      → Sees {E = E} g (λ (whole : Whole) f. IsSound f → IsWhole org ws f whole.it whole.keep whole.versions whole.runs) a e (Ok (record { it = it; keep = keep; versions = versions; runs = runs }))
+      → Queries {E = E} g row_is a b (Ok row) → Queries {E = E} g retention_is b c (Ok kept) → Queries {E = E} g versions_are c d (Ok versions) → Queries {E = E} g runs_are d e (Ok runs)
+      → Sees {E = E} g (λ (whole : Whole) f. IsSound f → IsWhole org ws f whole.it whole.retention whole.versions whole.runs) a e (Ok (record { it = it; retention = keep; versions = versions; runs = runs }))
   whole_seen row kept it keep versions runs a b c d e is keeps one two three four =
-      let first = seen_both g row_is keep_is a b c row kept (sees_by g row_is a b (Ok row) one) (sees_by g keep_is b c (Ok kept) two) in
-      let second = seen_both g (λ k t. row_is row t × keep_is k t) versions_are a c d kept versions first (sees_by g versions_are c d (Ok versions) three) in
-      let third = seen_both g (λ vs t. (row_is row t × keep_is kept t) × versions_are vs t) runs_are a d e versions runs second (sees_by g runs_are d e (Ok runs) four) in
-      sees_as g (λ rs t. ((row_is row t × keep_is kept t) × versions_are versions t) × runs_are rs t) (λ (whole : Whole) f. IsSound f → IsWhole org ws f whole.it whole.keep whole.versions whole.runs) a e runs (record { it = it; keep = keep; versions = versions; runs = runs })
+      let first = seen_both g row_is retention_is a b c row kept (sees_by g row_is a b (Ok row) one) (sees_by g retention_is b c (Ok kept) two) in
+      let second = seen_both g (λ k t. row_is row t × retention_is k t) versions_are a c d kept versions first (sees_by g versions_are c d (Ok versions) three) in
+      let third = seen_both g (λ vs t. (row_is row t × retention_is kept t) × versions_are vs t) runs_are a d e versions runs second (sees_by g runs_are d e (Ok runs) four) in
+      sees_as g (λ rs t. ((row_is row t × retention_is kept t) × versions_are versions t) × runs_are rs t) (λ (whole : Whole) f. IsSound f → IsWhole org ws f whole.it whole.retention whole.versions whole.runs) a e runs (record { it = it; retention = keep; versions = versions; runs = runs })
       (λ t told sound. whole_read org ws t sound it (sym told.0.0.0 ∙ is) keep versions runs (sym told.0.0.1 ∙ keeps) (told.0.1 (versions_apart t org ws sound)) (told.1 (runs_apart t org ws sound))) third

@@ -16,9 +16,9 @@ use Rattle.sqlite.specs.Effect.{Database}
 use Rattle.sqlite.specs.State.{State}
 use Rattle.statements.specs.Schema.{meta_table, version_table, edition_table}
 use Rattle.statements.specs.Rows.{Kept}
-use Rattle.statements.specs.Making.{HasMeta, told_version, version_in, HasEdition, edition_in}
+use Rattle.statements.specs.Making.{HasMeta, told_schema_version, schema_version_in, HasEdition, edition_in}
 use Rattle.statements.specs.declared.making.TheConstants.{NEWEST}
-use Rattle.statements.specs.Tables.{Tables, HoldsIn, is_known, version_tables, later_tables, our_tables}
+use Rattle.statements.specs.Tables.{Tables, HoldsIn, is_known, schema_tables, later_tables, our_tables}
 use Rattle.tables.specs.declared.counts.Counted.{Counted}
 use Rattle.tables.specs.Counting.{IsCounted}
 use Rattle.tables.specs.Stores.{records_of, IsSoundStore, is_in_schema}
@@ -42,7 +42,7 @@ any_there s = list_any (is_in_schema s) our_tables
 
 -- whether the tables that the database has of ours are those of a version: all of them, and none that a later one added
 abbrev pub all_there : ℕ → Schema → Bool
-all_there n s = is_known n && (list_all (is_in_schema s) (version_tables n) && not (list_any (is_in_schema s) (later_tables n)))
+all_there n s = is_known n && (list_all (is_in_schema s) (schema_tables n) && not (list_any (is_in_schema s) (later_tables n)))
 
 abbrev pub newest_there : Schema → Bool
 newest_there = all_there NEWEST
@@ -86,10 +86,10 @@ is_integer_column c name = (c.is_strict && is_integer c.kind) && bytes_eq c.name
 abbrev pub is_plain_column : Column → Bool
 is_plain_column c = is_null c.default && is_binary c.collation
 
-abbrev pub tells_version : List Column → Bool
-tells_version (one ∷ version ∷ []) =
+abbrev pub tells_schema_version : List Column → Bool
+tells_schema_version (one ∷ version ∷ []) =
     ((is_integer_column one (codes "one") && is_plain_column one) && not one.not_null) && ((is_integer_column version (codes "version") && is_plain_column version) && version.not_null)
-tells_version _ = false
+tells_schema_version _ = false
 
 -- the first column is the rowid
 abbrev pub is_first_key : Option ℕ → Bool
@@ -101,7 +101,7 @@ has_none [] = true
 has_none (x ∷ xs) = false
 
 abbrev pub is_meta_table : Table → Bool
-is_meta_table t = (is_first_key t.key && has_none t.computed) && tells_version t.columns
+is_meta_table t = (is_first_key t.key && has_none t.computed) && tells_schema_version t.columns
 
 abbrev pub is_meta_in : Option Table → Bool
 is_meta_in None = false
@@ -148,7 +148,7 @@ has_versions s = has_versions_at s (table_named s version_table.name)
 -- the version that meta tells in tables of the first, and edition in those of each later one
 abbrev pub told_in : ℕ → Tables → Option ℕ
 told_in zero t = None
-told_in (suc zero) t = version_in t
+told_in (suc zero) t = schema_version_in t
 told_in (suc (suc n)) t = edition_in t
 
 -- What tells the version in a database that holds the tables of one tells this one.
@@ -156,12 +156,12 @@ abbrev pub TellsIn : ℕ → Database → Type 0
 TellsIn n db = (t : Tables) → HoldsIn n db t → told_in n t ≡ Some n
 
 abbrev pub EditionTells : ℕ → Database → Type 0
-EditionTells n db = (table : Table) (editions : List (Kept ℕ)) → HasEdition db table editions → told_version editions ≡ Some n
+EditionTells n db = (table : Table) (editions : List (Kept ℕ)) → HasEdition db table editions → told_schema_version editions ≡ Some n
 
 -- the same, whatever else the table that tells it is
 abbrev pub ToldBy : ℕ → Database → Type 0
 ToldBy zero db = ⊥
-ToldBy (suc zero) db = (table : Table) (metas : List (Kept ℕ)) → HasMeta db table metas → told_version metas ≡ Some 1
+ToldBy (suc zero) db = (table : Table) (metas : List (Kept ℕ)) → HasMeta db table metas → told_schema_version metas ≡ Some 1
 ToldBy (suc (suc n)) db = EditionTells (suc (suc n)) db
 
 -- The database tells no version, or another than that of the tables which it has.

@@ -21,14 +21,14 @@ use Rattle.statements.specs.declared.rows.Workspace.{Workspace as WorkspaceCells
 use Rattle.statements.specs.Rows.{Kept, TokenRow}
 use Rattle.statements.specs.Tables.{Tables}
 use Rattle.statements.specs.Changes.{is_ws_of, is_version_of, is_run_of}
-use Rattle.statements.specs.Finds.{version_cmp, run_cmp, cap_of, named_role_of, bound_of, keep_of, workspace_of}
+use Rattle.statements.specs.Finds.{version_cmp, run_cmp, cap_of, named_role_of, bound_of, retention_of, workspace_of}
 use Rattle.texts.specs.Texts.{text_of}
 
 -- ---- what cells denote
 
 -- how many versions a workspace keeps stands in a row of its own
 abbrev pub settings_of_cells : ℕ → WorkspaceCells → Settings
-settings_of_cells keep w = record { runs = w.runs; keep_versions = keep }
+settings_of_cells keep w = record { runs = w.runs; retention = keep }
 
 -- the cells have the number of the text's bytes, and the text stands in pages
 abbrev pub version_of_cells : List ℕ → VersionCells → Version
@@ -71,12 +71,12 @@ abbrev pub runs_at : Tables → List ℕ → List ℕ → List Run
 runs_at t org ws = map (λ x. x.1.it) (sort_by run_cmp (filter (is_run_of org ws) t.runs))
 
 -- How many versions a workspace keeps. One without a row of that, as all are in the versions before the third, keeps what one keeps at first.
-abbrev pub keep_at : Tables → List ℕ → List ℕ → ℕ
-keep_at t org ws = unwrap_or (keep_of org ws t) FIRST_KEPT
+abbrev pub retention_at : Tables → List ℕ → List ℕ → ℕ
+retention_at t org ws = unwrap_or (retention_of org ws t) FIRST_KEPT
 
 -- the workspace that a row denotes
 abbrev pub workspace_at : Tables → List ℕ → List ℕ → WorkspaceCells → Workspace
-workspace_at t org ws cells_of = workspace_of_cells (keep_at t org ws) cells_of (versions_at t org ws) (runs_at t org ws)
+workspace_at t org ws cells_of = workspace_of_cells (retention_at t org ws) cells_of (versions_at t org ws) (runs_at t org ws)
 
 -- the workspace of an organization and a name, if it has a row
 abbrev pub workspace_by : Tables → List ℕ → List ℕ → Option Workspace

@@ -4,13 +4,13 @@ use Rattle.std.specs.List.{list_any}
 use Rattle.sqlite.specs.Effect.{Database}
 use Rattle.machine.specs.declared.records.Organization.{Organization}
 use Rattle.statements.specs.Making.{KeepsForeign}
-use Rattle.statements.specs.Tables.{Tables, HoldsIn, is_known, version_tables, later_tables, tables_at}
+use Rattle.statements.specs.Tables.{Tables, HoldsIn, is_known, schema_tables, later_tables, tables_at}
 use Rattle.tables.specs.Records.{record_of}
 use Rattle.tables.specs.Sound.{IsSoundIn}
 use Rattle.tables.specs.Stores.{is_in_schema}
 
 -- The tables of the version stand in the database, and none that later ones added; each of their rows is one of its table, and together they are sound.
-pub record HoldsVersion (n : ℕ) (db : Database) : Type 0 where
+pub record HoldsSchema (n : ℕ) (db : Database) : Type 0 where
   pub known : is_known n ≡ true
   pub holds : HoldsIn n db (tables_at n db)
   pub alone : list_any (is_in_schema db.schema) (later_tables n) ≡ false
@@ -18,15 +18,15 @@ pub record HoldsVersion (n : ℕ) (db : Database) : Type 0 where
 
 -- the record of each organization, by the rows that a database of a version has: where it hasn't a table, no token has bounds, and each workspace keeps
 -- what one keeps at first
-abbrev pub version_records : ℕ → Database → List ℕ → Option Organization
-version_records n db = record_of (tables_at n db)
+abbrev pub schema_records : ℕ → Database → List ℕ → Option Organization
+schema_records n db = record_of (tables_at n db)
 
 -- A database of a version has become one of another, with the same records.
 pub record Becomes (from to : ℕ) (old new : Database) : Type 0 where
-  pub holds : HoldsVersion from old → HoldsVersion to new
-  pub records : HoldsVersion from old → (org : List ℕ) → version_records to new org ≡ version_records from old org
+  pub holds : HoldsSchema from old → HoldsSchema to new
+  pub records : HoldsSchema from old → (org : List ℕ) → schema_records to new org ≡ schema_records from old org
 
 -- The tables of a version, sound or not, have become those of another, and tables of others beside them keep their places and their rows.
 pub record KeepsBeside (from to : ℕ) (old new : Database) : Type 0 where
   pub holds : (t : Tables) → HoldsIn from old t → (u : Tables) × HoldsIn to new u
-  pub foreign : (t : Tables) → HoldsIn from old t → KeepsForeign (version_tables from) (version_tables to) old new
+  pub foreign : (t : Tables) → HoldsIn from old t → KeepsForeign (schema_tables from) (schema_tables to) old new

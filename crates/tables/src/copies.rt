@@ -12,7 +12,7 @@ ghost use Rattle.tables.specs.Inner.Copies.{RelatedSteps, AreMadeBy, released_ro
 
 use crate::steps;
 use crate::wholes::{Whole, read_whole};
-use basis::{Bytes, Holder, KeepCount, LockId, RunRow, VersionRow};
+use basis::{Bytes, Holder, LockId, Retention, RunRow, VersionRow};
 use machine::{StateText, Version};
 use pages::PageKey;
 use sqlite::{Alter, Connection, Error, Transaction};
@@ -81,11 +81,11 @@ fn put_head<S: Alter>(
     org: &str,
     ws: &str,
     head: &Workspace,
-    keep: KeepCount,
+    retention: Retention,
 ) -> Result<(), Error>
-    ensures { RelatedSteps S.Store (Begins org.now ws.now (workspace_of_cells keep head.now [] [])) tx.old tx.new result }
+    ensures { RelatedSteps S.Store (Begins org.now ws.now (workspace_of_cells retention head.now [] [])) tx.old tx.new result }
 {
-    workspaces::add(tx, org, ws, head.runs, keep)?;
+    workspaces::add(tx, org, ws, head.runs, retention)?;
     put_counts(tx, org, ws, head)?;
     put_released(tx, org, ws, &head.released)?;
     put_holder(tx, org, ws, &head.holder)
@@ -193,9 +193,9 @@ fn copy_parts<T: Alter, K: PageKey, S: Alter>(
     ensures looks { Sees T.Store (λ _ _. ⊤) from.old from.new result }
     ensures copies { (w : AnyWorkspace) × RelatedSteps S.Store (Begins org.now ws.now w) tx.old tx.new result
         × (HasCleanDisk (state T.Store from.new) → OnOk result ((f : Tables) → Holds (state T.Store from.old).now f
-        → w ≡ workspace_of_cells whole.now.keep whole.now.it (map (version_at f org.now ws.now) whole.now.versions) whole.now.runs)) }
+        → w ≡ workspace_of_cells whole.now.retention whole.now.it (map (version_at f org.now ws.now) whole.now.versions) whole.now.runs)) }
 {
-    put_head(tx, org, ws, &whole.it, whole.keep)?;
+    put_head(tx, org, ws, &whole.it, whole.retention)?;
     copy_versions::<T, K, S>(tx, alloc, from, org, ws, whole.versions.as_slice())?;
     put_runs(tx, org, ws, whole.runs.as_slice())
 }

@@ -141,7 +141,7 @@ fn ws_row<S: Alter>(
     Ok(WsRow {
         settings: Settings {
             runs: workspace.it.runs,
-            keep_versions: kept(workspace.keep),
+            retention: kept(workspace.keep),
         },
         holder,
         name,

@@ -8,13 +8,13 @@ ghost use Rattle.statements.specs.Steps.{Equals, Sees};
 ghost use Rattle.statements.specs.Tables.{Tables, Holds};
 ghost use Rattle.machine.specs.Needs.{needed_of};
 ghost use Rattle.machine.specs.Units.{if_needed};
-ghost use Rattle.tables.specs.Records.{caller_with, bounds_at, IsBound, keep_at};
+ghost use Rattle.tables.specs.Records.{caller_with, bounds_at, IsBound, retention_at};
 ghost use Rattle.tables.specs.Inner.Lists.{asker_in};
-ghost use Rattle.tables.specs.Inner.Units.{holder_status_in, text_in, has_text, newest_by, newest_in, keep_in, number_before, has_version_in, number_behind, outgoing_in, keyed_run_in, asked_run_in, unit_in};
+ghost use Rattle.tables.specs.Inner.Units.{holder_status_in, text_in, has_text, newest_by, newest_in, retention_in, number_before, has_version_in, number_behind, outgoing_in, keyed_run_in, asked_run_in, unit_in};
 ghost use Rattle.tables.specs.Inner.Looks.{absent_in, runs_in, around_in, unit_from, present_in};
 
 use basis::{
-    Bounds, Bytes, Caller, Holder, KeepCount, Limit, Number, Role, RunRow, RunStatus, Settings,
+    Bounds, Bytes, Caller, Holder, Limit, Number, Retention, Role, RunRow, RunStatus, Settings,
     Text, VersionRow,
 };
 use machine::{Needs, Newest, Staying, TokenRow, Unit, WorkspaceUnit};
@@ -163,22 +163,22 @@ fn newest_if<S: Alter>(
 }
 
 /// How many versions a workspace keeps, by its row of keeping. One without such a row keeps what one keeps at first.
-pub(crate) fn kept(keep: Option<KeepCount>) -> KeepCount
-    ensures { result ≡ unwrap_or keep FIRST_KEPT }
+pub(crate) fn kept(retention: Option<Retention>) -> Retention
+    ensures { result ≡ unwrap_or retention FIRST_KEPT }
 {
-    match keep {
-        None => KeepCount::first(),
-        Some(keep) => keep,
+    match retention {
+        None => Retention::first(),
+        Some(retention) => retention,
     }
 }
 
 /// How many versions a workspace keeps.
-pub(crate) fn keep<S: Alter>(
+pub(crate) fn retention<S: Alter>(
     conn: &mut Connection<S>,
     org: &str,
     ws: &str,
-) -> Result<KeepCount, Error>
-    ensures looks { Sees S.Store (Equals (λ t. keep_at t org.now ws.now)) conn.old conn.new result }
+) -> Result<Retention, Error>
+    ensures looks { Sees S.Store (Equals (λ t. retention_at t org.now ws.now)) conn.old conn.new result }
     ensures is_open { HasCleanDisk (state S.Store conn.new) → OnOk result (IsTrue (state S.Store conn.new).is_open) }
 {
     let found = keepings::find(conn, org, ws)?;
@@ -186,18 +186,18 @@ pub(crate) fn keep<S: Alter>(
 }
 
 /// How many versions a workspace keeps, where that is needed, else what one keeps at first.
-fn keep_if<S: Alter>(
+fn retention_if<S: Alter>(
     conn: &mut Connection<S>,
     org: &str,
     ws: &str,
     needed: bool,
-) -> Result<KeepCount, Error>
-    ensures looks { Sees S.Store (Equals (keep_in needed org.now ws.now)) conn.old conn.new result }
+) -> Result<Retention, Error>
+    ensures looks { Sees S.Store (Equals (retention_in needed org.now ws.now)) conn.old conn.new result }
 {
     if needed {
-        keep(conn, org, ws)
+        retention(conn, org, ws)
     } else {
-        Ok(KeepCount::first())
+        Ok(Retention::first())
     }
 }
 
@@ -234,14 +234,14 @@ fn outgoing<S: Alter>(
     org: &str,
     ws: &str,
     staying: Staying,
-    keep: KeepCount,
+    retention: Retention,
     next_version: u64,
 ) -> Result<Option<Number>, Error>
-    ensures looks { Sees S.Store (Equals (outgoing_in staying keep next_version org.now ws.now)) conn.old conn.new result }
+    ensures looks { Sees S.Store (Equals (outgoing_in staying retention next_version org.now ws.now)) conn.old conn.new result }
 {
     match staying {
         Staying::StayAll => Ok(None),
-        Staying::MakeRoom => number_behind(conn, org, ws, next_version, keep.get() - 1),
+        Staying::MakeRoom => number_behind(conn, org, ws, next_version, retention.get() - 1),
         Staying::StayAtMost(most) => number_behind(conn, org, ws, next_version, most.get()),
     }
 }
@@ -507,13 +507,20 @@ fn around<S: Alter>(
     org: &str,
     ws: &str,
     needs: &Needs<'_>,
-    keep: KeepCount,
+    retention: Retention,
     workspace: &WorkspaceCells,
 ) -> Result<Surroundings, Error>
-    ensures looks { Sees S.Store (Equals (around_in (needed_of needs.now) org.now ws.now keep workspace.now)) conn.old conn.new result }
+    ensures looks { Sees S.Store (Equals (around_in (needed_of needs.now) org.now ws.now retention workspace.now)) conn.old conn.new result }
 {
     let newest = newest_if(conn, org, ws, needs.newest, needs.text)?;
-    let outgoing = outgoing(conn, org, ws, needs.outgoing, keep, workspace.next_version)?;
+    let outgoing = outgoing(
+        conn,
+        org,
+        ws,
+        needs.outgoing,
+        retention,
+        workspace.next_version,
+    )?;
     let has_version = has_version(conn, org, ws, needs.version)?;
     let runs = runs_around(conn, org, ws, needs, &workspace.holder)?;
     Ok(Surroundings {
@@ -524,14 +531,14 @@ fn around<S: Alter>(
     })
 }
 
-fn unit_by(keep: KeepCount, workspace: WorkspaceCells, around: Surroundings) -> WorkspaceUnit
-    ensures { result ≡ unit_from keep workspace around }
+fn unit_by(retention: Retention, workspace: WorkspaceCells, around: Surroundings) -> WorkspaceUnit
+    ensures { result ≡ unit_from retention workspace around }
 {
     let runs = around.runs;
     WorkspaceUnit {
         settings: Settings {
             runs: workspace.runs,
-            keep_versions: keep,
+            retention: retention,
         },
         holder: workspace.holder,
         holder_status: runs.holder_status,
@@ -556,9 +563,9 @@ fn present<S: Alter>(
 ) -> Result<Unit, Error>
     ensures looks { Sees S.Store (Equals (present_in (needed_of needs.now) org.now ws.now workspace)) conn.old conn.new result }
 {
-    let keep = keep_if(conn, org, ws, needs.keep_versions)?;
-    let around = around(conn, org, ws, needs, keep, &workspace)?;
-    Ok(Unit::Present(unit_by(keep, workspace, around)))
+    let retention = retention_if(conn, org, ws, needs.retention)?;
+    let around = around(conn, org, ws, needs, retention, &workspace)?;
+    Ok(Unit::Present(unit_by(retention, workspace, around)))
 }
 
 /// What a decision that needs so much sees of a workspace. How many its organization has may be known.

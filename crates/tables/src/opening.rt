@@ -8,10 +8,10 @@ ghost use Rattle.statements.specs.Place.{IsOwn};
 ghost use Rattle.statements.specs.Schema.{meta_table, version_table, edition_table};
 ghost use Rattle.statements.specs.Tables.{our_tables, table_counts};
 ghost use Rattle.statements.specs.declared.making.TheConstants.{NEWEST};
-ghost use Rattle.tables.specs.Opening.{any_there, all_there, newest_there, tells_edition, is_integer_column, is_null, is_plain_column, tells_version, is_first_key, has_none, is_meta_table, is_meta, is_edition, have_names, version_names, has_versions, TellsIn, ToldBy, IsOther, GivesBack};
+ghost use Rattle.tables.specs.Opening.{any_there, all_there, newest_there, tells_edition, is_integer_column, is_null, is_plain_column, tells_schema_version, is_first_key, has_none, is_meta_table, is_meta, is_edition, have_names, version_names, has_versions, TellsIn, ToldBy, IsOther, GivesBack};
 ghost use Rattle.tables.specs.Stores.{is_in_schema};
 ghost use Rattle.tables.specs.Inner.Making.{is_there, IsMade, found_in, TellsFound, FindsOurs, IsClimbed, IsOnWay};
-ghost use Rattle.tables.specs.Versions.{HoldsVersion, version_records, KeepsBeside};
+ghost use Rattle.tables.specs.Versions.{HoldsSchema, schema_records, KeepsBeside};
 
 use crate::transactions::{self, assert_settled};
 use machine::Fault;
@@ -64,10 +64,10 @@ fn any_there(schema: &Schema) -> bool
 }
 
 /// How many tables a version has, if there is that version.
-fn count_in(version: u64) -> Option<usize>
-    ensures { result ≡ slice_get table_counts version }
+fn count_in(schema_version: u64) -> Option<usize>
+    ensures { result ≡ slice_get table_counts schema_version }
 {
-    TABLE_COUNTS.get(version as usize).copied()
+    TABLE_COUNTS.get(schema_version as usize).copied()
 }
 
 /// Whether the first so many tables are there, and none of the others.
@@ -80,13 +80,13 @@ fn first_there(schema: &Schema, count: usize) -> bool
 }
 
 /// Whether all tables of a version are there, and none that a later one added.
-fn all_there(schema: &Schema, version: u64) -> bool
-    ensures { result ≡ all_there version schema.now }
+fn all_there(schema: &Schema, schema_version: u64) -> bool
+    ensures { result ≡ all_there schema_version schema.now }
 {
-    if version == 0 {
+    if schema_version == 0 {
         return false;
     }
-    match count_in(version) {
+    match count_in(schema_version) {
         Some(count) => first_there(schema, count),
         None => false,
     }
@@ -97,9 +97,9 @@ fn later_there(schema: &Schema) -> Option<u64>
     ensures there { IfSome result (λ n. (2 ≤ n) × (all_there n schema.now ≡ true)) }
     ensures told { is_some result ≡ tells_edition schema.now }
 {
-    for version in FIRST..NEWEST {
-        if all_there(schema, version + 1) {
-            return Some(version + 1);
+    for schema_version in FIRST..NEWEST {
+        if all_there(schema, schema_version + 1) {
+            return Some(schema_version + 1);
         }
     }
     None
@@ -132,15 +132,15 @@ fn is_plain_column(column: &Column) -> bool
 }
 
 /// Whether these are the columns of a table that tells a version.
-fn tells_version(columns: &[Column]) -> bool
-    ensures { result ≡ tells_version columns.now }
+fn tells_schema_version(columns: &[Column]) -> bool
+    ensures { result ≡ tells_schema_version columns.now }
 {
     match columns {
-        [one, version] => {
+        [one, schema_version] => {
             (is_integer_column(one, b"one".as_slice()) && is_plain_column(one) && !one.not_null)
                 && (is_integer_column(version, b"version".as_slice())
-                    && is_plain_column(version)
-                    && version.not_null)
+                    && is_plain_column(schema_version)
+                    && schema_version.not_null)
         }
         _ => false,
     }
@@ -170,7 +170,7 @@ fn is_meta_table(table: &Table) -> bool
 {
     is_first_key(table.key)
         && has_none(table.computed.as_slice())
-        && tells_version(table.columns.as_slice())
+        && tells_schema_version(table.columns.as_slice())
 }
 
 /// Whether the table meta has the columns of ours.
@@ -241,14 +241,14 @@ fn has_versions(schema: &Schema) -> bool
 }
 
 /// What is found where the tables of a version are there, and this version is told.
-fn found_in(version: u64, told: Option<u64>) -> Found
-    ensures { result ≡ found_in version told }
+fn found_in(schema_version: u64, told: Option<u64>) -> Found
+    ensures { result ≡ found_in schema_version told }
 {
     match told {
         None => Found::Other,
         Some(told) => {
-            if told == version {
-                Found::Version(version)
+            if told == schema_version {
+                Found::Version(schema_version)
             } else {
                 Found::Other
             }
@@ -267,17 +267,17 @@ fn find_first<S: Alter>(conn: &mut Connection<S>) -> Result<Found, Error>
     ensures err { HasCleanDisk (state S.Store conn.new) → OnErr result (KeepsCommit (state S.Store conn.old) (state S.Store conn.new)) }
 {
     assert_settled(conn);
-    match making::version(conn) {
+    match making::schema_version(conn) {
         Ok(told) => Ok(found_in(FIRST, told)),
         Err(error) => Err(error),
     }
 }
 
 /// Whether edition tells this version, where the tables of it are there.
-fn find_later<S: Alter>(conn: &mut Connection<S>, version: u64) -> Result<Found, Error>
+fn find_later<S: Alter>(conn: &mut Connection<S>, schema_version: u64) -> Result<Found, Error>
     requires idle { conn.old.in_transaction ≡ false }
-    requires there { all_there version (state S.Store conn.old).now.schema ≡ true }
-    requires later { 2 ≤ version }
+    requires there { all_there schema_version (state S.Store conn.old).now.schema ≡ true }
+    requires later { 2 ≤ schema_version }
     ensures idle { conn.new.in_transaction ≡ false }
     ensures so_far { HasCleanDisk (state S.Store conn.new) → HasCleanDisk (state S.Store conn.old) }
     ensures shield { (state S.Store conn.old).IsShielded → (state S.Store conn.new).IsShielded }
@@ -286,13 +286,13 @@ fn find_later<S: Alter>(conn: &mut Connection<S>, version: u64) -> Result<Found,
 {
     assert_settled(conn);
     match making::edition(conn) {
-        Ok(told) => Ok(found_in(version, told)),
+        Ok(told) => Ok(found_in(schema_version, told)),
         Err(error) => Err(error),
     }
 }
 
 /// Which version's tables are there, and whether that is told.
-fn find_version<S: Alter>(conn: &mut Connection<S>) -> Result<Found, Error>
+fn find_schema_version<S: Alter>(conn: &mut Connection<S>) -> Result<Found, Error>
     requires idle { conn.old.in_transaction ≡ false }
     ensures idle { conn.new.in_transaction ≡ false }
     ensures so_far { HasCleanDisk (state S.Store conn.new) → HasCleanDisk (state S.Store conn.old) }
@@ -304,11 +304,11 @@ fn find_version<S: Alter>(conn: &mut Connection<S>) -> Result<Found, Error>
 {
     let later = later_there(conn.schema());
     match later {
-        Some(version) => {
+        Some(schema_version) => {
             if !is_edition(conn.schema()) {
                 return Ok(Found::Other);
             }
-            find_later(conn, version)
+            find_later(conn, schema_version)
         }
         None => {
             if !all_there(conn.schema(), FIRST) {
@@ -344,7 +344,7 @@ fn find<S: Alter>(conn: &mut Connection<S>) -> Result<Found, Error>
     if !has_versions(conn.schema()) {
         return Ok(Found::Other);
     }
-    find_version(conn)
+    find_schema_version(conn)
 }
 
 /// Takes a database of a version to the newest one, a step at a time, each in one transaction.
@@ -373,8 +373,8 @@ pub(crate) fn ready<S: Alter>(conn: &mut Connection<S>) -> Result<(), Fault>
         → TellsIn n (state S.Store conn.old).now × ToldBy n (state S.Store conn.old).now) }
     ensures stays { HasCleanDisk (state S.Store conn.new) → OnOk result (newest_there (state S.Store conn.old).now.schema ≡ true → (state S.Store conn.new).committed ≡ (state S.Store conn.old).now) }
     ensures beside { HasCleanDisk (state S.Store conn.new) → OnOk result ((n : ℕ) → all_there n (state S.Store conn.old).now.schema ≡ true → KeepsBeside n NEWEST (state S.Store conn.old).now (state S.Store conn.new).committed) }
-    ensures climbed { HasCleanDisk (state S.Store conn.new) → OnOk result ((n : ℕ) → HoldsVersion n (state S.Store conn.old).now
-        → HoldsVersion NEWEST (state S.Store conn.new).committed × ((o : List ℕ) → version_records NEWEST (state S.Store conn.new).committed o ≡ version_records n (state S.Store conn.old).now o)) }
+    ensures climbed { HasCleanDisk (state S.Store conn.new) → OnOk result ((n : ℕ) → HoldsSchema n (state S.Store conn.old).now
+        → HoldsSchema NEWEST (state S.Store conn.new).committed × ((o : List ℕ) → schema_records NEWEST (state S.Store conn.new).committed o ≡ schema_records n (state S.Store conn.old).now o)) }
     ensures err { HasCleanDisk (state S.Store conn.new) → OnErr result (GivesBack (state S.Store conn.old) (state S.Store conn.new)) }
     ensures other { HasCleanDisk (state S.Store conn.new) → IfErr result (λ fault. fault ≡ Fault.Schema → (any_there (state S.Store conn.old).now.schema ≡ true) × IsOther (state S.Store conn.old)) }
     ensures kept { HasCleanDisk (state S.Store conn.new) → IfErr result (λ fault. fault ≡ Fault.Schema → KeepsCommit (state S.Store conn.old) (state S.Store conn.new)) }
@@ -390,7 +390,7 @@ pub(crate) fn ready<S: Alter>(conn: &mut Connection<S>) -> Result<(), Fault>
             Ok(()) => Ok(()),
             Err(_) => Err(Fault::Down),
         },
-        Ok(Found::Version(version)) => match climb(conn, version) {
+        Ok(Found::Version(schema_version)) => match climb(conn, schema_version) {
             Ok(()) => Ok(()),
             Err(_) => Err(Fault::Down),
         },

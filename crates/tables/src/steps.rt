@@ -104,7 +104,7 @@ fn make<S: Alter>(
     ensures steps { Steps S.Store (made_rows org.now ws.now settings.now) tx.old tx.new result }
     ensures fresh { Tells (λ _ t. workspace_of org.now ws.now t ≡ None) (state S.Store tx.old.conn.now) (state S.Store tx.new.conn.now) result }
 {
-    workspaces::add(tx, org, ws, settings.runs, settings.keep_versions)
+    workspaces::add(tx, org, ws, settings.runs, settings.retention)
 }
 
 /// Adds the row of a version behind the others. There was none of its number.
@@ -197,7 +197,7 @@ fn configure<S: Alter>(
     ensures { Steps S.Store (configured_rows org.now ws.now settings.now outgoing) tx.old tx.new result }
 {
     workspaces::set_run_settings(tx, org, ws, settings.runs)?;
-    keepings::set(tx, org, ws, settings.keep_versions)?;
+    keepings::set(tx, org, ws, settings.retention)?;
     match outgoing {
         None => Ok(()),
         Some(last) => forget(tx, org, ws, last),

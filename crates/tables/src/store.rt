@@ -5,14 +5,14 @@ ghost use Rattle.sqlite.specs.Held.{state};
 ghost use Rattle.sqlite.specs.State.{HasCleanDisk, KeepsCommit};
 ghost use Rattle.tables.specs.Stores.{records_of, IsSoundStore};
 ghost use Rattle.statements.specs.Making.{KeepsTables, KeepsForeign};
-ghost use Rattle.statements.specs.Tables.{Tables, Holds, HoldsIn, version_tables, our_tables};
+ghost use Rattle.statements.specs.Tables.{Tables, Holds, HoldsIn, schema_tables, our_tables};
 ghost use Rattle.tables.specs.Opening.{IsSoundKeep, IsFresh, any_there, all_there, newest_there, tells_edition, is_meta, is_edition, has_versions, TellsIn, ToldBy, IsOther, GivesBack};
 ghost use Rattle.basis.specs.Names.{is_prefix};
 ghost use Rattle.machine.specs.Keeping.{Looks};
 ghost use Rattle.machine.specs.Ranges.{IsMoment};
 ghost use Rattle.tables.specs.Copying.{IsCopied};
 ghost use Rattle.tables.specs.Scans.{AreRowsOf};
-ghost use Rattle.tables.specs.Versions.{HoldsVersion, version_records};
+ghost use Rattle.tables.specs.Versions.{HoldsSchema, schema_records};
 
 use crate::counts::Counted;
 use crate::opening::ready;
@@ -91,15 +91,15 @@ impl<S: Alter, K: PageKey> SqlKeep<S, K> {
             → (state S.Store keep.conn).committed ≡ (state S.Store conn).now) }
         ensures version { IfOk result (λ keep. ⟦<SqlKeep<S, K> as Keep>⟧.clean keep → (n : ℕ) → all_there n (state S.Store conn).now.schema ≡ true → TellsIn n (state S.Store conn).now) }
         ensures tells { IfOk result (λ keep. ⟦<SqlKeep<S, K> as Keep>⟧.clean keep → (n : ℕ) → all_there n (state S.Store conn).now.schema ≡ true → ToldBy n (state S.Store conn).now) }
-        ensures climbed { IfOk result (λ keep. ⟦<SqlKeep<S, K> as Keep>⟧.clean keep → (n : ℕ) → HoldsVersion n (state S.Store conn).now
-            → ⟦<SqlKeep<S, K> as Keep>⟧.sound keep × ((o : List ℕ) → ⟦<SqlKeep<S, K> as Keep>⟧.rows keep o ≡ version_records n (state S.Store conn).now o)) }
+        ensures climbed { IfOk result (λ keep. ⟦<SqlKeep<S, K> as Keep>⟧.clean keep → (n : ℕ) → HoldsSchema n (state S.Store conn).now
+            → ⟦<SqlKeep<S, K> as Keep>⟧.sound keep × ((o : List ℕ) → ⟦<SqlKeep<S, K> as Keep>⟧.rows keep o ≡ schema_records n (state S.Store conn).now o)) }
         ensures beside { IfOk result (λ keep. ⟦<SqlKeep<S, K> as Keep>⟧.clean keep → (n : ℕ) → all_there n (state S.Store conn).now.schema ≡ true
-            → (t : Tables) → HoldsIn n (state S.Store conn).now t → KeepsForeign (version_tables n) our_tables (state S.Store conn).now (state S.Store keep.conn).committed) }
+            → (t : Tables) → HoldsIn n (state S.Store conn).now t → KeepsForeign (schema_tables n) our_tables (state S.Store conn).now (state S.Store keep.conn).committed) }
         ensures back { IfErr result (λ unopened. HasCleanDisk (state S.Store unopened.conn) → GivesBack (state S.Store conn) (state S.Store unopened.conn)) }
         ensures kept { IfErr result (λ unopened. HasCleanDisk (state S.Store unopened.conn) → unopened.fault ≡ Fault.Schema → KeepsCommit (state S.Store conn) (state S.Store unopened.conn)) }
         ensures other { IfErr result (λ unopened. HasCleanDisk (state S.Store unopened.conn) → unopened.fault ≡ Fault.Schema
             → (any_there (state S.Store conn).now.schema ≡ true) × IsOther (state S.Store conn)) }
-        ensures sound { IfErr result (λ unopened. HasCleanDisk (state S.Store unopened.conn) → unopened.fault ≡ Fault.Schema → (n : ℕ) → HoldsVersion n (state S.Store conn).now → ⊥) }
+        ensures sound { IfErr result (λ unopened. HasCleanDisk (state S.Store unopened.conn) → unopened.fault ≡ Fault.Schema → (n : ℕ) → HoldsSchema n (state S.Store conn).now → ⊥) }
         ensures foreign { any_there (state S.Store conn).now.schema ≡ true → is_meta (state S.Store conn).now.schema ≡ false
             → IfErr result (λ unopened. unopened.fault ≡ Fault.Schema) × IfOk result (λ _. ⊥) }
         ensures edition { any_there (state S.Store conn).now.schema ≡ true → tells_edition (state S.Store conn).now.schema ≡ true → is_edition (state S.Store conn).now.schema ≡ false

@@ -4,7 +4,7 @@ ghost use Rattle.tables.specs.Sound.{IsSound};
 ghost use Rattle.tables.specs.Inner.Copies.{IsWhole};
 
 use basis::numbers::{MAX_KEPT, MAX_NUMBER};
-use basis::{Items, KeepCount, RunRow, VersionRow};
+use basis::{Items, Retention, RunRow, VersionRow};
 use sqlite::{Alter, Connection, Error};
 use statements::rows::Workspace;
 use statements::{keepings, runs, versions, workspaces};
@@ -20,7 +20,7 @@ const MOST_RUNS: usize = MAX_NUMBER as usize;
 #[derive(Drop)]
 pub(crate) struct Whole {
     pub it: Workspace,
-    pub keep: KeepCount,
+    pub retention: Retention,
     pub versions: Items<VersionRow>,
     pub runs: Items<RunRow>,
 }
@@ -32,19 +32,19 @@ pub(crate) fn read_whole<S: Alter>(
     org: &str,
     ws: &str,
 ) -> Result<Whole, Error>
-    ensures { Sees S.Store (λ whole f. IsSound f → IsWhole org.now ws.now f whole.it whole.keep whole.versions whole.runs) conn.old conn.new result }
+    ensures { Sees S.Store (λ whole f. IsSound f → IsWhole org.now ws.now f whole.it whole.retention whole.versions whole.runs) conn.old conn.new result }
 {
     let Some(it) = workspaces::find(conn, org, ws)? else {
         return Err(Error::QueryReturnedNoRows);
     };
-    let Some(keep) = keepings::find(conn, org, ws)? else {
+    let Some(retention) = keepings::find(conn, org, ws)? else {
         return Err(Error::QueryReturnedNoRows);
     };
     let versions = versions::list(alloc, conn, org, ws, 0, MOST_VERSIONS)?;
     let runs = runs::list(alloc, conn, org, ws, 0, MOST_RUNS)?;
     Ok(Whole {
         it,
-        keep,
+        retention,
         versions,
         runs,
     })

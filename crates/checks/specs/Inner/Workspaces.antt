@@ -4,7 +4,7 @@ use Rattle.std.specs.List.{AllByRecursion}
 use Rattle.std.specs.Option.{unwrap_or}
 use Rattle.basis.specs.Names.{is_ws_name, is_free_id}
 use Rattle.basis.specs.declared.numbers.TheConstants.{MAX_NUMBER, FIRST_KEPT}
-use Rattle.machine.specs.Ranges.{IsKeepCount}
+use Rattle.machine.specs.Ranges.{IsRetention}
 use Rattle.machine.specs.Laws.{IsNamedWorkspace}
 use Rattle.statements.specs.Rows.{Kept, WsRow, VersionRow, RunRow, KeepingRow}
 use Rattle.statements.specs.Tables.{Tables}
@@ -33,14 +33,14 @@ abbrev pub kept_in : List (Kept KeepingRow) → Option ℕ
 kept_in [] = None
 kept_in (x ∷ xs) = Some x.1.keep
 
-abbrev pub keep_among : List (Kept KeepingRow) → ℕ
-keep_among xs = unwrap_or (kept_in xs) FIRST_KEPT
+abbrev pub retention_among : List (Kept KeepingRow) → ℕ
+retention_among xs = unwrap_or (kept_in xs) FIRST_KEPT
 
 -- When the row of a workspace is lawful, with its rows of keeping, versions and runs.
 pub record IsLawfulRow (ks : List (Kept KeepingRow)) (vs : List (Kept VersionRow)) (rs : List (Kept RunRow)) (x : WsRow) : Type 0 where
-  pub keep : IsKeepCount (keep_among ks)
+  pub keep : IsRetention (retention_among ks)
   pub own : IsTrue (is_own x)
-  pub versions : IsTrue (are_versions (keep_among ks) x.it.next_version vs)
+  pub versions : IsTrue (are_versions (retention_among ks) x.it.next_version vs)
   pub runs : IsTrue (are_runs x.it.holder x.it.next_run rs)
 
 -- the same, where the rows are those at the places of its groups

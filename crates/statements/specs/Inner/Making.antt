@@ -14,7 +14,7 @@ use Rattle.statements.specs.Place.{tree_of, IsOwn}
 use Rattle.statements.specs.Rows.{id_of}
 use Rattle.statements.specs.Schema.{edition_table}
 use Rattle.statements.specs.Steps.{LeavesBeside}
-use Rattle.statements.specs.Tables.{Tables, StoredTable, HoldsAll, HoldsIn, version_tables}
+use Rattle.statements.specs.Tables.{Tables, StoredTable, HoldsAll, HoldsIn, schema_tables}
 use Rattle.statements.specs.Making.{bare_table, KeepsTables, NamesNoOther}
 
 -- The tables stand behind those of ours that were made before, in this order, each with no row and a tree of its own, and each table that was there is kept.
@@ -58,7 +58,7 @@ all_of (tables ∷ more) = tables ++ all_of more
 -- the rows change by the function, and what is not ours is left
 pub record Moved (n : ℕ) (change : Tables → Tables) (old new : Database) : Type 0 where
   pub rows : (t : Tables) → HoldsIn n old t → HoldsIn n new (change t)
-  pub others : (t : Tables) → HoldsIn n old t → LeavesBeside (version_tables n) old new
+  pub others : (t : Tables) → HoldsIn n old t → LeavesBeside (schema_tables n) old new
 
 -- edition tells this version in its row 1
 abbrev pub edition_set : ℕ → Tables → Tables
@@ -69,8 +69,8 @@ abbrev pub edition_moved : ℕ → Tables → Tables
 edition_moved version t = record t { editions = map (λ x. (x.0, version)) t.editions }
 
 -- meta tells no version
-abbrev pub version_cleared : Tables → Tables
-version_cleared t = record t { metas = [] }
+abbrev pub schema_version_cleared : Tables → Tables
+schema_version_cleared t = record t { metas = [] }
 
 -- Only the rows of the table differ, if it is one of ours.
 abbrev pub LeavesOthers : Table → Database → Database → Type 0

@@ -55,7 +55,7 @@ removed_rows org ws t = ws_removed org ws (runs_removed org ws (all_gone org ws 
 
 -- a new workspace has no versions and no runs
 abbrev pub made_rows : List ℕ → List ℕ → Settings → Tables → Tables
-made_rows org ws settings t = ws_added org ws settings.runs settings.keep_versions t
+made_rows org ws settings t = ws_added org ws settings.runs settings.retention t
 
 abbrev pub numbered_rows : List ℕ → List ℕ → Version → Tables → Tables
 numbered_rows org ws v t = ws_changed (with_next_version (v.number + 1)) org ws t
@@ -74,7 +74,7 @@ left_rows (Some last) org ws t = gone_below org ws (last + 1) t
 
 -- settings are set: they stand in two rows
 abbrev pub settings_rows : List ℕ → List ℕ → Settings → Tables → Tables
-settings_rows org ws settings t = keeping_changed settings.keep_versions org ws (ws_changed (with_run_settings settings.runs) org ws t)
+settings_rows org ws settings t = keeping_changed settings.retention org ws (ws_changed (with_run_settings settings.runs) org ws t)
 
 -- settings are set, and versions up to a number go
 abbrev pub configured_rows : List ℕ → List ℕ → Settings → Option ℕ → Tables → Tables

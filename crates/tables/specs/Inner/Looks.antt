@@ -11,7 +11,7 @@ use Rattle.statements.specs.declared.rows.Workspace.{Workspace as WorkspaceCells
 use Rattle.statements.specs.Finds.{cap_of, workspaces_of, first_waiting_of, open_runs_of}
 use Rattle.statements.specs.Tables.{Tables}
 use Rattle.tables.specs.Records.{settings_of_cells}
-use Rattle.tables.specs.Inner.Units.{holder_status_in, newest_in, keep_in, outgoing_in, has_version_in, asked_run_in}
+use Rattle.tables.specs.Inner.Units.{holder_status_in, newest_in, retention_in, outgoing_in, has_version_in, asked_run_in}
 use Rattle.tables.specs.declared.looks.RunsAround.{RunsAround}
 use Rattle.tables.specs.declared.looks.Surroundings.{Surroundings}
 
@@ -52,4 +52,4 @@ unit_from keep w a = record {
 }
 
 abbrev pub present_in : Needed → List ℕ → List ℕ → WorkspaceCells → Tables → Unit
-present_in need org ws w t = Present (unit_from (keep_in need.keep_versions org ws t) w (around_in need org ws (keep_in need.keep_versions org ws t) w t))
+present_in need org ws w t = Present (unit_from (retention_in need.retention org ws t) w (around_in need org ws (retention_in need.retention org ws t) w t))

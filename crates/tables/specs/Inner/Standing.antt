@@ -11,7 +11,7 @@ use Rattle.statements.specs.Tables.{Tables}
 use Rattle.statements.specs.Changes.{is_org, is_ws, is_keeping, is_version_of, is_run_of}
 use Rattle.statements.specs.Finds.{workspace_of}
 use Rattle.texts.specs.Texts.{HasSoundPlaces}
-use Rattle.tables.specs.Records.{version_at, workspace_of_cells, keep_at}
+use Rattle.tables.specs.Records.{version_at, workspace_of_cells, retention_at}
 use Rattle.tables.specs.Sound.{IsPlaced, HasText}
 
 abbrev pub is_pair : List ℕ → List ℕ → List ℕ → List ℕ → Bool
@@ -42,7 +42,7 @@ abbrev pub runs_in : Tables → List ℕ → List ℕ → List Run
 runs_in t org ws = map (λ x. x.1.it) (filter (is_run_of org ws) t.runs)
 
 abbrev pub workspace_of_rows : Tables → List ℕ → List ℕ → Option Workspace
-workspace_of_rows t org ws = option_map (λ (c : WorkspaceCells). workspace_of_cells (keep_at t org ws) c (versions_in t org ws) (runs_in t org ws)) (workspace_of org ws t)
+workspace_of_rows t org ws = option_map (λ (c : WorkspaceCells). workspace_of_cells (retention_at t org ws) c (versions_in t org ws) (runs_in t org ws)) (workspace_of org ws t)
 
 -- The rows of the workspace of this name stand for this one so far, in the order in which they stand: it had none in the tables before.
 -- What sound tables say of texts, and of rows that belong to others, holds; every other workspace is as before, and so are organizations, tokens and the version.

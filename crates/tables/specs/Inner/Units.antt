@@ -19,7 +19,7 @@ use Rattle.statements.specs.declared.rows.Workspace.{Workspace as WorkspaceCells
 use Rattle.statements.specs.Tables.{Tables}
 use Rattle.statements.specs.Finds.{cap_of, workspace_of, workspaces_of, newest_of, size_of, first_waiting_of, status_at_number, run_at_number, keyed_run_of, open_runs_of}
 use Rattle.texts.specs.Texts.{pages_for, text_of, are_pieces}
-use Rattle.tables.specs.Records.{settings_of_cells, keep_at}
+use Rattle.tables.specs.Records.{settings_of_cells, retention_at}
 
 -- the status of the run that holds
 abbrev pub holder_status_in : List ℕ → List ℕ → Holder → Tables → Option RunStatus
@@ -43,8 +43,8 @@ abbrev pub newest_in : Option (List ℕ) → List ℕ → List ℕ → Tables �
 newest_in text org ws t = option_map (newest_by text org ws t) (newest_of org ws t)
 
 -- how many versions a workspace keeps, where that is needed, else what one keeps at first
-abbrev pub keep_in : Bool → List ℕ → List ℕ → Tables → ℕ
-keep_in needed org ws t = cond needed (keep_at t org ws) FIRST_KEPT
+abbrev pub retention_in : Bool → List ℕ → List ℕ → Tables → ℕ
+retention_in needed org ws t = cond needed (retention_at t org ws) FIRST_KEPT
 
 -- whether the version that is asked of has a row
 abbrev pub has_version_in : Option ℕ → List ℕ → List ℕ → Tables → Bool
@@ -79,14 +79,14 @@ asked_run_in None key org ws t = keyed_run_in key org ws t
 abbrev pub unit_at : Needed → Option ℕ → List ℕ → List ℕ → Tables → Option WorkspaceCells → AnyUnit
 unit_at need known org ws t None = Absent (cond need.makes (unwrap_or known (workspaces_of org t)) 0) (cond need.makes (unwrap_or (cap_of org t) 0) 0)
 unit_at need known org ws t (Some w) = Present (record {
-  settings = settings_of_cells (keep_in need.keep_versions org ws t) w;
+  settings = settings_of_cells (retention_in need.retention org ws t) w;
   holder = w.holder;
   holder_status = if_needed need.holder_status (holder_status_in org ws w.holder t);
   released = w.released;
   next_version = w.next_version;
   next_run = w.next_run;
   newest = if_needed need.newest (newest_in need.text org ws t);
-  outgoing = outgoing_in need.outgoing (keep_in need.keep_versions org ws t) w.next_version org ws t;
+  outgoing = outgoing_in need.outgoing (retention_in need.retention org ws t) w.next_version org ws t;
   first_waiting = if_needed need.waiting (first_waiting_of org ws t);
   has_version = has_version_in need.version org ws t;
   asked_run = asked_run_in need.run need.key org ws t;

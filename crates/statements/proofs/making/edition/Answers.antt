@@ -1,7 +1,7 @@
 use Rattle.sqlite.specs.Held.{state}
 use Rattle.std.proofs.Common.{◌≡◌, ℕ, List, [], Option}
 use Rattle.sqlite_schema.specs.declared.schema.Table.{Table}
-use Rattle.statements.specs.Making.{HasEdition, told_version}
+use Rattle.statements.specs.Making.{HasEdition, told_schema_version}
 use Rattle.statements.specs.Rows.{Kept}
 use Rattle.statements.specs.Calls.{IsNumber}
 use Rattle.statements.proofs.Transactions.{queries_by, one_read}
@@ -18,5 +18,5 @@ returns-clause-told g c clean =
     let old = state g.S.Store c.args.conn.now in
     let new = state g.S.Store c.first_row-row.new.conn in
     one_read IsNumber old new edition_text [] c.first_row-row.result c.read_one.result (c.first_row-row.ensures.row edition_is_query clean) c.read_one.ensures
-    (λ (o : Option ℕ). (table : Table) (editions : List (Kept ℕ)) → HasEdition old.now table editions → o ≡ told_version editions)
-    (λ o same table editions has. same (told_version editions) (edition_told old new table editions has))
+    (λ (o : Option ℕ). (table : Table) (editions : List (Kept ℕ)) → HasEdition old.now table editions → o ≡ told_schema_version editions)
+    (λ o same table editions has. same (told_schema_version editions) (edition_told old new table editions has))

@@ -6,4 +6,4 @@ use Rattle.statements.proofs.Schemas.{makes_then, schema_set}
 use Rattle.statements.proofs.making.make_schema.Goals as goal
 
 pub returns : goal.returns
-returns g c = makes_then g.S.Store (Grows our_tables) (Told NEWEST) HasSchema schema_set _ _ _ _ _ c.in_ok-make_tables.ensures c.set_version.ensures
+returns g c = makes_then g.S.Store (Grows our_tables) (Told NEWEST) HasSchema schema_set _ _ _ _ _ c.in_ok-make_tables.ensures c.set_schema_version.ensures

@@ -12,5 +12,5 @@ filled t = edition_moved 3 (keepings_filled t)
 
 pub returns : goal.returns
 returns g c =
-    makes_then g.S.Store (Grows (added_by 3)) (Moved 3 filled) (Raises 2) (raised_by 2 refl filled (λ t. refl) (λ t. refl)) _ _ _ _ _ c.in_ok-make_version.ensures
-    (makes_then g.S.Store (Moved 3 keepings_filled) (Moved 3 (edition_moved 3)) (Moved 3 filled) (moved_then 3 keepings_filled (edition_moved 3)) _ _ _ _ _ c.in_ok-fill.ensures c.move_version.ensures)
+    makes_then g.S.Store (Grows (added_by 3)) (Moved 3 filled) (Raises 2) (raised_by 2 refl filled (λ t. refl) (λ t. refl)) _ _ _ _ _ c.in_ok-make_tables_of.ensures
+    (makes_then g.S.Store (Moved 3 keepings_filled) (Moved 3 (edition_moved 3)) (Moved 3 filled) (moved_then 3 keepings_filled (edition_moved 3)) _ _ _ _ _ c.in_ok-fill.ensures c.move_schema_version.ensures)

@@ -6,7 +6,7 @@ use Rattle.sqlite.specs.State.{State, IsLive, Opens}
 use Rattle.machine.specs.declared.records.Organization.{Organization}
 use Rattle.tables.specs.Opening.{any_there, all_there, newest_there, tells_edition}
 use Rattle.tables.specs.Stores.{records_of, IsSoundStore}
-use Rattle.tables.specs.Versions.{HoldsVersion, version_records}
+use Rattle.tables.specs.Versions.{HoldsSchema, schema_records}
 use Rattle.system.specs.Files.{OpensOn}
 use Rattle.system.proofs.files.open_file.Goals as goal
 
@@ -19,7 +19,7 @@ one_passes false false h = absurd (h refl refl)
 opens_on : (s : State) (image : Image) (rows : List ℕ → Option Organization) (IsSound : Type 0) → FindsIn image s → Opens s → IsLive s
     → (any_there s.now.schema ≡ true → all_there 1 s.now.schema ≡ false → tells_edition s.now.schema ≡ false → ⊥)
     → (newest_there s.now.schema ≡ true → (IsSoundStore s.now → IsSound) × ((org : List ℕ) → rows org ≡ records_of s.now org))
-    → ((n : ℕ) → HoldsVersion n s.now → IsSound × ((org : List ℕ) → rows org ≡ version_records n s.now org))
+    → ((n : ℕ) → HoldsSchema n s.now → IsSound × ((org : List ℕ) → rows org ≡ schema_records n s.now org))
     → (any_there s.now.schema ≡ false → IsSound × ((org : List ℕ) → rows org ≡ None)) → OpensOn image rows IsSound
 opens_on s image rows IsSound finds opens live missing there climbed fresh = record {
   found = s.now;

@@ -10,7 +10,7 @@ use Rattle.tables.proofs.copies.copy_workspace.Goals as goal
 pub returns-in_err-whole-clause-copies : goal.returns-in_err-whole-clause-copies
 returns-in_err-whole-clause-copies g c =
     let failed = c.from_residual.ensures.0 in
-    (new_workspace (record { runs = run_settings_at [] 0; keep_versions = 0 }), related_in_vain g.S.Store _ c.args.tx.now c.from_residual.result failed, λ clean. never_done _ c.from_residual.result failed)
+    (new_workspace (record { runs = run_settings_at [] 0; retention = 0 }), related_in_vain g.S.Store _ c.args.tx.now c.from_residual.result failed, λ clean. never_done _ c.from_residual.result failed)
 
 pub returns-clause-copies : goal.returns-clause-copies
 returns-clause-copies g c =

@@ -18,4 +18,4 @@ returns g c =
     let org = c.args.org.now in
     let w = c.args.workspace.now in
     sees_as g.S.Store (Equals (newest_shown_in org w)) (Equals (λ t. make w (newest_shown_in org w t))) c.args.conn.now c.newest_shown.new.conn c.in_ok-version.version _
-    (λ t found. (λ i. record { settings = record { runs = w.it.runs; keep_versions = c.kept.ensures i }; holder = c.in_ok-holder.ensures i; name = c.in_ok-name.ensures i; version = c.in_ok-version.version }) ∙ ap (make w) found) c.in_ok-version.ensures
+    (λ t found. (λ i. record { settings = record { runs = w.it.runs; retention = c.kept.ensures i }; holder = c.in_ok-holder.ensures i; name = c.in_ok-name.ensures i; version = c.in_ok-version.version }) ∙ ap (make w) found) c.in_ok-version.ensures

@@ -4,7 +4,7 @@ use Rattle.machine.specs.Needs.{needed_of}
 use Rattle.machine.specs.declared.acts.Unit.{Unit}
 use Rattle.machine.specs.declared.acts.Unit.TheVariants.{Present}
 use Rattle.statements.specs.declared.rows.Workspace.{Workspace as WorkspaceCells}
-use Rattle.tables.specs.Inner.Units.{keep_in}
+use Rattle.tables.specs.Inner.Units.{retention_in}
 use Rattle.tables.specs.Inner.Looks.{around_in, unit_from}
 use Rattle.tables.specs.declared.looks.Surroundings.{Surroundings}
 use Rattle.tables.proofs.KeepFound.{seen_by_first}
@@ -20,6 +20,6 @@ returns g c =
     let ws = c.args.ws.now in
     let need = needed_of c.args.needs.now in
     rw c.unit_by.ensures (record {
-      looks = seen_by_first g.S.Store Error Error Error (keep_in need.keep_versions org ws) (λ keep. around_in need org ws keep c.args.workspace) (make c.args.workspace) c.in_ok-keep.keep c.in_ok-around.around
-          c.args.conn.now c.keep_if.new.conn c.around.new.conn c.in_ok-keep.ensures.looks c.in_ok-around.ensures.looks;
+      looks = seen_by_first g.S.Store Error Error Error (retention_in need.retention org ws) (λ keep. around_in need org ws keep c.args.workspace) (make c.args.workspace) c.in_ok-retention.keep c.in_ok-around.around
+          c.args.conn.now c.retention_if.new.conn c.around.new.conn c.in_ok-retention.ensures.looks c.in_ok-around.ensures.looks;
     })

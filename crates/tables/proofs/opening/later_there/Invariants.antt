@@ -3,5 +3,5 @@ use Rattle.tables.specs.Opening.{later_there}
 use Rattle.tables.proofs.opening.later_there.Given as goal
 
 -- none of the versions so far is there
-abbrev pub invariant-loop-version : goal.invariant-loop-version
-invariant-loop-version l = (1 ≤ l.version) × (later_there l.version l.schema ≡ false)
+abbrev pub invariant-loop-schema_version : goal.invariant-loop-schema_version
+invariant-loop-schema_version l = (1 ≤ l.schema_version) × (later_there l.schema_version l.schema ≡ false)

@@ -1,8 +1,0 @@
-use Rattle.std.proofs.Common.{pos, w64}
-use Rattle.std.proofs.lemmas.Int.{to_z-of_z}
-use Rattle.statements.proofs.Transactions.{makes_by}
-use Rattle.statements.proofs.EditionTexts.{move_version_does}
-use Rattle.statements.proofs.making.move_version.Goals as goal
-
-pub returns : goal.returns
-returns g c = makes_by _ _ (c.write.ensures.same_reference, (λ clean inside. rw (c.params-to_sql.ensures, c.signed-version.ensures, to_z-of_z w64 (pos c.args.version) (record { sfits = c.requires.fits })) at (c.write.ensures.runs clean inside)), c.write.ensures.survives) (λ count. move_version_does c.args.version c.requires.there c.args.version _ _ count)
