@@ -5,13 +5,10 @@ use Rattle.std.specs.Option.{option_map, option_and_then}
 use Rattle.basis.specs.Names.{is_org_name, is_ws_name}
 use Rattle.basis.specs.Numbers.{number_of}
 use Rattle.basis.specs.declared.runs.RunAction.{RunAction}
-use Rattle.route.specs.declared.paths.OrgResource.{OrgResource}
-use Rattle.route.specs.declared.paths.Resource.{Resource}
-use Rattle.route.specs.declared.paths.Resource.TheVariants.{Workspace, State, AllVersions, Version, AllRuns, Run, Action}
 use Rattle.matchit.specs.Router.{RouteOf}
 use Rattle.route.specs.declared.routes.Kind.{Kind}
 use Rattle.route.specs.declared.routes.Kind.TheVariants.{IsAction}
-use Rattle.route.specs.Paths.{action_of, of_number, of_action, after_workspace, after_org, in_org, resource_at}
+use Rattle.route.specs.Paths.{Resource, Workspace, State, AllVersions, Version, AllRuns, Run, Action, OrgResource, action_of, of_number, of_action, after_workspace, after_org, in_org, resource_at}
 use Rattle.route.specs.Inner.Kinds.{resource_named, org_resource_named}
 use Rattle.route.specs.Inner.Table.{param_names}
 use Rattle.route.proofs.TreeLemmas.{Taken, behind, end_or, at_name, finds}

@@ -6,3 +6,4 @@ pub mod TreeLemmas
 pub mod TableLemmas
 pub mod KindLemmas
 pub mod RouteLemmas
+pub mod FoundLemmas

@@ -5,11 +5,10 @@ use Rattle.basis.specs.declared.refusals.Refusal.TheVariants.{NoRoute}
 use Rattle.wire.specs.declared.messages.Message.{Message}
 use Rattle.route.specs.declared.acts.Asked.{Asked}
 use Rattle.route.specs.declared.acts.AskedAct.{AskedAct}
-use Rattle.route.specs.declared.paths.OrgResource.{OrgResource}
 use Rattle.route.specs.declared.queries.Query.{Query}
 use Rattle.route.specs.declared.tokens.BearerToken.{BearerToken}
 use Rattle.basis.specs.Checks.{or_refused, and_then}
-use Rattle.route.specs.Paths.{resource_of}
+use Rattle.route.specs.Paths.{OrgResource, resource_of}
 use Rattle.route.specs.Acts.{act_read}
 use Rattle.route.specs.Queries.{query_read, lock_id_read, after_read}
 use Rattle.route.specs.Tokens.{bearer_token_read}

@@ -5,9 +5,22 @@ use Rattle.basis.specs.Numbers.{number_of}
 use Rattle.basis.specs.declared.runs.RunAction.{RunAction}
 use Rattle.basis.specs.declared.runs.RunAction.TheVariants.{ReportPlanned, ReportUnchanged, Fail, Confirm, ReportApplied, Discard, Cancel}
 use Rattle.basis.specs.Runs.{action_word}
-use Rattle.route.specs.declared.paths.Resource.{Resource}
-use Rattle.route.specs.declared.paths.Resource.TheVariants.{AllWorkspaces, Workspace, State, AllVersions, Version, AllRuns, Run, Action}
-use Rattle.route.specs.declared.paths.OrgResource.{OrgResource}
+
+-- what a path names in its organization (RFC 9110, section 3.1)
+pub data Resource : Type 0 where
+  AllWorkspaces : Resource
+  Workspace : List ℕ → Resource
+  State : List ℕ → Resource
+  AllVersions : List ℕ → Resource
+  Version : List ℕ → ℕ → Resource
+  AllRuns : List ℕ → Resource
+  Run : List ℕ → ℕ → Resource
+  Action : List ℕ → ℕ → RunAction → Resource
+
+-- the same, and the organization
+pub record OrgResource : Type 0 where
+  pub org : List ℕ
+  pub resource : Resource
 
 -- the byte joins the first part
 abbrev pub onto_first : ℕ → List (List ℕ) → List (List ℕ)

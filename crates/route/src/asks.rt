@@ -1,15 +1,16 @@
 //! What a message asks.
 ghost use Rattle.std.specs.Prelude.{◌≡◌, ◌≢◌, IfOk, IfErr, option_map};
-ghost use Rattle.route.specs.Asks.{asked_of, asked_read, asked_at, with_query, query_text, is_bodyless, asks, refused};
+ghost use Rattle.route.specs.Asks.{asked_of, asked_read, with_query, query_text, is_bodyless, asks, refused};
 ghost use Rattle.basis.specs.Inner.Checks.{Follows};
 ghost use Rattle.route.specs.Inner.Checks.{now_of};
+ghost use Rattle.route.specs.Inner.Kinds.{pairs_of, asked_found};
 
 use crate::acts::{Asked, AskedAct};
-use crate::paths::{OrgResource, read_resource};
+use crate::methods::act_named;
+use crate::paths::read_org;
 use crate::queries::{Query, begin_after, lock_id_in, read_query};
-use crate::routes::Routes;
+use crate::routes::{Found, Routes};
 use crate::tokens::read_bearer_token;
-use crate::verbs::act_asked;
 use basis::{Bytes, OrgName, Refusal, Text};
 use std::alloc::Global;
 use wire::Message;
@@ -26,23 +27,27 @@ pub fn asked(alloc: Global, routes: &Routes, message: &Message) -> Result<Asked,
 fn asked_read(alloc: Global, routes: &Routes, message: &Message) -> Result<Asked, Refusal>
     ensures { Follows result (asked_read message.now) }
 {
-    match read_resource(alloc, routes, message.path.as_str()) {
-        Ok(named) => asked_at(alloc, message, named),
-        Err(refusal) => Err(refusal),
+    match routes.find(message.path.as_str()) {
+        Some(found) => asked_at(alloc, message, &found),
+        None => Err(Refusal::NoRoute),
     }
 }
 
-// What a message asks of what its path names.
-fn asked_at(alloc: Global, message: &Message, named: OrgResource) -> Result<Asked, Refusal>
-    ensures { Follows result (asked_at message.now named) }
+// What a message asks of what its route names.
+fn asked_at(alloc: Global, message: &Message, found: &Found<'_, '_>) -> Result<Asked, Refusal>
+    ensures { Follows result (asked_found message.now found.now.kind (pairs_of found.now.params)) }
 {
+    let org = match read_org(alloc, found.part("org")) {
+        Ok(org) => org,
+        Err(refusal) => return Err(refusal),
+    };
     let bodyless = is_bodyless(message.body.as_slice());
-    let act = match act_asked(named.resource, message.method.as_str(), bodyless) {
+    let act = match act_named(alloc, found, message.method.as_str(), bodyless) {
         Ok(act) => act,
         Err(refusal) => return Err(refusal),
     };
     match read_query(alloc, query_bytes(&message.query)) {
-        Ok(found) => with_query(alloc, &message.authorization, named.org, act, found),
+        Ok(query) => with_query(alloc, &message.authorization, org, act, query),
         Err(refusal) => Err(refusal),
     }
 }

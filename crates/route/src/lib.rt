@@ -4,12 +4,12 @@
 mod acts;
 mod asks;
 mod digests;
+mod methods;
 mod paths;
 mod policies;
 mod queries;
 mod routes;
 mod tokens;
-mod verbs;
 
 pub use acts::{Asked, AskedAct, WsAct};
 pub use asks::asked;

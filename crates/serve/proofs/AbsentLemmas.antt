@@ -8,10 +8,10 @@ use Rattle.basis.specs.declared.refusals.Refusal.{Refusal}
 use Rattle.basis.specs.declared.refusals.Refusal.TheVariants.{NoRoute, NoMethod, BadQuery}
 use Rattle.basis.specs.declared.runs.RunAction.{RunAction}
 use Rattle.machine.specs.declared.records.Organization.{Organization}
-use Rattle.route.specs.Acts.{verb_of, listing_act, workspace_act, runs_act, posted, act_at, allow_of, act_asked, act_read}
+use Rattle.route.specs.Acts.{listing_act, workspace_act, state_act, runs_act, posted, act_at, allow_of, act_read}
 use Rattle.route.specs.Asks.{Asking, query_text, is_bodyless, asked_made, with_query, asked_at, asked_read, asking_of, asked_of, asks}
 use Rattle.route.specs.Asks as route
-use Rattle.route.specs.Paths.{path_parts, action_of, of_workspace, of_number, of_action, after_workspace, in_org, resource_at, resource_of}
+use Rattle.route.specs.Paths.{Resource, AllWorkspaces, Workspace, State, AllVersions, Version, AllRuns, Run, Action, OrgResource, path_parts, action_of, of_workspace, of_number, of_action, after_workspace, in_org, resource_at, resource_of}
 use Rattle.route.specs.Queries.{query_read, lock_id_read, name_after, listed_from, ws_begun_after, begun_after, after_read}
 use Rattle.route.specs.Tokens.{bearer_token_read}
 use Rattle.route.specs.declared.acts.Asked.{Asked}
@@ -19,12 +19,7 @@ use Rattle.route.specs.declared.acts.AskedAct.{AskedAct}
 use Rattle.route.specs.declared.acts.AskedAct.TheVariants.{ListWorkspaces, OfWorkspace}
 use Rattle.route.specs.declared.acts.WsAct.{WsAct}
 use Rattle.route.specs.declared.acts.WsAct.TheVariants.{ReportRun}
-use Rattle.route.specs.declared.paths.OrgResource.{OrgResource}
-use Rattle.route.specs.declared.paths.Resource.{Resource}
-use Rattle.route.specs.declared.paths.Resource.TheVariants.{AllWorkspaces, Workspace, State, AllVersions, Version, AllRuns, Run, Action}
 use Rattle.route.specs.declared.queries.Query.{Query}
-use Rattle.route.specs.declared.verbs.Verb.{Verb}
-use Rattle.route.specs.declared.verbs.Verb.TheVariants.{Get, Post, Put, Delete, Lock, Unlock}
 use Rattle.wire.specs.declared.messages.Message.{Message}
 use Rattle.wire.specs.Messages.{Reading, Reads, unfinished, whole}
 use Rattle.wire.specs.Messages as wire
@@ -134,34 +129,30 @@ moved : (old ws : List ℕ) (o : Option WsAct) → option_map (OfWorkspace ws) o
 moved old ws None = refl
 moved old ws (Some act) = refl
 
-listed : (ws : List ℕ) (verb : Verb) → listing_act verb ≡ option_map (to_ws ws) (listing_act verb)
-listed ws Get = refl
-listed ws Post = refl
-listed ws Put = refl
-listed ws Delete = refl
-listed ws Lock = refl
-listed ws Unlock = refl
+listed : (ws method : List ℕ) → listing_act method ≡ option_map (to_ws ws) (listing_act method)
+listed ws method = chosen (bytes_eq method (codes "GET"))
+  where
+    chosen : (got : Bool) → (if got then Some (ListWorkspaces None) else None) ≡ option_map (to_ws ws) (if got then Some (ListWorkspaces None) else None)
+    chosen true = refl
+    chosen false = refl
 
-act_with : (ws : List ℕ) (resource : Resource) (verb : Verb) (bodyless : Bool) → act_at (with_ws ws resource) verb bodyless ≡ option_map (to_ws ws) (act_at resource verb bodyless)
-act_with ws AllWorkspaces verb bodyless = listed ws verb
-act_with ws (Workspace old) verb bodyless = moved old ws (workspace_act verb)
-act_with ws (State old) verb bodyless = refl
-act_with ws (AllVersions old) verb bodyless = moved old ws _
-act_with ws (Version old number) verb bodyless = moved old ws _
-act_with ws (AllRuns old) verb bodyless = moved old ws (runs_act verb)
-act_with ws (Run old number) verb bodyless = moved old ws _
-act_with ws (Action old number action) verb bodyless = moved old ws (posted (ReportRun number action) verb)
+act_with : (ws : List ℕ) (resource : Resource) (method : List ℕ) (bodyless : Bool) → act_at (with_ws ws resource) method bodyless ≡ option_map (to_ws ws) (act_at resource method bodyless)
+act_with ws AllWorkspaces method bodyless = listed ws method
+act_with ws (Workspace old) method bodyless = moved old ws (workspace_act method)
+act_with ws (State old) method bodyless = moved old ws (state_act method bodyless)
+act_with ws (AllVersions old) method bodyless = moved old ws _
+act_with ws (Version old number) method bodyless = moved old ws _
+act_with ws (AllRuns old) method bodyless = moved old ws (runs_act method)
+act_with ws (Run old number) method bodyless = moved old ws _
+act_with ws (Action old number action) method bodyless = moved old ws (posted (ReportRun number action) method)
 
 found_of : {A : Type 0} (refusal : Refusal) (o : Option A) (a : A) → or_refused refusal o ≡ Ok a → o ≡ Some a
 found_of refusal None a e = absurd (let none : ⊥ = cc in none)
 found_of refusal (Some b) a e = let one : b ≡ a = cc in ap Some one
 
 act_read_with : (ws : List ℕ) (resource : Resource) (method : List ℕ) (bodyless : Bool) (act : AskedAct) → act_read resource method bodyless ≡ Ok act → act_read (with_ws ws resource) method bodyless ≡ Ok (renamed act ws)
-act_read_with ws resource method bodyless act e = ap (or_refused (NoMethod (allow_of (with_ws ws resource)))) (by_verb (verb_of method) (found_of (NoMethod (allow_of resource)) (act_asked resource method bodyless) act e))
-  where
-    by_verb : (o : Option Verb) → option_and_then (λ verb. act_at resource verb bodyless) o ≡ Some act → option_and_then (λ verb. act_at (with_ws ws resource) verb bodyless) o ≡ Some (renamed act ws)
-    by_verb None is = absurd (let none : ⊥ = cc in none)
-    by_verb (Some verb) is = act_with ws resource verb bodyless ∙ ap (option_map (to_ws ws)) is
+act_read_with ws resource method bodyless act e =
+    ap (or_refused (NoMethod (allow_of (with_ws ws resource)))) (act_with ws resource method bodyless ∙ ap (option_map (to_ws ws)) (found_of (NoMethod (allow_of resource)) (act_at resource method bodyless) act e))
 
 begun_with : (ws : List ℕ) (act begun : AskedAct) (after : Option (List ℕ)) → after_read act after ≡ Ok begun → after_read (renamed act ws) after ≡ Ok (renamed begun ws)
 begun_with ws act begun None e = let one : act ≡ begun = cc in ap (λ (x : AskedAct). read_as (renamed x ws)) one

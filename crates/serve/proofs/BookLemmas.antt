@@ -99,21 +99,21 @@ request_goes : (ws : List ℕ) (r : Option Organization) (now : ℕ) (awaited : 
 request_goes ws r now awaited asked content_md5 body (Err refusal) e moment = inr (inl (record { stays = refl; refuses = λ names accepted. let none : ⊥ = cc in none }))
 request_goes ws r now awaited asked content_md5 body (Ok (ListAll after prefix)) e moment =
     inr (inl (record { stays = refl; refuses = λ names accepted. subst (λ (a : AskedAct). NamesIn a ws) (list_passes r now asked content_md5 body after prefix e) names }))
-request_goes ws r now awaited asked content_md5 body (Ok (Carry o)) e moment = by_name (bytes_eq ws o.ws) refl
+request_goes ws r now awaited asked content_md5 body (Ok (Carry its_ws its_act)) e moment = by_name (bytes_eq ws its_ws) refl
   where
-    p : Passes r asked body o
-    p = order_passes r now asked content_md5 body o e
+    p : Passes r asked body its_ws its_act
+    p = order_passes r now asked content_md5 body its_ws its_act e
 
     entry : List ℕ → Entry
     entry name = record {
       ask = requests now awaited asked content_md5 body;
-      said = replies awaited now (carried asked.caller now r (Ok (Carry o))).answer;
+      said = replies awaited now (carried asked.caller now r (Ok (Carry its_ws its_act))).answer;
       before = workspace_in r name;
-      after = workspace_in (carried asked.caller now r (Ok (Carry o))).left name;
+      after = workspace_in (carried asked.caller now r (Ok (Carry its_ws its_act))).left name;
     }
 
-    by_name : (b : Bool) → bytes_eq ws o.ws ≡ b → Goes ws (entry ws)
-    by_name true same = subst (λ (n : List ℕ). Goes n (entry n)) (sym ((bytes_eq-Decides ws o.ws).0 same)) (inl (record {
+    by_name : (b : Bool) → bytes_eq ws its_ws ≡ b → Goes ws (entry ws)
+    by_name true same = subst (λ (n : List ℕ). Goes n (entry n)) (sym ((bytes_eq-Decides ws its_ws).0 same)) (inl (record {
       now = now;
       awaited = awaited;
       asked = asked;
@@ -122,18 +122,18 @@ request_goes ws r now awaited asked content_md5 body (Ok (Carry o)) e moment = b
       asking = refl;
       what = p.what;
       asks = p.asks;
-      act = o.act;
+      act = its_act;
       spells = p.spelt;
-      range = (act_is p.what asked.lock_id body o.act p.spelt).range;
+      range = (act_is p.what asked.lock_id body its_act p.spelt).range;
       moment = moment;
-      seen = seen_at r o.ws;
-      stands = standing_at r o.ws;
+      seen = seen_at r its_ws;
+      stands = standing_at r its_ws;
       says = refl;
-      leaves = own_after r asked.caller o.ws o.act now p.there;
+      leaves = own_after r asked.caller its_ws its_act now p.there;
     }))
     by_name false apart = inr (inl (record {
-      stays = other_after r asked.caller o.ws ws o.act now (apart_from ws o.ws apart);
-      refuses = λ names accepted. apart_from ws o.ws apart (sym (subst (λ (a : AskedAct). NamesIn a ws) p.asks names));
+      stays = other_after r asked.caller its_ws ws its_act now (apart_from ws its_ws apart);
+      refuses = λ names accepted. apart_from ws its_ws apart (sym (subst (λ (a : AskedAct). NamesIn a ws) p.asks names));
     }))
 
 command_goes : (ws : List ℕ) (r : Option Organization) (at : ℕ) (command : Admin) → Comes r command → Goes ws (entry_of ws r (commands at command))

@@ -17,9 +17,8 @@ use Rattle.route.specs.declared.acts.Asked.{Asked}
 use Rattle.route.specs.declared.acts.AskedAct.{AskedAct}
 use Rattle.route.specs.declared.acts.AskedAct.TheVariants.{ListWorkspaces, OfWorkspace}
 use Rattle.route.specs.declared.acts.WsAct.{WsAct}
-use Rattle.serve.specs.Checks.{task_of, require, while_it_counts, known_caller, may_do, admitted, in_reach, is_found, found, digest_checked, act_of, order, checked}
+use Rattle.serve.specs.Checks.{task_of, require, while_it_counts, known_caller, may_do, admitted, in_reach, is_found, found, digest_checked, act_of, checked}
 use Rattle.serve.specs.Inner.Prepared.{caller_known}
-use Rattle.serve.specs.declared.prepared.Order.{Order}
 use Rattle.serve.specs.declared.prepared.Task.{Task}
 use Rattle.serve.specs.declared.prepared.Task.TheVariants.{ListAll, Carry}
 
@@ -141,16 +140,16 @@ abbrev read_act : Act → Result Act Refusal
 read_act act = Ok act
 
 -- what an order that passed the checks is: the organization is there, and this act is asked of the workspace
-pub record Passes (r : Option Organization) (asked : Asked) (body : List ℕ) (o : Order) : Type 0 where
+pub record Passes (r : Option Organization) (asked : Asked) (body : List ℕ) (its_ws : List ℕ) (its_act : Act) : Type 0 where
   pub there : IsSome r
   pub what : WsAct
-  pub asks : asked.act ≡ OfWorkspace o.ws what
-  pub is_there : is_found r o.ws what ≡ true
-  pub spelt : act_of what asked.lock_id body ≡ Ok o.act
+  pub asks : asked.act ≡ OfWorkspace its_ws what
+  pub is_there : is_found r its_ws what ≡ true
+  pub spelt : act_of what asked.lock_id body ≡ Ok its_act
 
-order_is : (ws : List ℕ) (x : Result Act Refusal) (o : Order) → and_then x (λ act. Ok (Carry (order ws act))) ≡ Ok (Carry o) → (ws ≡ o.ws) × (x ≡ Ok o.act)
-order_is ws (Ok act) o e = let same : order ws act ≡ o = cc in (ap (λ (p : Order). p.ws) same, ap (λ (p : Order). read_act p.act) same)
-order_is ws (Err refusal) o e = absurd (let none : ⊥ = cc in none)
+order_is : (ws : List ℕ) (x : Result Act Refusal) (its_ws : List ℕ) (its_act : Act) → and_then x (λ act. Ok (Carry ws act)) ≡ Ok (Carry its_ws its_act) → (ws ≡ its_ws) × (x ≡ Ok its_act)
+order_is ws (Ok act) its_ws its_act e = let name : ws ≡ its_ws = cc in let same : act ≡ its_act = cc in (name, ap read_act same)
+order_is ws (Err refusal) its_ws its_act e = absurd (let none : ⊥ = cc in none)
 
 -- what passed the checks is what was to be done, and is there
 all_passed : (r : Option Organization) (now : ℕ) (asked : Asked) (content_md5 : Option (List ℕ)) (body : List ℕ) (task : Task) → checked r now asked content_md5 body ≡ Ok task
@@ -169,13 +168,13 @@ found_holds : (b : Bool) (u : Unit {0}) → require NotFound b ≡ Ok u → b �
 found_holds true u e = refl
 found_holds false u e = absurd (let none : ⊥ = cc in none)
 
-pub order_passes : (r : Option Organization) (now : ℕ) (asked : Asked) (content_md5 : Option (List ℕ)) (body : List ℕ) (o : Order) → checked r now asked content_md5 body ≡ Ok (Carry o) → Passes r asked body o
-order_passes r now asked content_md5 body o e = let h = all_passed r now asked content_md5 body (Carry o) e in by_act asked.act refl h.0 h.1 h.2 h.3 h.4
+pub order_passes : (r : Option Organization) (now : ℕ) (asked : Asked) (content_md5 : Option (List ℕ)) (body : List ℕ) (its_ws : List ℕ) (its_act : Act) → checked r now asked content_md5 body ≡ Ok (Carry its_ws its_act) → Passes r asked body its_ws its_act
+order_passes r now asked content_md5 body its_ws its_act e = let h = all_passed r now asked content_md5 body (Carry its_ws its_act) e in by_act asked.act refl h.0 h.1 h.2 h.3 h.4
   where
-    by_act : (act : AskedAct) → asked.act ≡ act → IsSome r → (u : Unit {0}) → found r act ≡ Ok u → (prefix : List ℕ) → task_of prefix act asked.lock_id body ≡ Ok (Carry o) → Passes r asked body o
+    by_act : (act : AskedAct) → asked.act ≡ act → IsSome r → (u : Unit {0}) → found r act ≡ Ok u → (prefix : List ℕ) → task_of prefix act asked.lock_id body ≡ Ok (Carry its_ws its_act) → Passes r asked body its_ws its_act
     by_act (ListWorkspaces after) is some u there prefix made = absurd (let none : ⊥ = cc in none)
     by_act (OfWorkspace ws what) is some u there prefix made =
-        let done : (ws ≡ o.ws) × (act_of what asked.lock_id body ≡ Ok o.act) = order_is ws (act_of what asked.lock_id body) o made in
+        let done : (ws ≡ its_ws) × (act_of what asked.lock_id body ≡ Ok its_act) = order_is ws (act_of what asked.lock_id body) its_ws its_act made in
         record {
           there = some;
           what = what;
@@ -185,7 +184,7 @@ order_passes r now asked content_md5 body o e = let h = all_passed r now asked c
         }
 
 -- where the list of the workspaces passes the checks, it is asked
-no_order : (ws : List ℕ) (x : Result Act Refusal) (after : Option (List ℕ)) (prefix : List ℕ) → and_then x (λ act. Ok (Carry (order ws act))) ≡ Ok (ListAll after prefix) → ⊥
+no_order : (ws : List ℕ) (x : Result Act Refusal) (after : Option (List ℕ)) (prefix : List ℕ) → and_then x (λ act. Ok (Carry ws act)) ≡ Ok (ListAll after prefix) → ⊥
 no_order ws (Ok act) after prefix e = let none : ⊥ = cc in none
 no_order ws (Err refusal) after prefix e = let none : ⊥ = cc in none
 

@@ -28,7 +28,6 @@ use Rattle.route.specs.declared.acts.AskedAct.TheVariants.{ListWorkspaces, OfWor
 use Rattle.route.specs.declared.acts.WsAct.{WsAct}
 use Rattle.serve.specs.declared.steps.Admin.{Admin}
 use Rattle.serve.specs.declared.steps.Admin.TheVariants.{OrgAdd, OrgLimit, OrgRemove, OrgList, TokenAdd, TokenList, TokenRevoke}
-use Rattle.serve.specs.declared.prepared.Order.{Order}
 use Rattle.serve.specs.declared.prepared.Task.{Task}
 use Rattle.serve.specs.declared.prepared.Task.TheVariants.{ListAll, Carry}
 use Rattle.serve.specs.Asks.{Ask, silent, requests, commands}
@@ -82,10 +81,10 @@ request_leaves_others : (r : Option Organization) (now : ℕ) (asked : Asked) (c
     → (NamesIn asked.act ws → ⊥) → workspace_in (carried asked.caller now r x).left ws ≡ workspace_in r ws
 request_leaves_others r now asked content_md5 body ws (Err refusal) e other = refl
 request_leaves_others r now asked content_md5 body ws (Ok (ListAll after prefix)) e other = refl
-request_leaves_others r now asked content_md5 body ws (Ok (Carry order)) e other =
-    let p : Passes r asked body order = order_passes r now asked content_md5 body order e in
-    other_after r asked.caller order.ws ws order.act now
-    (λ same. other (subst (NamesIn asked.act) (sym same) (names_of asked.act order.ws p.what p.asks)))
+request_leaves_others r now asked content_md5 body ws (Ok (Carry its_ws its_act)) e other =
+    let p : Passes r asked body its_ws its_act = order_passes r now asked content_md5 body its_ws its_act e in
+    other_after r asked.caller its_ws ws its_act now
+    (λ same. other (subst (NamesIn asked.act) (sym same) (names_of asked.act its_ws p.what p.asks)))
 
 pub steps_change_what_they_name : StepsChangeWhatTheyName
 steps_change_what_they_name r silent ws other stays = refl
@@ -115,51 +114,51 @@ some_is None h = absurd (let none : ⊥ = cc in none)
 some_is (Some v) h = (v, refl)
 
 -- the workspace that the rules were asked of
-ruled_kept : (r : Option Organization) (now : ℕ) (awaited : Bool) (asked : Asked) (content_md5 : Option (List ℕ)) (body : List ℕ) (o : Order) (w : Workspace) (own text : List ℕ)
-    → Passes r asked body o → workspace_in r o.ws ≡ Some w → w.holder ≡ HeldLock own text
-    → Kept (workspace_in (ruled_in asked.caller o.ws r (rules o.act now (seen_at r o.ws))).left o.ws) (requests now awaited asked content_md5 body) o.ws own text w
-ruled_kept r now awaited asked content_md5 body o w own text p stands lock =
-    let sees : seen_at r o.ws ≡ there w = seen_there r o.ws w stands in
-    let left : workspace_in (ruled_in asked.caller o.ws r (rules o.act now (seen_at r o.ws))).left o.ws ≡ (rules o.act now (there w)).left =
-    own_after r asked.caller o.ws o.act now p.there ∙ ap (λ (s : Seen). (rules o.act now s).left) sees in
-    let v = some_is (rules o.act now (there w)).left (locked_workspaces_stay o.act now w own text lock) in
-    let names : NamesIn asked.act o.ws = names_of asked.act o.ws p.what p.asks in (
+ruled_kept : (r : Option Organization) (now : ℕ) (awaited : Bool) (asked : Asked) (content_md5 : Option (List ℕ)) (body : List ℕ) (its_ws : List ℕ) (its_act : Act) (w : Workspace) (own text : List ℕ)
+    → Passes r asked body its_ws its_act → workspace_in r its_ws ≡ Some w → w.holder ≡ HeldLock own text
+    → Kept (workspace_in (ruled_in asked.caller its_ws r (rules its_act now (seen_at r its_ws))).left its_ws) (requests now awaited asked content_md5 body) its_ws own text w
+ruled_kept r now awaited asked content_md5 body its_ws its_act w own text p stands lock =
+    let sees : seen_at r its_ws ≡ there w = seen_there r its_ws w stands in
+    let left : workspace_in (ruled_in asked.caller its_ws r (rules its_act now (seen_at r its_ws))).left its_ws ≡ (rules its_act now (there w)).left =
+    own_after r asked.caller its_ws its_act now p.there ∙ ap (λ (s : Seen). (rules its_act now s).left) sees in
+    let v = some_is (rules its_act now (there w)).left (locked_workspaces_stay its_act now w own text lock) in
+    let names : NamesIn asked.act its_ws = names_of asked.act its_ws p.what p.asks in (
       v.0,
       left ∙ v.1,
       record {
-        versions = carried_or_kept v.0 names p (versions_change_by_the_id o.act now w v.0 own text lock v.1);
-        holder = released_or_held v.0 names p (holds_until_released o.act now w v.0 own text lock v.1);
+        versions = carried_or_kept v.0 names p (versions_change_by_the_id its_act now w v.0 own text lock v.1);
+        holder = released_or_held v.0 names p (holds_until_released its_act now w v.0 own text lock v.1);
       },
     )
   where
-    carried_or_kept : (v : Workspace) → NamesIn asked.act o.ws → Passes r asked body o → (v.versions ≡ w.versions) ⊎ WritesWith o.act (Some own)
-        → (v.versions ≡ w.versions) ⊎ (NamesIn asked.act o.ws × (asked.lock_id ≡ Some own))
+    carried_or_kept : (v : Workspace) → NamesIn asked.act its_ws → Passes r asked body its_ws its_act → (v.versions ≡ w.versions) ⊎ WritesWith its_act (Some own)
+        → (v.versions ≡ w.versions) ⊎ (NamesIn asked.act its_ws × (asked.lock_id ≡ Some own))
     carried_or_kept v names p (inl h) = inl h
-    carried_or_kept v names p (inr h) = inr (names, (act_is p.what asked.lock_id body o.act p.spelt).writes (Some own) h)
+    carried_or_kept v names p (inr h) = inr (names, (act_is p.what asked.lock_id body its_act p.spelt).writes (Some own) h)
 
-    released_or_held : (v : Workspace) → NamesIn asked.act o.ws → Passes r asked body o → (v.holder ≡ HeldLock own text) ⊎ Releases o.act own
-        → (v.holder ≡ HeldLock own text) ⊎ (NamesIn asked.act o.ws × ((act : Act) × IsActOn asked.act asked.lock_id body act × Releases act own))
+    released_or_held : (v : Workspace) → NamesIn asked.act its_ws → Passes r asked body its_ws its_act → (v.holder ≡ HeldLock own text) ⊎ Releases its_act own
+        → (v.holder ≡ HeldLock own text) ⊎ (NamesIn asked.act its_ws × ((act : Act) × IsActOn asked.act asked.lock_id body act × Releases act own))
     released_or_held v names p (inl h) = inl h
-    released_or_held v names p (inr h) = inr (names, (o.act, act_on asked o.ws body p.what o.act p.asks p.spelt, h))
+    released_or_held v names p (inr h) = inr (names, (its_act, act_on asked its_ws body p.what its_act p.asks p.spelt, h))
 
 request_kept : (r : Option Organization) (now : ℕ) (awaited : Bool) (asked : Asked) (content_md5 : Option (List ℕ)) (body ws : List ℕ) (w : Workspace) (own text : List ℕ) (x : Result Task Refusal)
     → checked r now asked content_md5 body ≡ x → workspace_in r ws ≡ Some w → w.holder ≡ HeldLock own text
     → Kept (workspace_in (carried asked.caller now r x).left ws) (requests now awaited asked content_md5 body) ws own text w
 request_kept r now awaited asked content_md5 body ws w own text (Err refusal) e stands lock = stays _ (requests now awaited asked content_md5 body) ws own text w stands lock
 request_kept r now awaited asked content_md5 body ws w own text (Ok (ListAll after prefix)) e stands lock = stays _ (requests now awaited asked content_md5 body) ws own text w stands lock
-request_kept r now awaited asked content_md5 body ws w own text (Ok (Carry o)) e stands lock = by_name (bytes_eq ws o.ws) refl
+request_kept r now awaited asked content_md5 body ws w own text (Ok (Carry its_ws its_act)) e stands lock = by_name (bytes_eq ws its_ws) refl
   where
-    p : Passes r asked body o
-    p = order_passes r now asked content_md5 body o e
+    p : Passes r asked body its_ws its_act
+    p = order_passes r now asked content_md5 body its_ws its_act e
 
-    by_name : (b : Bool) → bytes_eq ws o.ws ≡ b → Kept (workspace_in (ruled_in asked.caller o.ws r (rules o.act now (seen_at r o.ws))).left ws) (requests now awaited asked content_md5 body) ws own text w
+    by_name : (b : Bool) → bytes_eq ws its_ws ≡ b → Kept (workspace_in (ruled_in asked.caller its_ws r (rules its_act now (seen_at r its_ws))).left ws) (requests now awaited asked content_md5 body) ws own text w
     by_name true same =
-        let is : ws ≡ o.ws = (bytes_eq-Decides ws o.ws).0 same in
-        subst (λ (n : List ℕ). Kept (workspace_in (ruled_in asked.caller o.ws r (rules o.act now (seen_at r o.ws))).left n) (requests now awaited asked content_md5 body) n own text w) (sym is)
-        (ruled_kept r now awaited asked content_md5 body o w own text p (subst (λ (n : List ℕ). workspace_in r n ≡ Some w) is stands) lock)
+        let is : ws ≡ its_ws = (bytes_eq-Decides ws its_ws).0 same in
+        subst (λ (n : List ℕ). Kept (workspace_in (ruled_in asked.caller its_ws r (rules its_act now (seen_at r its_ws))).left n) (requests now awaited asked content_md5 body) n own text w) (sym is)
+        (ruled_kept r now awaited asked content_md5 body its_ws its_act w own text p (subst (λ (n : List ℕ). workspace_in r n ≡ Some w) is stands) lock)
     by_name false apart =
-        stays (workspace_in (ruled_in asked.caller o.ws r (rules o.act now (seen_at r o.ws))).left ws) (requests now awaited asked content_md5 body) ws own text w
-        (other_after r asked.caller o.ws ws o.act now (apart_from ws o.ws apart) ∙ stands) lock
+        stays (workspace_in (ruled_in asked.caller its_ws r (rules its_act now (seen_at r its_ws))).left ws) (requests now awaited asked content_md5 body) ws own text w
+        (other_after r asked.caller its_ws ws its_act now (apart_from ws its_ws apart) ∙ stands) lock
 
 pub locks_are_kept : LocksAreKept
 locks_are_kept r silent ws w own text stands lock = inl (stays (workspace_in r ws) silent ws own text w stands lock)
@@ -180,7 +179,7 @@ locks_are_kept r (commands at command) ws w own text stands lock = by_case (comm
 request_leaves_one : (o : Organization) (now : ℕ) (org : List ℕ) (x : Result Task Refusal) → IsSome (carried org now (Some o) x).left
 request_leaves_one o now org (Err refusal) = refl
 request_leaves_one o now org (Ok (ListAll after prefix)) = refl
-request_leaves_one o now org (Ok (Carry order)) = refl
+request_leaves_one o now org (Ok (Carry its_ws its_act)) = refl
 
 some_stays : (left : Option Organization) → IsSome left → left ≡ None → ⊥
 some_stays left some gone = let none : ⊥ = cc (sym some ∙ ap is_some gone) in none
@@ -213,10 +212,10 @@ one_name a b c d e = (ap name_of e, cc)
     name_of (ListWorkspaces after) = a
     name_of (OfWorkspace name act) = name
 
-same_order : (r q : Option Organization) (asked : Asked) (body : List ℕ) (o p : Order) → Passes r asked body o → Passes q asked body p → (p.ws ≡ o.ws) × (p.act ≡ o.act)
-same_order r q asked body o p first second =
-    let both : (p.ws ≡ o.ws) × (second.what ≡ first.what) = one_name p.ws o.ws second.what first.what (sym second.asks ∙ first.asks) in
-    (both.0, is_one o.act p.act (sym first.spelt ∙ ap (λ (w : WsAct). act_of w asked.lock_id body) (sym both.1) ∙ second.spelt))
+same_order : (r q : Option Organization) (asked : Asked) (body : List ℕ) (its_ws : List ℕ) (its_act : Act) (other_ws : List ℕ) (other_act : Act) → Passes r asked body its_ws its_act → Passes q asked body other_ws other_act → (other_ws ≡ its_ws) × (other_act ≡ its_act)
+same_order r q asked body its_ws its_act other_ws other_act first second =
+    let both : (other_ws ≡ its_ws) × (second.what ≡ first.what) = one_name other_ws its_ws second.what first.what (sym second.asks ∙ first.asks) in
+    (both.0, is_one its_act other_act (sym first.spelt ∙ ap (λ (w : WsAct). act_of w asked.lock_id body) (sym both.1) ∙ second.spelt))
 
 -- once more, on a record whose workspace is as the first left it
 again_left : (q : Option Organization) (org ws : List ℕ) (act : Act) (now later : ℕ) (s : Seen) (v : Workspace) → IsSome q → IsRepeatable act → (rules act now s).left ≡ Some v
@@ -242,69 +241,69 @@ second_leaves : (r : Option Organization) (now later : ℕ) (asked : Asked) (con
     → (carried asked.caller later (carried asked.caller now r x).left (checked (carried asked.caller now r x).left later asked content_md5 body)).left ≡ (carried asked.caller now r x).left
 second_leaves r now later asked content_md5 body (Err refusal) most e may = left_again r now later asked content_md5 body (Err refusal) most e refl
 second_leaves r now later asked content_md5 body (Ok (ListAll after prefix)) most e may = left_again r now later asked content_md5 body (Ok (ListAll after prefix)) most e refl
-second_leaves None now later asked content_md5 body (Ok (Carry o)) most e may = absurd (let p = order_passes None now asked content_md5 body o e in let none : ⊥ = cc p.there in none)
-second_leaves (Some organization) now later asked content_md5 body (Ok (Carry o)) most e may = by_left (rules o.act now (seen_in organization o.ws)).left refl
+second_leaves None now later asked content_md5 body (Ok (Carry its_ws its_act)) most e may = absurd (let p = order_passes None now asked content_md5 body its_ws its_act e in let none : ⊥ = cc p.there in none)
+second_leaves (Some organization) now later asked content_md5 body (Ok (Carry its_ws its_act)) most e may = by_left (rules its_act now (seen_in organization its_ws)).left refl
   where
-    first : Passes (Some organization) asked body o
-    first = order_passes (Some organization) now asked content_md5 body o e
+    first : Passes (Some organization) asked body its_ws its_act
+    first = order_passes (Some organization) now asked content_md5 body its_ws its_act e
 
-    repeatable : IsRepeatable o.act
-    repeatable = may o.act (act_on asked o.ws body first.what o.act first.asks first.spelt)
+    repeatable : IsRepeatable its_act
+    repeatable = may its_act (act_on asked its_ws body first.what its_act first.asks first.spelt)
 
     on : Option Organization → Result Task Refusal → Option Organization
     on q y = (carried asked.caller later q y).left
 
-    second : (q : Organization) (v : Workspace) → get q.workspaces o.ws ≡ Some v → (rules o.act now (seen_in organization o.ws)).left ≡ Some v
+    second : (q : Organization) (v : Workspace) → get q.workspaces its_ws ≡ Some v → (rules its_act now (seen_in organization its_ws)).left ≡ Some v
         → (y : Result Task Refusal) → checked (Some q) later asked content_md5 body ≡ y → on (Some q) y ≡ Some q
     second q v stands left (Err refusal) f = refl
     second q v stands left (Ok (ListAll after prefix)) f = refl
-    second q v stands left (Ok (Carry p)) f =
-        let passes : Passes (Some q) asked body p = order_passes (Some q) later asked content_md5 body p f in
-        let same : (p.ws ≡ o.ws) × (p.act ≡ o.act) = same_order (Some organization) (Some q) asked body o p first passes in
-        ap (λ (n : List ℕ). (ruled_in asked.caller n (Some q) (rules p.act later (seen_at (Some q) n))).left) same.0
-        ∙ ap (λ (a : Act). (ruled_in asked.caller o.ws (Some q) (rules a later (seen_at (Some q) o.ws))).left) same.1
-        ∙ again_left (Some q) asked.caller o.ws o.act now later (seen_in organization o.ws) v refl repeatable left stands
+    second q v stands left (Ok (Carry other_ws other_act)) f =
+        let passes : Passes (Some q) asked body other_ws other_act = order_passes (Some q) later asked content_md5 body other_ws other_act f in
+        let same : (other_ws ≡ its_ws) × (other_act ≡ its_act) = same_order (Some organization) (Some q) asked body its_ws its_act other_ws other_act first passes in
+        ap (λ (n : List ℕ). (ruled_in asked.caller n (Some q) (rules other_act later (seen_at (Some q) n))).left) same.0
+        ∙ ap (λ (a : Act). (ruled_in asked.caller its_ws (Some q) (rules a later (seen_at (Some q) its_ws))).left) same.1
+        ∙ again_left (Some q) asked.caller its_ws its_act now later (seen_in organization its_ws) v refl repeatable left stands
 
     -- on a record from which the first took the workspace away
-    second_gone : (q : Organization) → get q.workspaces o.ws ≡ None → o.act ≡ DeleteAct → (y : Result Task Refusal) → checked (Some q) later asked content_md5 body ≡ y → on (Some q) y ≡ Some q
+    second_gone : (q : Organization) → get q.workspaces its_ws ≡ None → its_act ≡ DeleteAct → (y : Result Task Refusal) → checked (Some q) later asked content_md5 body ≡ y → on (Some q) y ≡ Some q
     second_gone q gone is (Err refusal) f = refl
     second_gone q gone is (Ok (ListAll after prefix)) f = refl
-    second_gone q gone is (Ok (Carry p)) f =
-        let passes : Passes (Some q) asked body p = order_passes (Some q) later asked content_md5 body p f in
-        let same : (p.ws ≡ o.ws) × (p.act ≡ o.act) = same_order (Some organization) (Some q) asked body o p first passes in
-        let still : (rules o.act later (seen_in q o.ws)).left ≡ None =
-        ap (λ (x : Option Workspace). (rules o.act later (seen_by (nat_lt (count_of q) q.limit) x)).left) gone ∙ ap (λ (a : Act). (rules a later (missing (nat_lt (count_of q) q.limit))).left) is in
-        ap (λ (n : List ℕ). (ruled_in asked.caller n (Some q) (rules p.act later (seen_at (Some q) n))).left) same.0
-        ∙ ap (λ (a : Act). (ruled_in asked.caller o.ws (Some q) (rules a later (seen_at (Some q) o.ws))).left) same.1
-        ∙ ap (λ (w : Option Workspace). Some (placed q o.ws w)) (still ∙ sym gone) ∙ ap Some (placed_as_it_was q o.ws (get q.workspaces o.ws) refl)
+    second_gone q gone is (Ok (Carry other_ws other_act)) f =
+        let passes : Passes (Some q) asked body other_ws other_act = order_passes (Some q) later asked content_md5 body other_ws other_act f in
+        let same : (other_ws ≡ its_ws) × (other_act ≡ its_act) = same_order (Some organization) (Some q) asked body its_ws its_act other_ws other_act first passes in
+        let still : (rules its_act later (seen_in q its_ws)).left ≡ None =
+        ap (λ (x : Option Workspace). (rules its_act later (seen_by (nat_lt (count_of q) q.limit) x)).left) gone ∙ ap (λ (a : Act). (rules a later (missing (nat_lt (count_of q) q.limit))).left) is in
+        ap (λ (n : List ℕ). (ruled_in asked.caller n (Some q) (rules other_act later (seen_at (Some q) n))).left) same.0
+        ∙ ap (λ (a : Act). (ruled_in asked.caller its_ws (Some q) (rules a later (seen_at (Some q) its_ws))).left) same.1
+        ∙ ap (λ (w : Option Workspace). Some (placed q its_ws w)) (still ∙ sym gone) ∙ ap Some (placed_as_it_was q its_ws (get q.workspaces its_ws) refl)
 
     room : Bool
     room = nat_lt (count_of organization) organization.limit
 
-    by_left : (w : Option Workspace) → (rules o.act now (seen_in organization o.ws)).left ≡ w
-        → (carried asked.caller later (carried asked.caller now (Some organization) (Ok (Carry o))).left (checked (carried asked.caller now (Some organization) (Ok (Carry o))).left later asked content_md5 body)).left
-        ≡ (carried asked.caller now (Some organization) (Ok (Carry o))).left
-    by_left None left = by_stand (get organization.workspaces o.ws) refl
+    by_left : (w : Option Workspace) → (rules its_act now (seen_in organization its_ws)).left ≡ w
+        → (carried asked.caller later (carried asked.caller now (Some organization) (Ok (Carry its_ws its_act))).left (checked (carried asked.caller now (Some organization) (Ok (Carry its_ws its_act))).left later asked content_md5 body)).left
+        ≡ (carried asked.caller now (Some organization) (Ok (Carry its_ws its_act))).left
+    by_left None left = by_stand (get organization.workspaces its_ws) refl
       where
-        by_stand : (w : Option Workspace) → get organization.workspaces o.ws ≡ w
-            → (carried asked.caller later (carried asked.caller now (Some organization) (Ok (Carry o))).left (checked (carried asked.caller now (Some organization) (Ok (Carry o))).left later asked content_md5 body)).left
-            ≡ (carried asked.caller now (Some organization) (Ok (Carry o))).left
+        by_stand : (w : Option Workspace) → get organization.workspaces its_ws ≡ w
+            → (carried asked.caller later (carried asked.caller now (Some organization) (Ok (Carry its_ws its_act))).left (checked (carried asked.caller now (Some organization) (Ok (Carry its_ws its_act))).left later asked content_md5 body)).left
+            ≡ (carried asked.caller now (Some organization) (Ok (Carry its_ws its_act))).left
         by_stand None gone =
-            let same : (carried asked.caller now (Some organization) (Ok (Carry o))).left ≡ Some organization =
-            ap (λ (w : Option Workspace). Some (placed organization o.ws w)) (left ∙ sym gone) ∙ ap Some (placed_as_it_was organization o.ws (get organization.workspaces o.ws) refl) in
-            let again : (rules o.act later (seen_by room (get organization.workspaces o.ws))).left ≡ None =
-            ap (λ (x : Option Workspace). (rules o.act later (seen_by room x)).left) gone ∙ ap (λ (x : Option Workspace). (rules o.act now (seen_by room x)).left) (sym gone) ∙ left in
-            let twice : (ruled_in asked.caller o.ws (Some organization) (rules o.act later (seen_in organization o.ws))).left ≡ Some organization =
-            ap (λ (w : Option Workspace). Some (placed organization o.ws w)) (again ∙ sym gone) ∙ ap Some (placed_as_it_was organization o.ws (get organization.workspaces o.ws) refl) in
-            ap (λ (q : Option Organization). on q (checked q later asked content_md5 body)) same ∙ left_again (Some organization) now later asked content_md5 body (Ok (Carry o)) most e twice ∙ sym same
+            let same : (carried asked.caller now (Some organization) (Ok (Carry its_ws its_act))).left ≡ Some organization =
+            ap (λ (w : Option Workspace). Some (placed organization its_ws w)) (left ∙ sym gone) ∙ ap Some (placed_as_it_was organization its_ws (get organization.workspaces its_ws) refl) in
+            let again : (rules its_act later (seen_by room (get organization.workspaces its_ws))).left ≡ None =
+            ap (λ (x : Option Workspace). (rules its_act later (seen_by room x)).left) gone ∙ ap (λ (x : Option Workspace). (rules its_act now (seen_by room x)).left) (sym gone) ∙ left in
+            let twice : (ruled_in asked.caller its_ws (Some organization) (rules its_act later (seen_in organization its_ws))).left ≡ Some organization =
+            ap (λ (w : Option Workspace). Some (placed organization its_ws w)) (again ∙ sym gone) ∙ ap Some (placed_as_it_was organization its_ws (get organization.workspaces its_ws) refl) in
+            ap (λ (q : Option Organization). on q (checked q later asked content_md5 body)) same ∙ left_again (Some organization) now later asked content_md5 body (Ok (Carry its_ws its_act)) most e twice ∙ sym same
         by_stand (Some w) stood =
-            let q : Organization = placed organization o.ws (rules o.act now (seen_in organization o.ws)).left in
-            let gone : get q.workspaces o.ws ≡ None = own_workspace organization.workspaces o.ws (rules o.act now (seen_in organization o.ws)).left ∙ left in
-            let by_delete : (rules o.act now (there w)).left ≡ None = sym (ap (λ (x : Option Workspace). (rules o.act now (seen_by room x)).left) stood) ∙ left in
-            second_gone q gone (workspaces_go_by_delete o.act now w by_delete).0 (checked (Some q) later asked content_md5 body) refl
+            let q : Organization = placed organization its_ws (rules its_act now (seen_in organization its_ws)).left in
+            let gone : get q.workspaces its_ws ≡ None = own_workspace organization.workspaces its_ws (rules its_act now (seen_in organization its_ws)).left ∙ left in
+            let by_delete : (rules its_act now (there w)).left ≡ None = sym (ap (λ (x : Option Workspace). (rules its_act now (seen_by room x)).left) stood) ∙ left in
+            second_gone q gone (workspaces_go_by_delete its_act now w by_delete).0 (checked (Some q) later asked content_md5 body) refl
     by_left (Some v) left =
-        let q : Organization = placed organization o.ws (rules o.act now (seen_in organization o.ws)).left in
-        let stands : get q.workspaces o.ws ≡ Some v = own_workspace organization.workspaces o.ws (rules o.act now (seen_in organization o.ws)).left ∙ left in
+        let q : Organization = placed organization its_ws (rules its_act now (seen_in organization its_ws)).left in
+        let stands : get q.workspaces its_ws ≡ Some v = own_workspace organization.workspaces its_ws (rules its_act now (seen_in organization its_ws)).left ∙ left in
         second q v stands left (checked (Some q) later asked content_md5 body) refl
 
 -- a token that is there is not added again
@@ -366,23 +365,23 @@ later_leaves : (r q : Option Organization) (now later : ℕ) (asked : Asked) (co
 later_leaves r q now later asked content_md5 body ws (Err refusal) y e f may names accepted same = absurd (let none : ⊥ = cc in none)
 later_leaves r q now later asked content_md5 body ws (Ok (ListAll after prefix)) y e f may names accepted same =
     absurd (subst (λ (a : AskedAct). NamesIn a ws) (list_passes r now asked content_md5 body after prefix e) names)
-later_leaves r q now later asked content_md5 body ws (Ok (Carry o)) (Err refusal) e f may names accepted same = refl
-later_leaves r q now later asked content_md5 body ws (Ok (Carry o)) (Ok (ListAll after prefix)) e f may names accepted same = refl
-later_leaves r q now later asked content_md5 body ws (Ok (Carry o)) (Ok (Carry p)) e f may names accepted same =
-    let first : Passes r asked body o = order_passes r now asked content_md5 body o e in
-    let second : Passes q asked body p = order_passes q later asked content_md5 body p f in
-    let both : (p.ws ≡ o.ws) × (p.act ≡ o.act) = same_order r q asked body o p first second in
-    let is : o.ws ≡ ws = subst (λ (a : AskedAct). NamesIn a ws) first.asks names in
-    let stands : standing (seen_at q o.ws) ≡ (rules o.act now (seen_at r o.ws)).left = standing_at q o.ws
-    ∙ subst (λ (n : List ℕ). workspace_in q n ≡ workspace_in (ruled_in asked.caller o.ws r (rules o.act now (seen_at r o.ws))).left n) (sym is) same
-    ∙ own_after r asked.caller o.ws o.act now first.there in
-    let repeatable : IsRepeatable o.act = may o.act (act_on asked o.ws body first.what o.act first.asks first.spelt) in
-    let still : (rules o.act later (seen_at q o.ws)).left ≡ standing (seen_at q o.ws) =
-    accepted_acts_come_again o.act now later (seen_at r o.ws) (seen_at q o.ws) repeatable (not_refused asked.caller o.ws (rules o.act now (seen_at r o.ws)).answer accepted) stands in
-    let left : workspace_in (ruled_in asked.caller o.ws q (rules o.act later (seen_at q o.ws))).left o.ws ≡ workspace_in q o.ws = own_after q asked.caller o.ws o.act later second.there ∙ still ∙ standing_at q o.ws in
-    ap (λ (n : List ℕ). workspace_in (ruled_in asked.caller n q (rules p.act later (seen_at q n))).left ws) both.0
-    ∙ ap (λ (a : Act). workspace_in (ruled_in asked.caller o.ws q (rules a later (seen_at q o.ws))).left ws) both.1
-    ∙ subst (λ (n : List ℕ). workspace_in (ruled_in asked.caller o.ws q (rules o.act later (seen_at q o.ws))).left n ≡ workspace_in q n) is left
+later_leaves r q now later asked content_md5 body ws (Ok (Carry its_ws its_act)) (Err refusal) e f may names accepted same = refl
+later_leaves r q now later asked content_md5 body ws (Ok (Carry its_ws its_act)) (Ok (ListAll after prefix)) e f may names accepted same = refl
+later_leaves r q now later asked content_md5 body ws (Ok (Carry its_ws its_act)) (Ok (Carry other_ws other_act)) e f may names accepted same =
+    let first : Passes r asked body its_ws its_act = order_passes r now asked content_md5 body its_ws its_act e in
+    let second : Passes q asked body other_ws other_act = order_passes q later asked content_md5 body other_ws other_act f in
+    let both : (other_ws ≡ its_ws) × (other_act ≡ its_act) = same_order r q asked body its_ws its_act other_ws other_act first second in
+    let is : its_ws ≡ ws = subst (λ (a : AskedAct). NamesIn a ws) first.asks names in
+    let stands : standing (seen_at q its_ws) ≡ (rules its_act now (seen_at r its_ws)).left = standing_at q its_ws
+    ∙ subst (λ (n : List ℕ). workspace_in q n ≡ workspace_in (ruled_in asked.caller its_ws r (rules its_act now (seen_at r its_ws))).left n) (sym is) same
+    ∙ own_after r asked.caller its_ws its_act now first.there in
+    let repeatable : IsRepeatable its_act = may its_act (act_on asked its_ws body first.what its_act first.asks first.spelt) in
+    let still : (rules its_act later (seen_at q its_ws)).left ≡ standing (seen_at q its_ws) =
+    accepted_acts_come_again its_act now later (seen_at r its_ws) (seen_at q its_ws) repeatable (not_refused asked.caller its_ws (rules its_act now (seen_at r its_ws)).answer accepted) stands in
+    let left : workspace_in (ruled_in asked.caller its_ws q (rules its_act later (seen_at q its_ws))).left its_ws ≡ workspace_in q its_ws = own_after q asked.caller its_ws its_act later second.there ∙ still ∙ standing_at q its_ws in
+    ap (λ (n : List ℕ). workspace_in (ruled_in asked.caller n q (rules other_act later (seen_at q n))).left ws) both.0
+    ∙ ap (λ (a : Act). workspace_in (ruled_in asked.caller its_ws q (rules a later (seen_at q its_ws))).left ws) both.1
+    ∙ subst (λ (n : List ℕ). workspace_in (ruled_in asked.caller its_ws q (rules its_act later (seen_at q its_ws))).left n ≡ workspace_in q n) is left
 
 pub repeats_leave_the_workspace : RepeatsLeaveTheWorkspace
 repeats_leave_the_workspace r q silent later ws may names accepted same = absurd names
@@ -410,12 +409,12 @@ request_leaves_all : (r : Option Organization) (now : ℕ) (asked : Asked) (cont
     → workspace_in (carried asked.caller now r x).left ws ≡ workspace_in r ws → (carried asked.caller now r x).left ≡ r
 request_leaves_all r now asked content_md5 body ws (Err refusal) e names same = refl
 request_leaves_all r now asked content_md5 body ws (Ok (ListAll after prefix)) e names same = refl
-request_leaves_all r now asked content_md5 body ws (Ok (Carry o)) e names same =
-    let p : Passes r asked body o = order_passes r now asked content_md5 body o e in
-    let is : o.ws ≡ ws = subst (λ (a : AskedAct). NamesIn a ws) p.asks names in
-    let own : workspace_in (ruled_in asked.caller o.ws r (rules o.act now (seen_at r o.ws))).left o.ws ≡ workspace_in r o.ws =
-    subst (λ (n : List ℕ). workspace_in (ruled_in asked.caller o.ws r (rules o.act now (seen_at r o.ws))).left n ≡ workspace_in r n) (sym is) same in
-    ruled_leaves asked.caller o.ws r (rules o.act now (seen_at r o.ws)) (sym (own_after r asked.caller o.ws o.act now p.there) ∙ own)
+request_leaves_all r now asked content_md5 body ws (Ok (Carry its_ws its_act)) e names same =
+    let p : Passes r asked body its_ws its_act = order_passes r now asked content_md5 body its_ws its_act e in
+    let is : its_ws ≡ ws = subst (λ (a : AskedAct). NamesIn a ws) p.asks names in
+    let own : workspace_in (ruled_in asked.caller its_ws r (rules its_act now (seen_at r its_ws))).left its_ws ≡ workspace_in r its_ws =
+    subst (λ (n : List ℕ). workspace_in (ruled_in asked.caller its_ws r (rules its_act now (seen_at r its_ws))).left n ≡ workspace_in r n) (sym is) same in
+    ruled_leaves asked.caller its_ws r (rules its_act now (seen_at r its_ws)) (sym (own_after r asked.caller its_ws its_act now p.there) ∙ own)
 
 pub requests_change_their_workspace_alone : RequestsChangeTheirWorkspaceAlone
 requests_change_their_workspace_alone r silent ws names same = refl

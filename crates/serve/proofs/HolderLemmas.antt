@@ -97,16 +97,16 @@ carried_holder : (r : Option Organization) (now : ℕ) (asked : Asked) (content_
     → (ws : List ℕ) × (w : Workspace) × NamesIn asked.act ws × (workspace_in r ws ≡ Some w) × ((carried asked.caller now r x).answer.body ≡ holder_text asked.caller ws w.holder)
 carried_holder r now asked content_md5 body (Err refusal) e is = absurd (checked_other r now asked content_md5 body (e ∙ (let same : refusal ≡ Locked = cc in ap Err same)))
 carried_holder r now asked content_md5 body (Ok (ListAll after prefix)) e is = absurd (let none : ⊥ = cc in none)
-carried_holder r now asked content_md5 body (Ok (Carry o)) e is =
-    let p : Passes r asked body o = order_passes r now asked content_md5 body o e in
-    let s : Seen = seen_at r o.ws in
-    let h : (h : Holder) × ((rules o.act now s).answer ≡ held h) = held_by asked.caller o.ws (rules o.act now s).answer is (never_refused_as_locked o.act now s) in
-    let w : (w : Workspace) × (s ≡ there w) × (h.0 ≡ w.holder) = seen_holder s o.act now h.0 h.1 in (
-      o.ws,
+carried_holder r now asked content_md5 body (Ok (Carry its_ws its_act)) e is =
+    let p : Passes r asked body its_ws its_act = order_passes r now asked content_md5 body its_ws its_act e in
+    let s : Seen = seen_at r its_ws in
+    let h : (h : Holder) × ((rules its_act now s).answer ≡ held h) = held_by asked.caller its_ws (rules its_act now s).answer is (never_refused_as_locked its_act now s) in
+    let w : (w : Workspace) × (s ≡ there w) × (h.0 ≡ w.holder) = seen_holder s its_act now h.0 h.1 in (
+      its_ws,
       w.0,
-      subst (λ (a : AskedAct). NamesIn a o.ws) (sym p.asks) refl,
-      sym (standing_at r o.ws) ∙ ap standing w.1,
-      ap (λ (x : Outcome). (answer_to asked.caller o.ws x).body) h.1 ∙ ap (holder_text asked.caller o.ws) w.2,
+      subst (λ (a : AskedAct). NamesIn a its_ws) (sym p.asks) refl,
+      sym (standing_at r its_ws) ∙ ap standing w.1,
+      ap (λ (x : Outcome). (answer_to asked.caller its_ws x).body) h.1 ∙ ap (holder_text asked.caller its_ws) w.2,
     )
 
 pub locked_tells_the_holder : LockedTellsTheHolder

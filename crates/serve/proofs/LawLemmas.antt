@@ -58,9 +58,9 @@ ruled_leaves org ws r ruling e = ap (λ (w : Option Workspace). option_map (λ (
 carried_leaves : (org : List ℕ) (now : ℕ) (r : Option Organization) (x : Result Task Refusal) (refusal : Refusal) → (carried org now r x).answer.refusal ≡ Some refusal → (carried org now r x).left ≡ r
 carried_leaves org now r (Err other) refusal e = refl
 carried_leaves org now r (Ok (ListAll after prefix)) refusal e = refl
-carried_leaves org now r (Ok (Carry order)) refusal e =
-    ruled_leaves org order.ws r (rules order.act now (seen_at r order.ws))
-    (rules_change_nothing order.act now (seen_at r order.ws) (refuses_by org order.ws (rules order.act now (seen_at r order.ws)).answer refusal e) ∙ standing_at r order.ws)
+carried_leaves org now r (Ok (Carry ws act)) refusal e =
+    ruled_leaves org ws r (rules act now (seen_at r ws))
+    (rules_change_nothing act now (seen_at r ws) (refuses_by org ws (rules act now (seen_at r ws)).answer refusal e) ∙ standing_at r ws)
 
 command_leaves : (r : Option Organization) (command : Admin) → (command_step r command).answer ≢ Done → (command_step r command).left ≡ r
 command_leaves None (OrgAdd org limit) apart = absurd (apart refl)

@@ -37,7 +37,7 @@ use Rattle.route.specs.Policy.{caller_refused, allowed_by}
 use Rattle.route.specs.declared.acts.Asked.{Asked}
 use Rattle.route.specs.declared.acts.AskedAct.{AskedAct}
 use Rattle.route.specs.declared.acts.WsAct.{WsAct}
-use Rattle.serve.specs.Checks.{while_it_counts, in_reach, is_found, found, act_of, order}
+use Rattle.serve.specs.Checks.{while_it_counts, in_reach, is_found, found, act_of}
 use Rattle.serve.specs.Inner.Judging.{judged_task}
 use Rattle.serve.specs.Inner.Prepared.{found_counted, row_known, caller_known}
 use Rattle.serve.specs.Inner.Tracing.{told_by, edit_number, start_of, unless_held, trace_by}
@@ -171,7 +171,7 @@ rule_traced (Some o) ws act now unit decision lawful units meets some =
 
 -- what isn't there has no trace
 missing_traced : (ws : List ℕ) (o : Organization) (what : WsAct) (id : Option (List ℕ)) (body : List ℕ) (act : Act) (now : ℕ) → act_of what id body ≡ Ok act → is_found (Some o) ws what ≡ false
-    → traced now (Some o) (Ok (Carry (order ws act))) ≡ no_trace
+    → traced now (Some o) (Ok (Carry ws act)) ≡ no_trace
 missing_traced ws o what id body act now e gone =
     ap (trace_of (get o.workspaces ws)) ((act_is what id body act e).misses now _ (get o.workspaces ws) gone) ∙ stays_traced (get o.workspaces ws) (refused NotFound)
 

@@ -54,7 +54,7 @@ found_same o tokens (OfWorkspace ws what) = refl
 answer_same : (org : List ℕ) (now : ℕ) (o : Organization) (tokens : FinMap name_cmp Token) (x : Result Task Refusal) → (carried org now (Some (record o { tokens = tokens })) x).answer ≡ (carried org now (Some o) x).answer
 answer_same org now o tokens (Err refusal) = refl
 answer_same org now o tokens (Ok (ListAll after prefix)) = refl
-answer_same org now o tokens (Ok (Carry order)) = refl
+answer_same org now o tokens (Ok (Carry ws act)) = refl
 
 pub names_decide_nothing : NamesDecideNothing
 names_decide_nothing o tokens now asked content_md5 body same =

@@ -114,15 +114,15 @@ task_goes : (r : Option Organization) (now : ℕ) (asked : Asked) (content_md5 :
     → Goes r (carried asked.caller now r x).left (workspace_named asked.act) (traced now r x).version (traced now r x).run
 task_goes r now asked content_md5 body (Err refusal) e = inl (record { stays = refl; made = refl; started = refl })
 task_goes r now asked content_md5 body (Ok (ListAll after prefix)) e = inl (record { stays = refl; made = refl; started = refl })
-task_goes r now asked content_md5 body (Ok (Carry o)) e =
-    let p : Passes r asked body o = order_passes r now asked content_md5 body o e in
+task_goes r now asked content_md5 body (Ok (Carry its_ws its_act)) e =
+    let p : Passes r asked body its_ws its_act = order_passes r now asked content_md5 body its_ws its_act e in
     inr (record {
-      ws = o.ws;
-      act = o.act;
+      ws = its_ws;
+      act = its_act;
       now = now;
       is = ap workspace_named p.asks;
-      left = own_after r asked.caller o.ws o.act now p.there;
-      others = λ other apart. other_after r asked.caller o.ws other o.act now apart;
+      left = own_after r asked.caller its_ws its_act now p.there;
+      others = λ other apart. other_after r asked.caller its_ws other its_act now apart;
       made = refl;
       started = refl;
     })

@@ -26,7 +26,6 @@ use Rattle.route.specs.declared.acts.AskedAct.{AskedAct}
 use Rattle.route.specs.declared.acts.AskedAct.TheVariants.{ListWorkspaces, OfWorkspace}
 use Rattle.route.specs.declared.acts.WsAct.{WsAct}
 use Rattle.route.specs.declared.acts.WsAct.TheVariants.{Look, Put, Delete, UpdateState, PurgeState, Lock, Unlock, ForceUnlock, MakeRun, ReportRun}
-use Rattle.serve.specs.declared.prepared.Order.{Order}
 use Rattle.serve.specs.declared.prepared.Task.{Task}
 use Rattle.serve.specs.declared.prepared.Task.TheVariants.{ListAll, Carry}
 
@@ -132,14 +131,10 @@ act_of ForceUnlock id body = Ok ForceUnlockAct
 act_of MakeRun id body = spelt BadBody MakeRunAct (run_ask body)
 act_of (ReportRun number action) id body = Ok (ReportRunAct number action)
 
--- the same, its documents read
-abbrev pub order : List ℕ → Act → Order
-order ws act = record { ws = ws; act = act }
-
 -- what is to be done: a list is of the workspaces that the caller's prefix admits; it has no document, and its body isn't looked at
 abbrev pub task_of : List ℕ → AskedAct → Option (List ℕ) → List ℕ → Result Task Refusal
 task_of prefix (ListWorkspaces after) id body = Ok (ListAll after prefix)
-task_of prefix (OfWorkspace ws what) id body = and_then (act_of what id body) (λ act. Ok (Carry (order ws act)))
+task_of prefix (OfWorkspace ws what) id body = and_then (act_of what id body) (λ act. Ok (Carry ws act))
 
 -- the checks in their order: the caller, the role, the caller's workspaces, the organization, the names, the digest, the document
 abbrev pub checked : Option Organization → ℕ → Asked → Option (List ℕ) → List ℕ → Result Task Refusal

@@ -124,7 +124,7 @@ id_of_act (act.ReportRun n action) = None
 
 abbrev pub id_of_task : Task → Option (List ℕ)
 id_of_task (ListAll after prefix) = None
-id_of_task (Carry order) = id_of_act order.act
+id_of_task (Carry ws act) = id_of_act act
 
 abbrev pub id_spelt : Result Task Refusal → Option (List ℕ)
 id_spelt (Ok task) = id_of_task task
@@ -179,7 +179,7 @@ no_trace = record { shown_run = None; version = None; run = None }
 abbrev pub traced : ℕ → Option Organization → Result Task Refusal → Trace
 traced now r (Err refusal) = no_trace
 traced now r (Ok (ListAll after prefix)) = no_trace
-traced now r (Ok (Carry order)) = trace_of (workspace_in r order.ws) (rules order.act now (seen_at r order.ws))
+traced now r (Ok (Carry ws act)) = trace_of (workspace_in r ws) (rules act now (seen_at r ws))
 
 -- a row of which nothing is known but the moment: no message was read whole, and there is no reply
 abbrev pub silent_row : ℕ → LogRow

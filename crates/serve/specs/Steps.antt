@@ -77,7 +77,7 @@ ruled_in org ws r ruling = effect (answer_to org ws ruling.answer) (option_map (
 abbrev pub carried : List ℕ → ℕ → Option Organization → Result Task Refusal → Answered
 carried org now r (Err refusal) = refusing refusal r
 carried org now r (Ok (ListAll after prefix)) = effect (document_answer (ws_list_text (workspaces_after after prefix r))) r
-carried org now r (Ok (Carry order)) = ruled_in org order.ws r (rules order.act now (seen_at r order.ws))
+carried org now r (Ok (Carry ws act)) = ruled_in org ws r (rules act now (seen_at r ws))
 
 -- what a request of an organization is answered at a moment
 abbrev pub request_step : Option Organization → ℕ → Asked → Option (List ℕ) → List ℕ → Answered

@@ -16,7 +16,7 @@ ghost use Rattle.serve.specs.declared.prepared.Task.TheVariants.{ListAll};
 ghost use Rattle.serve.specs.Inner.Judging.{judged_task, missed};
 ghost use Rattle.serve.specs.Inner.Units.{if_named, sees_named, is_present};
 
-use crate::prepared::{Order, Task};
+use crate::prepared::Task;
 use basis::{
     Bytes, Down, LockId, Look, Moment, Number, OrgName, Prefix, Refusal, StateHead, WsName,
 };
@@ -340,7 +340,7 @@ fn list_after(after: &Option<WsName>, prefix: &Prefix) -> Result<Task, Refusal>
     }
 }
 
-fn order_at(
+fn task_at(
     alloc: Global,
     ws: &WsName,
     act: WsAct,
@@ -351,7 +351,7 @@ fn order_at(
 {
     match act_of(alloc, act, lock_id, body) {
         Ok(act) => match ws.clone() {
-            Ok(ws) => Ok(Task::Carry(Order { ws, act })),
+            Ok(ws) => Ok(Task::Carry { ws, act }),
             Err(_) => Err(Refusal::Unavailable),
         },
         Err(refusal) => Err(refusal),
@@ -375,6 +375,6 @@ pub fn judged(
     }
     match asked {
         AskedAct::ListWorkspaces { after } => list_after(after, prefix),
-        AskedAct::OfWorkspace(ws, act) => order_at(alloc, ws, *act, lock_id, body),
+        AskedAct::OfWorkspace(ws, act) => task_at(alloc, ws, *act, lock_id, body),
     }
 }

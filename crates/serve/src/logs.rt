@@ -143,7 +143,7 @@ pub fn spelt_id(task: &Task) -> Result<Option<LockId>, AllocError>
 {
     match task {
         Task::ListAll { .. } => Ok(None),
-        Task::Carry(order) => match id_of_act(&order.act) {
+        Task::Carry { act, .. } => match id_of_act(act) {
             Some(id) => Ok(Some(id.clone()?)),
             None => Ok(None),
         },

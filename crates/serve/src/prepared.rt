@@ -5,22 +5,18 @@ use docs::LogRow;
 use machine::{Act, Change};
 use wire::Reply;
 
-/// An act on a workspace by its name, its documents read.
-#[derive(Drop)]
-pub struct Order {
-    pub ws: WsName,
-    pub act: Act,
-}
-
-/// What is to be done: to list the organization's workspaces after a name, of those that a prefix
-/// admits, or an act.
+/// What is asked, with its document read: to list the organization's workspaces after a name, of those that a prefix
+/// admits, or an act on a workspace.
 #[derive(Drop)]
 pub enum Task {
     ListAll {
         after: Option<WsName>,
         prefix: Prefix,
     },
-    Carry(Order),
+    Carry {
+        ws: WsName,
+        act: Act,
+    },
 }
 
 /// A change that is to follow, once the answer is made.

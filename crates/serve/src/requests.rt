@@ -21,14 +21,14 @@ ghost use Rattle.serve.specs.Inner.Units.{holder_in};
 
 use crate::checks::{in_reach, judged, known_caller, missed};
 use crate::logs::{RowFacts, Trace, spelt_id, trace_by};
-use crate::prepared::{Order, Pending, Prepared, Task};
+use crate::prepared::{Pending, Prepared, Task};
 use basis::numbers::MAX_MOMENT;
 use basis::{Bytes, Down, Holder, Moment, OrgName, Prefix, Refusal, RunRow, Text, WsName, WsRow};
 use docs::{
     write_error, write_run, write_run_holder, write_run_list, write_version_list, write_ws,
     write_ws_list,
 };
-use machine::{Answer, Change, Decision, Keep, Shown, TokenRow, Unit, decide};
+use machine::{Act, Answer, Change, Decision, Keep, Shown, TokenRow, Unit, decide};
 use route::{Asked, allowed};
 use std::alloc::Global;
 use wire::Reply;
@@ -315,7 +315,7 @@ fn perform<K: Keep>(
 {
     match task {
         Task::ListAll { after, prefix } => list_workspaces(alloc, keep, org, &after, &prefix),
-        Task::Carry(order) => rule(alloc, keep, at, org, &order),
+        Task::Carry { ws, act } => rule(alloc, keep, at, org, &ws, &act),
     }
 }
 
@@ -388,19 +388,20 @@ fn rule<K: Keep>(
     keep: &mut K,
     at: Moment,
     org: &OrgName,
-    order: &Order,
+    ws: &WsName,
+    act: &Act,
 ) -> Result<(Prepared, Trace), Down>
     ensures looks { Looks K.rows K.clean K.sound K.shielded keep.old keep.new }
-    ensures ok { K.clean keep.new → K.sound keep.old → IfOk result (λ p. IsSome (K.rows keep.old org.now) → IsInRange order.now.act
-        → Foresees (K.rows keep.old org.now) org.now (carried org.now at (K.rows keep.old org.now) (Ok (Carry order.now))) p.0) }
-    ensures traces { K.clean keep.new → K.sound keep.old → IfOk result (λ p. IsSome (K.rows keep.old org.now) → p.1 ≡ traced at (K.rows keep.old org.now) (Ok (Carry order.now))) }
+    ensures ok { K.clean keep.new → K.sound keep.old → IfOk result (λ p. IsSome (K.rows keep.old org.now) → IsInRange act.now
+        → Foresees (K.rows keep.old org.now) org.now (carried org.now at (K.rows keep.old org.now) (Ok (Carry ws.now act.now))) p.0) }
+    ensures traces { K.clean keep.new → K.sound keep.old → IfOk result (λ p. IsSome (K.rows keep.old org.now) → p.1 ≡ traced at (K.rows keep.old org.now) (Ok (Carry ws.now act.now))) }
 {
     keep.records_are_lawful();
     prove!(at.seconds() <= MAX_MOMENT);
-    let unit = keep.unit(alloc, org, &order.ws, &order.act)?;
-    let decision = decide(&unit, &order.act, at)?;
+    let unit = keep.unit(alloc, org, ws, act)?;
+    let decision = decide(&unit, act, at)?;
     let trace = trace_by(&unit, &decision);
-    match answer_decision(alloc, keep, org, &order.ws, &unit, decision) {
+    match answer_decision(alloc, keep, org, ws, &unit, decision) {
         Ok(prepared) => Ok((prepared, trace)),
         Err(down) => Err(down),
     }

@@ -63,4 +63,4 @@ IsPrepared rows (commands at command) p = ⊥
 -- the documents of an act that is to be done are in their ranges
 abbrev pub IsTaskInRange : Task → Type 0
 IsTaskInRange (ListAll after prefix) = ⊤
-IsTaskInRange (Carry order) = IsInRange order.act
+IsTaskInRange (Carry ws act) = IsInRange act
