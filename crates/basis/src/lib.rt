@@ -15,7 +15,7 @@ pub mod texts;
 
 pub use memory::{Down, Unfit};
 pub use names::{LockId, OrgName, Prefix, Secret, WsName, is_free_id, is_run_id};
-pub use numbers::{Limit, Moment, Number, Retention};
+pub use numbers::{Limit, Moment, Number, Retention, Serial};
 pub use refusals::{Allow, Refusal};
 pub use roles::{Bounds, Caller, Role};
 pub use rows::{

@@ -1,8 +1,8 @@
-//! Numbers of versions and runs, moments, and limits.
+//! Numbers of versions and runs, moments, serials and limits.
 ghost use Rattle.std.specs.Prelude.{◌≡◌, ℕ, ◌<◌, ◌≤◌, Some, None, IfOk, IfErr};
 ghost use Rattle.basis.specs.Numbers.{whole_of, number_of, within};
 ghost use Rattle.basis.specs.Inner.Numbers.{begins_plainly};
-ghost use Rattle.basis.specs.declared.numbers.TheConstants.{MAX_NUMBER, MAX_MOMENT, MAX_LIMIT, MAX_KEPT, FIRST_KEPT};
+ghost use Rattle.basis.specs.declared.numbers.TheConstants.{MAX_NUMBER, MAX_MOMENT, MAX_SERIAL, MAX_LIMIT, MAX_KEPT, FIRST_KEPT};
 
 use crate::memory::Unfit;
 use std::marker::Model;
@@ -12,6 +12,9 @@ pub const MAX_NUMBER: u32 = 1_000_000_000;
 
 /// The last second of the year 9999, in seconds since 1970 (UTC).
 pub const MAX_MOMENT: u64 = 253_402_300_799;
+
+/// The greatest serial of a state: 2 ^ 63 - 1.
+pub const MAX_SERIAL: u64 = 9_223_372_036_854_775_807;
 
 /// The greatest limit of an organization's workspaces.
 pub const MAX_LIMIT: u32 = 100_000;
@@ -107,6 +110,41 @@ impl Moment {
         ensures most { result ≤ MAX_MOMENT }
     {
         self.seconds
+    }
+}
+
+/// The serial of a state, which counts its changes: 0 to 9,223,372,036,854,775,807.
+#[derive(Clone, Copy, PartialEq, Eq)]
+pub struct Serial {
+    value: u64,
+}
+
+impl Model for Serial {
+    ghost Value = { ℕ };
+
+    ghost view = { λ s. s.value };
+
+    ghost invariant = { λ s. s.value ≤ MAX_SERIAL };
+
+    ghost inverse = { λ n. record { value = n } };
+}
+
+impl Serial {
+    pub fn new(value: u64) -> Option<Serial>
+        ensures { result ≡ within 0 MAX_SERIAL value }
+    {
+        if value <= MAX_SERIAL {
+            Some(Serial { value })
+        } else {
+            None
+        }
+    }
+
+    pub fn get(self) -> u64
+        ensures value { result ≡ self }
+        ensures most { result ≤ MAX_SERIAL }
+    {
+        self.value
     }
 }
 

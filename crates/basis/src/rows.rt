@@ -4,13 +4,10 @@ ghost use Rattle.basis.specs.Listings.{listing_of};
 
 use crate::memory::Down;
 use crate::names::{LockId, WsName};
-use crate::numbers::{Moment, Number, Retention};
+use crate::numbers::{Moment, Number, Retention, Serial};
 use crate::runs::{RunAction, RunStatus};
 use crate::texts::{Bytes, Items, Text};
 use std::alloc::Global;
-
-/// The greatest serial of a state: 2 ^ 63 - 1.
-pub const MAX_SERIAL: u64 = 9_223_372_036_854_775_807;
 
 /// The most bytes of a state's lineage.
 pub const MAX_LINEAGE: usize = 256;
@@ -19,7 +16,7 @@ pub const MAX_LINEAGE: usize = 256;
 /// that don't follow one another apart. An absent lineage is empty.
 #[derive(Drop)]
 pub struct StateHead {
-    pub serial: u64,
+    pub serial: Serial,
     pub lineage: Text,
 }
 
@@ -103,7 +100,7 @@ pub struct VersionRow {
     pub created: Moment,
     pub lineage: Text,
     pub number: Number,
-    pub serial: u64,
+    pub serial: Serial,
     /// How many bytes its text has.
     pub size: u64,
 }

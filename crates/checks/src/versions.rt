@@ -5,8 +5,8 @@ ghost use Rattle.checks.specs.Inner.Groups.{picked};
 ghost use Rattle.checks.specs.Inner.Versions.{is_version_row, unfit_version, version_number, rises, reaches, sorted, are_versions};
 
 use basis::Down;
-use basis::numbers::MAX_MOMENT;
-use basis::rows::{MAX_LINEAGE, MAX_SERIAL};
+use basis::numbers::{MAX_MOMENT, MAX_SERIAL};
+use basis::rows::MAX_LINEAGE;
 use statements::rows::VersionRow;
 use std::alloc::Global;
 
@@ -95,7 +95,7 @@ fn unfit_as(row: &(i64, VersionRow)) -> Option<u64>
 fn is_version_row(row: &(i64, VersionRow)) -> bool
     ensures { result ≡ is_version_row row.now }
 {
-    row.1.it.serial <= MAX_SERIAL
+    row.1.it.serial.get() <= MAX_SERIAL
         && row.1.it.lineage.as_str().len() <= MAX_LINEAGE
         && row.1.it.created.seconds() <= MAX_MOMENT
 }

@@ -17,9 +17,10 @@ use Rattle.serde_json.specs.Read.{number_of, of_json, of_items, of_members, conv
 use Rattle.serde_json.proofs.Views.{get_member-put, get_member-put_other}
 use Rattle.basis.specs.Numbers.{within}
 use Rattle.basis.specs.declared.rows.StateHead.{StateHead}
-use Rattle.basis.specs.declared.rows.TheConstants.{MAX_LINEAGE, MAX_SERIAL}
+use Rattle.basis.specs.declared.numbers.TheConstants.{MAX_SERIAL}
+use Rattle.basis.specs.declared.rows.TheConstants.{MAX_LINEAGE}
 use Rattle.docs.specs.Documents.{object_of, serial_of, text_within, optional_text, make_head, head_in, state_head}
-use Rattle.docs.specs.Inner.Heads.{opens_object, object_in, IsPartOf, IsHeadOf, serial_in, lineage_in}
+use Rattle.docs.specs.Inner.Heads.{opens_object, object_in, IsPartOf, IsHeadOf, whole_in, serial_in, lineage_in}
 use Rattle.docs.specs.declared.heads.Head.{Head}
 use Rattle.docs.specs.declared.heads.Part.{Part}
 use Rattle.docs.proofs.Passing.{converted-object, whole, whole_read, whole_and_more, whole_refused}
@@ -44,7 +45,7 @@ pub with_serial : (name : List ℕ) (part : Part) (value : Data) (found : Member
 with_serial name part value found old serial same part_is head is =
     let named = (bytes_eq-Decides name (codes "serial")).0 same in
     record {
-      serial = is ∙ ap (λ n. option_and_then (within 0 MAX_SERIAL) (option_and_then as_u64 n)) part_is.0 ∙ ap (option_and_then serial_of) (sym (found_at (codes "serial") name value found named));
+      serial = is ∙ ap (option_and_then as_u64) part_is.0 ∙ ap (option_and_then whole_in) (sym (found_at (codes "serial") name value found named));
       lineage = head.lineage ∙ ap (optional_text MAX_LINEAGE) (sym (get_member-put_other (codes "lineage") name value found (not_lineage name named)));
     }
 
@@ -53,13 +54,13 @@ pub with_lineage : (name : List ℕ) (part : Part) (value : Data) (found : Membe
 with_lineage name part value found old lineage same part_is head is =
     let named = (bytes_eq-Decides name (codes "lineage")).0 same in
     record {
-      serial = head.serial ∙ ap (option_and_then serial_of) (sym (get_member-put_other (codes "serial") name value found (not_serial name named)));
+      serial = head.serial ∙ ap (option_and_then whole_in) (sym (get_member-put_other (codes "serial") name value found (not_serial name named)));
       lineage = is ∙ ap (option_and_then (text_within 0 MAX_LINEAGE)) part_is.1 ∙ ap (optional_text MAX_LINEAGE) (sym (found_at (codes "lineage") name value found named));
     }
 
 pub with_another : (name : List ℕ) (value : Data) (found : Members) (head : Head) → bytes_eq name (codes "serial") ≡ false → bytes_eq name (codes "lineage") ≡ false → IsHeadOf head found → IsHeadOf head (put name value found)
 with_another name value found head no_serial no_lineage is = record {
-  serial = is.serial ∙ ap (option_and_then serial_of) (sym (get_member-put_other (codes "serial") name value found (differs (codes "serial") name no_serial)));
+  serial = is.serial ∙ ap (option_and_then whole_in) (sym (get_member-put_other (codes "serial") name value found (differs (codes "serial") name no_serial)));
   lineage = is.lineage ∙ ap (optional_text MAX_LINEAGE) (sym (get_member-put_other (codes "lineage") name value found (differs (codes "lineage") name no_lineage)));
 }
 
@@ -153,23 +154,28 @@ no_text bytes = no_text_as bytes (is_utf8 bytes) refl
 
 -- ---- the state
 
+-- a serial is a whole number in its range
+serial_is : (value : Option Data) → option_and_then serial_of value ≡ option_and_then (within 0 MAX_SERIAL) (option_and_then whole_in value)
+serial_is None = refl
+serial_is (Some value) = refl
+
 pub head_found : (bytes : List ℕ) (found : Members) (head : Head) (made : StateHead) → object_of bytes ≡ Some found → IsHeadOf head found
-    → head.serial ≡ Some made.serial → text_of head.lineage ≡ Some made.lineage → state_head bytes ≡ Some made
+    → option_and_then (within 0 MAX_SERIAL) head.serial ≡ Some made.serial → text_of head.lineage ≡ Some made.lineage → state_head bytes ≡ Some made
 unfolding state_head
 head_found bytes found head made document is serial lineage =
     let text = optional_text MAX_LINEAGE (get_member (codes "lineage") found) in
-    ap (option_and_then head_in) document ∙ ap (option_and_then (λ n. option_map (make_head n) text)) (sym is.serial ∙ serial)
+    ap (option_and_then head_in) document ∙ ap (option_and_then (λ n. option_map (make_head n) text)) (serial_is (get_member (codes "serial") found) ∙ ap (option_and_then (within 0 MAX_SERIAL)) (sym is.serial) ∙ serial)
     ∙ ap (option_map (make_head made.serial)) (sym is.lineage ∙ lineage)
 
 pub none_found : (bytes : List ℕ) → object_of bytes ≡ None → state_head bytes ≡ None
 unfolding state_head
 none_found bytes document = ap (option_and_then head_in) document
 
-pub no_serial_found : (bytes : List ℕ) (found : Members) (head : Head) → object_of bytes ≡ Some found → IsHeadOf head found → head.serial ≡ None → state_head bytes ≡ None
+pub no_serial_found : (bytes : List ℕ) (found : Members) (head : Head) → object_of bytes ≡ Some found → IsHeadOf head found → option_and_then (within 0 MAX_SERIAL) head.serial ≡ None → state_head bytes ≡ None
 unfolding state_head
 no_serial_found bytes found head document is serial =
     let text = optional_text MAX_LINEAGE (get_member (codes "lineage") found) in
-    ap (option_and_then head_in) document ∙ ap (option_and_then (λ n. option_map (make_head n) text)) (sym is.serial ∙ serial)
+    ap (option_and_then head_in) document ∙ ap (option_and_then (λ n. option_map (make_head n) text)) (serial_is (get_member (codes "serial") found) ∙ ap (option_and_then (within 0 MAX_SERIAL)) (sym is.serial) ∙ serial)
 
 without_text : (o : Option ℕ) → option_and_then (λ n. option_map {U = StateHead} (make_head n) None) o ≡ None
 without_text None = refl

@@ -8,10 +8,10 @@ use Rattle.serde_json.specs.Data.{Data, null, boolean, number, string, array, ob
 use Rattle.serde_json.specs.Find.{get_member, as_number, as_object, as_str, as_u64}
 use Rattle.serde_json.specs.Read.{read}
 use Rattle.basis.specs.declared.rows.RunAsk.{RunAsk}
-use Rattle.basis.specs.declared.numbers.TheConstants.{MAX_KEPT}
+use Rattle.basis.specs.declared.numbers.TheConstants.{MAX_KEPT, MAX_SERIAL}
 use Rattle.basis.specs.declared.rows.SettingsAsk.{SettingsAsk}
 use Rattle.basis.specs.declared.rows.StateHead.{StateHead}
-use Rattle.basis.specs.declared.rows.TheConstants.{MAX_LINEAGE, MAX_SERIAL}
+use Rattle.basis.specs.declared.rows.TheConstants.{MAX_LINEAGE}
 use Rattle.basis.specs.Names.{is_free_id}
 use Rattle.basis.specs.Numbers.{within}
 use Rattle.docs.specs.declared.documents.TheConstants.{MAX_SMALL, MAX_KEY, MAX_MESSAGE}

@@ -84,7 +84,7 @@ impl Shown for VersionRow {
         put_number(writer, "created", Some(self.created.seconds()))?;
         put_text(writer, "lineage", Some(self.lineage.as_str()))?;
         put_number(writer, "number", Some(whole_number(self.number)))?;
-        put_number(writer, "serial", Some(self.serial))?;
+        put_number(writer, "serial", Some(self.serial.get()))?;
         put_number(writer, "size", Some(self.size))
     }
 }

@@ -34,7 +34,7 @@ pub fn read_state(alloc: Global, bytes: &[u8]) -> Result<StateHead, DocFault>
 {
     let mut scratch = Scratch::new(alloc);
     let head = read_head(bytes, &mut scratch)?;
-    let Some(serial) = head.serial else {
+    let Some(serial) = head.serial() else {
         return Err(DocFault::Bad);
     };
     let Some(lineage) = head.lineage else {

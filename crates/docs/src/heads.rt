@@ -1,6 +1,8 @@
 //! The head of a state, read off the tokens of its text. All of the text is checked and nothing of it
 //! is kept, so a large state takes the memory of its text once more, and no tree.
-ghost use Rattle.std.specs.Prelude.{◌≡◌, ◌<◌, ◌∷◌, length, true, false, Some, None, IfOk, OnOk, OnErr, IsErrOf, IsTrue, option_map, slice_index, ◌==◌};
+ghost use Rattle.std.specs.Prelude.{◌≡◌, ◌<◌, ◌∷◌, length, true, false, Some, None, IfOk, OnOk, OnErr, IsErrOf, IsTrue, option_and_then, option_map, slice_index, ◌==◌};
+ghost use Rattle.basis.specs.Numbers.{within};
+ghost use Rattle.basis.specs.declared.numbers.TheConstants.{MAX_SERIAL};
 ghost use Rattle.json.specs.Json.{value, items, members};
 ghost use Rattle.json.specs.Lex.{tokens};
 ghost use Rattle.json.specs.Reads.{token_of};
@@ -12,7 +14,8 @@ ghost use Rattle.docs.specs.Documents.{object_of};
 ghost use Rattle.docs.specs.Inner.Heads.{opens_object, object_in, IsPartOf, IsHeadOf, serial_in, lineage_in};
 
 use crate::faults::DocFault;
-use basis::rows::{MAX_LINEAGE, MAX_SERIAL};
+use basis::Serial;
+use basis::rows::MAX_LINEAGE;
 use fast_float::Numeral;
 use json::{Invalid, Reader, Scratch, Token};
 use serde_json::Number;
@@ -36,10 +39,7 @@ impl<'a> Part<'a> {
         let Part::Number(number) = self else {
             return None;
         };
-        match number.as_u64() {
-            Some(serial) if serial <= MAX_SERIAL => Some(serial),
-            _ => None,
-        }
+        number.as_u64()
     }
 
     fn lineage(&self) -> Option<&'a str>
@@ -60,6 +60,13 @@ pub(crate) struct Head<'a> {
 }
 
 impl<'a> Head<'a> {
+    // The serial, where it is one.
+    pub(crate) fn serial(&self) -> Option<Serial>
+        ensures { result ≡ option_and_then (within 0 MAX_SERIAL) self.now.serial }
+    {
+        self.serial.and_then(Serial::new)
+    }
+
     // Of one member more.
     fn with(self, name: &str, part: &Part<'a>) -> Head<'a>
         ensures { (value : Data) (found : Members) → IsPartOf part.now value → IsHeadOf self.entry found

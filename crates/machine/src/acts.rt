@@ -6,7 +6,7 @@ use crate::records::Version;
 use crate::texts::StateText;
 use basis::{
     Bytes, Holder, HolderId, Limit, LockId, Look, Moment, Number, Refusal, Retention, RunAction,
-    RunAsk, RunRow, RunStatus, Settings, SettingsAsk, StateHead, Text,
+    RunAsk, RunRow, RunStatus, Serial, Settings, SettingsAsk, StateHead, Text,
 };
 
 /// What is asked of one workspace, its documents read.
@@ -199,7 +199,7 @@ impl Act {
 #[derive(Drop)]
 pub struct Newest {
     pub number: Number,
-    pub serial: u64,
+    pub serial: Serial,
     pub lineage: Text,
     /// Whether its text is the asked one, byte for byte.
     pub is_same: bool,

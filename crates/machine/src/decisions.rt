@@ -183,7 +183,7 @@ fn decide_after(
     if lineages_differ(&newest.lineage, &head.lineage) {
         return Ok(Decision::Refused(Refusal::OtherLineage));
     }
-    if newest.serial < head.serial {
+    if newest.serial.get() < head.serial.get() {
         decide_version(unit, head, text, now)
     } else {
         Ok(Decision::Refused(Refusal::OldSerial))

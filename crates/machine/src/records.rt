@@ -5,14 +5,14 @@ ghost use Rattle.machine.specs.Settling.{is_waiting};
 use crate::maps::NameMap;
 use crate::texts::StateText;
 use basis::{
-    Caller, Holder, Items, Limit, LockId, Moment, Number, RunRow, RunStatus, Settings, Text,
+    Caller, Holder, Items, Limit, LockId, Moment, Number, RunRow, RunStatus, Serial, Settings, Text,
 };
 
 /// A version of a workspace's state. Its text is kept byte for byte as it was sent.
 #[derive(Clone, Drop)]
 pub struct Version {
     pub number: Number,
-    pub serial: u64,
+    pub serial: Serial,
     pub lineage: Text,
     pub created: Moment,
     pub text: StateText,

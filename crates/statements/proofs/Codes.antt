@@ -3,7 +3,7 @@ use Rattle.std.proofs.Common.{◌≡◌, ◌≤◌, inl, inr, Bool, true, false,
 use Rattle.sqlite_value.specs.declared.value.Value.TheVariants.{Text, Int}
 use Rattle.sqlite.specs.Values.{or_null, bound_value}
 use Rattle.sqlite_typed.specs.Columns.{or_null as typed_null}
-use Rattle.basis.specs.declared.numbers.TheConstants.{MAX_MOMENT}
+use Rattle.basis.specs.declared.numbers.TheConstants.{MAX_MOMENT, MAX_SERIAL}
 use Rattle.basis.specs.declared.roles.Role.{Role}
 use Rattle.basis.specs.declared.roles.Role.TheVariants.{Read, Write, Admin}
 use Rattle.basis.specs.declared.runs.RunStatus.{RunStatus}
@@ -15,6 +15,9 @@ use Rattle.statements.specs.Rows.{number, role_code, status_code, action_code, r
 
 pub moment_fits : (n : ℕ) → n ≤ MAX_MOMENT → SFits w64 (pos n)
 moment_fits n most = record { sfits = omega (arith, most) }
+
+pub serial_fits : (n : ℕ) → n ≤ MAX_SERIAL → SFits w64 (pos n)
+serial_fits n most = record { sfits = omega (arith, most) }
 
 pub limit_fits : (most : ℕ) (n : ℤ) → LimitsTo most n → SFits w64 n
 limit_fits most n (inl h) = subst (SFits w64) (sym h.1) (record { sfits = omega (arith, h.0) })

@@ -6,7 +6,7 @@ ghost use Rattle.sqlite_value.specs.declared.value.Value.TheVariants.{Text as Te
 ghost use Rattle.sqlite.specs.Values.{bound};
 ghost use Rattle.sqlite.specs.Held.{state};
 ghost use Rattle.sqlite.specs.State.{HasCleanDisk, Survives, Shown};
-ghost use Rattle.basis.specs.declared.numbers.TheConstants.{MAX_MOMENT};
+ghost use Rattle.basis.specs.declared.numbers.TheConstants.{MAX_MOMENT, MAX_SERIAL};
 ghost use Rattle.statements.specs.Rows.{number, role_code, status_code, action_code, number_at, flag_at, bytes_at, some_bytes_at, status_at, some_action_at, version_in_row, run_in_row};
 ghost use Rattle.statements.specs.Steps.{Queries};
 ghost use Rattle.statements.specs.Calls.{Wrote, WroteAny, IsQuery, FirstRow, FirstRows, LimitsTo, IsCalm, AreAllRead, IsRead, IsOnly, AreRead, IsOrganization, IsVersionIn, IsVersionRow, IsRunIn, IsRunRow, IsNamedRole, IsNamedToken, IsFlagCell, IsTextOrNull, IsNumberOrNull, IsActionOrNull, IsBound, IsBoundedRole, IsBody, IsNumber, IsRole, IsStatus, IsCount};
@@ -14,7 +14,7 @@ ghost use Rattle.statements.specs.Calls.{Wrote, WroteAny, IsQuery, FirstRow, Fir
 use crate::rows::{BoundedRole, NamedRole, NamedToken, Organization, Token};
 use basis::{
     Bounds, Bytes, Items, Limit, LockId, Moment, Number, Prefix, Retention, Role, RunAction,
-    RunRow, RunStatus, Text, VersionRow, WsName,
+    RunRow, RunStatus, Serial, Text, VersionRow, WsName,
 };
 use sqlite::types::{Type, ValueRef};
 use sqlite::{Alter, Connection, Error, Row, Transaction};
@@ -153,6 +153,14 @@ pub(crate) fn seconds(moment: Moment) -> i64
     signed(moment.seconds())
 }
 
+/// The serial of a state, as SQL has it.
+pub(crate) fn signed_serial(serial: Serial) -> i64
+    ensures number { result ≡ pos serial }
+    ensures most { serial ≤ MAX_SERIAL }
+{
+    signed(serial.get())
+}
+
 /// The same of a moment that may be absent.
 pub(crate) fn optional_seconds(moment: Option<Moment>) -> Option<i64>
     ensures { result ≡ option_map pos moment }
@@ -196,6 +204,16 @@ pub(crate) fn moment_in(row: &Row, at: usize) -> Result<Moment, Error>
     ensures cell { IfOk result (λ x. column row.now at ≡ number x) }
 {
     moment_of(row.get(at)?, at)
+}
+
+pub(crate) fn serial_in(row: &Row, at: usize) -> Result<Serial, Error>
+    ensures is { IfOk result (λ x. x ≡ number_at row.now at) }
+    ensures cell { IfOk result (λ x. column row.now at ≡ number x) }
+{
+    match Serial::new(row.get(at)?) {
+        Some(serial) => Ok(serial),
+        None => Err(Error::IntegralValueOutOfRange(at)),
+    }
 }
 
 pub(crate) fn optional_text(row: &Row, at: usize) -> Result<Option<Text>, Error>
@@ -384,7 +402,7 @@ pub(crate) fn version_in(row: &Row, at: u8) -> Result<VersionRow, Error>
     let at = usize::from(at);
     Ok(VersionRow {
         number: number_in(row, at)?,
-        serial: unsigned_in(row, at + 1)?,
+        serial: serial_in(row, at + 1)?,
         created: moment_in(row, at + 3)?,
         size: unsigned_in(row, at + 4)?,
         lineage: text_in(row, at + 2)?,

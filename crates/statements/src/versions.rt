@@ -8,9 +8,10 @@ ghost use Rattle.statements.specs.Listings.{version_rows_after, VersionsApart};
 ghost use Rattle.statements.specs.Finds.{newest_of, oldest_below, size_of};
 
 use crate::calls::{
-    first_row, first_row_inside, first_rows, read_all, read_one, seconds, signed, write,
+    first_row, first_row_inside, first_rows, read_all, read_one, seconds, signed, signed_serial,
+    write,
 };
-use basis::{Items, Moment, Number, VersionRow};
+use basis::{Items, Moment, Number, Serial, VersionRow};
 use sqlite::{Alter, Connection, Error, Transaction, params};
 use std::alloc::Global;
 
@@ -92,18 +93,17 @@ pub fn add<'v, S: Alter>(
     org: &'v str,
     ws: &'v str,
     number: Number,
-    serial: u64,
+    serial: Serial,
     lineage: &'v str,
     created: Moment,
     size: u64,
 ) -> Result<(), Error>
-    requires serial_fits { serial < 2 ^ 63 }
     requires size_fits { size < 2 ^ 63 }
     ensures writes { Writes S.Store AnyRows (version_added org.now ws.now (new_version number serial lineage.now created size)) tx.old tx.new result }
     ensures fresh { Tells (λ _ t. size_of org.now ws.now number t ≡ None) (state S.Store tx.old.conn.now) (state S.Store tx.new.conn.now) result }
 {
     let number = number.get();
-    let serial = signed(serial);
+    let serial = signed_serial(serial);
     let created = seconds(created);
     let size = signed(size);
     write(

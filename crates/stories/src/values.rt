@@ -101,7 +101,7 @@ fn unfit(alloc: Global, unfit: Unfit) -> Shown {
 }
 
 fn state_text(alloc: Global, head: &StateHead) -> Result<String, AllocError> {
-    let (serial, lineage) = (head.serial, head.lineage.as_str());
+    let (serial, lineage) = (head.serial.get(), head.lineage.as_str());
     if lineage.is_empty() {
         format!(in alloc; "serial {serial}")
     } else {
@@ -125,8 +125,8 @@ fn show_lock(alloc: Global, bytes: &[u8]) -> Shown {
 
 fn settings_text(alloc: Global, settings: &SettingsAsk) -> Result<String, AllocError> {
     let auto_apply = settings.runs.auto_apply;
-    match settings.keep_versions {
-        Some(keep) => { format!(in alloc; "auto_apply {auto_apply} keep_versions {}", keep.get()) }
+    match settings.retention {
+        Some(most) => { format!(in alloc; "auto_apply {auto_apply} keep_versions {}", most.get()) }
         None => format!(in alloc; "auto_apply {auto_apply}"),
     }
 }

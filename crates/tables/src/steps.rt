@@ -117,10 +117,6 @@ fn add_row<S: Alter>(
     ensures steps { Steps S.Store (row_added org.now ws.now version.now) tx.old tx.new result }
     ensures fresh { Tells (λ _ t. size_of org.now ws.now version.now.number t ≡ None) (state S.Store tx.old.conn.now) (state S.Store tx.new.conn.now) result }
 {
-    let serial = version.serial;
-    if serial > i64::MAX as u64 {
-        return Err(Error::IntegralValueOutOfRange(3));
-    }
     let lineage = version.lineage.as_str();
     let size = version.text.as_slice().len() as u64;
     versions::add(
@@ -128,7 +124,7 @@ fn add_row<S: Alter>(
         org,
         ws,
         version.number,
-        serial,
+        version.serial,
         lineage,
         version.created,
         size,

@@ -3,8 +3,8 @@ use Rattle.std.specs.Prelude.{ℕ, ◌-◌, Bool, true, ◌&&◌, ◌==◌, nat_
 use Rattle.std.specs.List.{list_all}
 use Rattle.std.specs.Ordering.{nat_cmp}
 use Rattle.sqlite_keyed.specs.Lists.{sort_by}
-use Rattle.basis.specs.declared.numbers.TheConstants.{MAX_MOMENT}
-use Rattle.basis.specs.declared.rows.TheConstants.{MAX_SERIAL, MAX_LINEAGE}
+use Rattle.basis.specs.declared.numbers.TheConstants.{MAX_MOMENT, MAX_SERIAL}
+use Rattle.basis.specs.declared.rows.TheConstants.{MAX_LINEAGE}
 use Rattle.statements.specs.Rows.{Kept, VersionRow}
 use Rattle.checks.specs.Inner.Groups.{first_unfit}
 

@@ -7,7 +7,8 @@ use Rattle.serde_json.specs.Find.{get_member, as_number, as_object, as_str, as_u
 use Rattle.serde_json.specs.Read.{of_json, max_depth}
 use Rattle.serde_json.specs.View.{number_view}
 use Rattle.basis.specs.Numbers.{within}
-use Rattle.basis.specs.declared.rows.TheConstants.{MAX_LINEAGE, MAX_SERIAL}
+use Rattle.basis.specs.declared.numbers.TheConstants.{MAX_SERIAL}
+use Rattle.basis.specs.declared.rows.TheConstants.{MAX_LINEAGE}
 use Rattle.docs.specs.declared.heads.Head.{Head}
 use Rattle.docs.specs.declared.heads.Part.{Part}
 use Rattle.docs.specs.declared.heads.Part.TheVariants.{Number, Text, Other}
@@ -45,14 +46,18 @@ text_in Other = None
 abbrev pub IsPartOf : Part → Data → Type 0
 IsPartOf part value = (number_in part ≡ as_number value) × (text_in part ≡ as_str value)
 
--- the serial and the lineage that a part may be
+-- the whole number that a value is
+abbrev pub whole_in : Data → Option ℕ
+whole_in value = option_and_then as_u64 (as_number value)
+
+-- the whole number and the lineage that a part may be
 abbrev pub serial_in : Part → Option ℕ
-serial_in part = option_and_then (within 0 MAX_SERIAL) (option_and_then as_u64 (number_in part))
+serial_in part = option_and_then as_u64 (number_in part)
 
 abbrev pub lineage_in : Part → Option (List ℕ)
 lineage_in part = option_and_then (text_within 0 MAX_LINEAGE) (text_in part)
 
 -- the head has what counts of the members
 pub record IsHeadOf (head : Head) (members : Members) : Type 0 where
-  pub serial : head.serial ≡ option_and_then serial_of (get_member (codes "serial") members)
+  pub serial : head.serial ≡ option_and_then whole_in (get_member (codes "serial") members)
   pub lineage : option_map (λ text. text.now) head.lineage ≡ optional_text MAX_LINEAGE (get_member (codes "lineage") members)

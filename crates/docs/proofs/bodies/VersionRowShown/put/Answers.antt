@@ -11,5 +11,5 @@ returns c =
     then_put (put_as (ap (λ n. number_value (Some n)) c.seconds.ensures.value) c.in_ok-put_number.ensures) (
     then_put (put_as (ap string c.as_str.ensures) c.in_ok-put_text.ensures) (
     then_put (put_as (ap (λ n. number_value (Some n)) c.whole_number.ensures) c.in_ok-put_number-2.ensures) (
-    then_put c.in_ok-put_number-3.ensures
+    then_put (put_as (ap (λ n. number_value (Some n)) c.get.ensures.value) c.in_ok-put_number-3.ensures)
     put)))) c.put_number-4.ensures
