@@ -1,9 +1,11 @@
 //! All rows of a table at once, each with its rowid. A row with a value out of range is an error.
 ghost use Rattle.std.specs.Prelude.{◌≡◌, IfOk, unsigned_abs};
 ghost use Rattle.sqlite_value.specs.Order.{column};
+ghost use Rattle.sqlite_value.specs.declared.value.Value.TheVariants.{Int};
 ghost use Rattle.sqlite_typed.specs.Columns.{int_of, unless_null};
+ghost use Rattle.statements.specs.Calls.{IsNumberOrNull};
 ghost use Rattle.statements.specs.Steps.{Equals, Queries};
-ghost use Rattle.statements.specs.Rows.{kept_by, org_at, token_at, ws_at, version_at, run_at, vpage_at, bound_at, keeping_at, number_at, bytes_at, role_at};
+ghost use Rattle.statements.specs.Rows.{kept_by, org_at, token_at, ws_at, version_at, run_at, vpage_at, bound_at, keeping_at, number_at, bytes_at, role_at, number, role_code};
 
 use crate::calls::{
     Read, bytes_in, limit_of, optional_moment, retention_of, role_in, run_in, scan, text_in,
@@ -19,31 +21,36 @@ use std::alloc::Global;
 
 /// The rowid, which stands in the first column.
 pub fn id_in(row: &Row) -> Result<i64, Error>
-    ensures { IfOk result (λ x. x ≡ int_of (column row.now 0)) }
+    ensures is { IfOk result (λ x. x ≡ int_of (column row.now 0)) }
+    ensures cell { IfOk result (λ x. column row.now 0 ≡ Int x) }
 {
     row.get(0)
 }
 
 fn limit_in(row: &Row, at: usize) -> Result<Limit, Error>
-    ensures { IfOk result (λ x. x ≡ number_at row.now at) }
+    ensures is { IfOk result (λ x. x ≡ number_at row.now at) }
+    ensures cell { IfOk result (λ x. column row.now at ≡ number x) }
 {
     limit_of(row.get(at)?, at)
 }
 
 fn retention_in(row: &Row, at: usize) -> Result<Retention, Error>
-    ensures { IfOk result (λ x. x ≡ number_at row.now at) }
+    ensures is { IfOk result (λ x. x ≡ number_at row.now at) }
+    ensures cell { IfOk result (λ x. column row.now at ≡ number x) }
 {
     retention_of(row.get(at)?, at)
 }
 
 fn some_moment_in(row: &Row, at: usize) -> Result<Option<Moment>, Error>
-    ensures { IfOk result (λ x. x ≡ unless_null (λ v. unsigned_abs (int_of v)) (column row.now at)) }
+    ensures is { IfOk result (λ x. x ≡ unless_null (λ v. unsigned_abs (int_of v)) (column row.now at)) }
+    ensures cell { IfOk result (IsNumberOrNull (column row.now at)) }
 {
     optional_moment(row, at)
 }
 
 fn role_of_row(row: &Row, at: usize) -> Result<Role, Error>
-    ensures { IfOk result (λ x. x ≡ role_at (number_at row.now at)) }
+    ensures is { IfOk result (λ x. x ≡ role_at (number_at row.now at)) }
+    ensures cell { IfOk result (λ x. column row.now at ≡ number (role_code x)) }
 {
     role_in(row, at)
 }

@@ -138,7 +138,7 @@ fn tells_schema_version(columns: &[Column]) -> bool
     match columns {
         [one, schema_version] => {
             (is_integer_column(one, b"one".as_slice()) && is_plain_column(one) && !one.not_null)
-                && (is_integer_column(version, b"version".as_slice())
+                && (is_integer_column(schema_version, b"version".as_slice())
                     && is_plain_column(schema_version)
                     && schema_version.not_null)
         }
