@@ -1,7 +1,7 @@
 //! The text of the stories: of each its name and the parts of its steps.
 use crate::definitions::{Definitions, Unread};
 use crate::lines::{Line, Mark, Piece, read_line, write_escaped};
-use crate::modes::{Modes, NONE, Setting};
+use crate::modes::{Mode, Modes, NONE};
 use basis::numbers::whole_number;
 use std::alloc::{AllocError, Global};
 
@@ -244,11 +244,11 @@ impl<'a> Story<'a> {
     }
 
     // Whether this may still be said of it.
-    fn may_set(&self, setting: Setting) -> bool {
-        match setting {
-            Setting::Stops(_) | Setting::Resumes => self.plots.is_empty(),
-            Setting::Large => self.is_bare(),
-            Setting::Copied => self.plots.is_empty() && !self.before.is_empty(),
+    fn may_set(&self, mode: Mode) -> bool {
+        match mode {
+            Mode::Stops(_) | Mode::Resumes => self.plots.is_empty(),
+            Mode::Large => self.is_bare(),
+            Mode::Copied => self.plots.is_empty() && !self.before.is_empty(),
         }
     }
 
@@ -347,15 +347,15 @@ impl<'a> Book<'a> {
     }
 
     // Of the story that begins.
-    fn set(&mut self, line: usize, setting: Setting) -> Result<(), Unread> {
+    fn set(&mut self, line: usize, mode: Mode) -> Result<(), Unread> {
         match self.stories.last_mut() {
-            Some(story) if story.may_set(setting) => {
-                story.modes.set(setting);
+            Some(story) if story.may_set(mode) => {
+                story.modes.set(mode);
                 Ok(())
             }
             _ => Err(Unread {
                 line,
-                why: setting.place(),
+                why: mode.rule(),
             }),
         }
     }
@@ -466,7 +466,7 @@ impl<'a> Book<'a> {
             Line::Story(name) => self.begin_story(alloc, line, name),
             Line::After(name) => self.set_before(alloc, line, name),
             Line::Links(words) => self.set_modes(line, words),
-            Line::Sets(setting) => self.set(line, setting),
+            Line::Sets(mode) => self.set(line, mode),
             Line::FromFile(path) => self.set_begins(line, path),
             Line::Field(field) => self.add_field(line, field),
             Line::Piece(piece, text) => self.add_piece(alloc, line, piece, text),

@@ -51,7 +51,7 @@ fn find<'a>(shorts: &[Short<'a>], name: &str) -> Option<&'a str> {
     None
 }
 
-fn put<'a>(shorts: &mut Vec<Short<'a>>, short: Short<'a>) -> Result<(), Unread> {
+fn push<'a>(shorts: &mut Vec<Short<'a>>, short: Short<'a>) -> Result<(), Unread> {
     shorts.push(short)?;
     Ok(())
 }
@@ -116,9 +116,9 @@ impl<'a> Definitions<'a> {
     ) -> Result<(), Unread> {
         let short = Short { name, text };
         match defines {
-            Defines::Token => put(&mut self.tokens, short),
-            Defines::Reason => put(&mut self.reasons, short),
-            Defines::Challenge => put(&mut self.challenges, short),
+            Defines::Token => push(&mut self.tokens, short),
+            Defines::Reason => push(&mut self.reasons, short),
+            Defines::Challenge => push(&mut self.challenges, short),
             Defines::Moment => self.set_moment(line, name, text),
         }
     }

@@ -1,6 +1,6 @@
 //! One line of the text: what it is by how it begins, and the bytes that a piece writes.
 use crate::keyed::Keyed;
-use crate::modes::Setting;
+use crate::modes::Mode;
 use std::alloc::AllocError;
 
 /// What a line of a step begins: the step itself, or a part of what is due.
@@ -51,7 +51,7 @@ pub enum Line<'a> {
     /// `links`: what breaks under the steps of a story.
     Links(&'a str),
     /// What is said of a story by a word that stands alone.
-    Sets(Setting),
+    Sets(Mode),
     /// `begins`: a story begins with the tables of a file.
     FromFile(&'a str),
     Piece(Piece, &'a str),
@@ -102,12 +102,12 @@ const FRONTS: &[(&str, Front)] = &[
     ("challenge", Front::Defines(Defines::Challenge)),
 ];
 
-const SETTINGS: &[(&str, Setting)] = &[
-    ("stops", Setting::Stops(Keyed::Sha)),
-    ("stops first-byte", Setting::Stops(Keyed::FirstByte)),
-    ("large", Setting::Large),
-    ("resumes", Setting::Resumes),
-    ("copied", Setting::Copied),
+const MODES: &[(&str, Mode)] = &[
+    ("stops", Mode::Stops(Keyed::Sha)),
+    ("stops first-byte", Mode::Stops(Keyed::FirstByte)),
+    ("large", Mode::Large),
+    ("resumes", Mode::Resumes),
+    ("copied", Mode::Copied),
 ];
 
 // A line of this front, by what stands behind it.
@@ -133,10 +133,10 @@ fn marked(line: &str) -> Option<Line<'_>> {
     None
 }
 
-fn setting_in(line: &str) -> Option<Setting> {
-    for (word, setting) in SETTINGS {
+fn mode_in(line: &str) -> Option<Mode> {
+    for (word, mode) in MODES {
         if line == *word {
-            return Some(*setting);
+            return Some(*mode);
         }
     }
     None
@@ -144,8 +144,8 @@ fn setting_in(line: &str) -> Option<Setting> {
 
 // What a line is that has no mark.
 fn unmarked(line: &str) -> Line<'_> {
-    match setting_in(line) {
-        Some(setting) => Line::Sets(setting),
+    match mode_in(line) {
+        Some(mode) => Line::Sets(mode),
         None => Line::Begins(Mark::Head, line),
     }
 }

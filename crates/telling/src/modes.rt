@@ -26,7 +26,7 @@ pub struct Modes {
 
 /// What is said of a story that begins, by words that stand alone.
 #[derive(Clone, Copy)]
-pub enum Setting {
+pub enum Mode {
     /// `stops`, or `stops first-byte`: the power is cut under the steps of a story, over tables whose pages have this key.
     Stops(Keyed),
     /// `large`: a story is told on few ways.
@@ -37,16 +37,16 @@ pub enum Setting {
     Copied,
 }
 
-impl Setting {
+impl Mode {
     /// Where it may stand.
-    pub fn place(self) -> &'static str {
+    pub fn rule(self) -> &'static str {
         match self {
-            Setting::Stops(_) => "`stops` stands before the first step of a story",
-            Setting::Large => {
+            Mode::Stops(_) => "`stops` stands before the first step of a story",
+            Mode::Large => {
                 "`large` stands before the first step of a story that begins with no file"
             }
-            Setting::Resumes => "`resumes` stands before the first step of a story",
-            Setting::Copied => {
+            Mode::Resumes => "`resumes` stands before the first step of a story",
+            Mode::Copied => {
                 "`copied` stands before the first step of a story that comes after another"
             }
         }
@@ -104,12 +104,12 @@ impl Modes {
     }
 
     /// Sets what is said.
-    pub fn set(&mut self, setting: Setting) {
-        match setting {
-            Setting::Stops(keyed) => self.stops = Some(keyed),
-            Setting::Large => self.large = true,
-            Setting::Resumes => self.resumes = true,
-            Setting::Copied => self.copied = true,
+    pub fn set(&mut self, mode: Mode) {
+        match mode {
+            Mode::Stops(keyed) => self.stops = Some(keyed),
+            Mode::Large => self.large = true,
+            Mode::Resumes => self.resumes = true,
+            Mode::Copied => self.copied = true,
         }
     }
 }
