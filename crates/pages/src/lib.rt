@@ -5,7 +5,9 @@ pub mod keys;
 mod rows;
 mod scans;
 mod store;
+mod twins;
 
 pub use keys::{PageKey, ShaKey};
 pub use scans::heads;
 pub use store::{PageId, get, put, release, same};
+pub use twins::Twin;

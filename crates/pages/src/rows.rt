@@ -7,6 +7,7 @@ ghost use Rattle.pages.specs.Rows.{page_added, page_used, page_removed, page_byt
 ghost use Rattle.pages.specs.Pages.{SparesNamed};
 ghost use Rattle.pages.specs.Inner.Calls.{IsPageUse, IsFirstPage};
 
+use crate::twins::{Twin, twin_in};
 use basis::Bytes;
 use sqlite::{Alter, Connection, Error, Row, Transaction, params};
 use statements::calls::{Read, first_row, first_row_inside, read_one, signed, write};
@@ -14,7 +15,7 @@ use statements::calls::{Read, first_row, first_row_inside, read_one, signed, wri
 /// The twin number of a page, and how often it is in use.
 #[derive(Clone, Copy)]
 pub(crate) struct PageUse {
-    pub twin: u64,
+    pub twin: Twin,
     pub uses: u64,
 }
 
@@ -23,7 +24,7 @@ impl Read for PageUse {
 
     fn of_row(row: &Row) -> Result<PageUse, Error> {
         Ok(PageUse {
-            twin: row.get(0)?,
+            twin: twin_in(row, 0)?,
             uses: row.get(1)?,
         })
     }
@@ -35,13 +36,12 @@ const ADD_PAGE: &str = "INSERT INTO page (pkey, twin, bytes, uses) VALUES (?1, ?
 pub(crate) fn add<'v, S: Alter>(
     tx: &mut Transaction<'_, S>,
     key: &'v [u8],
-    twin: u64,
+    twin: Twin,
     bytes: &'v [u8],
 ) -> Result<(), Error>
-    requires twin_fits { twin < 2 ^ 63 }
     ensures { Writes S.Store AnyRows (page_added key.now twin bytes.now) tx.old tx.new result }
 {
-    let twin = signed(twin);
+    let twin = twin.signed();
     write(tx, ADD_PAGE, params![key, &twin, bytes])
 }
 
@@ -51,15 +51,14 @@ const SET_PAGE_USES: &str = "UPDATE page SET uses = ?3 WHERE pkey = ?1 AND twin 
 pub(crate) fn set_uses<'v, S: Alter>(
     tx: &mut Transaction<'_, S>,
     key: &'v [u8],
-    twin: u64,
+    twin: Twin,
     uses: u64,
 ) -> Result<(), Error>
-    requires twin_fits { twin < 2 ^ 63 }
     requires uses_fit { uses < 2 ^ 63 }
     ensures writes { Writes S.Store AnyRows (page_used key.now twin uses) tx.old tx.new result }
     ensures spares { SparesNamed (state S.Store tx.old.conn.now) (state S.Store tx.new.conn.now) result }
 {
-    let twin = signed(twin);
+    let twin = twin.signed();
     let uses = signed(uses);
     write(tx, SET_PAGE_USES, params![key, &twin, &uses])
 }
@@ -70,13 +69,12 @@ const REMOVE_PAGE: &str = "DELETE FROM page WHERE pkey = ?1 AND twin = ?2";
 pub(crate) fn remove<'v, S: Alter>(
     tx: &mut Transaction<'_, S>,
     key: &'v [u8],
-    twin: u64,
+    twin: Twin,
 ) -> Result<(), Error>
-    requires twin_fits { twin < 2 ^ 63 }
     ensures writes { Writes S.Store AnyRows (page_removed key.now twin) tx.old tx.new result }
     ensures spares { SparesNamed (state S.Store tx.old.conn.now) (state S.Store tx.new.conn.now) result }
 {
-    let twin = signed(twin);
+    let twin = twin.signed();
     write(tx, REMOVE_PAGE, params![key, &twin])
 }
 
@@ -86,12 +84,11 @@ const PAGE_BYTES: &str = "SELECT bytes FROM page WHERE pkey = ?1 AND twin = ?2 O
 pub(crate) fn bytes<'v, S: Alter>(
     conn: &mut Connection<S>,
     key: &'v [u8],
-    twin: u64,
+    twin: Twin,
 ) -> Result<Option<Bytes>, Error>
-    requires twin_fits { twin < 2 ^ 63 }
     ensures { Queries S.Store (Equals (page_bytes key.now twin)) conn.old conn.new result }
 {
-    let twin = signed(twin);
+    let twin = twin.signed();
     let row = first_row(conn, PAGE_BYTES, params![key, &twin]);
     read_one(row)
 }
@@ -102,14 +99,13 @@ const PAGE_USES: &str = "SELECT uses FROM page WHERE pkey = ?1 AND twin = ?2 ORD
 pub(crate) fn uses<'v, S: Alter>(
     tx: &mut Transaction<'_, S>,
     key: &'v [u8],
-    twin: u64,
+    twin: Twin,
 ) -> Result<Option<u64>, Error>
-    requires twin_fits { twin < 2 ^ 63 }
     ensures same_reference { tx.new.conn.ghost_name ≡ tx.old.conn.ghost_name }
     ensures read { Reads (Equals (page_uses key.now twin)) (state S.Store tx.old.conn.now) (state S.Store tx.new.conn.now) result }
     ensures survives { Survives (state S.Store tx.old.conn.now) (state S.Store tx.new.conn.now) (λ _. ⊥) }
 {
-    let twin = signed(twin);
+    let twin = twin.signed();
     let row = first_row_inside(tx, PAGE_USES, params![key, &twin]);
     read_one(row)
 }
@@ -127,7 +123,7 @@ impl Read for FirstPage {
     fn of_row(row: &Row) -> Result<FirstPage, Error> {
         Ok(FirstPage {
             found: PageUse {
-                twin: row.get(0)?,
+                twin: twin_in(row, 0)?,
                 uses: row.get(1)?,
             },
             same: row.get(2)?,

@@ -92,7 +92,7 @@ fn has_twin(found: Option<PageUse>, twin: u64) -> bool
 {
     match found {
         None => false,
-        Some(found) => found.twin == twin,
+        Some(found) => found.twin.get() == twin,
     }
 }
 

@@ -1,5 +1,5 @@
 //! Pages are put, read, compared and released.
-ghost use Rattle.std.specs.Prelude.{◌≡◌, ◌+◌, false, ◌<◌, ◌^◌, ℕ, List, IsSome, IfOk, OnOk};
+ghost use Rattle.std.specs.Prelude.{◌≡◌, ◌+◌, false, ℕ, List, IsSome, IfOk, OnOk};
 ghost use Rattle.sqlite_value.specs.declared.value.Value.TheVariants.{Blob};
 ghost use Rattle.sqlite_value.specs.Order.{column};
 ghost use Rattle.sqlite.specs.Held.{state};
@@ -13,6 +13,7 @@ ghost use Rattle.pages.specs.Inner.Calls.{OnlyLooks, TellsBy, put_with, twin_wit
 
 use crate::keys::PageKey;
 use crate::rows::{FirstPage, PageUse, add, bytes, equal, first, remove, set_uses, uses};
+use crate::twins::{MAX_TWIN, Twin, twin_in};
 use basis::Bytes;
 use sqlite::types::{Type, ValueRef};
 use sqlite::{Alter, Connection, Error, Row, Transaction};
@@ -22,7 +23,7 @@ use statements::calls::Read;
 #[derive(Clone, Copy, PartialEq, Eq)]
 pub struct PageId {
     pub key: [u8; 32],
-    pub twin: u64,
+    pub twin: Twin,
 }
 
 /// The key in a row: 32 bytes.
@@ -44,16 +45,13 @@ impl Read for PageId {
     fn of_row(row: &Row) -> Result<PageId, Error> {
         Ok(PageId {
             key: key_in(row)?,
-            twin: row.get(1)?,
+            twin: twin_in(row, 1)?,
         })
     }
 }
 
-/// How many twin numbers there are: SQL has no integer of this size or above.
-const TWINS: u64 = 9_223_372_036_854_775_808;
-
-/// The greatest number of uses, and the greatest twin number.
-const MOST: u64 = TWINS - 1;
+/// The greatest number of uses: SQL has no integer above it.
+const MOST_USES: u64 = 9_223_372_036_854_775_807;
 
 /// The places of the columns in the table page.
 const TWIN_COLUMN: usize = 1;
@@ -61,19 +59,19 @@ const TWIN_COLUMN: usize = 1;
 const USES_COLUMN: usize = 3;
 
 /// The least number under which no page of this key is kept.
-fn free<S: Alter>(tx: &mut Transaction<'_, S>, key: &[u8]) -> Result<u64, Error>
+fn free<S: Alter>(tx: &mut Transaction<'_, S>, key: &[u8]) -> Result<Twin, Error>
     ensures same_reference { tx.new.conn.ghost_name ≡ tx.old.conn.ghost_name }
     ensures looks { OnlyLooks (state S.Store tx.old.conn.now) (state S.Store tx.new.conn.now) result }
     ensures twin { TellsBy (free_twin key.now) (state S.Store tx.old.conn.now) (state S.Store tx.new.conn.now) result }
-    ensures fits { IfOk result (λ twin. twin < 2 ^ 63) }
     ensures so_far { HasCleanDisk (state S.Store tx.new.conn.now) → HasCleanDisk (state S.Store tx.old.conn.now) }
     ensures shield { (state S.Store tx.old.conn.now).IsShielded → (state S.Store tx.new.conn.now).IsShielded }
 {
-    'twins: for twin in 0..TWINS {
+    let mut number = 0;
+    'twins: while let Some(twin) = Twin::new(number) {
         let found = uses(tx, key, twin)?;
         match found {
             None => return Ok(twin),
-            Some(_) => {}
+            Some(_) => number += 1,
         }
     }
     Err(Error::IntegralValueOutOfRange(TWIN_COLUMN))
@@ -84,15 +82,11 @@ fn use_again<S: Alter>(
     tx: &mut Transaction<'_, S>,
     key: &[u8],
     found: PageUse,
-) -> Result<u64, Error>
+) -> Result<Twin, Error>
     ensures steps { Steps S.Store (page_used key.now found.twin (found.uses + 1)) tx.old tx.new result }
     ensures twin { IfOk result (λ twin. twin ≡ found.twin) }
-    ensures fits { IfOk result (λ twin. twin < 2 ^ 63) }
 {
-    if found.twin > MOST {
-        return Err(Error::IntegralValueOutOfRange(TWIN_COLUMN));
-    }
-    if found.uses >= MOST {
+    if found.uses >= MOST_USES {
         return Err(Error::IntegralValueOutOfRange(USES_COLUMN));
     }
     set_uses(tx, key, found.twin, found.uses + 1)?;
@@ -100,10 +94,9 @@ fn use_again<S: Alter>(
 }
 
 /// A page under the least number that is free.
-fn add_new<S: Alter>(tx: &mut Transaction<'_, S>, key: &[u8], page: &[u8]) -> Result<u64, Error>
+fn add_new<S: Alter>(tx: &mut Transaction<'_, S>, key: &[u8], page: &[u8]) -> Result<Twin, Error>
     ensures steps { Steps S.Store (λ t. page_added key.now (free_twin key.now t) page.now t) tx.old tx.new result }
     ensures twin { TellsBy (free_twin key.now) (state S.Store tx.old.conn.now) (state S.Store tx.new.conn.now) result }
-    ensures fits { IfOk result (λ twin. twin < 2 ^ 63) }
 {
     let twin = free(tx, key)?;
     add(tx, key, twin, page)?;
@@ -111,12 +104,13 @@ fn add_new<S: Alter>(tx: &mut Transaction<'_, S>, key: &[u8], page: &[u8]) -> Re
 }
 
 /// The only page of a key, under the number 0.
-fn add_first<S: Alter>(tx: &mut Transaction<'_, S>, key: &[u8], page: &[u8]) -> Result<u64, Error>
+fn add_first<S: Alter>(tx: &mut Transaction<'_, S>, key: &[u8], page: &[u8]) -> Result<Twin, Error>
     ensures steps { Steps S.Store (page_added key.now 0 page.now) tx.old tx.new result }
     ensures twin { IfOk result (λ twin. twin ≡ 0) }
 {
-    add(tx, key, 0, page)?;
-    Ok(0)
+    let twin = Twin::first();
+    add(tx, key, twin, page)?;
+    Ok(twin)
 }
 
 fn put_beside<S: Alter>(
@@ -124,10 +118,9 @@ fn put_beside<S: Alter>(
     key: &[u8],
     found: Option<PageUse>,
     page: &[u8],
-) -> Result<u64, Error>
+) -> Result<Twin, Error>
     ensures steps { Steps S.Store (put_found key.now page.now found) tx.old tx.new result }
     ensures twin { TellsBy (twin_found key.now found) (state S.Store tx.old.conn.now) (state S.Store tx.new.conn.now) result }
-    ensures fits { IfOk result (λ twin. twin < 2 ^ 63) }
 {
     match found {
         Some(found) => use_again(tx, key, found),
@@ -136,10 +129,9 @@ fn put_beside<S: Alter>(
 }
 
 /// Puts a page of a key that has others.
-fn put_among<S: Alter>(tx: &mut Transaction<'_, S>, key: &[u8], page: &[u8]) -> Result<u64, Error>
+fn put_among<S: Alter>(tx: &mut Transaction<'_, S>, key: &[u8], page: &[u8]) -> Result<Twin, Error>
     ensures steps { Steps S.Store (page_put key.now page.now) tx.old tx.new result }
     ensures twin { TellsBy (twin_for key.now page.now) (state S.Store tx.old.conn.now) (state S.Store tx.new.conn.now) result }
-    ensures fits { IfOk result (λ twin. twin < 2 ^ 63) }
 {
     let found = equal(tx, key, page)?;
     put_beside(tx, key, found, page)
@@ -150,10 +142,9 @@ fn put_with<S: Alter>(
     key: &[u8],
     first: Option<FirstPage>,
     page: &[u8],
-) -> Result<u64, Error>
+) -> Result<Twin, Error>
     ensures steps { Steps S.Store (put_with key.now page.now first) tx.old tx.new result }
     ensures twin { TellsBy (twin_with key.now page.now first) (state S.Store tx.old.conn.now) (state S.Store tx.new.conn.now) result }
-    ensures fits { IfOk result (λ twin. twin < 2 ^ 63) }
 {
     match first {
         None => add_first(tx, key, page),
@@ -167,10 +158,9 @@ fn put_with<S: Alter>(
     }
 }
 
-fn put_under<S: Alter>(tx: &mut Transaction<'_, S>, key: &[u8], page: &[u8]) -> Result<u64, Error>
+fn put_under<S: Alter>(tx: &mut Transaction<'_, S>, key: &[u8], page: &[u8]) -> Result<Twin, Error>
     ensures steps { Steps S.Store (page_put key.now page.now) tx.old tx.new result }
     ensures twin { TellsBy (twin_for key.now page.now) (state S.Store tx.old.conn.now) (state S.Store tx.new.conn.now) result }
-    ensures fits { IfOk result (λ twin. twin < 2 ^ 63) }
 {
     let first = first(tx, key, page)?;
     put_with(tx, key, first, page)
@@ -192,6 +182,7 @@ fn put_own<K: PageKey, S: Alter>(tx: &mut Transaction<'_, S>, page: &[u8]) -> Re
 {
     let key = K::key(page);
     let twin = put_under(tx, key.as_slice(), page)?;
+    prove!(twin.get() <= MAX_TWIN);
     Ok(PageId { key, twin })
 }
 
@@ -203,7 +194,6 @@ fn use_known<S: Alter>(
 ) -> Result<PageId, Error>
     ensures steps { Steps S.Store (page_used known.now found.twin (found.uses + 1)) tx.old tx.new result }
     ensures named { IfOk result (λ id. (id.key ≡ known.now) × (id.twin ≡ found.twin)) }
-    ensures fits { IfOk result (λ id. id.twin < 2 ^ 63) }
 {
     let twin = use_again(tx, known.as_slice(), found)?;
     Ok(PageId { key: *known, twin })
@@ -223,7 +213,10 @@ fn put_known<K: PageKey, S: Alter>(
     let found = alike(first);
     match found {
         None => put_own::<K, S>(tx, page),
-        Some(found) => use_known(tx, known, found),
+        Some(found) => {
+            prove!(found.twin.get() <= MAX_TWIN);
+            use_known(tx, known, found)
+        }
     }
 }
 
@@ -251,9 +244,6 @@ pub fn get<S: Alter>(conn: &mut Connection<S>, id: &PageId) -> Result<Bytes, Err
     ensures so_far { HasCleanDisk (state S.Store conn.new) → HasCleanDisk (state S.Store conn.old) }
     ensures shield { (state S.Store conn.old).IsShielded → (state S.Store conn.new).IsShielded }
 {
-    if id.twin > MOST {
-        return Err(Error::IntegralValueOutOfRange(TWIN_COLUMN));
-    }
     match bytes(conn, id.key.as_slice(), id.twin)? {
         Some(bytes) => Ok(bytes),
         None => Err(Error::QueryReturnedNoRows),
@@ -275,14 +265,13 @@ pub fn same<S: Alter>(conn: &mut Connection<S>, id: &PageId, page: &[u8]) -> Res
 fn lessen<S: Alter>(
     tx: &mut Transaction<'_, S>,
     key: &[u8],
-    twin: u64,
+    twin: Twin,
     uses: u64,
 ) -> Result<(), Error>
-    requires twin_fits { twin < 2 ^ 63 }
     ensures steps { Steps S.Store (lessened key.now twin uses) tx.old tx.new result }
     ensures spares { SparesNamed (state S.Store tx.old.conn.now) (state S.Store tx.new.conn.now) result }
 {
-    if uses > MOST {
+    if uses > MOST_USES {
         return Err(Error::IntegralValueOutOfRange(USES_COLUMN));
     }
     if uses > 1 {
@@ -295,10 +284,9 @@ fn lessen<S: Alter>(
 fn release_found<S: Alter>(
     tx: &mut Transaction<'_, S>,
     key: &[u8],
-    twin: u64,
+    twin: Twin,
     uses: Option<u64>,
 ) -> Result<(), Error>
-    requires twin_fits { twin < 2 ^ 63 }
     ensures steps { Steps S.Store (released_found key.now twin uses) tx.old tx.new result }
     ensures found { OnOk result (IsSome uses) }
     ensures spares { SparesNamed (state S.Store tx.old.conn.now) (state S.Store tx.new.conn.now) result }
@@ -317,9 +305,6 @@ pub fn release<S: Alter>(tx: &mut Transaction<'_, S>, id: &PageId) -> Result<(),
     ensures spares { SparesNamed (state S.Store tx.old.conn.now) (state S.Store tx.new.conn.now) result }
 {
     let twin = id.twin;
-    if twin > MOST {
-        return Err(Error::IntegralValueOutOfRange(TWIN_COLUMN));
-    }
     let key = id.key.as_slice();
     let found = uses(tx, key, twin)?;
     release_found(tx, key, twin, found)

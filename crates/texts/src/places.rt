@@ -6,7 +6,7 @@ ghost use Rattle.statements.specs.Steps.{AnyRows, Equals, Writes, Reads, Queries
 ghost use Rattle.texts.specs.Texts.{place_added, place_removed, page_at};
 
 use basis::Number;
-use pages::PageId;
+use pages::{PageId, Twin};
 use sqlite::{Alter, Connection, Error, Transaction, params};
 use statements::calls::{first_row, first_row_inside, read_one, signed, write};
 
@@ -21,15 +21,14 @@ pub(crate) fn add<'v, S: Alter>(
     number: Number,
     place: u64,
     key: &'v [u8],
-    twin: u64,
+    twin: Twin,
 ) -> Result<(), Error>
     requires place_fits { place < 2 ^ 63 }
-    requires twin_fits { twin < 2 ^ 63 }
     ensures { Writes S.Store AnyRows (place_added org.now ws.now number place key.now twin) tx.old tx.new result }
 {
     let number = number.get();
     let place = signed(place);
-    let twin = signed(twin);
+    let twin = twin.signed();
     write(tx, ADD_PLACE, params![org, ws, number, &place, key, &twin])
 }
 

@@ -9,7 +9,7 @@ use Rattle.pages.proofs.rows.remove.Goals as goal
 
 pub returns-clause-writes : goal.returns-clause-writes
 returns-clause-writes g c =
-    writes_by _ _ (c.write.ensures.same_reference, (λ clean inside. rw (c.params-to_sql.ensures, c.params-to_sql-2.ensures, c.signed-twin.ensures, to_z-of_z w64 (pos c.args.twin) (record { sfits = c.requires.twin_fits })) at (c.write.ensures.runs clean inside)), c.write.ensures.survives)
+    writes_by _ _ (c.write.ensures.same_reference, (λ clean inside. rw (c.params-to_sql.ensures, c.params-to_sql-2.ensures, c.signed-twin.ensures.value, to_z-of_z w64 (pos c.args.twin) (record { sfits = c.signed-twin.ensures.fits })) at (c.write.ensures.runs clean inside)), c.write.ensures.survives)
     (λ count t holds. remove_page_does _ _ count t holds c.args.key.now c.args.twin)
 
 pub returns-clause-spares : goal.returns-clause-spares

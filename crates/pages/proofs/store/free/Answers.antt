@@ -1,4 +1,4 @@
-use Rattle.std.proofs.Common.{◌≡◌, Some, None, refl, sym, ◌∙◌}
+use Rattle.std.proofs.Common.{◌≡◌, ◌<◌, Some, None, refl, sym, ap, ◌∙◌, arith}
 use Rattle.sqlite.specs.Held.{state}
 use Rattle.pages.specs.Rows.{page_uses}
 use Rattle.pages.specs.Puts.{twin_limit}
@@ -19,8 +19,10 @@ returns-in-None-clause-twin g c clean t holds =
     let so_far = c.twins.invariant.1 in
     let clean1 = clean_before s1 s2 _ c.uses.ensures.survives clean in
     let read = c.in_ok-found.ensures.read clean in
-    let none : page_uses key c.twins.twin t ≡ None = sym (read.0 t (still_holds s0 s1 (so_far.looks clean1) t holds)) ∙ c.in-None.is in
-    sym (free_here key twin_limit c.twins.twin t c.twins-test.true none) ∙ so_far.left clean1 t holds
+    let same : c.in-Some.twin ≡ c.twins.number = grind arith in
+    let low : c.twins.number < twin_limit = grind arith in
+    let none : page_uses key c.twins.number t ≡ None = ap (λ n. page_uses key n t) (sym same) ∙ sym (read.0 t (still_holds s0 s1 (so_far.looks clean1) t holds)) ∙ c.in-None.is in
+    same ∙ sym (free_here key twin_limit c.twins.number t low none) ∙ so_far.left clean1 t holds
 
 pub twins-preserved : goal.twins-preserved
 twins-preserved g c =
@@ -29,6 +31,8 @@ twins-preserved g c =
     let s1 = state g.S.Store c.twins.tx.conn.now in
     let s2 = state g.S.Store c.uses.new.tx.conn.now in
     let so_far = c.twins.invariant.1 in
+    let same : c.in-Some.twin ≡ c.twins.number = grind arith in
+    let low : c.twins.number < twin_limit = grind arith in
     let before = clean_before s1 s2 _ c.uses.ensures.survives in (
       c.in_ok-found.ensures.same_reference ∙ c.twins.invariant.0,
       record {
@@ -36,7 +40,7 @@ twins-preserved g c =
         shield = λ s. c.uses.ensures.survives.shield (so_far.shield s);
         looks = λ clean. looks_then s0 s1 s2 (so_far.looks (before clean)) (one_look s1 s2 (c.in_ok-found.ensures.read clean).1.0);
         left = λ clean t holds.
-            let there : page_uses key c.twins.twin t ≡ Some c.in-Some.field-0 = sym ((c.in_ok-found.ensures.read clean).0 t (still_holds s0 s1 (so_far.looks (before clean)) t holds)) ∙ c.in-Some.is in
-            sym (free_on key twin_limit c.twins.twin t c.twins-test.true c.in-Some.field-0 there) ∙ so_far.left (before clean) t holds;
+            let there : page_uses key c.twins.number t ≡ Some c.in-Some-found.field-0 = ap (λ n. page_uses key n t) (sym same) ∙ sym ((c.in_ok-found.ensures.read clean).0 t (still_holds s0 s1 (so_far.looks (before clean)) t holds)) ∙ c.in-Some-found.is in
+            sym (free_on key twin_limit c.twins.number t low c.in-Some-found.field-0 there) ∙ so_far.left (before clean) t holds;
       },
     )
