@@ -1,15 +1,20 @@
 -- A text's pieces one by one: from the first so many to one more.
-use Rattle.std.proofs.Common.{◌≡◌, ◌<◌, ◌≤◌, ℕ, zero, suc, ◌+◌, nat_lt, Bool, true, false, cond, ◌&&◌, List, [], ◌++◌, is_some, Option, Some, None, IsSome, option_map, unwrap_or, inl, inr, refl, sym, ap, ap₂, ◌∙◌, subst, arith}
+use Rattle.std.proofs.Common.{◌≡◌, ◌<◌, ◌≤◌, ℕ, zero, suc, ◌+◌, ◌*◌, ◌/◌, nat_lt, Bool, true, false, cond, ◌&&◌, List, [], ◌++◌, is_some, Option, Some, None, IsSome, option_map, unwrap_or, inl, inr, refl, sym, ap, ap₂, ◌∙◌, subst, arith}
 use Rattle.std.proofs.lemmas.Bool.{cases_Bool, ltb-true, ltb-false, lt-ltb, le-ltb}
 use Rattle.std.specs.Str.{bytes_eq}
 use Rattle.statements.specs.Tables.{Tables}
 use Rattle.pages.specs.Pages.{IsKeyFor}
 use Rattle.pages.specs.Puts.{twin_limit, twin_for}
+use Rattle.texts.specs.declared.texts.TheConstants.{PAGE_BYTES}
 use Rattle.texts.specs.Texts.{piece_at, pieces_added, TwinsFit, KeysFit, pieces_removed, piece_removed, piece_of, AreThere, WereThere, joined, are_pieces}
 use Rattle.texts.specs.Inner.Calls.{piece_placed, is_piece_of}
 
 one_more : (n : ℕ) → suc n ≡ n + 1
 one_more n = omega arith
+
+-- the first byte of the page at a place tells the place
+pub place_of_start : (place : ℕ) → place * PAGE_BYTES / PAGE_BYTES ≡ place
+place_of_start place = omega arith
 
 -- what holds below a number and at it
 each_more : (P : ℕ → Type 0) (n : ℕ) → ((m : ℕ) → m < n → P m) → P n → (m : ℕ) → m < n + 1 → P m

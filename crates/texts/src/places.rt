@@ -1,14 +1,58 @@
 //! Statements on the table vpage.
-ghost use Rattle.std.specs.Prelude.{◌≡◌, ◌<◌, ◌^◌};
+ghost use Rattle.std.specs.Prelude.{◌≡◌, ℕ, ◌<◌, ◌^◌, ◌/◌, pos};
 ghost use Rattle.sqlite.specs.Held.{state};
 ghost use Rattle.sqlite.specs.State.{Survives};
 ghost use Rattle.statements.specs.Steps.{AnyRows, Equals, Writes, Reads, Queries};
 ghost use Rattle.texts.specs.Texts.{place_added, place_removed, page_at};
+ghost use Rattle.texts.specs.declared.texts.TheConstants.{PAGE_BYTES};
 
+use crate::texts::PAGE_BYTES;
 use basis::Number;
 use pages::{PageId, Twin};
 use sqlite::{Alter, Connection, Error, Transaction, params};
 use statements::calls::{first_row, first_row_inside, read_one, signed, write};
+use std::marker::Model;
+
+/// The place of a page in a text: that of the first is 0. SQL has an integer for each.
+#[derive(Clone, Copy)]
+pub(crate) struct Place {
+    value: u64,
+}
+
+impl Model for Place {
+    ghost Value = { ℕ };
+
+    ghost view = { λ p. p.value };
+
+    ghost invariant = { λ p. p.value < 2 ^ 63 };
+
+    ghost inverse = { λ n. record { value = n } };
+}
+
+impl Place {
+    /// The place of the page that has the byte at this offset. So it is far below the greatest offset.
+    pub(crate) fn of_byte(offset: u64) -> Place
+        ensures { result ≡ offset / PAGE_BYTES }
+    {
+        Place {
+            value: offset / PAGE_BYTES as u64,
+        }
+    }
+
+    pub(crate) fn get(self) -> u64
+        ensures { result ≡ self }
+    {
+        self.value
+    }
+
+    /// The place as SQL has it.
+    pub(crate) fn signed(self) -> i64
+        ensures value { result ≡ pos self }
+        ensures fits { self < 2 ^ 63 }
+    {
+        signed(self.value)
+    }
+}
 
 const ADD_PLACE: &str =
     "INSERT INTO vpage (org, ws, number, place, pkey, twin) VALUES (?1, ?2, ?3, ?4, ?5, ?6)";
@@ -19,15 +63,14 @@ pub(crate) fn add<'v, S: Alter>(
     org: &'v str,
     ws: &'v str,
     number: Number,
-    place: u64,
+    place: Place,
     key: &'v [u8],
     twin: Twin,
 ) -> Result<(), Error>
-    requires place_fits { place < 2 ^ 63 }
     ensures { Writes S.Store AnyRows (place_added org.now ws.now number place key.now twin) tx.old tx.new result }
 {
     let number = number.get();
-    let place = signed(place);
+    let place = place.signed();
     let twin = twin.signed();
     write(tx, ADD_PLACE, params![org, ws, number, &place, key, &twin])
 }
@@ -41,13 +84,12 @@ pub(crate) fn remove<S: Alter>(
     org: &str,
     ws: &str,
     number: Number,
-    place: u64,
+    place: Place,
 ) -> Result<(), Error>
-    requires place_fits { place < 2 ^ 63 }
     ensures { Writes S.Store AnyRows (place_removed org.now ws.now number place) tx.old tx.new result }
 {
     let number = number.get();
-    let place = signed(place);
+    let place = place.signed();
     write(tx, REMOVE_PLACE, params![org, ws, number, &place])
 }
 
@@ -60,13 +102,12 @@ pub(crate) fn find<S: Alter>(
     org: &str,
     ws: &str,
     number: Number,
-    place: u64,
+    place: Place,
 ) -> Result<Option<PageId>, Error>
-    requires place_fits { place < 2 ^ 63 }
     ensures { Queries S.Store (Equals (page_at org.now ws.now number place)) conn.old conn.new result }
 {
     let number = number.get();
-    let place = signed(place);
+    let place = place.signed();
     let row = first_row(conn, PAGE_AT, params![org, ws, number, &place]);
     read_one(row)
 }
@@ -77,15 +118,14 @@ pub(crate) fn find_inside<S: Alter>(
     org: &str,
     ws: &str,
     number: Number,
-    place: u64,
+    place: Place,
 ) -> Result<Option<PageId>, Error>
-    requires place_fits { place < 2 ^ 63 }
     ensures same_reference { tx.new.conn.ghost_name ≡ tx.old.conn.ghost_name }
     ensures read { Reads (Equals (page_at org.now ws.now number place)) (state S.Store tx.old.conn.now) (state S.Store tx.new.conn.now) result }
     ensures survives { Survives (state S.Store tx.old.conn.now) (state S.Store tx.new.conn.now) (λ _. ⊥) }
 {
     let number = number.get();
-    let place = signed(place);
+    let place = place.signed();
     let row = first_row_inside(tx, PAGE_AT, params![org, ws, number, &place]);
     read_one(row)
 }

@@ -1,5 +1,5 @@
 //! A version's text is put, taken away, read and compared, page by page.
-ghost use Rattle.std.specs.Prelude.{◌≡◌, ◌<◌, ◌≤◌, ◌*◌, ◌^◌, ℕ, List, length, false, IsTrue, IsSome, IfOk, OnOk};
+ghost use Rattle.std.specs.Prelude.{◌≡◌, ◌≤◌, ◌*◌, ℕ, List, length, false, IsTrue, IsSome, IfOk, OnOk};
 ghost use Rattle.sqlite.specs.Held.{state};
 ghost use Rattle.sqlite.specs.State.{HasCleanDisk};
 ghost use Rattle.statements.specs.Steps.{Equals, Steps, Tells, Sees};
@@ -9,7 +9,7 @@ ghost use Rattle.pages.specs.Inner.Calls.{OnlyLooks};
 ghost use Rattle.texts.specs.Texts.{pages_for, piece_at, AddsText, bytes_named, piece_of, piece_removed, text_removed, WereThere, AreThere, text_of, are_pieces};
 ghost use Rattle.texts.specs.Inner.Calls.{AddsPiece, named_removed, is_piece_of};
 
-use crate::places::{add, find, find_inside, remove};
+use crate::places::{Place, add, find, find_inside, remove};
 use crate::whole::read_whole;
 use basis::{Bytes, Number};
 use pages::{PageId, PageKey, put, release, same};
@@ -53,10 +53,9 @@ fn look_at<S: Alter>(
     org: &str,
     ws: &str,
     before: &Option<Number>,
-    place: u64,
+    place: Place,
     moved: u64,
 ) -> Result<Option<PageId>, Error>
-    requires place_fits { place < 2 ^ 63 }
     ensures same_reference { tx.new.conn.ghost_name ≡ tx.old.conn.ghost_name }
     ensures looks { OnlyLooks (state S.Store tx.old.conn.now) (state S.Store tx.new.conn.now) result }
     ensures so_far { HasCleanDisk (state S.Store tx.new.conn.now) → HasCleanDisk (state S.Store tx.old.conn.now) }
@@ -65,7 +64,7 @@ fn look_at<S: Alter>(
     match before {
         None => Ok(None),
         Some(before) => {
-            if place == 0 || moved >= MOST_MOVED {
+            if place.get() == 0 || moved >= MOST_MOVED {
                 Ok(None)
             } else {
                 find_inside(tx, org, ws, *before, place)
@@ -103,11 +102,10 @@ fn add_piece<K: PageKey, S: Alter>(
     ws: &str,
     number: Number,
     before: &Option<Number>,
-    place: u64,
+    place: Place,
     piece: &[u8],
     moved: &mut u64,
 ) -> Result<(), Error>
-    requires place_fits { place < 2 ^ 63 }
     ensures { (key : List ℕ) × AddsPiece S.Store K.key_of key org.now ws.now number place piece.now tx.old tx.new result }
 {
     let found = look_at(tx, org, ws, before, place, *moved)?;
@@ -135,7 +133,8 @@ pub fn add_text<K: PageKey, S: Alter>(
     let mut moved = 0;
     'places: for place in 0..pages {
         let piece = piece_at(text, place);
-        add_piece::<K, S>(tx, org, ws, number, &before, place, piece, &mut moved)?;
+        let at = Place::of_byte(place * PAGE_BYTES as u64);
+        add_piece::<K, S>(tx, org, ws, number, &before, at, piece, &mut moved)?;
     }
     Ok(())
 }
@@ -145,10 +144,9 @@ fn remove_named<S: Alter>(
     org: &str,
     ws: &str,
     number: Number,
-    place: u64,
+    place: Place,
     id: Option<PageId>,
 ) -> Result<(), Error>
-    requires place_fits { place < 2 ^ 63 }
     ensures steps { Steps S.Store (named_removed org.now ws.now number place id) tx.old tx.new result }
     ensures there { Tells (λ _ t. IsSome (bytes_named id t)) (state S.Store tx.old.conn.now) (state S.Store tx.new.conn.now) result }
 {
@@ -167,9 +165,8 @@ fn remove_piece<S: Alter>(
     org: &str,
     ws: &str,
     number: Number,
-    place: u64,
+    place: Place,
 ) -> Result<(), Error>
-    requires place_fits { place < 2 ^ 63 }
     ensures steps { Steps S.Store (piece_removed org.now ws.now number place) tx.old tx.new result }
     ensures there { Tells (λ _ t. IsSome (piece_of org.now ws.now number place t)) (state S.Store tx.old.conn.now) (state S.Store tx.new.conn.now) result }
 {
@@ -193,7 +190,8 @@ pub fn remove_text<S: Alter>(
 {
     let pages = pages_for(size);
     'places: for place in 0..pages {
-        remove_piece(tx, org, ws, number, place)?;
+        let at = Place::of_byte(place * PAGE_BYTES as u64);
+        remove_piece(tx, org, ws, number, at)?;
     }
     Ok(())
 }
@@ -219,10 +217,9 @@ fn same_piece<S: Alter>(
     org: &str,
     ws: &str,
     number: Number,
-    place: u64,
+    place: Place,
     piece: &[u8],
 ) -> Result<bool, Error>
-    requires place_fits { place < 2 ^ 63 }
     ensures mode { conn.old.in_transaction ≡ false → conn.new.in_transaction ≡ false }
     ensures gets { GetsBy (is_piece_of org.now ws.now number place piece.now) (state S.Store conn.old) (state S.Store conn.new) result }
     ensures so_far { HasCleanDisk (state S.Store conn.new) → HasCleanDisk (state S.Store conn.old) }
@@ -250,7 +247,9 @@ pub fn same_text<S: Alter>(
 {
     let pages = pages_for(text.len() as u64);
     'places: for place in 0..pages {
-        if !same_piece(conn, org, ws, number, place, piece_at(text, place))? {
+        let piece = piece_at(text, place);
+        let at = Place::of_byte(place * PAGE_BYTES as u64);
+        if !same_piece(conn, org, ws, number, at, piece)? {
             return Ok(false);
         }
     }

@@ -8,5 +8,5 @@ use Rattle.texts.proofs.places.find.Goals as goal
 
 pub returns : goal.returns
 returns g c =
-    queries_by IsPageName _ _ _ (c.first_row-row.ensures.mode, (λ clean. rw (c.get-number.ensures.value, c.signed-place.ensures, to_z-of_z w64 (pos c.args.place) (record { sfits = c.requires.place_fits })) at (rw (c.params-to_sql.ensures, c.params-to_sql-2.ensures, c.params-to_sql-3.ensures, c.params-to_sql-4.ensures) at (c.first_row-row.ensures.row page_at_is_query clean))), c.first_row-row.ensures.calm page_at_is_query, c.first_row-row.ensures.survives page_at_is_query) c.read_one.ensures
+    queries_by IsPageName _ _ _ (c.first_row-row.ensures.mode, (λ clean. rw (c.get-number.ensures.value, c.signed-place.ensures.value, to_z-of_z w64 (pos c.args.place) (record { sfits = c.signed-place.ensures.fits })) at (rw (c.params-to_sql.ensures, c.params-to_sql-2.ensures, c.params-to_sql-3.ensures, c.params-to_sql-4.ensures) at (c.first_row-row.ensures.row page_at_is_query clean))), c.first_row-row.ensures.calm page_at_is_query, c.first_row-row.ensures.survives page_at_is_query) c.read_one.ensures
     (λ t holds row first. page_at_shows _ _ t holds c.args.org.now c.args.ws.now c.args.number c.args.place row first)

@@ -6,7 +6,7 @@ use Rattle.pages.specs.Puts.{twin_limit, twin_for}
 use Rattle.texts.specs.Texts.{pages_for, pieces_added, TwinsFit, KeysFit}
 use Rattle.texts.specs.Inner.Calls.{piece_placed}
 use Rattle.texts.proofs.Many.{writes_none, writes_more}
-use Rattle.texts.proofs.NextPiece.{keys_to, added_more, fit_more, keyed_more}
+use Rattle.texts.proofs.NextPiece.{place_of_start, keys_to, added_more, fit_more, keyed_more}
 use Rattle.texts.proofs.texts.add_text.Goals as goal
 
 pub places-init : goal.places-init
@@ -30,7 +30,7 @@ places-preserved g c =
     let keys = c.places.invariant.1.0 in
     let key = c.in_ok-add_piece.ensures.0 in
     let key_of = g.K.PageKey.key_of in
-    let one = c.in_ok-add_piece.ensures.1 in
+    let one = rw (c.of_byte-at.ensures, place_of_start place) at (c.in_ok-add_piece.ensures.1) in
     let s0 = state g.S.Store c.args.tx.now.conn.now in
     let s1 = state g.S.Store c.places.tx.conn.now in
     let s2 = state g.S.Store c.add_piece.new.tx.conn.now in (

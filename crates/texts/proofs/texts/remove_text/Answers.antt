@@ -3,7 +3,7 @@ use Rattle.sqlite.specs.Held.{state}
 use Rattle.statements.specs.Steps.{AnyRows, Moves}
 use Rattle.texts.specs.Texts.{pieces_removed, piece_removed, piece_of, WereThere}
 use Rattle.texts.proofs.Many.{writes_more}
-use Rattle.texts.proofs.NextPiece.{removed_more, were_there_more}
+use Rattle.texts.proofs.NextPiece.{place_of_start, removed_more, were_there_more}
 use Rattle.texts.proofs.texts.remove_text.Goals as goal
 
 pub places-preserved : goal.places-preserved
@@ -14,11 +14,12 @@ places-preserved g c =
     let place = c.places.place in
     let s0 = state g.S.Store c.args.tx.now.conn.now in
     let s1 = state g.S.Store c.places.tx.conn.now in
-    let s2 = state g.S.Store c.remove_piece.new.tx.conn.now in (
-      c.in_ok-remove_piece.ensures.steps.same_reference ∙ c.places.invariant.0,
+    let s2 = state g.S.Store c.remove_piece.new.tx.conn.now in
+    let one = rw (c.of_byte-at.ensures, place_of_start place) at c.in_ok-remove_piece.ensures in (
+      one.steps.same_reference ∙ c.places.invariant.0,
       writes_more (pieces_removed org ws n place) (piece_removed org ws n place) (pieces_removed org ws n (place + 1)) (WereThere org ws n place) (λ t. IsSome (piece_of org ws n place t)) (WereThere org ws n (place + 1)) s0 s1 s2
-          (λ t. removed_more org ws n t place) (λ t there one. were_there_more org ws n t place there one) c.places.invariant.1 c.in_ok-remove_piece.ensures.steps.so_far c.in_ok-remove_piece.ensures.steps.shield
-          (λ clean inside. ((c.in_ok-remove_piece.ensures.steps.changed clean inside).0, c.in_ok-remove_piece.ensures.there clean inside)),
+          (λ t. removed_more org ws n t place) (λ t there left. were_there_more org ws n t place there left) c.places.invariant.1 one.steps.so_far one.steps.shield
+          (λ clean inside. ((one.steps.changed clean inside).0, one.there clean inside)),
     )
 
 pub returns-clause-steps : goal.returns-clause-steps
