@@ -1,6 +1,6 @@
 //! Statements that make the tables of the newest schema, or take those of a version to the next, and
 //! those on the tables edition and meta, which tell the version.
-ghost use Rattle.std.specs.Prelude.{◌≡◌, ◌≤◌, ◌<◌, ◌^◌, ℕ, List, length, IfOk};
+ghost use Rattle.std.specs.Prelude.{◌≡◌, ◌≤◌, ◌<◌, ℕ, List, length, IfOk};
 ghost use Rattle.std.specs.List.{AllZip};
 ghost use Rattle.sqlite_schema.specs.declared.schema.Table.{Table};
 ghost use Rattle.sqlite.specs.Held.{state};
@@ -11,7 +11,7 @@ ghost use Rattle.statements.specs.Making.{MakesBy, HasSchema, Raises, HasMeta, H
 ghost use Rattle.statements.specs.Inner.Making.{Grows, IsMaker, texts_in, all_of, Moved, Told, edition_moved, schema_version_cleared};
 ghost use Rattle.statements.specs.Rows.{Kept};
 
-use crate::calls::{first_row, read_one, signed, write};
+use crate::calls::{first_row, read_one, write};
 use crate::{bounds, keepings};
 use sqlite::{Alter, Connection, Error, Transaction, params};
 
@@ -136,14 +136,12 @@ const SET_VERSION: &str = "INSERT INTO edition (one, version) VALUES (1, ?1)";
 /// Says which version a database has, in one that has the tables of that and tells none.
 fn set_schema_version<S: Alter>(
     tx: &mut Transaction<'_, S>,
-    schema_version: u64,
+    schema_version: u32,
 ) -> Result<(), Error>
-    requires fits { schema_version < 2 ^ 63 }
     requires there { 9 < count_in schema_version }
     ensures { MakesBy S.Store (Told schema_version) tx.old tx.new result }
 {
-    let schema_version = signed(schema_version);
-    write(tx, SET_VERSION, params![&schema_version])
+    write(tx, SET_VERSION, params![schema_version])
 }
 
 const MOVE_VERSION: &str = "UPDATE edition SET version = ?1";
@@ -151,14 +149,12 @@ const MOVE_VERSION: &str = "UPDATE edition SET version = ?1";
 /// Says which version a database has, in one that has the tables of that and tells another.
 fn move_schema_version<S: Alter>(
     tx: &mut Transaction<'_, S>,
-    schema_version: u64,
+    schema_version: u32,
 ) -> Result<(), Error>
-    requires fits { schema_version < 2 ^ 63 }
     requires there { 9 < count_in schema_version }
     ensures { MakesBy S.Store (Moved schema_version (edition_moved schema_version)) tx.old tx.new result }
 {
-    let schema_version = signed(schema_version);
-    write(tx, MOVE_VERSION, params![&schema_version])
+    write(tx, MOVE_VERSION, params![schema_version])
 }
 
 const CLEAR_VERSION: &str = "DELETE FROM meta";
@@ -175,7 +171,7 @@ pub fn make_schema<S: Alter>(tx: &mut Transaction<'_, S>) -> Result<(), Error>
     ensures { MakesBy S.Store HasSchema tx.old tx.new result }
 {
     make_tables(tx)?;
-    set_schema_version(tx, NEWEST)
+    set_schema_version(tx, NEWEST as u32)
 }
 
 /// Takes schema 1 to schema 2: each token gets its row of bound, and edition tells the version in meta's place.
