@@ -41,7 +41,7 @@ use Rattle.tables.proofs.Names.{same_name, names_apart, pair_is, pair_first, pai
 use Rattle.tables.proofs.Parts.{none_mapped}
 use Rattle.tables.proofs.Sets.{one_of, got_workspace}
 use Rattle.tables.proofs.Ranks.{both_first, both_second, all_found, entries_shown}
-use Rattle.tables.proofs.Operators.{record_there, record_missing, org_own, org_other, token_own, token_other}
+use Rattle.tables.proofs.Managed.{record_there, record_missing, org_own, org_other, token_own, token_other}
 use Rattle.tables.proofs.Kept.{org_there, org_added_keeps, token_added_keeps}
 use Rattle.tables.proofs.Lawful.{limit_there, limit_is, token_there, sound_is_lawful}
 use Rattle.tables.proofs.Listed.{record_entries}

@@ -44,7 +44,7 @@ use Rattle.tables.proofs.Finding.{open_runs_found}
 use Rattle.tables.proofs.Kept.{org_there, placed_keeps}
 use Rattle.tables.proofs.KeptTexts.{changed_texts}
 use Rattle.tables.proofs.Lawful.{limit_there, token_there}
-use Rattle.tables.proofs.Operators.{record_there, record_missing}
+use Rattle.tables.proofs.Managed.{record_there, record_missing}
 use Rattle.tables.proofs.Owned.{changed_are_owned}
 use Rattle.tables.proofs.Revoking.{revoke_keeps, revoke_own, revoke_other}
 use Rattle.tables.proofs.Telling.{told_changed}

@@ -1,15 +1,12 @@
 -- The rows of one table after the other.
-use Rattle.std.proofs.Common.{◌≡◌, ap, sym, subst, ◌∙◌, ℕ, List, IsTrue, Result, Ok, Err, IfOk, OnOk, OnErr}
+use Rattle.std.proofs.Common.{◌≡◌, ap, ◌∙◌, ℕ, List, Result, Ok}
 use Rattle.sqlite_trees.specs.declared.store.Store.{Ghosts}
-use Rattle.sqlite.specs.Effect.{Database}
 use Rattle.sqlite.specs.Held.{Held}
-use Rattle.sqlite.specs.State.{State, KeepsCommit}
 use Rattle.statements.specs.declared.rows.Rows.{Rows}
-use Rattle.statements.specs.Steps.{LeavesAsIs, Sees}
-use Rattle.statements.specs.Tables.{Tables, Holds}
+use Rattle.statements.specs.Steps.{Sees}
+use Rattle.statements.specs.Tables.{Tables}
 use Rattle.texts.proofs.Many.{sees_then}
 use Rattle.tables.specs.Scans.{AreRowsOf}
-use Rattle.tables.specs.Inner.Steps.{IsSettled}
 use Rattle.tables.specs.Inner.Scans.{with_first, with_workspaces, with_others}
 
 -- what one reading fills in, and then another
@@ -31,11 +28,3 @@ all_filled key_of t old new is = record {
   editions = ap (λ (r : Rows). r.editions) is;
   keepings = ap (λ (r : Rows). r.keepings) is;
 }
-
--- a look at rows that wait for no commit is one at those that are committed
-pub looked_at : {X E : Type 0} (says : X → Tables → Type 0) (a b : State) (result : Result X E) → IsSettled a → IfOk result (λ x. (t : Tables) → Holds a.now t → says x t) × (OnOk result (LeavesAsIs a b) × OnErr result (KeepsCommit a b)) → OnOk result (IsTrue b.is_open)
-    → IfOk result (λ x. IsTrue a.is_open × ((t : Tables) → Holds a.committed t → says x t)) × KeepsCommit a b
-looked_at says a b (Ok x) settled seen is_open =
-    let was = seen.1.0.was_open is_open in
-    ((was, λ t held. seen.0 t (subst (λ (db : Database). Holds db t) (sym (settled was)) held)), record { was_open = seen.1.0.was_open; committed = λ is. seen.1.0.committed })
-looked_at says a b (Err e) settled seen is_open = (tt, seen.1.1)

@@ -17,7 +17,7 @@ use Rattle.tables.specs.declared.counts.Counted.{Counted}
 use Rattle.tables.specs.Inner.Arrivals.{TakesFrom, TakesCommitted, Arrives, Brings, Copies, CommitsRelated}
 use Rattle.tables.specs.Inner.Steps.{IsSettled}
 use Rattle.tables.proofs.Databases.{store_by, records_by}
-use Rattle.tables.proofs.Operators.{record_there, record_missing}
+use Rattle.tables.proofs.Managed.{record_there, record_missing}
 
 -- ---- the answer where nothing is copied
 

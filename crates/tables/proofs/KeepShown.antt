@@ -45,7 +45,7 @@ use Rattle.tables.specs.declared.counts.Counted.{Counted}
 use Rattle.tables.specs.Inner.Counting.{known_of, looked, changed_count}
 use Rattle.tables.proofs.Remembering.{known_is, kept_is, changed_is}
 use Rattle.tables.specs.Inner.Steps.{Commits, org_managed_by, org_managed, limit_managed_by, limit_managed, token_managed_by, token_managed, revocation_managed_by, revocation_managed}
-use Rattle.tables.proofs.Operators.{asker_found, org_exists, token_absent, token_named, token_known}
+use Rattle.tables.proofs.Managed.{asker_found, org_exists, token_absent, token_named, token_known}
 use Rattle.tables.proofs.Limits.{limit_absent, limit_done, limit_other, limit_keeps}
 use Rattle.tables.proofs.Revoking.{revoke_absent, revoke_done, revoke_other, revoke_keeps}
 use Rattle.tables.proofs.Finding.{unit_found, text_found}

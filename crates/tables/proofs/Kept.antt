@@ -40,7 +40,7 @@ use Rattle.tables.proofs.Changes.{lawful_after}
 use Rattle.tables.proofs.Lawful.{limit_there, limit_is}
 use Rattle.tables.proofs.Counting.{count_within}
 use Rattle.tables.proofs.Owned.{AreOwned, changed_are_owned, any_pushed, last_found, pair_turned}
-use Rattle.tables.proofs.Operators.{org_own, org_other, none_bound}
+use Rattle.tables.proofs.Managed.{org_own, org_other, none_bound}
 
 -- the laws of the rows of organizations and tokens, and of how far these reach, alone
 record AreInOrder (orgs : List (Kept OrgRow)) (tokens : List (Kept TokenRow)) (bounds : List (Kept BoundRow)) : Type 0 where

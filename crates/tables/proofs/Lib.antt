@@ -1,6 +1,7 @@
 pub mod Absent
 pub mod Changes
 pub mod Climbing
+pub mod Committed
 pub mod Counting
 pub mod Databases
 pub mod Edits
@@ -19,7 +20,7 @@ pub mod Limits
 pub mod Listed
 pub mod Lists
 pub mod Names
-pub mod Operators
+pub mod Managed
 pub mod OrgLists
 pub mod Owned
 pub mod Parts

@@ -21,7 +21,7 @@ use Rattle.tables.proofs.TextRows.{AreTexts, sound_texts, texts_carried, KeepsWo
 use Rattle.tables.proofs.Names.{same_name, apart_name, names_apart}
 use Rattle.tables.proofs.Sets.{one_of}
 use Rattle.tables.proofs.Lists.{any_updated}
-use Rattle.tables.proofs.Operators.{record_there, record_missing}
+use Rattle.tables.proofs.Managed.{record_there, record_missing}
 
 module _ (org : List ℕ) (limit : ℕ) where
   abbrev recapped : Kept OrgRow → Kept OrgRow

@@ -43,7 +43,7 @@ use Rattle.tables.proofs.Sets.{entry_found}
 use Rattle.tables.proofs.Names.{pair_is}
 use Rattle.tables.proofs.Sorted.{found_sorted, rise_apart}
 use Rattle.tables.proofs.Ordered.{rise_below}
-use Rattle.tables.proofs.Operators.{no_workspaces}
+use Rattle.tables.proofs.Managed.{no_workspaces}
 use Rattle.tables.proofs.Finding.{find_same, three, newest_number_found, own_whole, no_version_rows, no_versions, no_run_rows, no_runs, seen_in_rows}
 use Rattle.tables.proofs.Ranks.{last_in, newest_told, none_after, first_rows_tell, shown_rows, same_names, no_entries, all_found, entries_shown}
 

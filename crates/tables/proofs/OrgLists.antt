@@ -20,7 +20,7 @@ use Rattle.tables.specs.Inner.Lists.{org_row_in, organizations_listed_in}
 use Rattle.tables.proofs.Names.{tied}
 use Rattle.tables.proofs.Lawful.{limit_there}
 use Rattle.tables.proofs.Finding.{count_found}
-use Rattle.tables.proofs.Operators.{record_there}
+use Rattle.tables.proofs.Managed.{record_there}
 use Rattle.tables.proofs.Ranks.{both_first, both_second, all_found, rows_above}
 
 module _ {A V : Type 0} (key : A → List ℕ) (value : A → V) (q : List ℕ) where

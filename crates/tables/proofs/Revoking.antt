@@ -26,7 +26,7 @@ use Rattle.tables.proofs.TextLists.{all_deleted}
 use Rattle.tables.proofs.TokenRows.{ChangesToken, other_token, other_tokens}
 use Rattle.tables.proofs.Sets.{got_token, one_of, other_ws}
 use Rattle.tables.proofs.Finding.{none_there}
-use Rattle.tables.proofs.Operators.{record_there, record_missing, named_in_rows}
+use Rattle.tables.proofs.Managed.{record_there, record_missing, named_in_rows}
 
 module _ (org name : List ℕ) (t : Tables) where
   abbrev left : Tables

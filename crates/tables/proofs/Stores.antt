@@ -24,7 +24,7 @@ use Rattle.tables.proofs.Databases.{store_by, records_by}
 use Rattle.tables.proofs.Changes.{changed_own, changed_other}
 use Rattle.tables.proofs.Kept.{changed_keeps, org_added_keeps, token_added_keeps, no_rows_are_sound, no_record}
 use Rattle.tables.proofs.Lawful.{sound_is_lawful}
-use Rattle.tables.proofs.Operators.{org_done, org_other, token_done, token_other}
+use Rattle.tables.proofs.Managed.{org_done, org_other, token_done, token_other}
 
 pub store_is_lawful : (db : Database) → IsSoundStore db → AreLawful (records_of db)
 store_is_lawful db s = sound_is_lawful (tables_of db) s.sound

@@ -2,7 +2,6 @@
 #![tactic(auto)]
 
 mod arrivals;
-mod commands;
 mod copies;
 mod counts;
 mod departures;
@@ -10,6 +9,7 @@ pub mod laws;
 mod listings;
 mod looks;
 mod opening;
+mod operators;
 mod scans;
 mod steps;
 mod store;

@@ -1,5 +1,5 @@
 //! The lists that are asked of the tables, outside a transaction.
-ghost use Rattle.std.specs.Prelude.{◌≡◌, None, List, [], ◌∷◌, ◌++◌, map, IsTrue, IfOk, OnOk};
+ghost use Rattle.std.specs.Prelude.{◌≡◌, false, None, List, [], ◌∷◌, ◌++◌, map, IfOk, OnOk};
 ghost use Rattle.sqlite.specs.Held.{state};
 ghost use Rattle.sqlite.specs.State.{HasCleanDisk};
 ghost use Rattle.basis.specs.Listings.{listing_of};
@@ -7,8 +7,10 @@ ghost use Rattle.machine.specs.Showing.{holder_id};
 ghost use Rattle.statements.specs.Steps.{Equals, EqualsWhere, Sees};
 ghost use Rattle.statements.specs.Listings.{OrgsApart, TokensApart, WorkspacesApart, VersionsApart, RunsApart};
 ghost use Rattle.tables.specs.Inner.Lists.{versions_listed_in, runs_listed_in, newest_number_in, newest_by, newest_shown_in, ws_row_in, workspaces_listed_in, token_row_in, tokens_listed_in, tokens_told_in, org_row_in, organizations_listed_in};
+ghost use Rattle.tables.specs.Inner.Steps.{LooksAt};
 
 use crate::looks::{caller_as, kept};
+use crate::transactions::assert_settled;
 use basis::{
     Holder, HolderId, Items, Listing, Number, Prefix, RunRow, Settings, VersionRow, WsName, WsRow,
 };
@@ -39,9 +41,13 @@ pub(crate) fn list_of_versions<S: Alter>(
     ws: &str,
     after: u32,
 ) -> Result<Listing<VersionRow>, Error>
-    ensures looks { Sees S.Store (EqualsWhere (VersionsApart org.now ws.now) (versions_listed_in after org.now ws.now)) conn.old conn.new result }
-    ensures is_open { HasCleanDisk (state S.Store conn.new) → OnOk result (IsTrue (state S.Store conn.new).is_open) }
+    requires idle { conn.old.in_transaction ≡ false }
+    ensures idle { conn.new.in_transaction ≡ false }
+    ensures so_far { HasCleanDisk (state S.Store conn.new) → HasCleanDisk (state S.Store conn.old) }
+    ensures shield { (state S.Store conn.old).IsShielded → (state S.Store conn.new).IsShielded }
+    ensures looks { LooksAt (EqualsWhere (VersionsApart org.now ws.now) (versions_listed_in after org.now ws.now)) (state S.Store conn.old) (state S.Store conn.new) result }
 {
+    assert_settled(conn);
     let rows = versions::list(alloc, conn, org, ws, after, ASKED_ROWS)?;
     Ok(Listing::of(rows))
 }
@@ -54,9 +60,13 @@ pub(crate) fn list_of_runs<S: Alter>(
     ws: &str,
     after: u32,
 ) -> Result<Listing<RunRow>, Error>
-    ensures looks { Sees S.Store (EqualsWhere (RunsApart org.now ws.now) (runs_listed_in after org.now ws.now)) conn.old conn.new result }
-    ensures is_open { HasCleanDisk (state S.Store conn.new) → OnOk result (IsTrue (state S.Store conn.new).is_open) }
+    requires idle { conn.old.in_transaction ≡ false }
+    ensures idle { conn.new.in_transaction ≡ false }
+    ensures so_far { HasCleanDisk (state S.Store conn.new) → HasCleanDisk (state S.Store conn.old) }
+    ensures shield { (state S.Store conn.old).IsShielded → (state S.Store conn.new).IsShielded }
+    ensures looks { LooksAt (EqualsWhere (RunsApart org.now ws.now) (runs_listed_in after org.now ws.now)) (state S.Store conn.old) (state S.Store conn.new) result }
 {
+    assert_settled(conn);
     let rows = runs::list(alloc, conn, org, ws, after, ASKED_ROWS)?;
     Ok(Listing::of(rows))
 }
@@ -67,8 +77,7 @@ fn newest_number<S: Alter>(
     org: &str,
     ws: &str,
 ) -> Result<Option<Number>, Error>
-    ensures looks { Sees S.Store (Equals (newest_number_in org.now ws.now)) conn.old conn.new result }
-    ensures is_open { HasCleanDisk (state S.Store conn.new) → OnOk result (IsTrue (state S.Store conn.new).is_open) }
+    ensures { Sees S.Store (Equals (newest_number_in org.now ws.now)) conn.old conn.new result }
 {
     match versions::newest(conn, org, ws)? {
         None => Ok(None),
@@ -155,8 +164,7 @@ fn list_workspaces<S: Alter>(
     org: &str,
     workspaces: &[NamedWorkspace],
 ) -> Result<Listing<WsRow>, Error>
-    ensures looks { Sees S.Store (Equals (λ t. listing_of (map (ws_row_in org.now t) workspaces.now))) conn.old conn.new result }
-    ensures stays_open { HasCleanDisk (state S.Store conn.new) → OnOk result (IsTrue (state S.Store conn.old).is_open → IsTrue (state S.Store conn.new).is_open) }
+    ensures { Sees S.Store (Equals (λ t. listing_of (map (ws_row_in org.now t) workspaces.now))) conn.old conn.new result }
 {
     let mut list = Listing::new(alloc);
     for workspace in workspaces {
@@ -174,9 +182,13 @@ pub(crate) fn list_of_workspaces<S: Alter>(
     after: &str,
     prefix: &Prefix,
 ) -> Result<Listing<WsRow>, Error>
-    ensures looks { Sees S.Store (EqualsWhere WorkspacesApart (workspaces_listed_in after.now prefix.now org.now)) conn.old conn.new result }
-    ensures is_open { HasCleanDisk (state S.Store conn.new) → OnOk result (IsTrue (state S.Store conn.new).is_open) }
+    requires idle { conn.old.in_transaction ≡ false }
+    ensures idle { conn.new.in_transaction ≡ false }
+    ensures so_far { HasCleanDisk (state S.Store conn.new) → HasCleanDisk (state S.Store conn.old) }
+    ensures shield { (state S.Store conn.old).IsShielded → (state S.Store conn.new).IsShielded }
+    ensures looks { LooksAt (EqualsWhere WorkspacesApart (workspaces_listed_in after.now prefix.now org.now)) (state S.Store conn.old) (state S.Store conn.new) result }
 {
+    assert_settled(conn);
     let rows = workspaces::list(alloc, conn, org, after, prefix, ASKED_ROWS)?;
     list_workspaces(conn, alloc, org, rows.as_slice())
 }
@@ -186,8 +198,7 @@ fn org_row<S: Alter>(
     conn: &mut Connection<S>,
     organization: &OrganizationCells,
 ) -> Result<OrgRow, Error>
-    ensures looks { Sees S.Store (Equals (λ t. org_row_in t organization.now)) conn.old conn.new result }
-    ensures is_open { HasCleanDisk (state S.Store conn.new) → OnOk result (IsTrue (state S.Store conn.new).is_open) }
+    ensures { Sees S.Store (Equals (λ t. org_row_in t organization.now)) conn.old conn.new result }
 {
     let count = workspaces::count(conn, organization.name.as_str())?;
     let name = organization.name.clone()?;
@@ -213,8 +224,7 @@ fn list_organizations<S: Alter>(
     alloc: Global,
     organizations: &[OrganizationCells],
 ) -> Result<Items<OrgRow>, Error>
-    ensures looks { Sees S.Store (Equals (λ t. map (org_row_in t) organizations.now)) conn.old conn.new result }
-    ensures stays_open { HasCleanDisk (state S.Store conn.new) → OnOk result (IsTrue (state S.Store conn.old).is_open → IsTrue (state S.Store conn.new).is_open) }
+    ensures { Sees S.Store (Equals (λ t. map (org_row_in t) organizations.now)) conn.old conn.new result }
 {
     let mut rows = Items::new(Vec::new(alloc));
     for organization in organizations {
@@ -229,9 +239,13 @@ pub(crate) fn list_of_organizations<S: Alter>(
     conn: &mut Connection<S>,
     alloc: Global,
 ) -> Result<Items<OrgRow>, Error>
-    ensures looks { Sees S.Store (EqualsWhere OrgsApart organizations_listed_in) conn.old conn.new result }
-    ensures is_open { HasCleanDisk (state S.Store conn.new) → OnOk result (IsTrue (state S.Store conn.new).is_open) }
+    requires idle { conn.old.in_transaction ≡ false }
+    ensures idle { conn.new.in_transaction ≡ false }
+    ensures so_far { HasCleanDisk (state S.Store conn.new) → HasCleanDisk (state S.Store conn.old) }
+    ensures shield { (state S.Store conn.old).IsShielded → (state S.Store conn.new).IsShielded }
+    ensures looks { LooksAt (EqualsWhere OrgsApart organizations_listed_in) (state S.Store conn.old) (state S.Store conn.new) result }
 {
+    assert_settled(conn);
     let rows = organizations::list(alloc, conn)?;
     list_organizations(conn, alloc, rows.as_slice())
 }
@@ -242,8 +256,7 @@ fn token_row<S: Alter>(
     org: &str,
     token: &NamedRole,
 ) -> Result<TokenRow, Error>
-    ensures looks { Sees S.Store (Equals (λ t. token_row_in org.now t token.now)) conn.old conn.new result }
-    ensures is_open { HasCleanDisk (state S.Store conn.new) → OnOk result (IsTrue (state S.Store conn.new).is_open) }
+    ensures { Sees S.Store (Equals (λ t. token_row_in org.now t token.now)) conn.old conn.new result }
 {
     let caller = caller_as(conn, org, token)?;
     let name = token.name.clone()?;
@@ -256,8 +269,7 @@ fn list_tokens<S: Alter>(
     org: &str,
     tokens: &[NamedRole],
 ) -> Result<Items<TokenRow>, Error>
-    ensures looks { Sees S.Store (Equals (λ t. map (token_row_in org.now t) tokens.now)) conn.old conn.new result }
-    ensures stays_open { HasCleanDisk (state S.Store conn.new) → OnOk result (IsTrue (state S.Store conn.old).is_open → IsTrue (state S.Store conn.new).is_open) }
+    ensures { Sees S.Store (Equals (λ t. map (token_row_in org.now t) tokens.now)) conn.old conn.new result }
 {
     let mut rows = Items::new(Vec::new(alloc));
     for token in tokens {
@@ -273,8 +285,7 @@ fn list_of_tokens<S: Alter>(
     alloc: Global,
     org: &str,
 ) -> Result<Items<TokenRow>, Error>
-    ensures looks { Sees S.Store (EqualsWhere TokensApart (tokens_listed_in org.now)) conn.old conn.new result }
-    ensures is_open { HasCleanDisk (state S.Store conn.new) → OnOk result (IsTrue (state S.Store conn.new).is_open) }
+    ensures { Sees S.Store (EqualsWhere TokensApart (tokens_listed_in org.now)) conn.old conn.new result }
 {
     let rows = tokens::list(alloc, conn, org)?;
     list_tokens(conn, alloc, org, rows.as_slice())
@@ -286,9 +297,13 @@ pub(crate) fn tokens_told<S: Alter>(
     alloc: Global,
     org: &str,
 ) -> Result<AdminAnswer, Error>
-    ensures looks { Sees S.Store (EqualsWhere TokensApart (tokens_told_in org.now)) conn.old conn.new result }
-    ensures is_open { HasCleanDisk (state S.Store conn.new) → OnOk result (IsTrue (state S.Store conn.new).is_open) }
+    requires idle { conn.old.in_transaction ≡ false }
+    ensures idle { conn.new.in_transaction ≡ false }
+    ensures so_far { HasCleanDisk (state S.Store conn.new) → HasCleanDisk (state S.Store conn.old) }
+    ensures shield { (state S.Store conn.old).IsShielded → (state S.Store conn.new).IsShielded }
+    ensures looks { LooksAt (EqualsWhere TokensApart (tokens_told_in org.now)) (state S.Store conn.old) (state S.Store conn.new) result }
 {
+    assert_settled(conn);
     let cap = organizations::cap(conn, org)?;
     if cap.is_none() {
         return Ok(AdminAnswer::Absent);

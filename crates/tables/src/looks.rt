@@ -1,8 +1,8 @@
 //! What is asked of the tables outside a transaction, by queries of one row each.
-ghost use Rattle.std.specs.Prelude.{◌≡◌, false, cond, is_some, option_copied, Option, IsTrue, IsSome, OnOk, unwrap_or};
+ghost use Rattle.std.specs.Prelude.{◌≡◌, false, not, cond, is_some, option_copied, Option, IsSome, IfOk, OnOk, unwrap_or};
 ghost use Rattle.basis.specs.declared.numbers.TheConstants.{FIRST_KEPT};
 ghost use Rattle.sqlite.specs.Held.{state};
-ghost use Rattle.sqlite.specs.State.{HasCleanDisk};
+ghost use Rattle.sqlite.specs.State.{HasCleanDisk, KeepsCommit};
 ghost use Rattle.statements.specs.Finds.{size_of, cap_of, workspaces_of, first_waiting_of, open_runs_of, bound_of};
 ghost use Rattle.statements.specs.Steps.{Equals, Sees};
 ghost use Rattle.statements.specs.Tables.{Tables, Holds};
@@ -10,15 +10,17 @@ ghost use Rattle.machine.specs.Needs.{needed_of};
 ghost use Rattle.machine.specs.Units.{if_needed};
 ghost use Rattle.tables.specs.Records.{caller_with, bounds_at, IsBound, retention_at};
 ghost use Rattle.tables.specs.Inner.Lists.{asker_in};
+ghost use Rattle.tables.specs.Inner.Steps.{LooksAt};
 ghost use Rattle.tables.specs.Inner.Units.{holder_status_in, text_in, has_text, newest_by, newest_in, retention_in, number_before, has_version_in, number_behind, outgoing_in, keyed_run_in, asked_run_in, unit_in};
 ghost use Rattle.tables.specs.Inner.Looks.{absent_in, runs_in, around_in, unit_from, present_in};
 
+use crate::transactions::assert_settled;
 use basis::{
     Bounds, Bytes, Caller, Holder, Limit, Number, Retention, Role, RunRow, RunStatus, Settings,
     Text, VersionRow,
 };
 use machine::{Needs, Newest, Staying, TokenRow, Unit, WorkspaceUnit};
-use sqlite::{Alter, Connection, Error};
+use sqlite::{Alter, Connection, Error, ErrorCode};
 use statements::rows::{NamedRole, Workspace as WorkspaceCells};
 use statements::{bounds, keepings, organizations, runs, tokens, versions, workspaces};
 use std::alloc::Global;
@@ -41,6 +43,22 @@ struct Surroundings {
     runs: RunsAround,
 }
 
+/// Whether a fault of the disk has shut the connection. It compiles a statement, and runs none.
+pub(crate) fn is_shut<S: Alter>(conn: &mut Connection<S>) -> Result<bool, Error>
+    requires idle { conn.old.in_transaction ≡ false }
+    ensures idle { conn.new.in_transaction ≡ false }
+    ensures so_far { HasCleanDisk (state S.Store conn.new) → HasCleanDisk (state S.Store conn.old) }
+    ensures shield { (state S.Store conn.old).IsShielded → (state S.Store conn.new).IsShielded }
+    ensures told { HasCleanDisk (state S.Store conn.new) → IfOk result (λ is_shut. (state S.Store conn.old).is_open ≡ not is_shut) }
+    ensures kept { HasCleanDisk (state S.Store conn.new) → KeepsCommit (state S.Store conn.old) (state S.Store conn.new) }
+{
+    match conn.prepare("SELECT 1") {
+        Ok(_) => Ok(false),
+        Err(Error::SqliteFailure(ErrorCode::Closed)) => Ok(true),
+        Err(error) => Err(error),
+    }
+}
+
 /// The text of a version, if it is kept.
 pub(crate) fn text<S: Alter>(
     conn: &mut Connection<S>,
@@ -49,9 +67,13 @@ pub(crate) fn text<S: Alter>(
     ws: &str,
     number: Number,
 ) -> Result<Option<Bytes>, Error>
-    ensures looks { Sees S.Store (Equals (text_in org.now ws.now number)) conn.old conn.new result }
-    ensures is_open { HasCleanDisk (state S.Store conn.new) → OnOk result (IsTrue (state S.Store conn.new).is_open) }
+    requires idle { conn.old.in_transaction ≡ false }
+    ensures idle { conn.new.in_transaction ≡ false }
+    ensures so_far { HasCleanDisk (state S.Store conn.new) → HasCleanDisk (state S.Store conn.old) }
+    ensures shield { (state S.Store conn.old).IsShielded → (state S.Store conn.new).IsShielded }
+    ensures looks { LooksAt (Equals (text_in org.now ws.now number)) (state S.Store conn.old) (state S.Store conn.new) result }
 {
+    assert_settled(conn);
     match versions::size(conn, org, ws, number)? {
         None => Ok(None),
         Some(size) => Ok(Some(texts::text(alloc, conn, org, ws, number, size)?)),
@@ -173,13 +195,8 @@ pub(crate) fn kept(retention: Option<Retention>) -> Retention
 }
 
 /// How many versions a workspace keeps.
-pub(crate) fn retention<S: Alter>(
-    conn: &mut Connection<S>,
-    org: &str,
-    ws: &str,
-) -> Result<Retention, Error>
+fn retention<S: Alter>(conn: &mut Connection<S>, org: &str, ws: &str) -> Result<Retention, Error>
     ensures looks { Sees S.Store (Equals (λ t. retention_at t org.now ws.now)) conn.old conn.new result }
-    ensures is_open { HasCleanDisk (state S.Store conn.new) → OnOk result (IsTrue (state S.Store conn.new).is_open) }
 {
     let found = keepings::find(conn, org, ws)?;
     Ok(kept(found))
@@ -249,7 +266,6 @@ fn outgoing<S: Alter>(
 /// How far a token reaches. It is an error where the token has no row of bound.
 fn bounds_of<S: Alter>(conn: &mut Connection<S>, org: &str, name: &str) -> Result<Bounds, Error>
     ensures looks { Sees S.Store (Equals (λ t. bounds_at t org.now name.now)) conn.old conn.new result }
-    ensures is_open { HasCleanDisk (state S.Store conn.new) → OnOk result (IsTrue (state S.Store conn.new).is_open) }
     ensures there { HasCleanDisk (state S.Store conn.new) → OnOk result ((t : Tables) → Holds (state S.Store conn.old).now t → IsSome (bound_of org.now name.now t)) }
 {
     match bounds::find(conn, org, name)? {
@@ -275,7 +291,6 @@ pub(crate) fn caller_as<S: Alter>(
     token: &NamedRole,
 ) -> Result<Caller, Error>
     ensures looks { Sees S.Store (Equals (λ t. caller_with token.now.role (bounds_at t org.now token.now.name))) conn.old conn.new result }
-    ensures is_open { HasCleanDisk (state S.Store conn.new) → OnOk result (IsTrue (state S.Store conn.new).is_open) }
     ensures there { HasCleanDisk (state S.Store conn.new) → OnOk result ((t : Tables) → Holds (state S.Store conn.old).now t → IsSome (bound_of org.now token.now.name t)) }
 {
     let bounds = bounds_of(conn, org, token.name.as_str())?;
@@ -289,10 +304,14 @@ pub(crate) fn caller<S: Alter>(
     org: &str,
     digest: &[u8],
 ) -> Result<Option<TokenRow>, Error>
-    ensures looks { Sees S.Store (Equals (asker_in org.now digest.now)) conn.old conn.new result }
-    ensures is_open { HasCleanDisk (state S.Store conn.new) → OnOk result (IsTrue (state S.Store conn.new).is_open) }
+    requires idle { conn.old.in_transaction ≡ false }
+    ensures idle { conn.new.in_transaction ≡ false }
+    ensures so_far { HasCleanDisk (state S.Store conn.new) → HasCleanDisk (state S.Store conn.old) }
+    ensures shield { (state S.Store conn.old).IsShielded → (state S.Store conn.new).IsShielded }
+    ensures looks { LooksAt (Equals (asker_in org.now digest.now)) (state S.Store conn.old) (state S.Store conn.new) result }
     ensures bound { HasCleanDisk (state S.Store conn.new) → OnOk result ((t : Tables) → Holds (state S.Store conn.old).now t → IsBound org.now digest.now t) }
 {
+    assert_settled(conn);
     match tokens::find_by_digest(conn, org, digest)? {
         None => Ok(None),
         Some(found) => {
@@ -436,17 +455,6 @@ fn absent<S: Alter>(
     })
 }
 
-/// The first run that waits.
-fn first_waiting<S: Alter>(
-    conn: &mut Connection<S>,
-    org: &str,
-    ws: &str,
-) -> Result<Option<Number>, Error>
-    ensures looks { Sees S.Store (Equals (first_waiting_of org.now ws.now)) conn.old conn.new result }
-{
-    runs::first_waiting(conn, org, ws)
-}
-
 /// The first run that waits, where it is needed.
 fn first_waiting_if<S: Alter>(
     conn: &mut Connection<S>,
@@ -457,7 +465,7 @@ fn first_waiting_if<S: Alter>(
     ensures looks { Sees S.Store (Equals (λ t. if_needed needed (first_waiting_of org.now ws.now t))) conn.old conn.new result }
 {
     if needed {
-        first_waiting(conn, org, ws)
+        runs::first_waiting(conn, org, ws)
     } else {
         Ok(None)
     }
@@ -576,9 +584,13 @@ pub(crate) fn unit<S: Alter>(
     needs: &Needs<'_>,
     known: Option<u64>,
 ) -> Result<Unit, Error>
-    ensures looks { Sees S.Store (Equals (unit_in (needed_of needs.now) known org.now ws.now)) conn.old conn.new result }
-    ensures is_open { HasCleanDisk (state S.Store conn.new) → OnOk result (IsTrue (state S.Store conn.new).is_open) }
+    requires idle { conn.old.in_transaction ≡ false }
+    ensures idle { conn.new.in_transaction ≡ false }
+    ensures so_far { HasCleanDisk (state S.Store conn.new) → HasCleanDisk (state S.Store conn.old) }
+    ensures shield { (state S.Store conn.old).IsShielded → (state S.Store conn.new).IsShielded }
+    ensures looks { LooksAt (Equals (unit_in (needed_of needs.now) known org.now ws.now)) (state S.Store conn.old) (state S.Store conn.new) result }
 {
+    assert_settled(conn);
     match workspaces::find(conn, org, ws)? {
         None => absent(conn, org, needs, known),
         Some(workspace) => present(conn, org, ws, needs, workspace),

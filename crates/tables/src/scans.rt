@@ -1,12 +1,14 @@
 //! The rows of all tables, read one table after the other.
-ghost use Rattle.std.specs.Prelude.{◌≡◌, map, IsTrue, OnOk};
+ghost use Rattle.std.specs.Prelude.{◌≡◌, false, map, IsTrue, OnOk};
 ghost use Rattle.sqlite.specs.Held.{state};
 ghost use Rattle.sqlite.specs.State.{HasCleanDisk};
 ghost use Rattle.pages.specs.Heads.{head_in};
 ghost use Rattle.statements.specs.Steps.{Sees};
 ghost use Rattle.tables.specs.Scans.{AreRowsOf};
 ghost use Rattle.tables.specs.Inner.Scans.{no_rows, with_first, with_workspaces, with_others};
+ghost use Rattle.tables.specs.Inner.Steps.{LooksAt};
 
+use crate::transactions::assert_settled;
 use basis::Items;
 use pages::PageKey;
 use sqlite::{Alter, Connection, Error};
@@ -210,9 +212,13 @@ pub(crate) fn scan<S: Alter, K: PageKey>(
     conn: &mut Connection<S>,
     alloc: Global,
 ) -> Result<Rows, Error>
-    ensures sees { Sees S.Store (λ rows t. AreRowsOf K.key_of t rows) conn.old conn.new result }
-    ensures is_open { HasCleanDisk (state S.Store conn.new) → OnOk result (IsTrue (state S.Store conn.new).is_open) }
+    requires idle { conn.old.in_transaction ≡ false }
+    ensures idle { conn.new.in_transaction ≡ false }
+    ensures so_far { HasCleanDisk (state S.Store conn.new) → HasCleanDisk (state S.Store conn.old) }
+    ensures shield { (state S.Store conn.old).IsShielded → (state S.Store conn.new).IsShielded }
+    ensures looks { LooksAt (λ rows t. AreRowsOf K.key_of t rows) (state S.Store conn.old) (state S.Store conn.new) result }
 {
+    assert_settled(conn);
     let mut rows = no_rows(alloc);
     read_all::<S, K>(conn, alloc, &mut rows)?;
     Ok(rows)

@@ -16,7 +16,7 @@ ghost use Rattle.tables.specs.Versions.{HoldsSchema, schema_records};
 
 use crate::counts::Counted;
 use crate::opening::ready;
-use crate::{commands, counts, transactions};
+use crate::{counts, listings, looks, operators, scans, transactions};
 use basis::numbers::{MAX_LIMIT, MAX_MOMENT, MAX_NUMBER};
 use basis::{
     Bounds, Bytes, Down, Limit, Listing, Number, OrgName, Prefix, Role, RunRow, VersionRow, WsName,
@@ -130,7 +130,7 @@ impl<S: Alter, K: PageKey> SqlKeep<S, K> {
         ensures told { HasCleanDisk (state S.Store self.new.conn) → IfOk result (λ is_shut. (state S.Store self.old.conn).is_open ≡ not is_shut) }
         ensures looks { Looks ⟦<SqlKeep<S, K> as Keep>⟧.rows ⟦<SqlKeep<S, K> as Keep>⟧.clean ⟦<SqlKeep<S, K> as Keep>⟧.sound ⟦<SqlKeep<S, K> as Keep>⟧.shielded self.old self.new }
     {
-        match commands::is_shut(&mut self.conn) {
+        match looks::is_shut(&mut self.conn) {
             Ok(is_shut) => Ok(is_shut),
             Err(_) => Err(Down),
         }
@@ -141,7 +141,7 @@ impl<S: Alter, K: PageKey> SqlKeep<S, K> {
         ensures told { HasCleanDisk (state S.Store self.new.conn) → IfOk result (λ rows. (t : Tables) → Holds (state S.Store self.old.conn).committed t → AreRowsOf K.key_of t rows) }
         ensures looks { Looks ⟦<SqlKeep<S, K> as Keep>⟧.rows ⟦<SqlKeep<S, K> as Keep>⟧.clean ⟦<SqlKeep<S, K> as Keep>⟧.sound ⟦<SqlKeep<S, K> as Keep>⟧.shielded self.old self.new }
     {
-        match commands::scan::<S, K>(&mut self.conn, alloc) {
+        match scans::scan::<S, K>(&mut self.conn, alloc) {
             Ok(rows) => Ok(rows),
             Err(_) => Err(Down),
         }
@@ -167,7 +167,7 @@ impl<S: Alter, K: PageKey> SqlKeep<S, K> {
         ensures err { ⟦<SqlKeep<S, K> as Keep>⟧.clean self.new → OnErr result ((o : List ℕ) → ⟦<SqlKeep<S, K> as Keep>⟧.rows self.new o ≡ ⟦<SqlKeep<S, K> as Keep>⟧.rows self.old o) }
     {
         self.counted = None;
-        match commands::copy::<T, K, S>(&mut self.conn, alloc, &mut from.conn, org.as_str()) {
+        match operators::copy::<T, K, S>(&mut self.conn, alloc, &mut from.conn, org.as_str()) {
             Ok(answer) => {
                 self.seen = Snapshot::of(&self.conn);
                 Ok(answer)
@@ -231,7 +231,7 @@ impl<S: Alter, K: PageKey> Keep for SqlKeep<S, K> {
         org: &OrgName,
         digest: &[u8; 32],
     ) -> Result<Option<TokenRow>, Down> {
-        match commands::caller(&mut self.conn, org.as_str(), digest.as_slice()) {
+        match looks::caller(&mut self.conn, org.as_str(), digest.as_slice()) {
             Ok(asker) => Ok(asker),
             Err(_) => Err(Down),
         }
@@ -241,7 +241,7 @@ impl<S: Alter, K: PageKey> Keep for SqlKeep<S, K> {
         let needs = act.needs();
         let (org, ws) = (org.as_str(), ws.as_str());
         let known = counts::known(&self.counted, org);
-        match commands::unit(&mut self.conn, org, ws, &needs, known) {
+        match looks::unit(&mut self.conn, org, ws, &needs, known) {
             Ok(unit) => {
                 counts::keep(&mut self.counted, alloc, org, ws, needs.makes, &unit);
                 Ok(unit)
@@ -257,7 +257,7 @@ impl<S: Alter, K: PageKey> Keep for SqlKeep<S, K> {
         ws: &WsName,
         n: Number,
     ) -> Result<Option<Bytes>, Down> {
-        match commands::text(&mut self.conn, alloc, org.as_str(), ws.as_str(), n) {
+        match looks::text(&mut self.conn, alloc, org.as_str(), ws.as_str(), n) {
             Ok(text) => Ok(text),
             Err(_) => Err(Down),
         }
@@ -271,7 +271,7 @@ impl<S: Alter, K: PageKey> Keep for SqlKeep<S, K> {
         prefix: &Prefix,
     ) -> Result<Listing<WsRow>, Down> {
         let after = name_after(after);
-        match commands::workspaces(&mut self.conn, alloc, org.as_str(), after, prefix) {
+        match listings::list_of_workspaces(&mut self.conn, alloc, org.as_str(), after, prefix) {
             Ok(list) => Ok(list),
             Err(_) => Err(Down),
         }
@@ -288,7 +288,7 @@ impl<S: Alter, K: PageKey> Keep for SqlKeep<S, K> {
         if after > MAX_NUMBER as u64 {
             return Ok(Listing::new(alloc));
         }
-        match commands::versions(
+        match listings::list_of_versions(
             &mut self.conn,
             alloc,
             org.as_str(),
@@ -311,7 +311,7 @@ impl<S: Alter, K: PageKey> Keep for SqlKeep<S, K> {
         if after > MAX_NUMBER as u64 {
             return Ok(Listing::new(alloc));
         }
-        match commands::runs(
+        match listings::list_of_runs(
             &mut self.conn,
             alloc,
             org.as_str(),
@@ -350,7 +350,7 @@ impl<S: Alter, K: PageKey> Keep for SqlKeep<S, K> {
     ) -> Result<AdminAnswer, Down> {
         prove!(limit.get() <= MAX_LIMIT);
         self.counted = None;
-        match commands::org_add(&mut self.conn, org.as_str(), limit) {
+        match operators::org_add(&mut self.conn, org.as_str(), limit) {
             Ok(answer) => {
                 self.seen = Snapshot::of(&self.conn);
                 Ok(answer)
@@ -367,7 +367,7 @@ impl<S: Alter, K: PageKey> Keep for SqlKeep<S, K> {
     ) -> Result<AdminAnswer, Down> {
         prove!(limit.get() <= MAX_LIMIT);
         self.counted = None;
-        match commands::org_limit(&mut self.conn, org.as_str(), limit) {
+        match operators::org_limit(&mut self.conn, org.as_str(), limit) {
             Ok(answer) => {
                 self.seen = Snapshot::of(&self.conn);
                 Ok(answer)
@@ -383,7 +383,7 @@ impl<S: Alter, K: PageKey> Keep for SqlKeep<S, K> {
         is_forced: bool,
     ) -> Result<AdminAnswer, Down> {
         self.counted = None;
-        match commands::org_remove(&mut self.conn, alloc, org.as_str(), is_forced) {
+        match operators::org_remove(&mut self.conn, alloc, org.as_str(), is_forced) {
             Ok(answer) => {
                 self.seen = Snapshot::of(&self.conn);
                 Ok(answer)
@@ -393,7 +393,7 @@ impl<S: Alter, K: PageKey> Keep for SqlKeep<S, K> {
     }
 
     fn org_list(&mut self, alloc: Global) -> Result<AdminAnswer, Down> {
-        match commands::org_list(&mut self.conn, alloc) {
+        match listings::list_of_organizations(&mut self.conn, alloc) {
             Ok(rows) => Ok(AdminAnswer::Organizations(rows)),
             Err(_) => Err(Down),
         }
@@ -406,7 +406,7 @@ impl<S: Alter, K: PageKey> Keep for SqlKeep<S, K> {
         name: &OrgName,
     ) -> Result<AdminAnswer, Down> {
         self.counted = None;
-        match commands::token_revoke(&mut self.conn, org.as_str(), name.as_str()) {
+        match operators::token_revoke(&mut self.conn, org.as_str(), name.as_str()) {
             Ok(answer) => {
                 self.seen = Snapshot::of(&self.conn);
                 Ok(answer)
@@ -428,7 +428,7 @@ impl<S: Alter, K: PageKey> Keep for SqlKeep<S, K> {
         let digest = digest.as_slice();
         let (org, name) = (org.as_str(), name.as_str());
         self.counted = None;
-        match commands::token_add(&mut self.conn, org, name, role, digest, bounds) {
+        match operators::token_add(&mut self.conn, org, name, role, digest, bounds) {
             Ok(answer) => {
                 self.seen = Snapshot::of(&self.conn);
                 Ok(answer)
@@ -438,7 +438,7 @@ impl<S: Alter, K: PageKey> Keep for SqlKeep<S, K> {
     }
 
     fn token_list(&mut self, alloc: Global, org: &OrgName) -> Result<AdminAnswer, Down> {
-        match commands::token_list(&mut self.conn, alloc, org.as_str()) {
+        match listings::tokens_told(&mut self.conn, alloc, org.as_str()) {
             Ok(answer) => Ok(answer),
             Err(_) => Err(Down),
         }

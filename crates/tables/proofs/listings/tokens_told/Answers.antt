@@ -1,4 +1,5 @@
-use Rattle.std.proofs.Common.{rules, ◌≡◌, ℕ, List, Option, Some, None, false, is_none, ap, ◌∙◌}
+use Rattle.std.proofs.Common.{rules, ◌≡◌, ℕ, List, Option, Some, None, false, is_none, Ok, ap, ◌∙◌}
+use Rattle.sqlite.specs.declared.error.Error.{Error}
 use Rattle.machine.specs.declared.keeps.AdminAnswer.TheVariants.{Tokens}
 use Rattle.machine.specs.declared.keeps.TokenRow.{TokenRow}
 use Rattle.statements.specs.Finds.{cap_of}
@@ -7,6 +8,7 @@ use Rattle.statements.specs.Steps.{Equals, EqualsWhere}
 use Rattle.statements.specs.Tables.{Tables}
 use Rattle.texts.proofs.Many.{sees_by, sees_as}
 use Rattle.tables.specs.Inner.Lists.{tokens_listed_in, tokens_told_by, tokens_told_in}
+use Rattle.tables.proofs.Committed.{looked}
 use Rattle.tables.proofs.KeepFound.{seen_both}
 use Rattle.tables.proofs.listings.tokens_told.Goals as goal
 
@@ -18,7 +20,11 @@ told_there org t (Some cap) rows there found listed = ap Tokens listed ∙ ap (�
 pub returns-clause-looks : goal.returns-clause-looks
 returns-clause-looks g c =
     let org = c.args.org.now in
+    let conn = c.args.conn.now in
+    let cap = c.in_ok-cap.ensures in
+    let rows = c.in_ok-rows.rows in
     let there : is_none c.in_ok-cap.cap ≡ false = search rules in
-    sees_as g.S.Store (λ rows t. Equals (cap_of org) c.in_ok-cap.cap t × EqualsWhere TokensApart (tokens_listed_in org) rows t) (EqualsWhere TokensApart (tokens_told_in org)) c.args.conn.now c.list_of_tokens.new.conn
-    c.in_ok-rows.rows (Tokens c.in_ok-rows.rows) (λ t told apart. told_there org t c.in_ok-cap.cap c.in_ok-rows.rows there told.0 (told.1 apart))
-    (seen_both g.S.Store (Equals (cap_of org)) (EqualsWhere TokensApart (tokens_listed_in org)) c.args.conn.now c.cap.new.conn c.list_of_tokens.new.conn c.in_ok-cap.cap c.in_ok-rows.rows (sees_by g.S.Store _ _ _ _ c.in_ok-cap.ensures) c.in_ok-rows.ensures.looks)
+    looked g.S.Store {E = Error} (EqualsWhere TokensApart (tokens_told_in org)) conn c.list_of_tokens.new.conn (Ok (Tokens rows)) c.assert_settled.ensures (λ clean. (cap.read (c.in_ok-rows.ensures.so_far clean)).1.0.0.was_open)
+    (sees_as g.S.Store (λ rows t. Equals (cap_of org) c.in_ok-cap.cap t × EqualsWhere TokensApart (tokens_listed_in org) rows t) (EqualsWhere TokensApart (tokens_told_in org)) conn c.list_of_tokens.new.conn
+    rows (Tokens rows) (λ t told apart. told_there org t c.in_ok-cap.cap rows there told.0 (told.1 apart))
+    (seen_both g.S.Store (Equals (cap_of org)) (EqualsWhere TokensApart (tokens_listed_in org)) conn c.cap.new.conn c.list_of_tokens.new.conn c.in_ok-cap.cap rows (sees_by g.S.Store _ _ _ _ cap) c.in_ok-rows.ensures))

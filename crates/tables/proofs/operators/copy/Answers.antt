@@ -2,7 +2,7 @@ use Rattle.std.proofs.Common.{rules, ◌≡◌, true, false, is_some, None}
 use Rattle.sqlite.specs.Held.{state}
 use Rattle.machine.specs.declared.keeps.AdminAnswer.TheVariants.{Exists, Absent}
 use Rattle.tables.proofs.KeepCopied.{is_absent, is_there, none_of, copies_none, copies_one}
-use Rattle.tables.proofs.commands.copy.Goals as goal
+use Rattle.tables.proofs.operators.copy.Goals as goal
 
 pub returns-in_default-clause-done : goal.returns-in_default-clause-done
 returns-in_default-clause-done g c clean =

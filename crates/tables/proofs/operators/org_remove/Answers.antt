@@ -2,7 +2,7 @@ use Rattle.std.proofs.Common.{rules, ◌≡◌, true, false, is_none}
 use Rattle.sqlite.specs.Held.{state}
 use Rattle.pages.proofs.Looking.{one_look}
 use Rattle.tables.proofs.KeepRemoved.{looked, leaves_absent, leaves_kept, leaves_done}
-use Rattle.tables.proofs.commands.org_remove.Goals as goal
+use Rattle.tables.proofs.operators.org_remove.Goals as goal
 
 pub returns-then-is_none-clause-done : goal.returns-then-is_none-clause-done
 returns-then-is_none-clause-done g c clean =

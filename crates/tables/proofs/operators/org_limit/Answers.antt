@@ -5,7 +5,7 @@ use Rattle.statements.specs.Changes.{org_capped}
 use Rattle.tables.specs.Inner.Steps.{limit_managed}
 use Rattle.pages.proofs.Looking.{one_look}
 use Rattle.tables.proofs.KeepManaged.{manages_none, manages_one, limit_nowhere, limit_there}
-use Rattle.tables.proofs.commands.org_limit.Goals as goal
+use Rattle.tables.proofs.operators.org_limit.Goals as goal
 
 pub returns-then-is_none-clause-done : goal.returns-then-is_none-clause-done
 returns-then-is_none-clause-done g c clean =

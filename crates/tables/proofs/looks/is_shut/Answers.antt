@@ -2,8 +2,8 @@ use Rattle.std.proofs.Common.{[], ◌∙◌, ap}
 use Rattle.sqlite.specs.Held.{state}
 use Rattle.sqlite.specs.declared.error.Error.TheVariants.{SqliteFailure}
 use Rattle.tables.proofs.Shut.{unchanged_keeps, not_run_keeps, closed_shut}
-use Rattle.tables.proofs.commands.is_shut.Goals.{in-Ok, in-Err-SqliteFailure-Closed, in-Err+in-Err}
-use Rattle.tables.proofs.commands.is_shut.Goals as goal
+use Rattle.tables.proofs.looks.is_shut.Goals.{in-Ok, in-Err-SqliteFailure-Closed, in-Err+in-Err}
+use Rattle.tables.proofs.looks.is_shut.Goals as goal
 
 pub returns-clause-told : goal.returns-clause-told
 returns-clause-told g c clean = elim c.match-prepare.branch [

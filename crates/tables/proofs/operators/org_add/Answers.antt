@@ -5,7 +5,7 @@ use Rattle.statements.specs.Changes.{org_row_added}
 use Rattle.tables.specs.Inner.Steps.{org_managed}
 use Rattle.pages.proofs.Looking.{one_look}
 use Rattle.tables.proofs.KeepManaged.{manages_none, manages_one, org_there, org_missing}
-use Rattle.tables.proofs.commands.org_add.Goals as goal
+use Rattle.tables.proofs.operators.org_add.Goals as goal
 
 pub returns-then-is_some-clause-done : goal.returns-then-is_some-clause-done
 returns-then-is_some-clause-done g c clean =

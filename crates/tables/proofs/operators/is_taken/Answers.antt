@@ -4,14 +4,14 @@ use Rattle.basis.specs.declared.roles.Role.{Role}
 use Rattle.statements.specs.Finds.{role_of_name, role_of_digest}
 use Rattle.tables.proofs.KeepFound.{seen_by_first}
 use Rattle.texts.proofs.Many.{sees_by}
-use Rattle.tables.proofs.commands.is_taken.Goals as goal
+use Rattle.tables.proofs.operators.is_taken.Goals as goal
 
 either : Option Role → Option Role → Bool
 either named known = is_some named || is_some known
 
-pub returns-clause-looks : goal.returns-clause-looks
+pub returns : goal.returns
 unfolding either
-returns-clause-looks g c =
+returns g c =
     let named = role_of_name c.args.org.now c.args.name.now in
     let known = role_of_digest c.args.org.now c.args.digest.now in
     rw c.is_either.ensures

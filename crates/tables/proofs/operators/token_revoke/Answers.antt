@@ -5,7 +5,7 @@ use Rattle.statements.specs.Changes.{token_removed}
 use Rattle.tables.specs.Inner.Steps.{revocation_managed}
 use Rattle.pages.proofs.Looking.{one_look}
 use Rattle.tables.proofs.KeepManaged.{manages_none, manages_one, revocation_nowhere, revocation_there}
-use Rattle.tables.proofs.commands.token_revoke.Goals as goal
+use Rattle.tables.proofs.operators.token_revoke.Goals as goal
 
 pub returns-then-is_none-clause-done : goal.returns-then-is_none-clause-done
 returns-then-is_none-clause-done g c clean =
