@@ -80,24 +80,8 @@ pub(crate) fn text<S: Alter>(
     }
 }
 
-/// The status of the run that holds.
-fn holder_status<S: Alter>(
-    conn: &mut Connection<S>,
-    org: &str,
-    ws: &str,
-    holder: &Holder,
-) -> Result<Option<RunStatus>, Error>
-    ensures looks { Sees S.Store (Equals (holder_status_in org.now ws.now holder.now)) conn.old conn.new result }
-{
-    match holder {
-        Holder::Nobody => Ok(None),
-        Holder::Lock { .. } => Ok(None),
-        Holder::Run(run) => runs::status(conn, org, ws, *run),
-    }
-}
-
 /// The status of the run that holds, where it is needed.
-fn holder_status_if<S: Alter>(
+fn holder_status<S: Alter>(
     conn: &mut Connection<S>,
     org: &str,
     ws: &str,
@@ -106,10 +90,13 @@ fn holder_status_if<S: Alter>(
 ) -> Result<Option<RunStatus>, Error>
     ensures looks { Sees S.Store (Equals (λ t. if_needed needed (holder_status_in org.now ws.now holder.now t))) conn.old conn.new result }
 {
-    if needed {
-        holder_status(conn, org, ws, holder)
-    } else {
-        Ok(None)
+    if !needed {
+        return Ok(None);
+    }
+    match holder {
+        Holder::Nobody => Ok(None),
+        Holder::Lock { .. } => Ok(None),
+        Holder::Run(run) => runs::status(conn, org, ws, *run),
     }
 }
 
@@ -152,23 +139,8 @@ fn newest_as<S: Alter>(
     })
 }
 
-/// What a decision needs of the newest version, if there is one.
+/// What a decision needs of the newest version, if there is one, where it is needed.
 fn newest<S: Alter>(
-    conn: &mut Connection<S>,
-    org: &str,
-    ws: &str,
-    text: Option<&[u8]>,
-) -> Result<Option<Newest>, Error>
-    ensures looks { Sees S.Store (Equals (newest_in (option_copied text.entry) org.now ws.now)) conn.old conn.new result }
-{
-    match versions::newest(conn, org, ws)? {
-        None => Ok(None),
-        Some(head) => Ok(Some(newest_as(conn, org, ws, text, head)?)),
-    }
-}
-
-/// The newest version, where it is needed.
-fn newest_if<S: Alter>(
     conn: &mut Connection<S>,
     org: &str,
     ws: &str,
@@ -177,10 +149,12 @@ fn newest_if<S: Alter>(
 ) -> Result<Option<Newest>, Error>
     ensures looks { Sees S.Store (Equals (λ t. if_needed needed (newest_in (option_copied text.entry) org.now ws.now t))) conn.old conn.new result }
 {
-    if needed {
-        newest(conn, org, ws, text)
-    } else {
-        Ok(None)
+    if !needed {
+        return Ok(None);
+    }
+    match versions::newest(conn, org, ws)? {
+        None => Ok(None),
+        Some(head) => Ok(Some(newest_as(conn, org, ws, text, head)?)),
     }
 }
 
@@ -194,16 +168,8 @@ pub(crate) fn kept(retention: Option<Retention>) -> Retention
     }
 }
 
-/// How many versions a workspace keeps.
-fn retention<S: Alter>(conn: &mut Connection<S>, org: &str, ws: &str) -> Result<Retention, Error>
-    ensures looks { Sees S.Store (Equals (λ t. retention_at t org.now ws.now)) conn.old conn.new result }
-{
-    let found = keepings::find(conn, org, ws)?;
-    Ok(kept(found))
-}
-
 /// How many versions a workspace keeps, where that is needed, else what one keeps at first.
-fn retention_if<S: Alter>(
+fn retention<S: Alter>(
     conn: &mut Connection<S>,
     org: &str,
     ws: &str,
@@ -211,11 +177,11 @@ fn retention_if<S: Alter>(
 ) -> Result<Retention, Error>
     ensures looks { Sees S.Store (Equals (retention_in needed org.now ws.now)) conn.old conn.new result }
 {
-    if needed {
-        retention(conn, org, ws)
-    } else {
-        Ok(Retention::first())
+    if !needed {
+        return Ok(Retention::first());
     }
+    let found = keepings::find(conn, org, ws)?;
+    Ok(kept(found))
 }
 
 /// The number that so many others follow, up to the one before the next.
@@ -391,23 +357,6 @@ fn count<S: Alter>(conn: &mut Connection<S>, org: &str, known: Option<u64>) -> R
     }
 }
 
-/// How many workspaces an organization has, where the act makes one: for any other act they are not
-/// counted.
-fn count_if<S: Alter>(
-    conn: &mut Connection<S>,
-    org: &str,
-    makes: bool,
-    known: Option<u64>,
-) -> Result<u64, Error>
-    ensures looks { Sees S.Store (Equals (λ t. cond makes (unwrap_or known (workspaces_of org.now t)) 0)) conn.old conn.new result }
-{
-    if makes {
-        count(conn, org, known)
-    } else {
-        Ok(0)
-    }
-}
-
 /// How many workspaces an organization may have, by its row. One without a row may have none.
 fn allowed(cap: Option<Limit>) -> Limit
     ensures { result ≡ unwrap_or cap 0 }
@@ -426,18 +375,6 @@ fn limit<S: Alter>(conn: &mut Connection<S>, org: &str) -> Result<Limit, Error>
     Ok(allowed(cap))
 }
 
-/// How many workspaces an organization may have, where the act makes one: for any other act it isn't
-/// asked.
-fn limit_if<S: Alter>(conn: &mut Connection<S>, org: &str, makes: bool) -> Result<Limit, Error>
-    ensures looks { Sees S.Store (Equals (λ t. cond makes (unwrap_or (cap_of org.now t) 0) 0)) conn.old conn.new result }
-{
-    if makes {
-        limit(conn, org)
-    } else {
-        Ok(Limit::none())
-    }
-}
-
 /// How many workspaces an organization has and how many it may have, where the act makes one.
 fn absent<S: Alter>(
     conn: &mut Connection<S>,
@@ -447,8 +384,14 @@ fn absent<S: Alter>(
 ) -> Result<Unit, Error>
     ensures looks { Sees S.Store (Equals (absent_in (needed_of needs.now) known org.now)) conn.old conn.new result }
 {
-    let count = count_if(conn, org, needs.makes, known)?;
-    let limit = limit_if(conn, org, needs.makes)?;
+    if !needs.makes {
+        return Ok(Unit::Absent {
+            workspaces: 0,
+            limit: Limit::none(),
+        });
+    }
+    let count = count(conn, org, known)?;
+    let limit = limit(conn, org)?;
     Ok(Unit::Absent {
         workspaces: count as usize,
         limit,
@@ -497,7 +440,7 @@ fn runs_around<S: Alter>(
 ) -> Result<RunsAround, Error>
     ensures looks { Sees S.Store (Equals (runs_in (needed_of needs.now) org.now ws.now holder.now)) conn.old conn.new result }
 {
-    let holder_status = holder_status_if(conn, org, ws, needs.holder_status, holder)?;
+    let holder_status = holder_status(conn, org, ws, needs.holder_status, holder)?;
     let first_waiting = first_waiting_if(conn, org, ws, needs.waiting)?;
     let asked_run = asked_run(conn, org, ws, needs.run, needs.key)?;
     let open_runs = open_runs_if(conn, org, ws, needs.open_runs)?;
@@ -520,7 +463,7 @@ fn around<S: Alter>(
 ) -> Result<Surroundings, Error>
     ensures looks { Sees S.Store (Equals (around_in (needed_of needs.now) org.now ws.now retention workspace.now)) conn.old conn.new result }
 {
-    let newest = newest_if(conn, org, ws, needs.newest, needs.text)?;
+    let newest = newest(conn, org, ws, needs.newest, needs.text)?;
     let outgoing = outgoing(
         conn,
         org,
@@ -571,7 +514,7 @@ fn present<S: Alter>(
 ) -> Result<Unit, Error>
     ensures looks { Sees S.Store (Equals (present_in (needed_of needs.now) org.now ws.now workspace)) conn.old conn.new result }
 {
-    let retention = retention_if(conn, org, ws, needs.retention)?;
+    let retention = retention(conn, org, ws, needs.retention)?;
     let around = around(conn, org, ws, needs, retention, &workspace)?;
     Ok(Unit::Present(unit_by(retention, workspace, around)))
 }

@@ -22,6 +22,6 @@ returns g c =
     record {
       looks = seen_four g.S.Store Error Error Error Error Error (λ t. if_needed need.newest (newest_in need.text org ws t)) (outgoing_in need.outgoing c.args.retention c.args.workspace.now.next_version org ws) (has_version_in need.version org ws)
           (runs_in need org ws c.args.workspace.now.holder) make c.in_ok-newest.newest c.in_ok-outgoing.outgoing c.in_ok-has_version.has_version c.in_ok-runs.runs
-          c.args.conn.now c.newest_if.new.conn c.outgoing.new.conn c.has_version.new.conn c.runs_around.new.conn
+          c.args.conn.now c.newest.new.conn c.outgoing.new.conn c.has_version.new.conn c.runs_around.new.conn
           c.in_ok-newest.ensures.looks c.in_ok-outgoing.ensures.looks c.in_ok-has_version.ensures.looks c.in_ok-runs.ensures.looks;
     }

@@ -21,5 +21,5 @@ returns g c =
     let need = needed_of c.args.needs.now in
     rw c.unit_by.ensures (record {
       looks = seen_by_first g.S.Store Error Error Error (retention_in need.retention org ws) (λ keep. around_in need org ws keep c.args.workspace) (make c.args.workspace) c.in_ok-retention.retention c.in_ok-around.around
-          c.args.conn.now c.retention_if.new.conn c.around.new.conn c.in_ok-retention.ensures.looks c.in_ok-around.ensures.looks;
+          c.args.conn.now c.retention.new.conn c.around.new.conn c.in_ok-retention.ensures.looks c.in_ok-around.ensures.looks;
     })
