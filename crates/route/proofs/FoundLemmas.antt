@@ -1,5 +1,5 @@
 -- What is asked of the route that was found is what is asked of the resource that the path names: names first, then the method.
-use Rattle.std.proofs.Common.{◌≡◌, ℕ, List, Bool, Option, Some, None, Result, Ok, Err, refl, ap, ◌∙◌, codes}
+use Rattle.std.proofs.Common.{◌≡◌, ℕ, List, Option, Some, None, Result, Ok, refl, ap, ◌∙◌, codes}
 use Rattle.std.specs.Option.{option_map, option_and_then}
 use Rattle.basis.specs.Checks.{or_refused, and_then}
 use Rattle.basis.specs.declared.refusals.Refusal.{Refusal}
@@ -8,7 +8,7 @@ use Rattle.basis.specs.declared.runs.RunAction.{RunAction}
 use Rattle.wire.specs.declared.messages.Message.{Message}
 use Rattle.route.specs.Acts.{workspace_act, state_act, runs_act, got, posted, act_read}
 use Rattle.route.specs.Asks.{query_text, is_bodyless, with_query, asked_at}
-use Rattle.route.specs.Inner.Kinds.{Pairs, part_of, ws_of, number_in, action_in, resource_named, org_resource_named, act_named, asked_found}
+use Rattle.route.specs.Inner.Kinds.{Pairs, part_of, ws_of, number_in, resource_named, org_resource_named, act_named, asked_found}
 use Rattle.route.specs.Paths.{Resource, Workspace, State, AllVersions, Version, AllRuns, Run, Action, action_of, in_org}
 use Rattle.route.specs.Queries.{query_read}
 use Rattle.route.specs.Tokens.{org_of}

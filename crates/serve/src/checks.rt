@@ -9,7 +9,7 @@ ghost use Rattle.machine.specs.Records.{workspace_in};
 ghost use Rattle.machine.specs.Units.{unit_of};
 ghost use Rattle.machine.specs.declared.acts.Act.TheVariants.{Look as LookAct, PutWorkspace, UpdateState, PurgeState, Lock, Unlock, MakeRun};
 ghost use Rattle.machine.specs.declared.records.Organization.{Organization};
-ghost use Rattle.serve.specs.Checks.{require, in_reach, makes, named_by, is_there, is_found, fits, digest_checked, spelt, act_of, task_of};
+ghost use Rattle.serve.specs.Checks.{require, in_reach, makes, named_by, is_there, is_found, digest_checked, spelt, act_of, task_of};
 ghost use Rattle.serve.specs.Inner.Prepared.{counted, row_known};
 ghost use Rattle.route.specs.declared.acts.AskedAct.TheVariants.{OfWorkspace};
 ghost use Rattle.serve.specs.declared.prepared.Task.TheVariants.{ListAll};
@@ -212,21 +212,17 @@ pub fn missed<K: Keep>(
     }
 }
 
-fn fits(content_md5: &Option<Bytes>, body: &Bytes) -> bool
-    ensures { result ≡ fits content_md5.now body.now }
-{
-    match content_md5 {
-        None => true,
-        Some(field) => digest_fits(field.as_slice(), body.as_slice()),
-    }
-}
-
 /// Whether Content-MD5, where it is sent, is the MD5 of the body (RFC 1864).
 fn digest_checked(content_md5: &Option<Bytes>, body: &Bytes) -> Result<(), Refusal>
     ensures { result ≡ digest_checked content_md5.now body.now }
 {
-    let is_fit = fits(content_md5, body);
-    require(is_fit, Refusal::BadDigest)
+    match content_md5 {
+        None => Ok(()),
+        Some(field) => {
+            let fits = digest_fits(field.as_slice(), body.as_slice());
+            require(fits, Refusal::BadDigest)
+        }
+    }
 }
 
 fn read_put(alloc: Global, body: &Bytes) -> Result<Act, Refusal>

@@ -8,7 +8,7 @@ ghost use Rattle.statements.specs.Steps.{Equals, Sees};
 ghost use Rattle.statements.specs.Tables.{Tables, Holds};
 ghost use Rattle.machine.specs.Needs.{needed_of};
 ghost use Rattle.machine.specs.Units.{if_needed};
-ghost use Rattle.tables.specs.Records.{caller_with, bounds_at, IsBound, retention_at};
+ghost use Rattle.tables.specs.Records.{caller_with, bounds_at, IsBound};
 ghost use Rattle.tables.specs.Inner.Lists.{asker_in};
 ghost use Rattle.tables.specs.Inner.Steps.{LooksAt};
 ghost use Rattle.tables.specs.Inner.Units.{holder_status_in, text_in, has_text, newest_by, newest_in, retention_in, number_before, has_version_in, number_behind, outgoing_in, keyed_run_in, asked_run_in, unit_in};

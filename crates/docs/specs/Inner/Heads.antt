@@ -6,13 +6,11 @@ use Rattle.serde_json.specs.Data.{Data, Members, Num}
 use Rattle.serde_json.specs.Find.{get_member, as_number, as_object, as_str, as_u64}
 use Rattle.serde_json.specs.Read.{of_json, max_depth}
 use Rattle.serde_json.specs.View.{number_view}
-use Rattle.basis.specs.Numbers.{within}
-use Rattle.basis.specs.declared.numbers.TheConstants.{MAX_SERIAL}
 use Rattle.basis.specs.declared.rows.TheConstants.{MAX_LINEAGE}
 use Rattle.docs.specs.declared.heads.Head.{Head}
 use Rattle.docs.specs.declared.heads.Part.{Part}
 use Rattle.docs.specs.declared.heads.Part.TheVariants.{Number, Text, Other}
-use Rattle.docs.specs.Documents.{serial_of, text_within, optional_text}
+use Rattle.docs.specs.Documents.{text_within, optional_text}
 
 -- an object begins with the token
 abbrev pub opens_object : json.Token → Bool
