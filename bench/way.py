@@ -5,8 +5,8 @@
 
 PROGRAM is one in which no function stands within another, as a build without optimization leaves it. The exchange is a POST
 of a state of one page to a workspace that has a version and that nobody holds, without Content-MD5; or a GET of it, or a LOCK.
-Each file has a line; then their number and that of the functions. What lets go of values isn't told, and a closure is its
-function's.
+Each file has a line; then their number and that of the functions, and the same by crate without those that only lend a
+value, test a name's bytes or serve the exchange log. What lets go of values isn't told, and a closure is its function's.
 """
 import argparse
 import collections
@@ -21,6 +21,8 @@ import shares
 
 NAME = re.compile(r"\?\?\?:([a-z_]+::[^\s\[]+)")
 GENERIC = re.compile(r"<[^<>]*>")
+# how the names of functions end that only lend a value, or are a further turn of a recursion
+LEND = (".as_str", ".as_slice", ".get", ".seconds", ".now", "'2")
 LOCK = b'{"ID":"2d1f7a33-0d4e-4b7b-9f0c-7b3c5f8f0f11"}'
 
 
@@ -71,6 +73,21 @@ def files_in(text):
     return sorted(found.items(), key=lambda it: (crates.index(it[0].split("/")[0]), it[0]))
 
 
+def is_counted(name, function):
+    return not (name.endswith("/logs") or function.endswith(LEND) or name == "basis/names" and function[0].islower())
+
+
+def counted(files):
+    """The number of files and of functions that count, and by crate."""
+    found = collections.defaultdict(list)
+    for name, functions in files:
+        count = sum(is_counted(name, function) for function in functions)
+        if count:
+            found[name.split("/")[0]].append(count)
+    every = [count for counts in found.values() for count in counts]
+    return f"{len(every)} files, {sum(every)} functions: " + ", ".join(f"{name} {len(counts)} {sum(counts)}" for name, counts in found.items())
+
+
 def main():
     words = argparse.ArgumentParser(description=__doc__.partition("\n")[0])
     words.add_argument("kind", nargs="?", choices=["get", "post", "lock"], default="post")
@@ -93,6 +110,7 @@ def main():
     for name, functions in files:
         print(f"{name}: {' '.join(sorted(functions))}")
     print(f"{len(files)} files, {sum(len(functions) for _, functions in files)} functions")
+    print(counted(files))
 
 
 if __name__ == "__main__":
