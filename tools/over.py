@@ -3,10 +3,11 @@
 
     python3 tools/over.py GATE CRATE [--source A,B] [options of `rattle check`]
 
-GATE is the top of a clone in which `rt ci` has proved the crates below CRATE, whose text has to be the same; CRATE is the
-crate's name here. It is what `rt check` does but for that, and is for working alone: only `rt ci` decides. What it has
-checked is kept in GATE/crates/CRATE/out/over, and taken by the next call. Crates named by `--source` are read as source: of
-one whose text has changed no library is needed then, nor a proof, but each crate between it and CRATE is to be named, too.
+GATE is the top of a clone in which `rt ci` without names, or `rt check` of CRATE, has proved the crates below CRATE, whose
+text has to be the same (`rt ci NAME` leaves no libraries); CRATE is the crate's name here. It is what `rt check` does but
+for that, and is for working alone: only `rt ci` decides. What it has checked is kept in GATE/crates/CRATE/out/over, and
+taken by the next call. Crates named by `--source` are read as source: of one whose text has changed no library is needed
+then, nor a proof, but each crate between it and CRATE is to be named, too.
 Examples, from the top of the repository:
 
     python3 tools/over.py ../gate program --only program::serving --allow-holes
