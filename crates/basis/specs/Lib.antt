@@ -4,5 +4,6 @@ pub mod Numbers
 pub mod Refusals
 pub mod Roles
 pub mod Runs
+pub mod Acts
 pub mod Listings
 pub mod Inner

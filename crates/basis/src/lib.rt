@@ -4,6 +4,7 @@
 //! text. Contracts see a name or a text as the list of its bytes, and a number as itself.
 #![tactic(auto)]
 
+pub mod acts;
 pub mod memory;
 pub mod names;
 pub mod numbers;
@@ -13,13 +14,14 @@ pub mod rows;
 pub mod runs;
 pub mod texts;
 
+pub use acts::{Look, WsAct};
 pub use memory::{Down, Unfit};
 pub use names::{LockId, OrgName, Prefix, Secret, WsName, is_free_id, is_run_id};
 pub use numbers::{Limit, Moment, Number, Retention, Serial};
 pub use refusals::{Allow, Refusal};
 pub use roles::{Bounds, Caller, Role};
 pub use rows::{
-    Holder, HolderId, Listing, Look, RunAsk, RunRow, RunSettings, Settings, SettingsAsk, StateHead,
+    Holder, HolderId, Listing, RunAsk, RunRow, RunSettings, Settings, SettingsAsk, StateHead,
     VersionRow, WsRow,
 };
 pub use runs::{RunAction, RunStatus};

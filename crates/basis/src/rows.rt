@@ -44,23 +44,6 @@ pub struct SettingsAsk {
     pub retention: Option<Retention>,
 }
 
-/// What is told of a workspace; nothing changes by it.
-#[derive(Clone, Copy)]
-pub enum Look {
-    /// The workspace as it is shown.
-    Workspace,
-    /// The text of the newest version (Terraform's `GET`).
-    State,
-    /// The text of the version of this number.
-    Version(Number),
-    /// The versions whose numbers come after this one, at most 50.
-    Versions(u64),
-    /// A run as it is shown.
-    Run(Number),
-    /// The runs whose numbers come after this one, at most 50.
-    Runs(u64),
-}
-
 /// What the document of a run's creation asks.
 #[derive(Drop)]
 pub struct RunAsk {

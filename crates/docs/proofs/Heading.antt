@@ -41,7 +41,7 @@ not_serial : (name : List ℕ) → name ≡ codes "lineage" → codes "serial" �
 not_serial name is other = let shorter : 6 ≡ 7 = ap length (other ∙ is) in omega (arith, shorter)
 
 pub with_serial : (name : List ℕ) (part : Part) (value : Data) (found : Members) (old : Head) (serial : Option ℕ) → bytes_eq name (codes "serial") ≡ true → IsPartOf part value → IsHeadOf old found
-    → serial ≡ serial_in part → IsHeadOf (record { serial = serial; lineage = old.lineage }) (put name value found)
+    → serial ≡ serial_in part → IsHeadOf (record { whole = serial; lineage = old.lineage }) (put name value found)
 with_serial name part value found old serial same part_is head is =
     let named = (bytes_eq-Decides name (codes "serial")).0 same in
     record {
@@ -50,7 +50,7 @@ with_serial name part value found old serial same part_is head is =
     }
 
 pub with_lineage : (name : List ℕ) (part : Part) (value : Data) (found : Members) (old : Head) (lineage : Option (Bor (List ℕ))) → bytes_eq name (codes "lineage") ≡ true → IsPartOf part value → IsHeadOf old found
-    → text_of lineage ≡ lineage_in part → IsHeadOf (record { serial = old.serial; lineage = lineage }) (put name value found)
+    → text_of lineage ≡ lineage_in part → IsHeadOf (record { whole = old.whole; lineage = lineage }) (put name value found)
 with_lineage name part value found old lineage same part_is head is =
     let named = (bytes_eq-Decides name (codes "lineage")).0 same in
     record {
@@ -160,7 +160,7 @@ serial_is None = refl
 serial_is (Some value) = refl
 
 pub head_found : (bytes : List ℕ) (found : Members) (head : Head) (made : StateHead) → object_of bytes ≡ Some found → IsHeadOf head found
-    → option_and_then (within 0 MAX_SERIAL) head.serial ≡ Some made.serial → text_of head.lineage ≡ Some made.lineage → state_head bytes ≡ Some made
+    → option_and_then (within 0 MAX_SERIAL) head.whole ≡ Some made.serial → text_of head.lineage ≡ Some made.lineage → state_head bytes ≡ Some made
 unfolding state_head
 head_found bytes found head made document is serial lineage =
     let text = optional_text MAX_LINEAGE (get_member (codes "lineage") found) in
@@ -171,7 +171,7 @@ pub none_found : (bytes : List ℕ) → object_of bytes ≡ None → state_head 
 unfolding state_head
 none_found bytes document = ap (option_and_then head_in) document
 
-pub no_serial_found : (bytes : List ℕ) (found : Members) (head : Head) → object_of bytes ≡ Some found → IsHeadOf head found → option_and_then (within 0 MAX_SERIAL) head.serial ≡ None → state_head bytes ≡ None
+pub no_serial_found : (bytes : List ℕ) (found : Members) (head : Head) → object_of bytes ≡ Some found → IsHeadOf head found → option_and_then (within 0 MAX_SERIAL) head.whole ≡ None → state_head bytes ≡ None
 unfolding state_head
 no_serial_found bytes found head document is serial =
     let text = optional_text MAX_LINEAGE (get_member (codes "lineage") found) in

@@ -1,5 +1,5 @@
 -- A line of the log is one line: compact JSON escapes each control character.
-use Rattle.std.proofs.Common.{◌≡◌, refl, ap, arith, ℕ, suc, zero, ℤ, pos, negsuc, ◌+◌, ◌/◌, ◌%◌, ◌≤◌, ◌==◌, ◌||◌, List, [], ◌∷◌, ◌++◌, Bool, true, false, cond, nat_lt, Option, Some, None, option_map, decimal}
+use Rattle.std.proofs.Common.{◌≡◌, refl, ap, arith, ℕ, suc, zero, ℤ, pos, negsuc, ◌+◌, ◌/◌, ◌%◌, ◌≤◌, ◌==◌, ◌||◌, List, [], ◌∷◌, ◌++◌, Bool, true, false, cond, nat_lt, decimal}
 use Rattle.std.specs.List.{AllByRecursion}
 use Rattle.std.specs.Char.{digit_char}
 use Rattle.std.specs.Fmt.{digits, digits_onto, digit_glyph, signed_decimal}
@@ -8,25 +8,11 @@ use Rattle.json.specs.Print.{escape_letter, escape_byte, escape, quoted}
 use Rattle.json.specs.Written.{Written}
 use Rattle.serde_json.specs.Data.{Num, unsigned, negative, float, Data, null, boolean, number, string, array, object, Items, no_items, item, Members, no_members, member}
 use Rattle.serde_json.specs.Written.{number_text, comma_if, compact_text, items_text, members_text}
-use Rattle.basis.specs.Refusals.{line_of}
-use Rattle.basis.specs.declared.refusals.Refusal.{Refusal}
-use Rattle.docs.specs.declared.logs.LogAct.{LogAct}
 use Rattle.docs.specs.declared.logs.LogRow.{LogRow}
-use Rattle.docs.specs.Logs.{log_word, log_act_value, refusal_value, log_value, log_line, ExchangesAreLines}
-use Rattle.docs.specs.Bodies.{text_value}
+use Rattle.docs.specs.Logs.{log_value, log_line, ExchangesAreLines}
 use Rattle.docs.proofs.Putting.{object_written}
 use Rattle.docs.specs.Inner.Put.{Puts, IsBegun, text_of}
 use Rattle.docs.specs.Inner.Logs.{asked, named, outcome, made}
-
--- ---- what is put
-
-pub act_is : (act : Option LogAct) → text_value (option_map log_word act) ≡ log_act_value act
-act_is None = refl
-act_is (Some act) = refl
-
-pub refusal_is : (refusal : Option Refusal) → text_value (option_map (λ r. (line_of r).word) refusal) ≡ refusal_value refusal
-refusal_is None = refl
-refusal_is (Some refusal) = refl
 
 -- what a writer has in the end, which began with a brace
 pub line_written : {begun put : Written} {out : List ℕ} (connection : ℕ) (end : List ℕ) (row : LogRow) → IsBegun begun → Puts begun put (λ rest. asked connection end row (named row (outcome row (made row rest)))) → out ≡ text_of put → out ++ 10 ∷ [] ≡ log_line connection end row

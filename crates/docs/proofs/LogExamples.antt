@@ -3,11 +3,12 @@ use Rattle.std.proofs.Common.{◌≡◌, Some, None, refl}
 use Rattle.std.specs.Prelude.{codes}
 use Rattle.std.specs.Fmt.{digits}
 use Rattle.serde_json.proofs.OnLiterals.{serde_json_on_literals}
-use Rattle.docs.specs.declared.logs.LogAct.TheVariants.{UpdateState}
+use Rattle.basis.specs.declared.acts.WsAct.TheVariants.{UpdateState}
+use Rattle.docs.specs.declared.logs.LogAct.TheVariants.{OfWorkspace}
 use Rattle.docs.specs.Logs.{log_line}
 
 -- a new state of `net`, posted by the token `ci` of `acme`
-posted : log_line 7 (codes "kept") (record { act = Some UpdateState; at = 1_700_000_000; id = None; number = Some 3; organization = Some (codes "acme"); refusal = None; run = None; status = Some 200; token = Some (codes "ci"); version = Some 3; workspace = Some (codes "net") }) ≡ codes "{\"act\":\"update state\",\"at\":1700000000,\"connection\":7,\"end\":\"kept\",\"id\":null,\"number\":3,\"organization\":\"acme\",\"refusal\":null,\"run\":null,\"status\":200,\"token\":\"ci\",\"version\":3,\"workspace\":\"net\"}\n"
+posted : log_line 7 (codes "kept") (record { act = Some (OfWorkspace UpdateState); at = 1_700_000_000; id = None; number = Some 3; organization = Some (codes "acme"); refusal = None; run = None; status = Some 200; token = Some (codes "ci"); version = Some 3; workspace = Some (codes "net") }) ≡ codes "{\"act\":\"update state\",\"at\":1700000000,\"connection\":7,\"end\":\"kept\",\"id\":null,\"number\":3,\"organization\":\"acme\",\"refusal\":null,\"run\":null,\"status\":200,\"token\":\"ci\",\"version\":3,\"workspace\":\"net\"}\n"
 unfolding serde_json_on_literals digits log_line
 posted = refl
 

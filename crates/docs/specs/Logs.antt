@@ -1,56 +1,31 @@
 -- The log: one line of compact JSON for each exchange, keys in the order of their bytes.
-use Rattle.std.specs.Prelude.{◌≡◌, ℕ, ◌≤◌, List, [], ◌∷◌, ◌++◌, Option, Some, None, codes}
+use Rattle.std.specs.Prelude.{◌≡◌, ℕ, ◌≤◌, List, [], ◌∷◌, ◌++◌, codes, option_map}
 use Rattle.std.specs.List.{AllByRecursion}
-use Rattle.serde_json.specs.Data.{Data, null, number, unsigned, string, object, member, no_members}
+use Rattle.serde_json.specs.Data.{Data, number, unsigned, string, object, member, no_members}
 use Rattle.serde_json.specs.Written.{compact_text}
+use Rattle.basis.specs.Acts.{act_word}
 use Rattle.basis.specs.Refusals.{line_of}
-use Rattle.basis.specs.Runs.{action_word}
-use Rattle.basis.specs.declared.refusals.Refusal.{Refusal}
 use Rattle.docs.specs.Bodies.{number_value, text_value}
 use Rattle.docs.specs.declared.logs.LogAct.{LogAct}
-use Rattle.docs.specs.declared.logs.LogAct.TheVariants.{ListWorkspaces, ShowWorkspace, PutWorkspace, DeleteWorkspace, ReadState, UpdateState, PurgeState, ReadVersion, ListVersions, Lock, Unlock, ForceUnlock, MakeRun, ReadRun, ListRuns, Report}
+use Rattle.docs.specs.declared.logs.LogAct.TheVariants.{ListWorkspaces, OfWorkspace}
 use Rattle.docs.specs.declared.logs.LogRow.{LogRow}
 
--- what a request asks, in words; what is reported of a run by its word in the path
+-- what a request asks, in words
 abbrev pub log_word : LogAct → List ℕ
 log_word ListWorkspaces = codes "list workspaces"
-log_word ShowWorkspace = codes "show workspace"
-log_word PutWorkspace = codes "put workspace"
-log_word DeleteWorkspace = codes "delete workspace"
-log_word ReadState = codes "read state"
-log_word UpdateState = codes "update state"
-log_word PurgeState = codes "purge state"
-log_word ReadVersion = codes "read version"
-log_word ListVersions = codes "list versions"
-log_word Lock = codes "lock"
-log_word Unlock = codes "unlock"
-log_word ForceUnlock = codes "force unlock"
-log_word MakeRun = codes "make run"
-log_word ReadRun = codes "read run"
-log_word ListRuns = codes "list runs"
-log_word (Report action) = action_word action
-
--- what is asked, where the request reads
-abbrev pub log_act_value : Option LogAct → Data
-log_act_value None = null
-log_act_value (Some act) = string (log_word act)
-
--- the word of a refusal, where there is one
-abbrev pub refusal_value : Option Refusal → Data
-refusal_value None = null
-refusal_value (Some refusal) = string (line_of refusal).word
+log_word (OfWorkspace act) = act_word act
 
 -- an exchange of a connection, and how it ended
 abbrev pub log_value : ℕ → List ℕ → LogRow → Data
 log_value connection end row = object (
-    member (codes "act") (log_act_value row.act) (
+    member (codes "act") (text_value (option_map log_word row.act)) (
     member (codes "at") (number (unsigned row.at)) (
     member (codes "connection") (number (unsigned connection)) (
     member (codes "end") (string end) (
     member (codes "id") (text_value row.id) (
     member (codes "number") (number_value row.number) (
     member (codes "organization") (text_value row.organization) (
-    member (codes "refusal") (refusal_value row.refusal) (
+    member (codes "refusal") (text_value (option_map (λ refusal. (line_of refusal).word) row.refusal)) (
     member (codes "run") (number_value row.run) (
     member (codes "status") (number_value row.status) (
     member (codes "token") (text_value row.token) (

@@ -55,16 +55,17 @@ impl<'a> Part<'a> {
 // What counts of the members that were read: where a key's value isn't as it has to be, none.
 #[derive(Clone, Copy, Drop)]
 pub(crate) struct Head<'a> {
-    pub serial: Option<u64>,
+    // The whole number under `serial`, whatever its range.
+    pub whole: Option<u64>,
     pub lineage: Option<&'a str>,
 }
 
 impl<'a> Head<'a> {
     // The serial, where it is one.
     pub(crate) fn serial(&self) -> Option<Serial>
-        ensures { result ≡ option_and_then (within 0 MAX_SERIAL) self.now.serial }
+        ensures { result ≡ option_and_then (within 0 MAX_SERIAL) self.now.whole }
     {
-        self.serial.and_then(Serial::new)
+        self.whole.and_then(Serial::new)
     }
 
     // Of one member more.
@@ -74,12 +75,12 @@ impl<'a> Head<'a> {
     {
         if name == "serial" {
             Head {
-                serial: part.serial(),
+                whole: part.serial(),
                 lineage: self.lineage,
             }
         } else if name == "lineage" {
             Head {
-                serial: self.serial,
+                whole: self.whole,
                 lineage: part.lineage(),
             }
         } else {
@@ -97,12 +98,12 @@ pub(crate) fn read_head<'a>(bytes: &'a [u8], scratch: &'a mut Scratch) -> Result
     ensures down { IsErrOf result DocFault.Down → 0 < length bytes.now }
 {
     match str::from_utf8(bytes) {
-        Ok(text) => read_text(text, scratch),
+        Ok(text) => read_tokens(text, scratch),
         Err(_) => Err(DocFault::Bad),
     }
 }
 
-fn read_text<'a>(text: &'a str, scratch: &'a mut Scratch) -> Result<Head<'a>, DocFault>
+fn read_tokens<'a>(text: &'a str, scratch: &'a mut Scratch) -> Result<Head<'a>, DocFault>
     ensures ok { IfOk result (λ head. (found : Members)
         × (object_in (tokens text.now) ≡ Some found) × IsHeadOf head found) }
     ensures bad { IsErrOf result DocFault.Bad → object_in (tokens text.now) ≡ None }
@@ -111,13 +112,13 @@ fn read_text<'a>(text: &'a str, scratch: &'a mut Scratch) -> Result<Head<'a>, Do
     let Ok(mut reader) = Reader::new(text, scratch) else {
         return Err(DocFault::Down);
     };
-    match read_object(&mut reader) {
+    match read_root(&mut reader) {
         Ok(head) => Ok(head),
         Err(_) => Err(DocFault::Bad),
     }
 }
 
-fn read_object<'a>(reader: &mut Reader<'a>) -> Result<Head<'a>, Invalid>
+fn read_root<'a>(reader: &mut Reader<'a>) -> Result<Head<'a>, Invalid>
     ensures ok { IfOk result (λ head. (found : Members) × (object_in reader.old ≡ Some found)
         × IsHeadOf head found) }
     ensures err { OnErr result (object_in reader.old ≡ None) }
@@ -159,7 +160,7 @@ fn read_members<'a>(reader: &mut Reader<'a>, depth: usize) -> Result<Head<'a>, I
         (members (value depth) (length reader.old) reader.old) ≡ None) }
 {
     let mut head = Head {
-        serial: None,
+        whole: None,
         lineage: Some(""),
     };
     'members: while let Some(name) = reader.next_key()? {

@@ -1,58 +1,30 @@
 //! The lines of the log: one of compact JSON for each exchange.
-ghost use Rattle.std.specs.Prelude.{◌≡◌, IfOk, OnOk};
+ghost use Rattle.std.specs.Prelude.{◌≡◌, IfOk, OnOk, option_map};
 ghost use Rattle.docs.specs.Logs.{log_word, log_line, ExchangesAreLines};
 ghost use Rattle.docs.specs.Inner.Put.{Puts};
 ghost use Rattle.docs.specs.Inner.Logs.{asked, named, outcome, made};
 
 use crate::put::{begin_text, end_text, put_number, put_text, whole_number};
-use basis::{Down, LockId, Moment, Number, OrgName, Refusal, RunAction, Text, WsName};
+use basis::{Down, LockId, Moment, Number, OrgName, Refusal, Text, WsAct, WsName};
 use json::Writer;
 use std::alloc::{AllocError, Global};
 
 /// What a request asks, as the log names it.
-#[derive(Clone, Copy, PartialEq, Eq)]
+#[derive(Clone, Copy)]
 pub enum LogAct {
     ListWorkspaces,
-    ShowWorkspace,
-    PutWorkspace,
-    DeleteWorkspace,
-    ReadState,
-    UpdateState,
-    PurgeState,
-    ReadVersion,
-    ListVersions,
-    Lock,
-    Unlock,
-    ForceUnlock,
-    MakeRun,
-    ReadRun,
-    ListRuns,
-    /// What a runner or a person reports of a run, or asks of it.
-    Report(RunAction),
+    /// Something of one workspace.
+    OfWorkspace(WsAct),
 }
 
 impl LogAct {
-    /// The words in the line; of a report, the action's own word.
+    /// The words in the line.
     pub fn word(self) -> &'static str
         ensures { result.now ≡ log_word self }
     {
         match self {
             LogAct::ListWorkspaces => "list workspaces",
-            LogAct::ShowWorkspace => "show workspace",
-            LogAct::PutWorkspace => "put workspace",
-            LogAct::DeleteWorkspace => "delete workspace",
-            LogAct::ReadState => "read state",
-            LogAct::UpdateState => "update state",
-            LogAct::PurgeState => "purge state",
-            LogAct::ReadVersion => "read version",
-            LogAct::ListVersions => "list versions",
-            LogAct::Lock => "lock",
-            LogAct::Unlock => "unlock",
-            LogAct::ForceUnlock => "force unlock",
-            LogAct::MakeRun => "make run",
-            LogAct::ReadRun => "read run",
-            LogAct::ListRuns => "list runs",
-            LogAct::Report(action) => action.word(),
+            LogAct::OfWorkspace(act) => act.word(),
         }
     }
 }
@@ -114,6 +86,15 @@ pub fn exchanges_are_lines()
     ensures { ExchangesAreLines }
 {}
 
+fn act_word(act: &Option<LogAct>) -> Option<&'static str>
+    ensures { option_map (λ text. text.now) result ≡ option_map log_word act.now }
+{
+    match act {
+        Some(act) => Some(act.word()),
+        None => None,
+    }
+}
+
 // What was asked, when, and how the exchange ended.
 fn put_asked(
     writer: &mut Writer,
@@ -123,7 +104,7 @@ fn put_asked(
 ) -> Result<(), AllocError>
     ensures { OnOk result (Puts writer.old writer.new (asked connection end.now row.now)) }
 {
-    put_text(writer, "act", row.act.map(LogAct::word))?;
+    put_text(writer, "act", act_word(&row.act))?;
     put_number(writer, "at", Some(row.at.seconds()))?;
     put_number(writer, "connection", Some(u64::from(connection)))?;
     put_text(writer, "end", Some(end))

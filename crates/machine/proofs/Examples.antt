@@ -8,7 +8,7 @@ use Rattle.basis.specs.Roles.{counts_at}
 use Rattle.basis.specs.declared.roles.Caller.{Caller}
 use Rattle.basis.specs.declared.roles.Role.TheVariants.{Read}
 use Rattle.basis.specs.declared.refusals.Refusal.TheVariants.{NotFound, NotHeld, NotApplying, OtherLineage, OldSerial, OverLimit, WrongState, HeldByRun, OpenRuns, Locked}
-use Rattle.basis.specs.declared.rows.Look.TheVariants as look
+use Rattle.basis.specs.declared.acts.Look.TheVariants as look
 use Rattle.basis.specs.declared.rows.RunAsk.{RunAsk}
 use Rattle.basis.specs.declared.rows.StateHead.{StateHead}
 use Rattle.basis.specs.declared.runs.RunStatus.{RunStatus}

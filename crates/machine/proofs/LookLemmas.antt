@@ -2,8 +2,8 @@
 use Rattle.std.proofs.Common.{◌≡◌, ℕ, true, false, ◌&&◌, cond, List, [], ◌∷◌, ◌==◌, Option, Some, None, is_some, option_map, refl, ap, subst, eq-eqb}
 use Rattle.std.specs.Option.{option_map_or}
 use Rattle.basis.specs.declared.refusals.Refusal.TheVariants.{NotFound}
-use Rattle.basis.specs.declared.rows.Look.{Look as AnyLook}
-use Rattle.basis.specs.declared.rows.Look.TheVariants as look
+use Rattle.basis.specs.declared.acts.Look.{Look as AnyLook}
+use Rattle.basis.specs.declared.acts.Look.TheVariants as look
 use Rattle.machine.specs.Effects.{effect}
 use Rattle.machine.specs.Inner.Decisions.{decided_look, decided_read, decided_version_read, decided_read_run}
 use Rattle.machine.specs.Meaning.{meaning}

@@ -31,12 +31,11 @@ use Rattle.machine.specs.declared.records.Workspace.{Workspace}
 use Rattle.machine.proofs.StepLemmas.{led, one_status, one_action, never_pending}
 use Rattle.machine.proofs.RunLemmas.{some_run-push, run_of-number, run_of-map, run_of-started, all_found, numbers-map, Rises-more}
 use Rattle.machine.proofs.RunRulings.{IsMade, IsReported}
-use Rattle.machine.proofs.Rulings.{Way, version_comes, versions_go, settings_come, lock_comes, lock_goes, run_comes, run_goes_on, Leaves, leaves}
+use Rattle.machine.proofs.Rulings.{Way, version_comes, versions_go, settings_come, lock_comes, lock_goes, run_comes, run_goes_on, Leaves, leaves, key_is_there}
 use Rattle.machine.proofs.RuleLemmas.{rules_are_lawful}
 use Rattle.machine.proofs.LawLemmas.{number_left-is, in_range_is_left}
 use Rattle.machine.proofs.SettlingLemmas.{least_starts}
 use Rattle.machine.proofs.SettlesLemmas.{found_passes}
-use Rattle.machine.proofs.CustodyLemmas.{key_is_there}
 
 abbrev pub numbers : List Run → List ℕ
 numbers runs = map (λ (r : Run). r.number) runs

@@ -25,7 +25,7 @@ use Rattle.basis.specs.declared.rows.Holder.{Holder}
 use Rattle.basis.specs.declared.rows.Holder.TheVariants.{Nobody, Lock, Run as HoldingRun}
 use Rattle.machine.specs.declared.records.Version.{Version}
 use Rattle.machine.specs.declared.records.Workspace.{Workspace}
-use Rattle.machine.proofs.CustodyLemmas.{settings_stay, settled_versions, bytes_same, workspaces_begin_anew}
+use Rattle.machine.proofs.CustodyLemmas.{settled_versions, workspaces_begin_anew}
 use Rattle.machine.proofs.CutLemmas.{last_length, drop_before}
 use Rattle.machine.proofs.DeletionLemmas.{IsKept}
 use Rattle.machine.proofs.FollowLemmas.{first_has_none, next_follows, IsLetIn, following_is_let_in}
@@ -34,7 +34,7 @@ use Rattle.machine.proofs.PlainLemmas.{find_last_push}
 use Rattle.machine.proofs.PuttingLemmas.{IsSet, put_comes}
 use Rattle.machine.proofs.RefusedLemmas.{never_done}
 use Rattle.machine.proofs.RunRulings.{IsReported}
-use Rattle.machine.proofs.Rulings.{Way, version_comes, versions_go, settings_come, lock_comes, lock_goes, run_comes, run_goes_on, Leaves, leaves}
+use Rattle.machine.proofs.Rulings.{Way, version_comes, versions_go, settings_come, lock_comes, lock_goes, run_comes, run_goes_on, Leaves, leaves, settings_stay, bytes_same}
 
 one_left : (u v : Workspace) → Some u ≡ Some v → u ≡ v
 one_left u v e = cc

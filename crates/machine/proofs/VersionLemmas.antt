@@ -12,11 +12,10 @@ use Rattle.machine.specs.Settling.{first_waiting, to_start, started_if, settled}
 use Rattle.machine.specs.Succession.{Succession, first, same, other_lineage, old_serial, next, succession, after_newest, lineages_differ, is_newer}
 use Rattle.machine.specs.Rules.{Outcome, done, no_state, state, state_answer, by_may_write, by_succession, numbered_update, number_left, with_version, with_settings, purge, purged, locked, released, new_run, with_run, with_report}
 use Rattle.machine.proofs.RunRulings.{IsReported}
-use Rattle.machine.proofs.Rulings.{Way, version_comes, versions_go, settings_come, lock_comes, lock_goes, run_comes, run_goes_on, Leaves, leaves}
+use Rattle.machine.proofs.Rulings.{Way, version_comes, versions_go, settings_come, lock_comes, lock_goes, run_comes, run_goes_on, Leaves, leaves, newest_with, versions_stay}
 use Rattle.basis.specs.declared.rows.RunAsk.{RunAsk}
 use Rattle.machine.specs.Units.{find_last, version_of}
 use Rattle.machine.specs.Custody.{WhatIsPostedIsRead, NothingIsReadOfAPurge, KeepsVersions, GainsVersion, NumbersRise}
-use Rattle.machine.proofs.CustodyLemmas.{newest_with, versions_stay}
 use Rattle.machine.proofs.LawLemmas.{number_left-is}
 use Rattle.machine.proofs.PlainLemmas.{find_last_push}
 use Rattle.machine.proofs.RefusedLemmas.{never_done}

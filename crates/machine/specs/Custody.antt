@@ -1,7 +1,7 @@
 -- Custody, as laws of the rules: who writes, how long a lock holds, what becomes of versions, and that repeats change nothing.
 use Rattle.std.specs.Prelude.{◌≡◌, ◌≤◌, ◌⊎◌, ◌+◌, ℕ, Bool, false, List, [], Option, Some, None, IsSome, ⊤}
 use Rattle.basis.specs.Names.{run_id}
-use Rattle.basis.specs.declared.rows.Look.TheVariants as look
+use Rattle.basis.specs.declared.acts.Look.TheVariants as look
 use Rattle.basis.specs.declared.rows.StateHead.{StateHead}
 use Rattle.basis.specs.declared.runs.RunStatus.{RunStatus}
 use Rattle.basis.specs.declared.runs.RunStatus.TheVariants.{Applying}

@@ -1,7 +1,7 @@
 -- What an act needs of its workspace besides the workspace's own row: a store is asked for nothing else.
 use Rattle.std.specs.Prelude.{ℕ, Bool, true, false, List, Option, Some, None, is_none, option_copied}
-use Rattle.basis.specs.declared.rows.Look.{Look as AnyLook}
-use Rattle.basis.specs.declared.rows.Look.TheVariants as look
+use Rattle.basis.specs.declared.acts.Look.{Look as AnyLook}
+use Rattle.basis.specs.declared.acts.Look.TheVariants as look
 use Rattle.machine.specs.declared.acts.Act.{Act}
 use Rattle.machine.specs.declared.acts.Act.TheVariants.{Look, PutWorkspace, DeleteWorkspace, UpdateState, PurgeState, Lock, Unlock, ForceUnlock, MakeRun, ReportRun}
 use Rattle.machine.specs.declared.acts.Needs.{Needs}

@@ -5,8 +5,8 @@ use Rattle.basis.specs.Numbers.{within}
 use Rattle.basis.specs.declared.numbers.TheConstants.{MAX_NUMBER, FIRST_KEPT}
 use Rattle.basis.specs.declared.refusals.Refusal.{Refusal}
 use Rattle.basis.specs.declared.refusals.Refusal.TheVariants.{NotFound, OtherLineage, OldSerial, OverLimit, WrongState, HeldByRun, OpenRuns, Locked}
-use Rattle.basis.specs.declared.rows.Look.{Look as AnyLook}
-use Rattle.basis.specs.declared.rows.Look.TheVariants as look
+use Rattle.basis.specs.declared.acts.Look.{Look as AnyLook}
+use Rattle.basis.specs.declared.acts.Look.TheVariants as look
 use Rattle.basis.specs.declared.rows.Settings.{Settings}
 use Rattle.basis.specs.declared.rows.SettingsAsk.{SettingsAsk}
 use Rattle.basis.specs.declared.rows.StateHead.{StateHead}

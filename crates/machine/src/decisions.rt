@@ -1,5 +1,6 @@
-//! Decisions: what becomes of an act, from the few values that it depends on.
-ghost use Rattle.std.specs.Prelude.{◌≡◌, ◌-◌, ℕ, List, ◌<◌, Option, Some, None, IfSome, IfOk, cond, is_some, option_map};
+//! Decisions: what becomes of an act, from the few values that it depends on, and which these are.
+ghost use Rattle.std.specs.Prelude.{◌≡◌, ◌-◌, ℕ, List, ◌<◌, Option, Some, None, IfSome, IfOk, cond, is_some, option_map, option_copied};
+ghost use Rattle.machine.specs.Needs.{needs, needs_of_look, nothing, staying_for, needed_of};
 ghost use Rattle.machine.specs.Units.{unit_of};
 ghost use Rattle.machine.specs.Records.{seen_in};
 ghost use Rattle.machine.specs.Laws.{IsLawfulOrganization};
@@ -21,7 +22,9 @@ ghost use Rattle.machine.specs.declared.acts.Answer.TheVariants.{Done, Workspace
 ghost use Rattle.machine.specs.declared.acts.Edit.TheVariants.{Make, Release, AddRun};
 ghost use Rattle.machine.specs.declared.acts.Decision.TheVariants.{Accepted, Refused};
 
-use crate::acts::{Act, Answer, Change, Decision, Edit, Newest, Shown, Unit, WorkspaceUnit};
+use crate::acts::{
+    Act, Answer, Change, Decision, Edit, Needs, Newest, Shown, Staying, Unit, WorkspaceUnit,
+};
 use crate::records::{Version, is_waiting};
 use crate::run_steps::next_status;
 use crate::texts::StateText;
@@ -34,6 +37,118 @@ use std::alloc::Global;
 
 /// The most open runs of a workspace.
 pub const MAX_OPEN_RUNS: usize = 100;
+
+/// Nothing but the workspace's row is needed.
+fn nothing<'a>() -> Needs<'a>
+    ensures { needed_of result ≡ nothing }
+{
+    Needs {
+        makes: false,
+        retention: false,
+        holder_status: false,
+        newest: false,
+        text: None,
+        outgoing: Staying::StayAll,
+        version: None,
+        run: None,
+        key: None,
+        waiting: false,
+        open_runs: false,
+    }
+}
+
+fn needs_of_look<'a>(look: Look) -> Needs<'a>
+    ensures { needed_of result ≡ needs_of_look look }
+{
+    match look {
+        Look::Workspace => Needs {
+            retention: true,
+            newest: true,
+            ..nothing()
+        },
+        Look::State => Needs {
+            newest: true,
+            ..nothing()
+        },
+        Look::Version(number) => Needs {
+            version: Some(number),
+            ..nothing()
+        },
+        Look::Run(number) => Needs {
+            run: Some(number),
+            ..nothing()
+        },
+        Look::Versions(_) | Look::Runs(_) => nothing(),
+    }
+}
+
+fn key_of(ask: &RunAsk) -> Option<&Text>
+    ensures { option_copied result ≡ ask.now.key }
+{
+    match &ask.key {
+        Some(key) => Some(key),
+        None => None,
+    }
+}
+
+// A PUT that asks for no number of versions lets none go.
+fn staying_for(retention: Option<Retention>) -> Staying
+    ensures { result ≡ staying_for retention }
+{
+    match retention {
+        Some(retention) => Staying::StayAtMost(retention),
+        None => Staying::StayAll,
+    }
+}
+
+impl Act {
+    /// What a decision on the act needs.
+    pub fn needs(&self) -> Needs<'_>
+        ensures { needed_of result ≡ needs self.now }
+    {
+        match self {
+            Act::Look(look) => needs_of_look(*look),
+            Act::PutWorkspace(ask) => Needs {
+                makes: true,
+                retention: ask.retention.is_none(),
+                newest: true,
+                outgoing: staying_for(ask.retention),
+                ..nothing()
+            },
+            Act::DeleteWorkspace => Needs {
+                open_runs: true,
+                ..nothing()
+            },
+            Act::UpdateState { text, .. } => Needs {
+                retention: true,
+                holder_status: true,
+                newest: true,
+                text: Some(text.as_slice()),
+                outgoing: Staying::MakeRoom,
+                ..nothing()
+            },
+            Act::PurgeState { .. } => Needs {
+                holder_status: true,
+                ..nothing()
+            },
+            Act::Lock { .. } => nothing(),
+            Act::Unlock(_) | Act::ForceUnlock => Needs {
+                waiting: true,
+                ..nothing()
+            },
+            Act::MakeRun(ask) => Needs {
+                key: key_of(ask),
+                open_runs: true,
+                ..nothing()
+            },
+            Act::ReportRun(number, _) => Needs {
+                run: Some(*number),
+                waiting: true,
+                ..nothing()
+            },
+        }
+    }
+}
 
 fn is_applying(status: Option<RunStatus>) -> bool
     ensures { result ≡ is_applying status }
@@ -452,7 +567,7 @@ fn run_after(
     })
 }
 
-fn copy_of(ask: &RunAsk) -> Result<RunAsk, Down>
+fn copy_ask(ask: &RunAsk) -> Result<RunAsk, Down>
     ensures { IfOk result (λ copy. copy ≡ ask.now) }
 {
     Ok(RunAsk {
@@ -500,7 +615,7 @@ fn add_run(run: &RunRow, ask: &RunAsk, now: Moment, start: Option<Number>) -> Re
     let answer = Answer::Run(run_after(run, run.action, run.status, start)?);
     let edit = Edit::AddRun {
         number: run.number,
-        ask: copy_of(ask)?,
+        ask: copy_ask(ask)?,
         created: now,
     };
     Ok(accept(answer, edit, start))

@@ -802,7 +802,7 @@ fn keyed_run<'a>(key: Option<&Text>, runs: &'a [RunRow]) -> Option<&'a RunRow>
     }
 }
 
-fn copy_of(run: Option<&RunRow>) -> Result<Option<RunRow>, Down>
+fn copy_run(run: Option<&RunRow>) -> Result<Option<RunRow>, Down>
     ensures { IfOk result (λ copy. copy ≡ option_copied run.entry) }
 {
     match run {
@@ -820,8 +820,8 @@ fn asked_run(
     ensures { IfOk result (λ run. run ≡ asked_run number (option_copied key.entry) runs.now) }
 {
     match number {
-        Some(n) => copy_of(run_of(n, runs)),
-        None => copy_of(keyed_run(key, runs)),
+        Some(n) => copy_run(run_of(n, runs)),
+        None => copy_run(keyed_run(key, runs)),
     }
 }
 

@@ -47,7 +47,7 @@ impl Read for PageRow {
 const FIRST_ROW: &str = "SELECT rowid, pkey, twin, bytes, uses FROM page ORDER BY rowid LIMIT 1";
 
 /// The first row of page.
-fn first<S: Alter>(conn: &mut Connection<S>) -> Result<Option<PageRow>, Error>
+fn lowest<S: Alter>(conn: &mut Connection<S>) -> Result<Option<PageRow>, Error>
     ensures { Queries S.Store (Equals (page_row_behind None)) conn.old conn.new result }
 {
     let row = first_row(conn, FIRST_ROW, params![]);
@@ -70,7 +70,7 @@ fn row_behind<S: Alter>(conn: &mut Connection<S>, id: Option<i64>) -> Result<Opt
     ensures { Queries S.Store (Equals (page_row_behind id)) conn.old conn.new result }
 {
     match id {
-        None => first(conn),
+        None => lowest(conn),
         Some(id) => after(conn, id),
     }
 }

@@ -7,12 +7,12 @@ use lib.Utf8.{encode}
 use Rattle.form_urlencoded.proofs.OnLiterals.{form_urlencoded_on_literals}
 use Rattle.basis.specs.declared.refusals.Allow.TheVariants.{States}
 use Rattle.basis.specs.declared.refusals.Refusal.TheVariants.{TwoTokens, NoToken, BadToken, BadQuery, NoRoute, NoMethod}
-use Rattle.basis.specs.declared.rows.Look.TheVariants.{State, Versions}
+use Rattle.basis.specs.declared.acts.Look.TheVariants.{State, Versions}
 use Rattle.basis.specs.declared.runs.RunAction.TheVariants.{Discard}
 use Rattle.wire.specs.declared.messages.Message.{Message}
 use Rattle.route.specs.declared.acts.AskedAct.TheVariants.{OfWorkspace}
-use Rattle.route.specs.declared.acts.WsAct.{WsAct}
-use Rattle.route.specs.declared.acts.WsAct.TheVariants.{Look, UpdateState, Unlock, ForceUnlock, ReportRun}
+use Rattle.basis.specs.declared.acts.WsAct.{WsAct}
+use Rattle.basis.specs.declared.acts.WsAct.TheVariants.{Look, UpdateState, Unlock, ForceUnlock, ReportRun}
 use Rattle.route.specs.Asks.{Asking, refused, asks, asked_of, asked_made}
 use Rattle.route.specs.Tokens.{bearer_token_made}
 

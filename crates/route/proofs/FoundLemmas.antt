@@ -15,11 +15,11 @@ use Rattle.route.specs.Tokens.{org_of}
 use Rattle.route.specs.declared.acts.Asked.{Asked}
 use Rattle.route.specs.declared.acts.AskedAct.{AskedAct}
 use Rattle.route.specs.declared.acts.AskedAct.TheVariants.{OfWorkspace}
-use Rattle.route.specs.declared.acts.WsAct.{WsAct}
-use Rattle.route.specs.declared.acts.WsAct.TheVariants.{ReportRun}
+use Rattle.basis.specs.declared.acts.WsAct.{WsAct}
+use Rattle.basis.specs.declared.acts.WsAct.TheVariants.{ReportRun}
 use Rattle.route.specs.declared.routes.Kind.{Kind}
 use Rattle.route.specs.declared.routes.Kind.TheVariants.{ListsWorkspaces, IsWorkspace, IsState, ListsVersions, IsVersion, ListsRuns, IsRun, IsAction}
-use Rattle.basis.specs.declared.rows.Look.TheVariants.{Version as VersionLook, Versions as VersionsLook, Run as RunLook}
+use Rattle.basis.specs.declared.acts.Look.TheVariants.{Version as VersionLook, Versions as VersionsLook, Run as RunLook}
 
 module _ (message : Message) (org : List ℕ) where
   -- the query and the token come behind

@@ -7,3 +7,4 @@ pub mod TableLemmas
 pub mod KindLemmas
 pub mod RouteLemmas
 pub mod FoundLemmas
+pub mod MethodLemmas

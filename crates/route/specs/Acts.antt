@@ -1,16 +1,18 @@
--- The act of a method on a resource, and the methods that a resource has.
+-- The act of a method on a resource, the methods that a resource has, and the least role for an act.
 use Rattle.std.specs.Prelude.{ℕ, Bool, true, false, if◌then◌else◌, List, Option, Some, None, Result, codes, bytes_eq, option_map}
 use Rattle.basis.specs.declared.refusals.Allow.{Allow}
 use Rattle.basis.specs.declared.refusals.Allow.TheVariants.{Lists, Workspaces, States, Runs, Actions}
 use Rattle.basis.specs.declared.refusals.Refusal.{Refusal}
 use Rattle.basis.specs.declared.refusals.Refusal.TheVariants.{NoMethod}
-use Rattle.basis.specs.declared.rows.Look.{Look as AnyLook}
-use Rattle.basis.specs.declared.rows.Look.TheVariants.{Workspace as WorkspaceLook, State as StateLook, Version as VersionLook, Versions as VersionsLook, Run as RunLook, Runs as RunsLook}
+use Rattle.basis.specs.declared.acts.Look.{Look as AnyLook}
+use Rattle.basis.specs.declared.acts.Look.TheVariants.{Workspace as WorkspaceLook, State as StateLook, Version as VersionLook, Versions as VersionsLook, Run as RunLook, Runs as RunsLook}
+use Rattle.basis.specs.declared.roles.Role.{Role}
+use Rattle.basis.specs.declared.roles.Role.TheVariants.{Read, Write, Admin}
 use Rattle.basis.specs.Checks.{or_refused}
 use Rattle.route.specs.declared.acts.AskedAct.{AskedAct}
 use Rattle.route.specs.declared.acts.AskedAct.TheVariants.{ListWorkspaces, OfWorkspace}
-use Rattle.route.specs.declared.acts.WsAct.{WsAct}
-use Rattle.route.specs.declared.acts.WsAct.TheVariants.{Look, Put, Delete, UpdateState, PurgeState, Lock, Unlock, ForceUnlock, MakeRun, ReportRun}
+use Rattle.basis.specs.declared.acts.WsAct.{WsAct}
+use Rattle.basis.specs.declared.acts.WsAct.TheVariants.{Look, Put, Delete, UpdateState, PurgeState, Lock, Unlock, ForceUnlock, MakeRun, ReportRun}
 use Rattle.route.specs.Paths.{Resource, AllWorkspaces, Workspace, State, AllVersions, Version, AllRuns, Run, Action}
 
 -- what a method asks among all workspaces; a list begins at its first item
@@ -81,3 +83,17 @@ allow_of (Action ws number action) = Actions
 -- the same, or the refusal that names the methods of the resource
 abbrev pub act_read : Resource → List ℕ → Bool → Result AskedAct Refusal
 act_read resource method bodyless = or_refused (NoMethod (allow_of resource)) (act_at resource method bodyless)
+
+-- what only looks is read; what changes states, locks and runs is write; what makes or takes away
+-- workspaces and versions, and what frees another's lock, is admin
+abbrev pub least_role_on : WsAct → Role
+least_role_on (Look look) = Read
+least_role_on Put = Admin
+least_role_on Delete = Admin
+least_role_on UpdateState = Write
+least_role_on PurgeState = Admin
+least_role_on Lock = Write
+least_role_on Unlock = Write
+least_role_on ForceUnlock = Admin
+least_role_on MakeRun = Write
+least_role_on (ReportRun number action) = Write

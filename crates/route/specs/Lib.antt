@@ -5,3 +5,4 @@ pub mod Acts
 pub mod Queries
 pub mod Tokens
 pub mod Inner
+pub mod Methods

@@ -8,24 +8,9 @@ use Rattle.basis.specs.declared.roles.Role.{Role}
 use Rattle.basis.specs.declared.roles.Role.TheVariants.{Read, Write, Admin}
 use Rattle.basis.specs.declared.refusals.Refusal.{Refusal}
 use Rattle.basis.specs.declared.refusals.Refusal.TheVariants.{NeedWrite, NeedAdmin, NotFound}
+use Rattle.route.specs.Acts.{least_role_on}
 use Rattle.route.specs.declared.acts.AskedAct.{AskedAct}
 use Rattle.route.specs.declared.acts.AskedAct.TheVariants.{ListWorkspaces, OfWorkspace}
-use Rattle.route.specs.declared.acts.WsAct.{WsAct}
-use Rattle.route.specs.declared.acts.WsAct.TheVariants.{Look, Put as PutWorkspace, Delete as DeleteWorkspace, UpdateState, PurgeState, Lock, Unlock, ForceUnlock, MakeRun, ReportRun}
-
--- what only looks is read; what changes states, locks and runs is write; what makes or takes away
--- workspaces and versions, and what frees another's lock, is admin
-abbrev pub least_role_on : WsAct → Role
-least_role_on (Look look) = Read
-least_role_on PutWorkspace = Admin
-least_role_on DeleteWorkspace = Admin
-least_role_on UpdateState = Write
-least_role_on PurgeState = Admin
-least_role_on Lock = Write
-least_role_on Unlock = Write
-least_role_on ForceUnlock = Admin
-least_role_on MakeRun = Write
-least_role_on (ReportRun number action) = Write
 
 -- the least role for what is asked
 abbrev pub least_role : AskedAct → Role

@@ -1,6 +1,6 @@
 //! What a request asks, as its head says it; its body is unread.
 
-use basis::{LockId, Look, Number, OrgName, RunAction, Secret, WsName};
+use basis::{LockId, OrgName, Secret, WsAct, WsName};
 
 /// What a message asks, and in whose name.
 #[derive(Drop)]
@@ -23,29 +23,4 @@ pub enum AskedAct {
     ListWorkspaces { after: Option<WsName> },
     /// Something of one workspace.
     OfWorkspace(WsName, WsAct),
-}
-
-/// What a request asks of one workspace.
-#[derive(Clone, Copy)]
-pub enum WsAct {
-    /// Something is told of the workspace; nothing changes.
-    Look(Look),
-    /// Makes the workspace, or gives it other settings.
-    Put,
-    /// Takes the workspace away.
-    Delete,
-    /// Makes a new version.
-    UpdateState,
-    /// Takes all versions away.
-    PurgeState,
-    /// Locks the workspace.
-    Lock,
-    /// UNLOCK with a body, which names the lock.
-    Unlock,
-    /// UNLOCK with an empty body, whoever has the lock.
-    ForceUnlock,
-    /// Makes a run.
-    MakeRun,
-    /// What is reported of a run, or asked of it.
-    ReportRun(Number, RunAction),
 }

@@ -4,6 +4,7 @@
 mod acts;
 mod asks;
 mod digests;
+mod laws;
 mod methods;
 mod paths;
 mod policies;
@@ -11,8 +12,9 @@ mod queries;
 mod routes;
 mod tokens;
 
-pub use acts::{Asked, AskedAct, WsAct};
+pub use acts::{Asked, AskedAct};
 pub use asks::asked;
 pub use digests::secret_digest;
+pub use laws::methods_are_listed;
 pub use policies::allowed;
 pub use routes::Routes;

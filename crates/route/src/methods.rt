@@ -1,17 +1,17 @@
-//! What a method asks of what a route names. Methods are RFC 9110's, section 9.3; LOCK and UNLOCK are as Terraform's
+//! What a method asks of what a route names, and the least role for it. Methods are RFC 9110's, section 9.3; LOCK and UNLOCK are as Terraform's
 //! backend 'http' sends them.
 ghost use Rattle.std.specs.Prelude.{◌≡◌};
 ghost use Rattle.basis.specs.Checks.{or_refused};
 ghost use Rattle.basis.specs.Inner.Checks.{Follows};
 ghost use Rattle.basis.specs.declared.refusals.Allow.TheVariants.{Lists, Workspaces, States, Runs, Actions};
 ghost use Rattle.basis.specs.declared.refusals.Refusal.TheVariants.{NoMethod};
-ghost use Rattle.route.specs.Acts.{listing_act, workspace_act, state_act, runs_act, got, posted};
+ghost use Rattle.route.specs.Acts.{listing_act, workspace_act, state_act, runs_act, got, posted, least_role_on};
 ghost use Rattle.route.specs.Inner.Kinds.{pairs_of, on_ws, act_named};
 
-use crate::acts::{AskedAct, WsAct};
+use crate::acts::AskedAct;
 use crate::paths::{action_in, number_in, read_ws};
 use crate::routes::{Found, Kind};
-use basis::{Allow, Look, Refusal};
+use basis::{Allow, Look, Refusal, Role, WsAct};
 use std::alloc::Global;
 
 /// What a method asks of what a route names. A name that doesn't read is no route; only then does the method count.
@@ -131,5 +131,23 @@ fn posted(method: &str, act: WsAct) -> Result<WsAct, Refusal>
     match method {
         "POST" => Ok(act),
         _ => Err(Refusal::NoMethod(Allow::Actions)),
+    }
+}
+
+// The least role that may ask it.
+pub(crate) fn least_role_on(act: WsAct) -> Role
+    ensures { result ≡ least_role_on act }
+{
+    match act {
+        WsAct::Look(_) => Role::Read,
+        WsAct::Put => Role::Admin,
+        WsAct::Delete => Role::Admin,
+        WsAct::UpdateState => Role::Write,
+        WsAct::PurgeState => Role::Admin,
+        WsAct::Lock => Role::Write,
+        WsAct::Unlock => Role::Write,
+        WsAct::ForceUnlock => Role::Admin,
+        WsAct::MakeRun => Role::Write,
+        WsAct::ReportRun(_, _) => Role::Write,
     }
 }

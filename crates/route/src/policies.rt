@@ -1,8 +1,9 @@
 //! Which role each act needs, which workspaces a token is for, and whether a caller may.
 ghost use Rattle.std.specs.Prelude.{◌≡◌};
-ghost use Rattle.route.specs.Policy.{least_role, least_role_on, role_refused, is_admitted, caller_refused, allowed_by};
+ghost use Rattle.route.specs.Policy.{least_role, role_refused, is_admitted, caller_refused, allowed_by};
 
-use crate::acts::{Asked, AskedAct, WsAct};
+use crate::acts::{Asked, AskedAct};
+use crate::methods::least_role_on;
 use basis::{Caller, Prefix, Refusal, Role};
 
 /// Whether a caller's role is enough for what is asked, and its prefix admits the workspace, or how it
@@ -49,22 +50,5 @@ fn least_role(act: &AskedAct) -> Role
     match act {
         AskedAct::ListWorkspaces { .. } => Role::Read,
         AskedAct::OfWorkspace(_, act) => least_role_on(*act),
-    }
-}
-
-fn least_role_on(act: WsAct) -> Role
-    ensures { result ≡ least_role_on act }
-{
-    match act {
-        WsAct::Look(_) => Role::Read,
-        WsAct::Put => Role::Admin,
-        WsAct::Delete => Role::Admin,
-        WsAct::UpdateState => Role::Write,
-        WsAct::PurgeState => Role::Admin,
-        WsAct::Lock => Role::Write,
-        WsAct::Unlock => Role::Write,
-        WsAct::ForceUnlock => Role::Admin,
-        WsAct::MakeRun => Role::Write,
-        WsAct::ReportRun(_, _) => Role::Write,
     }
 }

@@ -6,9 +6,9 @@ ghost use Rattle.basis.specs.Inner.Checks.{Follows};
 ghost use Rattle.route.specs.Inner.Pairs.{has_room, AddsPair};
 ghost use Rattle.route.specs.Queries.{query_read, lock_id_read, after_read, name_after, listed_from, number_after, ws_begun_after};
 
-use crate::acts::{AskedAct, WsAct};
+use crate::acts::AskedAct;
 use basis::numbers::{MAX_NUMBER, whole_number};
-use basis::{LockId, Look, Refusal, Text, Unfit, WsName};
+use basis::{LockId, Look, Refusal, Text, Unfit, WsAct, WsName};
 use std::alloc::Global;
 use std::borrow::CowStr;
 

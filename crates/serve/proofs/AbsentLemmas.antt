@@ -17,8 +17,8 @@ use Rattle.route.specs.Tokens.{bearer_token_read}
 use Rattle.route.specs.declared.acts.Asked.{Asked}
 use Rattle.route.specs.declared.acts.AskedAct.{AskedAct}
 use Rattle.route.specs.declared.acts.AskedAct.TheVariants.{ListWorkspaces, OfWorkspace}
-use Rattle.route.specs.declared.acts.WsAct.{WsAct}
-use Rattle.route.specs.declared.acts.WsAct.TheVariants.{ReportRun}
+use Rattle.basis.specs.declared.acts.WsAct.{WsAct}
+use Rattle.basis.specs.declared.acts.WsAct.TheVariants.{ReportRun}
 use Rattle.route.specs.declared.queries.Query.{Query}
 use Rattle.wire.specs.declared.messages.Message.{Message}
 use Rattle.wire.specs.Messages.{Reading, Reads, unfinished, whole}

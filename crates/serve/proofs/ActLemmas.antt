@@ -5,7 +5,7 @@ use Rattle.std.proofs.lemmas.Bool.{le-leb}
 use Rattle.basis.specs.Names.{is_free_id, has_length}
 use Rattle.basis.specs.declared.refusals.Refusal.{Refusal}
 use Rattle.basis.specs.declared.refusals.Refusal.TheVariants.{NotFound, BadState, BadLock, BadBody, Locked}
-use Rattle.basis.specs.declared.rows.Look.{Look as AnyLook}
+use Rattle.basis.specs.declared.acts.Look.{Look as AnyLook}
 use Rattle.basis.specs.declared.rows.RunAsk.{RunAsk}
 use Rattle.basis.specs.declared.rows.SettingsAsk.{SettingsAsk}
 use Rattle.basis.specs.declared.rows.StateHead.{StateHead}
@@ -26,8 +26,8 @@ use Rattle.machine.specs.declared.acts.Act.TheVariants.{Look as LookAct, PutWork
 use Rattle.basis.specs.declared.rows.RunRow.{RunRow as Run}
 use Rattle.machine.specs.declared.records.Workspace.{Workspace}
 use Rattle.machine.proofs.LookLemmas.{all_looks}
-use Rattle.route.specs.declared.acts.WsAct.{WsAct}
-use Rattle.route.specs.declared.acts.WsAct.TheVariants.{Look, Put, Delete, UpdateState, PurgeState, Lock, Unlock, ForceUnlock, MakeRun, ReportRun}
+use Rattle.basis.specs.declared.acts.WsAct.{WsAct}
+use Rattle.basis.specs.declared.acts.WsAct.TheVariants.{Look, Put, Delete, UpdateState, PurgeState, Lock, Unlock, ForceUnlock, MakeRun, ReportRun}
 use Rattle.serve.specs.Book.{IsDoneOnce}
 use Rattle.serve.specs.Checks.{makes, is_there, spelt, act_of}
 

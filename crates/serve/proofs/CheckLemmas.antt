@@ -16,7 +16,7 @@ use Rattle.route.specs.Policy.{role_refused, is_admitted, or_else_refused, calle
 use Rattle.route.specs.declared.acts.Asked.{Asked}
 use Rattle.route.specs.declared.acts.AskedAct.{AskedAct}
 use Rattle.route.specs.declared.acts.AskedAct.TheVariants.{ListWorkspaces, OfWorkspace}
-use Rattle.route.specs.declared.acts.WsAct.{WsAct}
+use Rattle.basis.specs.declared.acts.WsAct.{WsAct}
 use Rattle.serve.specs.Checks.{task_of, require, while_it_counts, known_caller, may_do, admitted, in_reach, is_found, found, digest_checked, act_of, checked}
 use Rattle.serve.specs.Inner.Prepared.{caller_known}
 use Rattle.serve.specs.declared.prepared.Task.{Task}

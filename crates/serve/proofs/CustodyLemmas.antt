@@ -19,13 +19,14 @@ use Rattle.basis.specs.declared.rows.Holder.TheVariants.{Lock as HeldLock}
 use Rattle.machine.specs.declared.records.Token.{Token}
 use Rattle.machine.specs.declared.records.Workspace.{Workspace}
 use Rattle.machine.specs.declared.records.Organization.{Organization}
-use Rattle.machine.proofs.CustodyLemmas.{versions_change_by_the_id, holds_until_released, locked_workspaces_stay, workspaces_go_by_delete, accepted_acts_come_again, repeats}
+use Rattle.machine.proofs.Rulings.{repeats}
+use Rattle.machine.proofs.CustodyLemmas.{versions_change_by_the_id, holds_until_released, locked_workspaces_stay, workspaces_go_by_delete, accepted_acts_come_again}
 use Rattle.machine.proofs.MapLemmas.{get_own, removed_own}
 use Rattle.machine.proofs.KeepLemmas.{own_workspace, other_workspace}
 use Rattle.route.specs.declared.acts.Asked.{Asked}
 use Rattle.route.specs.declared.acts.AskedAct.{AskedAct}
 use Rattle.route.specs.declared.acts.AskedAct.TheVariants.{ListWorkspaces, OfWorkspace}
-use Rattle.route.specs.declared.acts.WsAct.{WsAct}
+use Rattle.basis.specs.declared.acts.WsAct.{WsAct}
 use Rattle.serve.specs.declared.steps.Admin.{Admin}
 use Rattle.serve.specs.declared.steps.Admin.TheVariants.{OrgAdd, OrgLimit, OrgRemove, OrgList, TokenAdd, TokenList, TokenRevoke}
 use Rattle.serve.specs.declared.prepared.Task.{Task}

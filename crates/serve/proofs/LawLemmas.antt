@@ -26,7 +26,7 @@ use Rattle.route.specs.Policy.{least_role, need_of, is_admitted, allowed_by}
 use Rattle.route.specs.declared.acts.Asked.{Asked}
 use Rattle.route.specs.declared.acts.AskedAct.{AskedAct}
 use Rattle.route.specs.declared.acts.AskedAct.TheVariants.{ListWorkspaces, OfWorkspace}
-use Rattle.route.specs.declared.acts.WsAct.{WsAct}
+use Rattle.basis.specs.declared.acts.WsAct.{WsAct}
 use Rattle.wire.specs.Replies.{Answer}
 use Rattle.serve.specs.declared.steps.Admin.{Admin}
 use Rattle.serve.specs.declared.steps.Admin.TheVariants.{OrgAdd, OrgLimit, OrgRemove, OrgList, TokenAdd, TokenList, TokenRevoke}

@@ -33,11 +33,9 @@ use Rattle.serve.specs.Steps.{Answered, answer_to, seen_at, ruled_in, refusing}
 use Rattle.serve.specs.Inner.Prepared.{Foresees, ChangesTo}
 use Rattle.serve.specs.Checks.{named_by, is_told_of, is_there}
 use Rattle.serve.specs.Inner.Units.{holder_in, if_named, is_present}
-use Rattle.basis.specs.declared.rows.Look.{Look as AnyLook}
+use Rattle.basis.specs.declared.acts.Look.{Look as AnyLook}
 use Rattle.machine.specs.declared.acts.Act.TheVariants.{Look as LookAct}
-use Rattle.route.specs.declared.acts.WsAct.{WsAct}
-use Rattle.serve.specs.declared.prepared.Pending.{Pending}
-use Rattle.serve.specs.declared.prepared.Prepared.{Prepared}
+use Rattle.basis.specs.declared.acts.WsAct.{WsAct}
 
 -- a workspace put where it stands already
 inserted_same : (m : FinMap name_cmp Workspace) (ws : List ℕ) (w : Workspace) → get m ws ≡ Some w → insert m ws w ≡ m
@@ -68,28 +66,19 @@ standing_at (Some o) ws = standing_is (nat_lt (count_of o) o.limit) (get o.works
 -- a refusal by the rules is foreseen
 pub refusal_foreseen : (r : Option Organization) (org ws : List ℕ) (unit : AnyUnit) (refusal : Refusal) (reply : Reply)
     → reply ≡ answer_to org ws (refused_by refusal (holder_in unit)) → holder_in unit ≡ holder_of (workspace_in r ws)
-    → Foresees r org (ruled_in org ws r (meaning (Refused refusal) (workspace_in r ws))) (record { reply = reply; pending = None })
+    → Foresees r (Some ws) (ruled_in org ws r (meaning (Refused refusal) (workspace_in r ws))) reply None
 refusal_foreseen r org ws unit refusal reply is seen = record {
   answer = is ∙ ap (λ (h : Holder). answer_to org ws (refused_by refusal h)) seen;
-  change = placed_same r ws;
+  changes = placed_same r ws;
 }
 
 -- an accepted act is foreseen, with its change
-acceptance_by : (r : Option Organization) (org ws : List ℕ) (answer : ActAnswer) (change : Option Change) (reply : Reply)
+pub acceptance_foreseen : (r : Option Organization) (org ws : List ℕ) (answer : ActAnswer) (change : Option Change) (reply : Reply)
     → IsSome r → reply ≡ answer_to org ws (answered answer (workspace_in r ws)) → ((o : Organization) → r ≡ Some o → ChangeIsDue (seen_in o ws) (Accepted answer change))
-    → Foresees r org (ruled_in org ws r (meaning (Accepted answer change) (workspace_in r ws)))
-    (record { reply = reply; pending = option_map (λ (c : Change). record { org = org; ws = ws; change = c }) change })
-acceptance_by r org ws answer None reply some is due = record { answer = is; change = placed_same r ws }
-acceptance_by None org ws answer (Some c) reply some is due = absurd (let none : ⊥ = cc in none)
-acceptance_by (Some o) org ws answer (Some c) reply some is due = record { answer = is; change = (refl, o, refl, due o refl, refl) }
-
-pub acceptance_foreseen : (r : Option Organization) (org ws : List ℕ) (answer : ActAnswer) (change : Option Change) (reply : Reply) (pending : Option Pending)
-    → IsSome r → reply ≡ answer_to org ws (answered answer (workspace_in r ws)) → ((o : Organization) → r ≡ Some o → ChangeIsDue (seen_in o ws) (Accepted answer change))
-    → pending ≡ option_map (λ (c : Change). record { org = org; ws = ws; change = c }) change
-    → Foresees r org (ruled_in org ws r (meaning (Accepted answer change) (workspace_in r ws))) (record { reply = reply; pending = pending })
-acceptance_foreseen r org ws answer change reply pending some is due e =
-    subst (λ (p : Option Pending). Foresees r org (ruled_in org ws r (meaning (Accepted answer change) (workspace_in r ws))) (record { reply = reply; pending = p }))
-    (sym e) (acceptance_by r org ws answer change reply some is due)
+    → Foresees r (Some ws) (ruled_in org ws r (meaning (Accepted answer change) (workspace_in r ws))) reply change
+acceptance_foreseen r org ws answer None reply some is due = record { answer = is; changes = placed_same r ws }
+acceptance_foreseen None org ws answer (Some c) reply some is due = absurd (let none : ⊥ = cc in none)
+acceptance_foreseen (Some o) org ws answer (Some c) reply some is due = record { answer = is; changes = (o, refl, due o refl, refl) }
 
 -- a weaker fact of what a call gave
 pub if_ok : {T E : Type 0} {P Q : T → Type 0} (r : Result T E) → ((x : T) → P x → Q x) → IfOk r P → IfOk r Q
@@ -101,34 +90,34 @@ holder_seen o act None = refl
 holder_seen o act (Some w) = refl
 
 -- the rules, by way of a decision, over rows that a look at them left alone
-pub rule_foreseen : (r seen : Option Organization) (org ws : List ℕ) (act : Act) (now : ℕ) (unit : AnyUnit) (decision : Decision) (p : Prepared)
+pub rule_foreseen : (r seen : Option Organization) (org ws : List ℕ) (act : Act) (now : ℕ) (unit : AnyUnit) (decision : Decision) (reply : Reply) (change : Option Change)
     → seen ≡ r → ((o : Organization) → r ≡ Some o → IsLawfulOrganization o) → ((o : Organization) → r ≡ Some o → unit ≡ unit_of o ws act)
     → ((o : Organization) (name : List ℕ) → IsLawfulOrganization o → unit ≡ unit_of o name act → Meets (seen_in o name) act now decision)
     → (IsSome seen → holder_in unit ≡ holder_of (workspace_in seen ws) → ((o : Organization) → seen ≡ Some o → ChangeIsDue (seen_in o ws) decision)
-    → Foresees seen org (ruled_in org ws seen (meaning decision (workspace_in seen ws))) p)
-    → IsMoment now → IsSome r → IsInRange act → Foresees r org (ruled_in org ws r (rules act now (seen_at r ws))) p
-rule_foreseen None seen org ws act now unit decision p same lawful units meets carried moment some range = absurd (let none : ⊥ = cc in none)
-rule_foreseen (Some o) seen org ws act now unit decision p same lawful units meets carried moment some range =
+    → Foresees seen (Some ws) (ruled_in org ws seen (meaning decision (workspace_in seen ws))) reply change)
+    → IsMoment now → IsSome r → IsInRange act → Foresees r (Some ws) (ruled_in org ws r (rules act now (seen_at r ws))) reply change
+rule_foreseen None seen org ws act now unit decision reply change same lawful units meets carried moment some range = absurd (let none : ⊥ = cc in none)
+rule_foreseen (Some o) seen org ws act now unit decision reply change same lawful units meets carried moment some range =
     let m : Meets (seen_in o ws) act now decision = meets o ws (lawful o refl) (units o refl) in
     let stands : standing (seen_in o ws) ≡ get o.workspaces ws = standing_at (Some o) ws in
     let held : holder_in unit ≡ holder_of (get o.workspaces ws) = ap holder_in (units o refl) ∙ holder_seen o act (get o.workspaces ws) in
     let Carried : Option Organization → Type 0 = λ x. IsSome x → holder_in unit ≡ holder_of (workspace_in x ws) → ((q : Organization) → x ≡ Some q → ChangeIsDue (seen_in q ws) decision)
-    → Foresees x org (ruled_in org ws x (meaning decision (workspace_in x ws))) p in
+    → Foresees x (Some ws) (ruled_in org ws x (meaning decision (workspace_in x ws))) reply change in
     let due : (q : Organization) → Some o ≡ Some q → ChangeIsDue (seen_in q ws) decision = λ q e. subst (λ (x : Organization). ChangeIsDue (seen_in x ws) decision) (one_of o q e) (m.due range moment) in
-    let f : Foresees (Some o) org (ruled_in org ws (Some o) (meaning decision (get o.workspaces ws))) p = subst Carried same carried refl held due in
-    subst (λ (x : Ruling). Foresees (Some o) org (ruled_in org ws (Some o) x) p) (ap (meaning decision) (sym stands) ∙ m.model) f
+    let f : Foresees (Some o) (Some ws) (ruled_in org ws (Some o) (meaning decision (get o.workspaces ws))) reply change = subst Carried same carried refl held due in
+    subst (λ (x : Ruling). Foresees (Some o) (Some ws) (ruled_in org ws (Some o) x) reply change) (ap (meaning decision) (sym stands) ∙ m.model) f
   where
     one_of : (a b : Organization) → Some a ≡ Some b → a ≡ b
     one_of a b e = cc
 
 -- a refusal is foreseen where it is what is wanted, with what else is given beside it
-pub refused_then : {E X : Type 0} (refusal : Refusal) (r : Option Organization) (org : List ℕ) (want : Answered) (res : Result (Prepared × X) E)
+pub refused_then : {E X : Type 0} (refusal : Refusal) (r : Option Organization) (named : Option (List ℕ)) (want : Answered) (res : Result (Reply × Option Change × X) E)
     → (refusal ≢ Unavailable → want ≡ refusing refusal r) → OnOk res (refusal ≢ Unavailable)
-    → IfOk res (λ p. (p.0.reply ≡ refused_answer refusal (error_text refusal) false) × (p.0.pending ≡ None))
-    → IfOk res (λ p. Foresees r org want p.0)
-refused_then refusal r org want (Ok p) is known h =
-    subst (λ (w : Answered). Foresees r org w p.0) (sym (is known)) (record { answer = h.0; change = subst (ChangesTo r org r) (sym h.1) refl })
-refused_then refusal r org want (Err fault) is known h = tt
+    → IfOk res (λ p. (p.0 ≡ refused_answer refusal (error_text refusal) false) × (p.1 ≡ None))
+    → IfOk res (λ p. Foresees r named want p.0 p.1)
+refused_then refusal r named want (Ok p) is known h =
+    subst (λ (w : Answered). Foresees r named w p.0 p.1) (sym (is known)) (record { answer = h.0; changes = subst (ChangesTo r named r) (sym h.1) refl })
+refused_then refusal r named want (Err fault) is known h = tt
 
 -- whether what is told of is there, by what was seen of it
 seen_named : (version run : Option ℕ) (key : Option (List ℕ)) (w : Workspace)

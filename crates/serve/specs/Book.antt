@@ -18,8 +18,8 @@ use Rattle.machine.specs.declared.records.Version.{Version}
 use Rattle.machine.specs.declared.records.Workspace.{Workspace}
 use Rattle.machine.specs.declared.records.Organization.{Organization}
 use Rattle.route.specs.declared.acts.AskedAct.TheVariants.{OfWorkspace}
-use Rattle.route.specs.declared.acts.WsAct.{WsAct}
-use Rattle.route.specs.declared.acts.WsAct.TheVariants.{UpdateState, PurgeState}
+use Rattle.basis.specs.declared.acts.WsAct.{WsAct}
+use Rattle.basis.specs.declared.acts.WsAct.TheVariants.{UpdateState, PurgeState}
 use Rattle.serve.specs.declared.steps.Step.{Step}
 use Rattle.serve.specs.Asks.{Ask, silent, requests, commands, organization}
 use Rattle.serve.specs.Asks as ask

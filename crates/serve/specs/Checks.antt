@@ -4,8 +4,8 @@ use Rattle.std.specs.Prelude.{ℕ, Bool, true, false, ◌||◌, if◌then◌else
 use Rattle.std.specs.Str.{bytes_eq}
 use Rattle.basis.specs.Checks.{or_refused, and_then}
 use Rattle.basis.specs.Roles.{counts_at}
-use Rattle.basis.specs.declared.rows.Look.{Look as AnyLook}
-use Rattle.basis.specs.declared.rows.Look.TheVariants as look
+use Rattle.basis.specs.declared.acts.Look.{Look as AnyLook}
+use Rattle.basis.specs.declared.acts.Look.TheVariants as look
 use Rattle.basis.specs.declared.refusals.Refusal.{Refusal}
 use Rattle.basis.specs.declared.refusals.Refusal.TheVariants.{BadToken, NotFound, BadDigest, BadState, BadLock, BadBody}
 use Rattle.sha2.specs.Sha256.{sha256}
@@ -24,8 +24,8 @@ use Rattle.route.specs.Policy.{role_refused, is_admitted, allowed_by}
 use Rattle.route.specs.declared.acts.Asked.{Asked}
 use Rattle.route.specs.declared.acts.AskedAct.{AskedAct}
 use Rattle.route.specs.declared.acts.AskedAct.TheVariants.{ListWorkspaces, OfWorkspace}
-use Rattle.route.specs.declared.acts.WsAct.{WsAct}
-use Rattle.route.specs.declared.acts.WsAct.TheVariants.{Look, Put, Delete, UpdateState, PurgeState, Lock, Unlock, ForceUnlock, MakeRun, ReportRun}
+use Rattle.basis.specs.declared.acts.WsAct.{WsAct}
+use Rattle.basis.specs.declared.acts.WsAct.TheVariants.{Look, Put, Delete, UpdateState, PurgeState, Lock, Unlock, ForceUnlock, MakeRun, ReportRun}
 use Rattle.serve.specs.declared.prepared.Task.{Task}
 use Rattle.serve.specs.declared.prepared.Task.TheVariants.{ListAll, Carry}
 
@@ -130,6 +130,19 @@ act_of Unlock id body = spelt BadLock UnlockAct (lock_id_of body)
 act_of ForceUnlock id body = Ok ForceUnlockAct
 act_of MakeRun id body = spelt BadBody MakeRunAct (run_ask body)
 act_of (ReportRun number action) id body = Ok (ReportRunAct number action)
+
+-- the lock's ID that a document has: that of LOCK, or of UNLOCK
+abbrev pub id_of_act : Act → Option (List ℕ)
+id_of_act (LookAct what) = None
+id_of_act (PutAct settings) = None
+id_of_act DeleteAct = None
+id_of_act (UpdateAct head text id) = None
+id_of_act (PurgeAct id) = None
+id_of_act (LockAct id text) = Some id
+id_of_act (UnlockAct id) = Some id
+id_of_act ForceUnlockAct = None
+id_of_act (MakeRunAct run) = None
+id_of_act (ReportRunAct n action) = None
 
 -- what is to be done: a list is of the workspaces that the caller's prefix admits; it has no document, and its body isn't looked at
 abbrev pub task_of : List ℕ → AskedAct → Option (List ℕ) → List ℕ → Result Task Refusal

@@ -1,14 +1,13 @@
 -- What the log tells of an exchange: by what was asked, the record before it, and what it was answered.
 use Rattle.std.specs.Prelude.{ℕ, zero, suc, ◌==◌, if◌then◌else◌, List, Option, Some, None, Result, Ok, Err}
 use Rattle.std.specs.Option.{option_or}
+use Rattle.basis.specs.Acts.{act_number}
 use Rattle.basis.specs.Checks.{and_then}
 use Rattle.basis.specs.Roles.{counts_at}
 use Rattle.basis.specs.declared.refusals.Refusal.{Refusal}
 use Rattle.basis.specs.declared.refusals.Refusal.TheVariants.{Unavailable}
 use Rattle.basis.specs.declared.rows.Holder.{Holder}
 use Rattle.basis.specs.declared.rows.Holder.TheVariants.{Nobody, Lock as HeldLock, Run as HeldRun}
-use Rattle.basis.specs.declared.rows.Look.{Look as AnyLook}
-use Rattle.basis.specs.declared.rows.Look.TheVariants as look
 use Rattle.sha2.specs.Sha256.{sha256}
 use Rattle.docs.specs.declared.logs.LogAct.{LogAct}
 use Rattle.docs.specs.declared.logs.LogAct.TheVariants as logged
@@ -17,49 +16,25 @@ use Rattle.machine.specs.Laws.{holds}
 use Rattle.machine.specs.Records.{workspace_in}
 use Rattle.machine.specs.Rules.{Outcome, refused, held, done, no_state, state, workspace, the_run, versions, runs, Ruling, rules}
 use Rattle.machine.specs.Tokens.{asker_of}
-use Rattle.machine.specs.declared.acts.Act.{Act}
-use Rattle.machine.specs.declared.acts.Act.TheVariants as act
 use Rattle.machine.specs.declared.keeps.TokenRow.{TokenRow}
 use Rattle.machine.specs.declared.records.Workspace.{Workspace}
 use Rattle.machine.specs.declared.records.Organization.{Organization}
 use Rattle.route.specs.declared.acts.Asked.{Asked}
 use Rattle.route.specs.declared.acts.AskedAct.{AskedAct}
 use Rattle.route.specs.declared.acts.AskedAct.TheVariants.{ListWorkspaces, OfWorkspace}
-use Rattle.route.specs.declared.acts.WsAct.{WsAct}
-use Rattle.route.specs.declared.acts.WsAct.TheVariants.{Look, Put, Delete, UpdateState, PurgeState, Lock, Unlock, ForceUnlock, MakeRun, ReportRun}
 use Rattle.wire.specs.Replies.{Answer}
 use Rattle.serve.specs.Asks.{Ask, silent, requests, commands}
 use Rattle.serve.specs.Asks as ask
-use Rattle.serve.specs.Checks.{known_caller, may_do, admitted, in_reach, digest_checked, task_of, checked}
+use Rattle.serve.specs.Checks.{known_caller, may_do, admitted, in_reach, digest_checked, task_of, checked, id_of_act}
 use Rattle.serve.specs.Steps.{seen_at, request_step, refusing}
 use Rattle.serve.specs.declared.logs.Trace.{Trace}
 use Rattle.serve.specs.declared.prepared.Task.{Task}
 use Rattle.serve.specs.declared.prepared.Task.TheVariants.{ListAll, Carry}
 
 -- what is asked, as the log names it
-abbrev pub look_logged : AnyLook → LogAct
-look_logged look.Workspace = logged.ShowWorkspace
-look_logged look.State = logged.ReadState
-look_logged (look.Version n) = logged.ReadVersion
-look_logged (look.Versions after) = logged.ListVersions
-look_logged (look.Run n) = logged.ReadRun
-look_logged (look.Runs after) = logged.ListRuns
-
-abbrev pub ws_act_logged : WsAct → LogAct
-ws_act_logged (Look what) = look_logged what
-ws_act_logged Put = logged.PutWorkspace
-ws_act_logged Delete = logged.DeleteWorkspace
-ws_act_logged UpdateState = logged.UpdateState
-ws_act_logged PurgeState = logged.PurgeState
-ws_act_logged Lock = logged.Lock
-ws_act_logged Unlock = logged.Unlock
-ws_act_logged ForceUnlock = logged.ForceUnlock
-ws_act_logged MakeRun = logged.MakeRun
-ws_act_logged (ReportRun n action) = logged.Report action
-
 abbrev pub act_logged : AskedAct → LogAct
 act_logged (ListWorkspaces after) = logged.ListWorkspaces
-act_logged (OfWorkspace ws what) = ws_act_logged what
+act_logged (OfWorkspace ws what) = logged.OfWorkspace what
 
 -- the workspace that is named
 abbrev pub workspace_named : AskedAct → Option (List ℕ)
@@ -67,29 +42,9 @@ workspace_named (ListWorkspaces after) = None
 workspace_named (OfWorkspace ws what) = Some ws
 
 -- the version or the run that the path names
-abbrev pub look_number : AnyLook → Option ℕ
-look_number look.Workspace = None
-look_number look.State = None
-look_number (look.Version n) = Some n
-look_number (look.Versions after) = None
-look_number (look.Run n) = Some n
-look_number (look.Runs after) = None
-
-abbrev pub ws_act_number : WsAct → Option ℕ
-ws_act_number (Look what) = look_number what
-ws_act_number Put = None
-ws_act_number Delete = None
-ws_act_number UpdateState = None
-ws_act_number PurgeState = None
-ws_act_number Lock = None
-ws_act_number Unlock = None
-ws_act_number ForceUnlock = None
-ws_act_number MakeRun = None
-ws_act_number (ReportRun n action) = Some n
-
 abbrev pub number_named : AskedAct → Option ℕ
 number_named (ListWorkspaces after) = None
-number_named (OfWorkspace ws what) = ws_act_number what
+number_named (OfWorkspace ws what) = act_number what
 
 -- the name of the token that asks, where it counts at the moment
 abbrev pub name_counted : ℕ → Option TokenRow → Option (List ℕ)
@@ -109,19 +64,7 @@ task_read r now asked content_md5 body =
     and_then (digest_checked content_md5 body) (λ _.
     task_of token.caller.prefix asked.act asked.lock_id body)))))
 
--- the lock's ID that a document has: that of LOCK, or of UNLOCK
-abbrev pub id_of_act : Act → Option (List ℕ)
-id_of_act (act.Look what) = None
-id_of_act (act.PutWorkspace settings) = None
-id_of_act act.DeleteWorkspace = None
-id_of_act (act.UpdateState head text id) = None
-id_of_act (act.PurgeState id) = None
-id_of_act (act.Lock id text) = Some id
-id_of_act (act.Unlock id) = Some id
-id_of_act act.ForceUnlock = None
-id_of_act (act.MakeRun run) = None
-id_of_act (act.ReportRun n action) = None
-
+-- the lock's ID in the document of what is to be done
 abbrev pub id_of_task : Task → Option (List ℕ)
 id_of_task (ListAll after prefix) = None
 id_of_task (Carry ws act) = id_of_act act

@@ -1,5 +1,5 @@
 //! The checks of a request from the token on, each by itself.
-ghost use Rattle.std.specs.Prelude.{◌≡◌, ◌≢◌, [], cond, IsSome, Some, IfOk, Ok};
+ghost use Rattle.std.specs.Prelude.{◌≡◌, ◌≢◌, [], cond, IsSome, Some, IfOk, Ok, option_copied};
 ghost use Rattle.basis.specs.Inner.Checks.{Follows};
 ghost use Rattle.basis.specs.declared.refusals.Refusal.TheVariants.{BadBody, BadLock, BadState, NotFound, Unavailable};
 ghost use Rattle.docs.specs.Documents.{settings_of, state_head, lock_id_of, run_ask};
@@ -9,7 +9,8 @@ ghost use Rattle.machine.specs.Records.{workspace_in};
 ghost use Rattle.machine.specs.Units.{unit_of};
 ghost use Rattle.machine.specs.declared.acts.Act.TheVariants.{Look as LookAct, PutWorkspace, UpdateState, PurgeState, Lock, Unlock, MakeRun};
 ghost use Rattle.machine.specs.declared.records.Organization.{Organization};
-ghost use Rattle.serve.specs.Checks.{require, in_reach, makes, named_by, is_there, is_found, digest_checked, spelt, act_of, task_of};
+ghost use Rattle.serve.specs.Checks.{require, in_reach, makes, named_by, is_there, is_found, digest_checked, spelt, act_of, id_of_act, task_of};
+ghost use Rattle.serve.specs.Logs.{id_of_task};
 ghost use Rattle.serve.specs.Inner.Prepared.{counted, row_known};
 ghost use Rattle.route.specs.declared.acts.AskedAct.TheVariants.{OfWorkspace};
 ghost use Rattle.serve.specs.declared.prepared.Task.TheVariants.{ListAll};
@@ -18,12 +19,12 @@ ghost use Rattle.serve.specs.Inner.Units.{if_named, sees_named, is_present};
 
 use crate::prepared::Task;
 use basis::{
-    Bytes, Down, LockId, Look, Moment, Number, OrgName, Prefix, Refusal, StateHead, WsName,
+    Bytes, Down, LockId, Look, Moment, Number, OrgName, Prefix, Refusal, StateHead, WsAct, WsName,
 };
 use docs::{DocFault, digest_fits, read_lock, read_run, read_settings, read_state};
 use machine::{Act, Keep, Needs, StateText, TokenRow, Unit, WorkspaceUnit};
-use route::{Asked, AskedAct, WsAct, secret_digest};
-use std::alloc::Global;
+use route::{Asked, AskedAct, secret_digest};
+use std::alloc::{AllocError, Global};
 
 // A token that counts at this moment. One that has ended is as if it weren't there.
 fn counted(row: TokenRow, at: Moment) -> Result<TokenRow, Refusal>
@@ -321,6 +322,31 @@ fn act_of(alloc: Global, act: WsAct, lock_id: &Option<LockId>, body: Bytes) -> R
         WsAct::Delete => Ok(Act::DeleteWorkspace),
         WsAct::MakeRun => read_making(alloc, &body),
         WsAct::ReportRun(number, action) => Ok(Act::ReportRun(number, action)),
+    }
+}
+
+fn id_of_act(act: &Act) -> Option<&LockId>
+    ensures { option_copied result ≡ id_of_act act.now }
+{
+    match act {
+        Act::Lock { id, .. } => Some(id),
+        Act::Unlock(id) => Some(id),
+        Act::Look(_) | Act::PutWorkspace(_) | Act::DeleteWorkspace => None,
+        Act::UpdateState { .. } | Act::PurgeState { .. } => None,
+        Act::ForceUnlock | Act::MakeRun(_) | Act::ReportRun(_, _) => None,
+    }
+}
+
+/// The lock's ID that the document of what is to be done has.
+pub fn spelt_id(task: &Task) -> Result<Option<LockId>, AllocError>
+    ensures { IfOk result (λ id. id ≡ id_of_task task.now) }
+{
+    match task {
+        Task::ListAll { .. } => Ok(None),
+        Task::Carry { act, .. } => match id_of_act(act) {
+            Some(id) => Ok(Some(id.clone()?)),
+            None => Ok(None),
+        },
     }
 }
 

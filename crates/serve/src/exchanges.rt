@@ -11,7 +11,7 @@ ghost use Rattle.serve.specs.Inner.Replying.{due_reply, due_row, Settles};
 
 use crate::logs::{silent_row, unavailable_row};
 use crate::messages::{commit, prepare, without_body};
-use crate::prepared::{Prepared, PreparedWithRow};
+use crate::prepared::Prepared;
 use basis::{Down, Moment};
 use docs::LogRow;
 use machine::Keep;
@@ -93,7 +93,7 @@ fn settle<K: Keep, O: Outlet>(
 }
 
 // What was prepared has its row once its change is made; where it isn't (`is_down`), the 503 has its own.
-fn row_after(ready: PreparedWithRow, now: Moment, is_down: bool) -> LogRow
+fn row_after(ready: Prepared, now: Moment, is_down: bool) -> LogRow
     ensures { result ≡ due_row is_down now ready.row }
 {
     if is_down {
@@ -136,8 +136,7 @@ pub fn exchange<K: Keep, I: Inlet, O: Outlet>(
     let head_only = without_body(&read);
     match prepare(alloc, keep, routes, now, read) {
         Ok(Some(ready)) => {
-            let prepared = &ready.prepared;
-            let result = settle(alloc, keep, prepared, head_only, now, outlet, is_down);
+            let result = settle(alloc, keep, &ready, head_only, now, outlet, is_down);
             *row = Some(row_after(ready, now, *is_down));
             result
         }

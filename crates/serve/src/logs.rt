@@ -1,14 +1,13 @@
 //! What the log tells of an exchange.
-ghost use Rattle.std.specs.Prelude.{◌≡◌, ◌+◌, Some, None, IfOk, option_copied};
-ghost use Rattle.serve.specs.Logs.{look_logged, ws_act_logged, act_logged, workspace_named, look_number, ws_act_number, number_named, id_of_act, id_of_task, number_given, no_trace, silent_row, with_answer, row_of_request, unavailable_row};
+ghost use Rattle.std.specs.Prelude.{◌≡◌, ◌+◌, Some, None};
+ghost use Rattle.serve.specs.Logs.{act_logged, workspace_named, number_named, number_given, no_trace, silent_row, with_answer, row_of_request, unavailable_row};
 ghost use Rattle.machine.specs.Laws.{holds};
 ghost use Rattle.serve.specs.Inner.Tracing.{told_by, edit_number, edit_start, version_by, run_by, trace_by};
 
-use crate::prepared::Task;
-use basis::{Holder, LockId, Look, Moment, Number, Refusal, Text, WsName};
+use basis::{Holder, LockId, Moment, Number, Refusal, Text, WsName};
 use docs::{LogAct, LogRow};
 use machine::{Act, Answer, Change, Decision, Edit, Unit, Version};
-use route::{Asked, AskedAct, WsAct};
+use route::{Asked, AskedAct};
 use std::alloc::AllocError;
 use wire::Reply;
 
@@ -45,65 +44,12 @@ impl Trace {
     }
 }
 
-fn look_logged(look: Look) -> LogAct
-    ensures { result ≡ look_logged look }
-{
-    match look {
-        Look::Workspace => LogAct::ShowWorkspace,
-        Look::State => LogAct::ReadState,
-        Look::Version(_) => LogAct::ReadVersion,
-        Look::Versions(_) => LogAct::ListVersions,
-        Look::Run(_) => LogAct::ReadRun,
-        Look::Runs(_) => LogAct::ListRuns,
-    }
-}
-
-fn ws_act_logged(act: WsAct) -> LogAct
-    ensures { result ≡ ws_act_logged act }
-{
-    match act {
-        WsAct::Look(look) => look_logged(look),
-        WsAct::Put => LogAct::PutWorkspace,
-        WsAct::Delete => LogAct::DeleteWorkspace,
-        WsAct::UpdateState => LogAct::UpdateState,
-        WsAct::PurgeState => LogAct::PurgeState,
-        WsAct::Lock => LogAct::Lock,
-        WsAct::Unlock => LogAct::Unlock,
-        WsAct::ForceUnlock => LogAct::ForceUnlock,
-        WsAct::MakeRun => LogAct::MakeRun,
-        WsAct::ReportRun(_, action) => LogAct::Report(action),
-    }
-}
-
-fn look_number(look: Look) -> Option<Number>
-    ensures { result ≡ look_number look }
-{
-    match look {
-        Look::Version(number) => Some(number),
-        Look::Run(number) => Some(number),
-        Look::Workspace | Look::State => None,
-        Look::Versions(_) | Look::Runs(_) => None,
-    }
-}
-
-fn ws_act_number(act: WsAct) -> Option<Number>
-    ensures { result ≡ ws_act_number act }
-{
-    match act {
-        WsAct::Look(look) => look_number(look),
-        WsAct::ReportRun(number, _) => Some(number),
-        WsAct::Put | WsAct::Delete | WsAct::MakeRun => None,
-        WsAct::UpdateState | WsAct::PurgeState => None,
-        WsAct::Lock | WsAct::Unlock | WsAct::ForceUnlock => None,
-    }
-}
-
 fn act_logged(asked: &AskedAct) -> LogAct
     ensures { result ≡ act_logged asked.now }
 {
     match asked {
         AskedAct::ListWorkspaces { .. } => LogAct::ListWorkspaces,
-        AskedAct::OfWorkspace(_, act) => ws_act_logged(*act),
+        AskedAct::OfWorkspace(_, act) => LogAct::OfWorkspace(*act),
     }
 }
 
@@ -112,7 +58,7 @@ fn number_named(asked: &AskedAct) -> Option<Number>
 {
     match asked {
         AskedAct::ListWorkspaces { .. } => None,
-        AskedAct::OfWorkspace(_, act) => ws_act_number(*act),
+        AskedAct::OfWorkspace(_, act) => act.number(),
     }
 }
 
@@ -122,31 +68,6 @@ fn workspace_named(asked: AskedAct) -> Option<WsName>
     match asked {
         AskedAct::ListWorkspaces { .. } => None,
         AskedAct::OfWorkspace(ws, _) => Some(ws),
-    }
-}
-
-fn id_of_act(act: &Act) -> Option<&LockId>
-    ensures { option_copied result ≡ id_of_act act.now }
-{
-    match act {
-        Act::Lock { id, .. } => Some(id),
-        Act::Unlock(id) => Some(id),
-        Act::Look(_) | Act::PutWorkspace(_) | Act::DeleteWorkspace => None,
-        Act::UpdateState { .. } | Act::PurgeState { .. } => None,
-        Act::ForceUnlock | Act::MakeRun(_) | Act::ReportRun(_, _) => None,
-    }
-}
-
-/// The lock's ID that the document of what is to be done has.
-pub fn spelt_id(task: &Task) -> Result<Option<LockId>, AllocError>
-    ensures { IfOk result (λ id. id ≡ id_of_task task.now) }
-{
-    match task {
-        Task::ListAll { .. } => Ok(None),
-        Task::Carry { act, .. } => match id_of_act(act) {
-            Some(id) => Ok(Some(id.clone()?)),
-            None => Ok(None),
-        },
     }
 }
 

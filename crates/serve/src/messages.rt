@@ -13,13 +13,13 @@ ghost use Rattle.serve.specs.Service.{is_head, asked_by, Asks, Carries, Stays, s
 
 use crate::exchanges::LinkFault;
 use crate::logs::{RowFacts, refused_row, request_row};
-use crate::prepared::{Prepared, PreparedWithRow};
+use crate::prepared::Prepared;
 use crate::requests::{refuse, request};
 use basis::{Bytes, Down, Moment, Refusal};
-use machine::Keep;
+use machine::{Change, Keep};
 use route::{Asked, Routes, asked};
 use std::alloc::Global;
-use wire::{FromRead, Message, ToWrite, WireFault, read_message, write_reply};
+use wire::{FromRead, Message, Reply, ToWrite, WireFault, read_message, write_reply};
 
 fn is_head(message: &Message) -> bool
     ensures { result ≡ is_head message.now }
@@ -39,28 +39,33 @@ pub fn without_body(read: &Result<Message, WireFault>) -> bool
 }
 
 // What a request is answered, with its row of the log.
-fn ready(at: Moment, asked: Asked, prepared: Prepared, facts: RowFacts) -> PreparedWithRow
-    ensures { result ≡ record { prepared = prepared; row = row_of_request at asked prepared.reply facts.token facts.id facts.trace } }
+fn ready(
+    at: Moment,
+    asked: Asked,
+    reply: Reply,
+    change: Option<Change>,
+    facts: RowFacts,
+) -> Prepared
+    ensures { result ≡ record { reply = reply; change = change; row = row_of_request at asked reply facts.token facts.id facts.trace } }
 {
-    let row = request_row(at, asked, &prepared.reply, facts);
-    PreparedWithRow { prepared, row }
+    let row = request_row(at, asked, &reply, facts);
+    Prepared { reply, change, row }
 }
 
 // A refusal of what asks nothing of any organization, with its row of the log.
-fn refused(
-    alloc: Global,
-    at: Moment,
-    refusal: Refusal,
-    is_head: bool,
-) -> Result<PreparedWithRow, Down>
+fn refused(alloc: Global, at: Moment, refusal: Refusal, is_head: bool) -> Result<Prepared, Down>
     ensures known { OnOk result (refusal ≢ Refusal.Unavailable) }
-    ensures ok { IfOk result (λ r. (r.prepared.reply ≡ refused_answer refusal (error_text refusal) is_head) × (r.prepared.pending ≡ None)) }
+    ensures ok { IfOk result (λ r. (r.reply ≡ refused_answer refusal (error_text refusal) is_head) × (r.change ≡ None)) }
     ensures row { IfOk result (λ r. r.row ≡ with_answer (refused_answer refusal (error_text refusal) is_head) (silent_row at)) }
 {
     match refuse(alloc, refusal, is_head) {
-        Ok(prepared) => {
-            let row = refused_row(at, &prepared.reply);
-            Ok(PreparedWithRow { prepared, row })
+        Ok(reply) => {
+            let row = refused_row(at, &reply);
+            Ok(Prepared {
+                reply,
+                change: None,
+                row,
+            })
         }
         Err(down) => Err(down),
     }
@@ -73,10 +78,10 @@ fn answer<K: Keep>(
     routes: &Routes,
     at: Moment,
     message: Message,
-) -> Result<PreparedWithRow, Down>
+) -> Result<Prepared, Down>
     ensures looks { Looks K.rows K.clean K.sound K.shielded keep.old keep.new }
     ensures ok { K.clean keep.new → K.sound keep.old → IfOk result (λ r. (awaited : Bool)
-        → IsPrepared (K.rows keep.old) (asked_by at awaited message (asked_of message)) r.prepared) }
+        → IsPrepared (K.rows keep.old) (asked_by at awaited message (asked_of message)) r) }
     ensures logs { K.clean keep.new → K.sound keep.old → IfOk result (λ r. (awaited : Bool)
         → IsLogged (K.rows keep.old) (asked_by at awaited message (asked_of message)) r.row) }
 {
@@ -86,7 +91,7 @@ fn answer<K: Keep>(
     let body = message.body;
     match found {
         Ok(asked) => match request(alloc, keep, at, &asked, &content_md5, body) {
-            Ok((prepared, facts)) => Ok(ready(at, asked, prepared, facts)),
+            Ok((reply, change, facts)) => Ok(ready(at, asked, reply, change, facts)),
             Err(down) => Err(down),
         },
         Err(refusal) => refused(alloc, at, refusal, is_head),
@@ -101,9 +106,9 @@ pub fn prepare<K: Keep>(
     routes: &Routes,
     at: Moment,
     read: Result<Message, WireFault>,
-) -> Result<Option<PreparedWithRow>, LinkFault>
+) -> Result<Option<Prepared>, LinkFault>
     ensures looks { Looks K.rows K.clean K.sound K.shielded keep.old keep.new }
-    ensures ok { K.clean keep.new → K.sound keep.old → IfOk result (λ ready. IfSome ready (λ r. PreparesFor at (K.rows keep.old) read r.prepared)) }
+    ensures ok { K.clean keep.new → K.sound keep.old → IfOk result (λ ready. IfSome ready (λ r. PreparesFor at (K.rows keep.old) read r)) }
     ensures logs { K.clean keep.new → K.sound keep.old → IfOk result (λ ready. IfSome ready (λ r. LogsFor at (K.rows keep.old) read r.row)) }
     ensures ended { IsErrOf result LinkFault.Ended ↔ (read ≡ Err Ended) }
     ensures read { IsErrOf result LinkFault.Read ↔ (read ≡ Err Read) }
@@ -130,9 +135,10 @@ pub fn commit<K: Keep>(alloc: Global, keep: &mut K, prepared: &Prepared) -> Resu
         → Carries ask (K.rows keep.old) (K.rows keep.new)) }
     ensures err { K.clean keep.new → OnErr result (Stays (K.rows keep.old) (K.rows keep.new)) }
 {
-    match &prepared.pending {
-        None => Ok(()),
-        Some(pending) => keep.apply(alloc, &pending.org, &pending.ws, &pending.change),
+    let Prepared { change, row, .. } = prepared;
+    match (change, &row.organization, &row.workspace) {
+        (Some(change), Some(org), Some(ws)) => keep.apply(alloc, org, ws, change),
+        _ => Ok(()),
     }
 }
 
@@ -160,9 +166,9 @@ pub fn take_request<K: Keep>(
         Err(LinkFault::Ended) => return Ok(Bytes::new(Vec::new(alloc))),
         _ => return Err(Down),
     };
-    let Ok(()) = write_reply(&ready.prepared.reply, at, &mut outlet) else {
+    let Ok(()) = write_reply(&ready.reply, at, &mut outlet) else {
         return Err(Down);
     };
-    commit(alloc, keep, &ready.prepared)?;
+    commit(alloc, keep, &ready)?;
     Ok(Bytes::new(outlet.into_inner()))
 }

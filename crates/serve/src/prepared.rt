@@ -1,6 +1,6 @@
 //! What is asked of a workspace, and an answer that is made in full before anything changes.
 
-use basis::{OrgName, Prefix, WsName};
+use basis::{Prefix, WsName};
 use docs::LogRow;
 use machine::{Act, Change};
 use wire::Reply;
@@ -19,24 +19,11 @@ pub enum Task {
     },
 }
 
-/// A change that is to follow, once the answer is made.
-#[derive(Drop)]
-pub struct Pending {
-    pub org: OrgName,
-    pub ws: WsName,
-    pub change: Change,
-}
-
-/// An answer, and the change that is to follow.
+/// An answer that is made in full before anything changes: the reply, the change that is to follow, and what the log tells
+/// once it is done. The change is of the workspace that the log's row names.
 #[derive(Drop)]
 pub struct Prepared {
     pub reply: Reply,
-    pub pending: Option<Pending>,
-}
-
-/// The same, and what the log tells once it is done.
-#[derive(Drop)]
-pub struct PreparedWithRow {
-    pub prepared: Prepared,
+    pub change: Option<Change>,
     pub row: LogRow,
 }

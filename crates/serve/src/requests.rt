@@ -1,5 +1,5 @@
 //! A request of an organization: the checks in their order, and the answer of the rules.
-ghost use Rattle.std.specs.Prelude.{◌≡◌, ◌≢◌, ℕ, [], false, Option, Some, None, Ok, Err, IsSome, IfOk, OnOk, option_map, option_copied};
+ghost use Rattle.std.specs.Prelude.{◌≡◌, ◌≢◌, ℕ, [], false, Option, Some, None, Ok, Err, IsSome, IfOk, OnOk, option_copied};
 ghost use Rattle.machine.specs.Keeping.{Looks};
 ghost use Rattle.machine.specs.Ranges.{IsInRange};
 ghost use Rattle.machine.specs.Records.{workspace_in, seen_in};
@@ -13,15 +13,15 @@ ghost use Rattle.docs.specs.Bodies.{error_text};
 ghost use Rattle.wire.specs.Replies.{refused_answer};
 ghost use Rattle.serve.specs.Steps.{holder_text, answer_to, ruled_in, carried, request_step};
 ghost use Rattle.serve.specs.Checks.{checked};
-ghost use Rattle.serve.specs.Logs.{id_of_task, id_spelt, task_read, no_trace, traced, token_named};
+ghost use Rattle.serve.specs.Logs.{id_of_task, id_spelt, task_read, no_trace, traced, token_named, workspace_named};
 ghost use Rattle.serve.specs.Inner.Judging.{Stands};
 ghost use Rattle.serve.specs.Inner.Tracing.{facts_of};
-ghost use Rattle.serve.specs.Inner.Prepared.{Foresees, IsTaskInRange};
+ghost use Rattle.serve.specs.Inner.Prepared.{Foresees, IsTaskInRange, workspace_of_task};
 ghost use Rattle.serve.specs.Inner.Units.{holder_in};
 
-use crate::checks::{in_reach, judged, known_caller, missed};
-use crate::logs::{RowFacts, Trace, spelt_id, trace_by};
-use crate::prepared::{Pending, Prepared, Task};
+use crate::checks::{in_reach, judged, known_caller, missed, spelt_id};
+use crate::logs::{RowFacts, Trace, trace_by};
+use crate::prepared::Task;
 use basis::numbers::MAX_MOMENT;
 use basis::{Bytes, Down, Holder, Moment, OrgName, Prefix, Refusal, RunRow, Text, WsName, WsRow};
 use docs::{
@@ -41,11 +41,11 @@ pub fn request<K: Keep>(
     asked: &Asked,
     content_md5: &Option<Bytes>,
     body: Bytes,
-) -> Result<(Prepared, RowFacts), Down>
+) -> Result<(Reply, Option<Change>, RowFacts), Down>
     ensures looks { Looks K.rows K.clean K.sound K.shielded keep.old keep.new }
-    ensures ok { K.clean keep.new → K.sound keep.old → IfOk result (λ p. Foresees (K.rows keep.old asked.now.caller) asked.now.caller
-        (request_step (K.rows keep.old asked.now.caller) at asked.now content_md5.now body) p.0) }
-    ensures facts { K.clean keep.new → K.sound keep.old → IfOk result (λ p. p.1 ≡ facts_of (K.rows keep.old asked.now.caller) at asked.now content_md5.now body) }
+    ensures ok { K.clean keep.new → K.sound keep.old → IfOk result (λ p. Foresees (K.rows keep.old asked.now.caller) (workspace_named asked.now.act)
+        (request_step (K.rows keep.old asked.now.caller) at asked.now content_md5.now body) p.0 p.1) }
+    ensures facts { K.clean keep.new → K.sound keep.old → IfOk result (λ p. p.2 ≡ facts_of (K.rows keep.old asked.now.caller) at asked.now content_md5.now body) }
 {
     let mut token = None;
     match checked(alloc, keep, at, asked, content_md5, body, &mut token) {
@@ -62,18 +62,18 @@ fn carry<K: Keep>(
     org: &OrgName,
     task: Task,
     token: Option<Text>,
-) -> Result<(Prepared, RowFacts), Down>
+) -> Result<(Reply, Option<Change>, RowFacts), Down>
     ensures looks { Looks K.rows K.clean K.sound K.shielded keep.old keep.new }
     ensures ok { K.clean keep.new → K.sound keep.old → IfOk result (λ p. IsSome (K.rows keep.old org.now) → IsTaskInRange task
-        → Foresees (K.rows keep.old org.now) org.now (carried org.now at (K.rows keep.old org.now) (Ok task)) p.0) }
+        → Foresees (K.rows keep.old org.now) (workspace_of_task task) (carried org.now at (K.rows keep.old org.now) (Ok task)) p.0 p.1) }
     ensures facts { K.clean keep.new → K.sound keep.old → IfOk result (λ p. IsSome (K.rows keep.old org.now)
-        → p.1 ≡ record { token = token; id = id_of_task task; trace = traced at (K.rows keep.old org.now) (Ok task) }) }
+        → p.2 ≡ record { token = token; id = id_of_task task; trace = traced at (K.rows keep.old org.now) (Ok task) }) }
 {
     let Ok(id) = spelt_id(&task) else {
         return Err(Down);
     };
     match perform(alloc, keep, at, org, task) {
-        Ok((prepared, trace)) => Ok((prepared, RowFacts { token, id, trace })),
+        Ok((reply, change, trace)) => Ok((reply, change, RowFacts { token, id, trace })),
         Err(down) => Err(down),
     }
 }
@@ -83,14 +83,15 @@ fn refuse_request(
     alloc: Global,
     why: Refusal,
     token: Option<Text>,
-) -> Result<(Prepared, RowFacts), Down>
+) -> Result<(Reply, Option<Change>, RowFacts), Down>
     ensures known { OnOk result (why ≢ Refusal.Unavailable) }
-    ensures ok { IfOk result (λ p. (p.0.reply ≡ refused_answer why (error_text why) false) × (p.0.pending ≡ None)) }
-    ensures facts { IfOk result (λ p. p.1 ≡ record { token = token; id = None; trace = no_trace }) }
+    ensures ok { IfOk result (λ p. (p.0 ≡ refused_answer why (error_text why) false) × (p.1 ≡ None)) }
+    ensures facts { IfOk result (λ p. p.2 ≡ record { token = token; id = None; trace = no_trace }) }
 {
     match refuse(alloc, why, false) {
-        Ok(prepared) => Ok((
-            prepared,
+        Ok(reply) => Ok((
+            reply,
+            None,
             RowFacts {
                 token,
                 id: None,
@@ -116,6 +117,7 @@ fn checked<K: Keep>(
     ensures looks { Looks K.rows K.clean K.sound K.shielded keep.old keep.new }
     ensures ok { K.clean keep.new → K.sound keep.old → Stands result (K.rows keep.old asked.now.caller) at asked.now content_md5.now body }
     ensures range { IfOk result IsTaskInRange }
+    ensures place { IfOk result (λ task. workspace_of_task task ≡ workspace_named asked.now.act) }
     ensures there { K.clean keep.new → K.sound keep.old → OnOk result (IsSome (K.rows keep.old asked.now.caller)) }
     ensures traces { K.clean keep.new → K.sound keep.old → IfOk result (λ task. traced at (K.rows keep.old asked.now.caller) (Ok task)
         ≡ traced at (K.rows keep.old asked.now.caller) (checked (K.rows keep.old asked.now.caller) at asked.now content_md5.now body)) }
@@ -148,20 +150,17 @@ fn checked<K: Keep>(
     }
 }
 
-/// A refusal: its word, and nothing changes. That of want of memory is left to the caller.
-pub fn refuse(alloc: Global, refusal: Refusal, is_head: bool) -> Result<Prepared, Down>
+/// A refusal: its word. That of want of memory is left to the caller.
+pub fn refuse(alloc: Global, refusal: Refusal, is_head: bool) -> Result<Reply, Down>
     ensures known { OnOk result (refusal ≢ Refusal.Unavailable) }
-    ensures ok { IfOk result (λ p. (p.reply ≡ refused_answer refusal (error_text refusal) is_head) × (p.pending ≡ None)) }
+    ensures ok { IfOk result (λ reply. reply ≡ refused_answer refusal (error_text refusal) is_head) }
 {
     match refusal {
         Refusal::Unavailable => return Err(Down),
         _ => {}
     }
     let body = write_error(alloc, refusal)?;
-    Ok(Prepared {
-        reply: Reply::refused(refusal, Bytes::new(body), is_head),
-        pending: None,
-    })
+    Ok(Reply::refused(refusal, Bytes::new(body), is_head))
 }
 
 /// The body that tells who holds.
@@ -285,19 +284,13 @@ fn list_workspaces<K: Keep>(
     org: &OrgName,
     after: &Option<WsName>,
     prefix: &Prefix,
-) -> Result<(Prepared, Trace), Down>
+) -> Result<Reply, Down>
     ensures looks { Looks K.rows K.clean K.sound K.shielded keep.old keep.new }
-    ensures ok { K.clean keep.new → K.sound keep.old → IfOk result (λ p. (at : ℕ)
-        → Foresees (K.rows keep.old org.now) org.now (carried org.now at (K.rows keep.old org.now) (Ok (ListAll after.now prefix.now))) p.0) }
-    ensures traces { IfOk result (λ p. p.1 ≡ no_trace) }
+    ensures ok { K.clean keep.new → K.sound keep.old → IfOk result (λ reply. (at : ℕ)
+        → Foresees (K.rows keep.old org.now) None (carried org.now at (K.rows keep.old org.now) (Ok (ListAll after.now prefix.now))) reply None) }
 {
     let list = keep.workspaces(alloc, org, name_in(after), prefix)?;
-    let body = Bytes::new(write_ws_list(alloc, &list)?);
-    let prepared = Prepared {
-        reply: Reply::document(body),
-        pending: None,
-    };
-    Ok((prepared, Trace::none()))
+    Ok(Reply::document(Bytes::new(write_ws_list(alloc, &list)?)))
 }
 
 /// What the checks have left to do: a list, or the rules on an act.
@@ -307,50 +300,19 @@ fn perform<K: Keep>(
     at: Moment,
     org: &OrgName,
     task: Task,
-) -> Result<(Prepared, Trace), Down>
+) -> Result<(Reply, Option<Change>, Trace), Down>
     ensures looks { Looks K.rows K.clean K.sound K.shielded keep.old keep.new }
     ensures ok { K.clean keep.new → K.sound keep.old → IfOk result (λ p. IsSome (K.rows keep.old org.now) → IsTaskInRange task
-        → Foresees (K.rows keep.old org.now) org.now (carried org.now at (K.rows keep.old org.now) (Ok task)) p.0) }
-    ensures traces { K.clean keep.new → K.sound keep.old → IfOk result (λ p. IsSome (K.rows keep.old org.now) → p.1 ≡ traced at (K.rows keep.old org.now) (Ok task)) }
+        → Foresees (K.rows keep.old org.now) (workspace_of_task task) (carried org.now at (K.rows keep.old org.now) (Ok task)) p.0 p.1) }
+    ensures traces { K.clean keep.new → K.sound keep.old → IfOk result (λ p. IsSome (K.rows keep.old org.now) → p.2 ≡ traced at (K.rows keep.old org.now) (Ok task)) }
 {
     match task {
-        Task::ListAll { after, prefix } => list_workspaces(alloc, keep, org, &after, &prefix),
+        Task::ListAll { after, prefix } => {
+            let reply = list_workspaces(alloc, keep, org, &after, &prefix)?;
+            Ok((reply, None, Trace::none()))
+        }
         Task::Carry { ws, act } => rule(alloc, keep, at, org, &ws, &act),
     }
-}
-
-fn pending(org: &OrgName, ws: &WsName, change: Option<Change>) -> Result<Option<Pending>, Down>
-    ensures { IfOk result (λ pending. pending ≡ option_map (λ c. record { org = org.now; ws = ws.now; change = c }) change) }
-{
-    match change {
-        None => Ok(None),
-        Some(change) => Ok(Some(Pending {
-            org: org.clone()?,
-            ws: ws.clone()?,
-            change,
-        })),
-    }
-}
-
-/// What an accepted act is answered, and its change.
-fn accept<K: Keep>(
-    alloc: Global,
-    keep: &mut K,
-    org: &OrgName,
-    ws: &WsName,
-    answer: Answer,
-    change: Option<Change>,
-) -> Result<Prepared, Down>
-    ensures looks { Looks K.rows K.clean K.sound K.shielded keep.old keep.new }
-    ensures ok { K.clean keep.new → K.sound keep.old → IfOk result (λ p. IsSome (K.rows keep.old org.now)
-        → ((o : Organization) → K.rows keep.old org.now ≡ Some o → ChangeIsDue (seen_in o ws.now) (Accepted answer change))
-        → Foresees (K.rows keep.old org.now) org.now
-        (ruled_in org.now ws.now (K.rows keep.old org.now)
-        (meaning (Accepted answer change) (workspace_in (K.rows keep.old org.now) ws.now))) p) }
-{
-    let reply = accepted_reply(alloc, keep, org, ws, answer)?;
-    let pending = pending(org, ws, change)?;
-    Ok(Prepared { reply, pending })
 }
 
 /// What a decision is answered, and its change.
@@ -361,24 +323,24 @@ fn answer_decision<K: Keep>(
     ws: &WsName,
     unit: &Unit,
     decision: Decision,
-) -> Result<Prepared, Down>
+) -> Result<(Reply, Option<Change>), Down>
     ensures looks { Looks K.rows K.clean K.sound K.shielded keep.old keep.new }
     ensures ok { K.clean keep.new → K.sound keep.old → IfOk result (λ p. IsSome (K.rows keep.old org.now)
         → holder_in unit.now ≡ holder_of (workspace_in (K.rows keep.old org.now) ws.now)
         → ((o : Organization) → K.rows keep.old org.now ≡ Some o → ChangeIsDue (seen_in o ws.now) decision)
-        → Foresees (K.rows keep.old org.now) org.now
+        → Foresees (K.rows keep.old org.now) (Some ws.now)
         (ruled_in org.now ws.now (K.rows keep.old org.now)
-        (meaning decision (workspace_in (K.rows keep.old org.now) ws.now))) p) }
+        (meaning decision (workspace_in (K.rows keep.old org.now) ws.now))) p.0 p.1) }
 {
     match decision {
         Decision::Refused(refusal) => {
             let reply = refused_reply(alloc, org, ws, unit, refusal)?;
-            Ok(Prepared {
-                reply,
-                pending: None,
-            })
+            Ok((reply, None))
         }
-        Decision::Accepted { answer, change } => accept(alloc, keep, org, ws, answer, change),
+        Decision::Accepted { answer, change } => {
+            let reply = accepted_reply(alloc, keep, org, ws, answer)?;
+            Ok((reply, change))
+        }
     }
 }
 
@@ -390,11 +352,11 @@ fn rule<K: Keep>(
     org: &OrgName,
     ws: &WsName,
     act: &Act,
-) -> Result<(Prepared, Trace), Down>
+) -> Result<(Reply, Option<Change>, Trace), Down>
     ensures looks { Looks K.rows K.clean K.sound K.shielded keep.old keep.new }
     ensures ok { K.clean keep.new → K.sound keep.old → IfOk result (λ p. IsSome (K.rows keep.old org.now) → IsInRange act.now
-        → Foresees (K.rows keep.old org.now) org.now (carried org.now at (K.rows keep.old org.now) (Ok (Carry ws.now act.now))) p.0) }
-    ensures traces { K.clean keep.new → K.sound keep.old → IfOk result (λ p. IsSome (K.rows keep.old org.now) → p.1 ≡ traced at (K.rows keep.old org.now) (Ok (Carry ws.now act.now))) }
+        → Foresees (K.rows keep.old org.now) (Some ws.now) (carried org.now at (K.rows keep.old org.now) (Ok (Carry ws.now act.now))) p.0 p.1) }
+    ensures traces { K.clean keep.new → K.sound keep.old → IfOk result (λ p. IsSome (K.rows keep.old org.now) → p.2 ≡ traced at (K.rows keep.old org.now) (Ok (Carry ws.now act.now))) }
 {
     keep.records_are_lawful();
     prove!(at.seconds() <= MAX_MOMENT);
@@ -402,7 +364,7 @@ fn rule<K: Keep>(
     let decision = decide(&unit, act, at)?;
     let trace = trace_by(&unit, &decision);
     match answer_decision(alloc, keep, org, ws, &unit, decision) {
-        Ok(prepared) => Ok((prepared, trace)),
+        Ok((reply, change)) => Ok((reply, change, trace)),
         Err(down) => Err(down),
     }
 }

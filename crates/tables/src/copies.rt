@@ -142,7 +142,7 @@ fn copy_versions<T: Alter, K: PageKey, S: Alter>(
 }
 
 /// Adds a run as it stands.
-fn put_run<S: Alter>(
+fn copy_run<S: Alter>(
     tx: &mut Transaction<'_, S>,
     org: &str,
     ws: &str,
@@ -176,7 +176,7 @@ fn put_runs<S: Alter>(
     ensures { RelatedSteps S.Store (Carries org.now ws.now (with_runs runs.now)) tx.old tx.new result }
 {
     'runs: for run in runs {
-        put_run(tx, org, ws, run)?;
+        copy_run(tx, org, ws, run)?;
     }
     Ok(())
 }

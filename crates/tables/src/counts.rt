@@ -34,7 +34,7 @@ pub(crate) fn known(counted: &Option<Counted>, org: &str) -> Option<u64>
 }
 
 /// What is kept where a workspace is absent, or nothing, for want of memory.
-fn absent(alloc: Global, org: &str, ws: &str, count: u64) -> Option<Counted>
+fn note_absent(alloc: Global, org: &str, ws: &str, count: u64) -> Option<Counted>
     ensures { IfSome result (λ counted. counted ≡ record { org = org.now; count = count; absent = Some ws.now }) }
 {
     let Ok(org) = Text::copy_of(alloc, org) else {
@@ -67,7 +67,12 @@ pub(crate) fn keep(
         return;
     }
     match unit {
-        Unit::Absent { workspaces, .. } => *counted = absent(alloc, org, ws, *workspaces as u64),
+        Unit::Absent { workspaces, .. } => *counted = note_absent(
+            alloc,
+            org,
+            ws,
+            *workspaces as u64,
+        ),
         Unit::Present(_) => {}
     }
 }

@@ -95,7 +95,7 @@ pub(crate) fn remove<S: Alter>(
 }
 
 /// Makes a workspace. There was none of the name, so it has no versions and no runs.
-fn make<S: Alter>(
+fn make_workspace<S: Alter>(
     tx: &mut Transaction<'_, S>,
     org: &str,
     ws: &str,
@@ -132,7 +132,7 @@ fn add_row<S: Alter>(
 }
 
 /// The number before this one, if there is one.
-fn number_before(number: Number) -> Option<Number> {
+fn previous(number: Number) -> Option<Number> {
     Number::new(number.get() as u64 - 1)
 }
 
@@ -147,7 +147,7 @@ pub(crate) fn add<K: PageKey, S: Alter>(
     ensures fresh { Tells (λ _ t. size_of org.now ws.now version.now.number t ≡ None) (state S.Store tx.old.conn.now) (state S.Store tx.new.conn.now) result }
 {
     let text = version.text.as_slice();
-    let before = number_before(version.number);
+    let before = previous(version.number);
     add_row(tx, org, ws, version)?;
     texts::add_text::<K, S>(tx, org, ws, version.number, before, text)
 }
@@ -239,7 +239,7 @@ fn first_status(plan_only: bool) -> RunStatus
 }
 
 /// Puts a run behind the others.
-fn put_run<S: Alter>(
+fn append_run<S: Alter>(
     tx: &mut Transaction<'_, S>,
     org: &str,
     ws: &str,
@@ -295,7 +295,7 @@ fn add_run<S: Alter>(
     ensures { Steps S.Store (run_rows org.now ws.now number ask.now created) tx.old tx.new result }
 {
     count_run(tx, org, ws, number)?;
-    put_run(tx, org, ws, number, ask, created)
+    append_run(tx, org, ws, number, ask, created)
 }
 
 /// Records an action on a run; where it frees the workspace, nobody holds any more.
@@ -328,7 +328,7 @@ fn edit<K: PageKey, S: Alter>(
     ensures { KeyedSteps S.Store (λ keys. edited_rows keys org.now ws.now edit.now) (λ keys. TakesEdit keys org.now ws.now edit.now) tx.old tx.new result }
 {
     match edit {
-        Edit::Make(settings) => make(tx, org, ws, settings),
+        Edit::Make(settings) => make_workspace(tx, org, ws, settings),
         Edit::Configure { settings, outgoing } => configure(tx, org, ws, settings, *outgoing),
         Edit::Remove => remove(tx, org, ws),
         Edit::AddVersion { version, outgoing } => put::<K, S>(tx, org, ws, version, *outgoing),

@@ -57,5 +57,5 @@ lineage_in part = option_and_then (text_within 0 MAX_LINEAGE) (text_in part)
 
 -- the head has what counts of the members
 pub record IsHeadOf (head : Head) (members : Members) : Type 0 where
-  pub serial : head.serial ≡ option_and_then whole_in (get_member (codes "serial") members)
+  pub serial : head.whole ≡ option_and_then whole_in (get_member (codes "serial") members)
   pub lineage : option_map (λ text. text.now) head.lineage ≡ optional_text MAX_LINEAGE (get_member (codes "lineage") members)

@@ -1,14 +1,15 @@
 -- Contracts between functions: the members of a line of the log, as they are put one behind another.
-use Rattle.std.specs.Prelude.{ℕ, List, codes}
+use Rattle.std.specs.Prelude.{ℕ, List, codes, option_map}
 use Rattle.serde_json.specs.Data.{Members, member, unsigned, number, string}
 use Rattle.docs.specs.Bodies.{number_value, text_value}
-use Rattle.docs.specs.Logs.{log_act_value, refusal_value}
+use Rattle.basis.specs.Refusals.{line_of}
+use Rattle.docs.specs.Logs.{log_word}
 use Rattle.docs.specs.declared.logs.LogRow.{LogRow}
 
 -- the members of a line, each part with what follows it
 abbrev pub asked : ℕ → List ℕ → LogRow → Members → Members
 asked connection end row rest =
-    member (codes "act") (log_act_value row.act) (
+    member (codes "act") (text_value (option_map log_word row.act)) (
     member (codes "at") (number (unsigned row.at)) (
     member (codes "connection") (number (unsigned connection)) (
     member (codes "end") (string end) rest)))
@@ -21,7 +22,7 @@ named row rest =
 
 abbrev pub outcome : LogRow → Members → Members
 outcome row rest =
-    member (codes "refusal") (refusal_value row.refusal) (
+    member (codes "refusal") (text_value (option_map (λ refusal. (line_of refusal).word) row.refusal)) (
     member (codes "run") (number_value row.run) (
     member (codes "status") (number_value row.status) rest))
 

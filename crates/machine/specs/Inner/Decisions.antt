@@ -4,8 +4,8 @@ use Rattle.std.specs.Prelude.{ℕ, Bool, not, ◌&&◌, nat_lt, ◌==◌, cond, 
 use Rattle.std.specs.Str.{bytes_eq}
 use Rattle.basis.specs.declared.refusals.Refusal.{Refusal}
 use Rattle.basis.specs.declared.refusals.Refusal.TheVariants.{NotFound, OtherLineage, OldSerial, OverLimit, WrongState, HeldByRun, OpenRuns, Locked}
-use Rattle.basis.specs.declared.rows.Look.{Look as AnyLook}
-use Rattle.basis.specs.declared.rows.Look.TheVariants as look
+use Rattle.basis.specs.declared.acts.Look.{Look as AnyLook}
+use Rattle.basis.specs.declared.acts.Look.TheVariants as look
 use Rattle.basis.specs.declared.rows.Settings.{Settings}
 use Rattle.basis.specs.declared.rows.StateHead.{StateHead}
 use Rattle.basis.specs.declared.rows.RunAsk.{RunAsk}

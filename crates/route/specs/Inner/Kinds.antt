@@ -4,7 +4,7 @@ use Rattle.basis.specs.Checks.{or_refused, and_then}
 use Rattle.basis.specs.declared.refusals.Allow.TheVariants.{Lists, Workspaces, States, Runs, Actions}
 use Rattle.basis.specs.declared.refusals.Refusal.{Refusal}
 use Rattle.basis.specs.declared.refusals.Refusal.TheVariants.{NoRoute, NoMethod}
-use Rattle.basis.specs.declared.rows.Look.TheVariants.{Version as VersionLook, Versions as VersionsLook, Run as RunLook}
+use Rattle.basis.specs.declared.acts.Look.TheVariants.{Version as VersionLook, Versions as VersionsLook, Run as RunLook}
 use Rattle.basis.specs.declared.runs.RunAction.{RunAction}
 use Rattle.basis.specs.Names.{is_ws_name}
 use Rattle.basis.specs.Numbers.{number_of}
@@ -20,8 +20,8 @@ use Rattle.route.specs.Queries.{query_read}
 use Rattle.route.specs.declared.acts.Asked.{Asked}
 use Rattle.route.specs.declared.acts.AskedAct.{AskedAct}
 use Rattle.route.specs.declared.acts.AskedAct.TheVariants.{OfWorkspace}
-use Rattle.route.specs.declared.acts.WsAct.{WsAct}
-use Rattle.route.specs.declared.acts.WsAct.TheVariants.{ReportRun}
+use Rattle.basis.specs.declared.acts.WsAct.{WsAct}
+use Rattle.basis.specs.declared.acts.WsAct.TheVariants.{ReportRun}
 use Rattle.wire.specs.declared.messages.Message.{Message}
 
 -- each parameter's name and its part

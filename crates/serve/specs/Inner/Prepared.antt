@@ -13,16 +13,17 @@ use Rattle.serve.specs.declared.prepared.Task.{Task}
 use Rattle.serve.specs.declared.prepared.Task.TheVariants.{ListAll, Carry}
 use Rattle.machine.specs.Changes.{changed_by, IsDue}
 use Rattle.machine.specs.Tokens.{asker_of}
+use Rattle.machine.specs.declared.acts.Change.{Change}
 use Rattle.machine.specs.declared.keeps.TokenRow.{TokenRow}
 use Rattle.machine.specs.declared.records.Organization.{Organization}
 use Rattle.route.specs.declared.acts.Asked.{Asked}
 use Rattle.docs.specs.Bodies.{error_text}
-use Rattle.wire.specs.Replies.{refused_answer}
+use Rattle.wire.specs.Replies.{Answer, refused_answer}
 use Rattle.serve.specs.Asks.{Ask, silent, requests, commands}
 use Rattle.serve.specs.Asks as ask
 use Rattle.serve.specs.Checks.{known_caller}
+use Rattle.serve.specs.Logs.{workspace_named}
 use Rattle.serve.specs.Steps.{Answered, request_step}
-use Rattle.serve.specs.declared.prepared.Pending.{Pending}
 use Rattle.serve.specs.declared.prepared.Prepared.{Prepared}
 
 -- a token that counts at a moment
@@ -41,23 +42,30 @@ row_known r now asked = found_counted now (asker_of r (sha256 asked.secret))
 abbrev pub caller_known : Option Organization → ℕ → Asked → Result Caller Refusal
 caller_known r now asked = and_then (known_caller r now asked) (λ token. Ok token.caller)
 
--- the record of an organization after a change that is to follow, or as it is
-abbrev pub ChangesTo : Option Organization → List ℕ → Option Organization → Option Pending → Type 0
-ChangesTo r org after None = after ≡ r
-ChangesTo r org after (Some pending) =
-    (pending.org ≡ org) × (o : Organization) × (r ≡ Some o) × IsDue (seen_in o pending.ws) pending.change
-    × (after ≡ Some (placed o pending.ws (changed_by pending.change (get o.workspaces pending.ws))))
+-- the record of an organization after a change that is to follow, of the workspace that is named, or as it is
+abbrev pub ChangesTo : Option Organization → Option (List ℕ) → Option Organization → Option Change → Type 0
+ChangesTo r named after None = after ≡ r
+ChangesTo r None after (Some change) = ⊥
+ChangesTo r (Some ws) after (Some change) =
+    (o : Organization) × (r ≡ Some o) × IsDue (seen_in o ws) change
+    × (after ≡ Some (placed o ws (changed_by change (get o.workspaces ws))))
 
--- what is prepared is the answer of the machine, and the change is that of the record of the organization
-pub record Foresees (r : Option Organization) (org : List ℕ) (want : Answered) (p : Prepared) : Type 0 where
-  pub answer : p.reply ≡ want.answer
-  pub change : ChangesTo r org want.left p.pending
+-- the reply is the answer of the machine, and the change is that of the record of the organization
+pub record Foresees (r : Option Organization) (named : Option (List ℕ)) (want : Answered) (reply : Answer) (change : Option Change) : Type 0 where
+  pub answer : reply ≡ want.answer
+  pub changes : ChangesTo r named want.left change
 
--- what is prepared is what is to be said, by the records as they stand
+-- the workspace of what is to be done
+abbrev pub workspace_of_task : Task → Option (List ℕ)
+workspace_of_task (ListAll after prefix) = None
+workspace_of_task (Carry ws act) = Some ws
+
+-- what is prepared is what is to be said, by the records as they stand; the log's row names what is changed
 abbrev pub IsPrepared : (List ℕ → Option Organization) → Ask → Prepared → Type 0
 IsPrepared rows silent p = ⊥
-IsPrepared rows (ask.refused at awaited refusal is_head) p = (p.reply ≡ refused_answer refusal (error_text refusal) is_head) × (p.pending ≡ None)
-IsPrepared rows (requests at awaited asked content_md5 body) p = Foresees (rows asked.caller) asked.caller (request_step (rows asked.caller) at asked content_md5 body) p
+IsPrepared rows (ask.refused at awaited refusal is_head) p = (p.reply ≡ refused_answer refusal (error_text refusal) is_head) × (p.change ≡ None)
+IsPrepared rows (requests at awaited asked content_md5 body) p = Foresees (rows asked.caller) (workspace_named asked.act) (request_step (rows asked.caller) at asked content_md5 body) p.reply p.change
+    × (p.row.organization ≡ Some asked.caller) × (p.row.workspace ≡ workspace_named asked.act)
 IsPrepared rows (commands at command) p = ⊥
 
 -- the documents of an act that is to be done are in their ranges

@@ -1,6 +1,6 @@
 -- Contracts between functions: what serving needs of a unit.
 use Rattle.std.specs.Prelude.{ℕ, Bool, true, false, ◌&&◌, Option, Some, None, is_some}
-use Rattle.basis.specs.declared.rows.Look.{Look as AnyLook}
+use Rattle.basis.specs.declared.acts.Look.{Look as AnyLook}
 use Rattle.machine.specs.Needs.{Needed, needs_of_look}
 use Rattle.machine.specs.declared.acts.WorkspaceUnit.{WorkspaceUnit}
 use Rattle.machine.specs.declared.acts.Unit.{Unit as AnyUnit}

@@ -1,16 +1,14 @@
-use Rattle.std.proofs.Common.{rules, Some, ap, ◌∙◌}
+use Rattle.std.proofs.Common.{Some, ap}
 use Rattle.std.proofs.lemmas.Result.{on_ok_weaker}
 use Rattle.docs.specs.Bodies.{number_value, text_value}
-use Rattle.docs.specs.Logs.{log_word}
-use Rattle.docs.proofs.Lines.{act_is}
-use Rattle.docs.proofs.Putting.{put_as, then_put, text_made}
+use Rattle.docs.proofs.Putting.{put_as, then_put}
 use Rattle.docs.proofs.logs.put_asked.Goals as goal
 
 pub returns : goal.returns
 returns c =
     let row = c.args.row.now in
     on_ok_weaker c.put_text-2.result (λ put.
-    then_put (put_as (ap text_value (text_made row.act c.map.result log_word _ c.map.ensures.cases (λ x y k. search rules)) ∙ act_is row.act) c.in_ok-put_text.ensures) (
+    then_put (put_as (ap text_value c.act_word.ensures) c.in_ok-put_text.ensures) (
     then_put (put_as (ap (λ n. number_value (Some n)) c.seconds.ensures.value) c.in_ok-put_number.ensures) (
     then_put (put_as (ap (λ n. number_value (Some n)) c.from.ensures) c.in_ok-put_number-2.ensures)
     put))) c.put_text-2.ensures

@@ -1,4 +1,4 @@
-use Rattle.machine.proofs.CustodyLemmas as lemma
+use Rattle.machine.proofs.Rulings as lemma
 use Rattle.machine.proofs.laws.repeats_change_nothing.Goals as goal
 
 pub returns : goal.returns

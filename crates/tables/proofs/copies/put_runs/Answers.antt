@@ -15,5 +15,5 @@ runs-preserved g c =
     let i = c.runs.run-index in
     let run = c.run-item.result in
     let next : take (i + 1) runs ≡ take i runs ++ run ∷ [] = take_more runs i run c.runs-test.true ∙ ap (λ (r : Run). take i runs ++ r ∷ []) (sym c.run-item.is) in
-    related_then g.S.Store (Carries org ws (with_runs (take i runs))) (Carries org ws (with_runs (run ∷ []))) (Carries org ws (with_runs (take (i + 1) runs))) c.args.tx.now c.runs.tx c.put_run.new.tx tt (Ok tt)
-    (λ t u z first then. subst (λ (rs : List Run). Carries org ws (with_runs rs) t z) (sym next) (runs_carry_on org ws (take i runs) (run ∷ []) t u z first then)) c.runs.invariant c.in_ok-put_run.ensures
+    related_then g.S.Store (Carries org ws (with_runs (take i runs))) (Carries org ws (with_runs (run ∷ []))) (Carries org ws (with_runs (take (i + 1) runs))) c.args.tx.now c.runs.tx c.copy_run.new.tx tt (Ok tt)
+    (λ t u z first then. subst (λ (rs : List Run). Carries org ws (with_runs rs) t z) (sym next) (runs_carry_on org ws (take i runs) (run ∷ []) t u z first then)) c.runs.invariant c.in_ok-copy_run.ensures

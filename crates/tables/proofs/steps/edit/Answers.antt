@@ -4,7 +4,7 @@ use Rattle.tables.proofs.KeepMoves.{no_keys}
 use Rattle.tables.proofs.steps.edit.Goals as goal
 
 pub returns-in-Make : goal.returns-in-Make
-returns-in-Make g c = rw c.in-Make.is (no_keys, record { steps = c.make.ensures.steps; tells = c.make.ensures.fresh })
+returns-in-Make g c = rw c.in-Make.is (no_keys, record { steps = c.make_workspace.ensures.steps; tells = c.make_workspace.ensures.fresh })
 
 pub returns-in-Configure : goal.returns-in-Configure
 returns-in-Configure g c = rw c.in-Configure.is (no_keys, record { steps = c.configure.ensures; tells = λ clean inside. when_done c.configure.result (λ t holds. tt) })

@@ -1,7 +1,7 @@
 use Rattle.std.proofs.Common.{◌≡◌, Some, true, false, is_some, ap, ◌∙◌, arith}
 use Rattle.docs.specs.Inner.Heads.{object_in}
 use Rattle.docs.proofs.Heading.{object_whole, object_and_more, object_refused, one_left, none_left}
-use Rattle.docs.proofs.heads.read_object.Goals as goal
+use Rattle.docs.proofs.heads.read_root.Goals as goal
 
 pub returns-in_err-head-clause-err : goal.returns-in_err-head-clause-err
 returns-in_err-head-clause-err c = let none = ap object_in c.in_ok-open.ensures.ok ∙ object_refused _ c.in_err-head.ensures.err in grind (arith, none)

@@ -2,7 +2,7 @@ use Rattle.statements.proofs.Transactions.{queries_by}
 use Rattle.pages.specs.Inner.Scans.{IsPageRow}
 use Rattle.pages.proofs.RowTexts.{first_row_is_query}
 use Rattle.pages.proofs.RowReads.{first_row_shows}
-use Rattle.pages.proofs.scans.first.Goals as goal
+use Rattle.pages.proofs.scans.lowest.Goals as goal
 
 pub returns : goal.returns
 returns g c =

@@ -6,7 +6,7 @@ use Rattle.texts.proofs.Many.{when_done}
 use Rattle.tables.specs.Inner.Copies.{Carries, with_runs}
 use Rattle.tables.proofs.Copying.{related_by}
 use Rattle.tables.proofs.Standing.{run_carries}
-use Rattle.tables.proofs.copies.put_run.Goals as goal
+use Rattle.tables.proofs.copies.copy_run.Goals as goal
 
 pub returns : goal.returns
 returns g c =

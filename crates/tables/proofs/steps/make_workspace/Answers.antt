@@ -1,5 +1,5 @@
 use Rattle.pages.proofs.Looking.{steps_by}
-use Rattle.tables.proofs.steps.make.Goals as goal
+use Rattle.tables.proofs.steps.make_workspace.Goals as goal
 
 pub returns-clause-steps : goal.returns-clause-steps
 returns-clause-steps g c = steps_by g.S.Store _ _ _ _ c.add.ensures.writes
