@@ -23,6 +23,8 @@ NAME = re.compile(r"\?\?\?:([a-z_]+::[^\s\[]+)")
 GENERIC = re.compile(r"<[^<>]*>")
 # how the names of functions end that only lend a value, or are a further turn of a recursion
 LEND = (".as_str", ".as_slice", ".get", ".seconds", ".now", "'2")
+# the functions outside the files `logs` that serve the exchange log alone
+LOGGED = ("spelt_id", "id_of_act", "WsAct.number", "Look.number", "WsAct.word", "Look.word")
 LOCK = b'{"ID":"2d1f7a33-0d4e-4b7b-9f0c-7b3c5f8f0f11"}'
 
 
@@ -74,7 +76,8 @@ def files_in(text):
 
 
 def is_counted(name, function):
-    return not (name.endswith("/logs") or function.endswith(LEND) or name == "basis/names" and function[0].islower())
+    serves_the_log = name.endswith("/logs") or function in LOGGED
+    return not (serves_the_log or function.endswith(LEND) or name == "basis/names" and function[0].islower())
 
 
 def counted(files):
