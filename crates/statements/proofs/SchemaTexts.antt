@@ -8,7 +8,7 @@ use Rattle.sqlite_ast.specs.declared.Statement.TheVariants as written
 use Rattle.sqlite_resolve.specs.Compile.{first}
 use Rattle.sqlite_tied.specs.Compute.{everything}
 use Rattle.sqlite_schema.specs.declared.schema.Table.{Table}
-use Rattle.statements.specs.declared.making.TheConstants.{FIRST, SECOND, THIRD, MAKE_META, MAKE_ORG, MAKE_TOKEN, MAKE_WS, MAKE_VERSION, MAKE_RUN, MAKE_PAGE, MAKE_VPAGE, MAKE_BOUND, MAKE_EDITION, MAKE_KEEPING, MAKE_RUN_INDEX, MAKE_VERSION_INDEX, MAKE_VPAGE_INDEX}
+use Rattle.statements.specs.declared.making.TheConstants.{FIRST, SECOND, THIRD, MAKE_META, MAKE_ORG, MAKE_TOKEN, MAKE_WS, MAKE_VERSION, MAKE_RUN, MAKE_PAGE, MAKE_VPAGE, MAKE_BOUND, MAKE_EDITION, MAKE_KEEPING, MAKE_RUN_INDEX, MAKE_VPAGE_INDEX}
 use Rattle.statements.specs.Schema.{meta_table, org_table, token_table, ws_table, version_table, run_table, page_table, vpage_table, bound_table, edition_table, keeping_table}
 use Rattle.statements.specs.Inner.Making.{IsTableText, IsIndexText, IsMaker}
 use Rattle.statements.proofs.Meaning.{some_parsed}
@@ -70,10 +70,6 @@ make_run_index : IsIndexText MAKE_RUN_INDEX.now
 unfolding everything
 make_run_index = record { def = index_text (some_parsed (first MAKE_RUN_INDEX.now)).statement; parsed = some_parsed (first MAKE_RUN_INDEX.now); reads = refl; whole = refl }
 
-make_version_index : IsIndexText MAKE_VERSION_INDEX.now
-unfolding everything
-make_version_index = record { def = index_text (some_parsed (first MAKE_VERSION_INDEX.now)).statement; parsed = some_parsed (first MAKE_VERSION_INDEX.now); reads = refl; whole = refl }
-
 make_vpage_index : IsIndexText MAKE_VPAGE_INDEX.now
 unfolding everything
 make_vpage_index = record { def = index_text (some_parsed (first MAKE_VPAGE_INDEX.now)).statement; parsed = some_parsed (first MAKE_VPAGE_INDEX.now); reads = refl; whole = refl }
@@ -81,10 +77,10 @@ make_vpage_index = record { def = index_text (some_parsed (first MAKE_VPAGE_INDE
 -- what the texts of each schema make, one after another
 
 abbrev pub first_made : List (List Table)
-first_made = (meta_table ∷ []) ∷ (org_table ∷ []) ∷ (token_table ∷ []) ∷ (ws_table ∷ []) ∷ (version_table ∷ []) ∷ (run_table ∷ []) ∷ [] ∷ [] ∷ (page_table ∷ []) ∷ (vpage_table ∷ []) ∷ [] ∷ []
+first_made = (meta_table ∷ []) ∷ (org_table ∷ []) ∷ (token_table ∷ []) ∷ (ws_table ∷ []) ∷ (version_table ∷ []) ∷ (run_table ∷ []) ∷ [] ∷ (page_table ∷ []) ∷ (vpage_table ∷ []) ∷ [] ∷ []
 
 pub first_are : AllZip IsMaker (map (λ x. x.now) FIRST.now) first_made
-first_are = (make_meta, (make_org, (make_token, (make_ws, (make_tables_of, (make_run, (make_run_index, (make_version_index, (make_page, (make_vpage, (make_vpage_index, tt)))))))))))
+first_are = (make_meta, (make_org, (make_token, (make_ws, (make_tables_of, (make_run, (make_run_index, (make_page, (make_vpage, (make_vpage_index, tt))))))))))
 
 abbrev pub second_made : List (List Table)
 second_made = (bound_table ∷ []) ∷ (edition_table ∷ []) ∷ []

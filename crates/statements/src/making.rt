@@ -63,10 +63,6 @@ const MAKE_KEEPING: &str =
 const MAKE_RUN_INDEX: &str =
     "CREATE INDEX IF NOT EXISTS run_by_status ON run (org, ws, status, number)";
 
-/// By it versions are found and listed without a look at their texts.
-const MAKE_VERSION_INDEX: &str =
-    "CREATE INDEX IF NOT EXISTS version_head ON version (org, ws, number, serial, lineage, created, size)";
-
 /// By it it is known whether a page is still named, when it goes.
 const MAKE_VPAGE_INDEX: &str = "CREATE INDEX IF NOT EXISTS vpage_page ON vpage (pkey, twin)";
 
@@ -80,7 +76,6 @@ const FIRST: &[&str] = &[
     MAKE_VERSION,
     MAKE_RUN,
     MAKE_RUN_INDEX,
-    MAKE_VERSION_INDEX,
     MAKE_PAGE,
     MAKE_VPAGE,
     MAKE_VPAGE_INDEX,

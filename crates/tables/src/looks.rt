@@ -489,7 +489,7 @@ fn unit_by(retention: Retention, workspace: WorkspaceCells, around: Surroundings
     WorkspaceUnit {
         settings: Settings {
             runs: workspace.runs,
-            retention: retention,
+            retention,
         },
         holder: workspace.holder,
         holder_status: runs.holder_status,
