@@ -123,6 +123,9 @@ const FEWEST_PAGES: u64 = 2_000;
 /// Of how many bytes of a file all pages are kept in memory.
 const MOST_BYTES: u64 = 134_217_728;
 
+/// The most pages that a change has in memory. Behind them all go to the log, which they come to anyway.
+const MOST_HELD: usize = 256;
+
 // How many bytes a page of a file has, as the bytes 16 and 17 of its header tell, where 65,536 don't fit. Only before the
 // file is opened: who closes it gives up the locks that its process has on it.
 fn page_bytes(rt: &HostRuntime, path: &str) -> io::Result<u64> {
@@ -148,6 +151,7 @@ fn options(rt: &HostRuntime, path: &str) -> io::Result<Options> {
     let mut options = Options::new(RandomState::new(rt)?.hash_one(&0u8));
     let pages = page_count(rt, path).unwrap_or(0);
     options.cache_pages = pages.max(FEWEST_PAGES) as usize;
+    options.spill_pages = MOST_HELD;
     Ok(options)
 }
 
