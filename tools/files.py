@@ -27,8 +27,14 @@ CORRUPT = b"custody: the file is damaged: a page's sum or form is wrong\n"
 UNSOUND = b"custody: the file is damaged or no database: its rows break its schema\n"
 DISK = b"custody: the disk or the system refused\n"
 SHUT = b"custody: a fault of the disk has shut the store: see to the disk\n"
-# Runs the words behind it with files of at most 8 blocks of 512 bytes, whose writes fail beyond that and don't end the program.
-SMALL_FILES = ["sh", "-c", "trap '' XFSZ; ulimit -f 8; exec \"$@\"", "sh"]
+
+
+def small_files(blocks):
+    """Runs the words behind it with files of at most so many blocks of 512 bytes, whose writes fail beyond that and don't end the program."""
+    return ["sh", "-c", f"trap '' XFSZ; ulimit -f {blocks}; exec \"$@\"", "sh"]
+
+
+SMALL_FILES = small_files(8)
 SECRET = b"adminadminadmin1\n"
 
 TEXTS = [b'{"serial":%d,"x":"%s"}' % (serial, b"%d " % serial * 9000) for serial in (1, 2)]
@@ -210,6 +216,24 @@ def look_at_full(program):
     print("right: a store for which there is no room goes on")
 
 
+def look_at_half(program):
+    """A change whose first pages are in the log, where there is no room for the others, leaves all as it was; the next one is made."""
+    filled(program, "half.db")
+    service = Service(program, "half.db", 4, under=small_files(4096))
+    try:
+        get, text = request(b"GET /v1/acme/state/net HTTP/1.1"), b'{"serial":3}'
+        large = b'{"serial":3,"x":"%s"}' % b"".join(b"%07d " % number for number in range(500_000))
+        said("the change for which there is half of the room", exchanged(service.port, request(b"POST /v1/acme/state/net HTTP/1.1", large)), DOWN)
+        said("a read after it", exchanged(service.port, get), reply(b"200 OK", TEXTS[-1]))
+        said("the next change", exchanged(service.port, request(b"POST /v1/acme/state/net HTTP/1.1", text)), reply(b"200 OK", b""))
+        said("a read of it", exchanged(service.port, get), reply(b"200 OK", text))
+        service.ends(0, b"", ANSWERED_503 % 1)
+    finally:
+        service.kill()
+    said("no fault in the file", program.run(["check", "--db", "half.db"]), (0, b"ok\n", b""))
+    print("right: a change for which there is half of the room leaves all as it was")
+
+
 def look_at_shut(program):
     """A fault of the disk that shuts the store ends the service, once that is answered and told; what was acknowledged stands there."""
     filled(program, "shut.db")
@@ -230,4 +254,4 @@ def look_at_shut(program):
 
 
 if __name__ == "__main__":
-    look_at(__doc__, look_at_modes, look_at_owners, look_at_reasons, look_at_spoiled, look_at_full, look_at_shut)
+    look_at(__doc__, look_at_modes, look_at_owners, look_at_reasons, look_at_spoiled, look_at_full, look_at_half, look_at_shut)
