@@ -36,8 +36,12 @@ pub const NO_CUTS: Cuts = Cuts {
     db: NEVER,
 };
 
-/// How many pages of the database, read or written, are kept in memory: more than a story's database has.
+/// How many pages that were read are kept in memory: more than a story's database has.
 const PAGES_KEPT: usize = 100;
+
+/// How many pages a change has in memory: fewer than a state's change has, so that the power is also cut where some are in
+/// the log before it is committed.
+const PAGES_HELD: usize = 6;
 
 /// How long the log grows before it is copied into the file: it is copied in the midst of a story, too.
 const FRAMES_KEPT: usize = 24;
@@ -151,7 +155,7 @@ fn images_of(alloc: Global, files: Pair) -> Result<Vec<Image>, AllocError> {
 fn options() -> Options {
     Options {
         cache_pages: PAGES_KEPT,
-        spill_pages: PAGES_KEPT,
+        spill_pages: PAGES_HELD,
         checkpoint_frames: FRAMES_KEPT,
         seed: SEED,
     }
