@@ -52,13 +52,9 @@ def texts(folder):
     return found
 
 
-def main():
-    if len(sys.argv) < 3 or sys.argv[1] in ("-h", "--help"):
-        sys.exit(__doc__)
-    gate, name, more, of = os.path.abspath(sys.argv[1]), sys.argv[2], sys.argv[3:], crates()
-    source = []
-    if more[:1] == ["--source"]:
-        source, more = more[1].split(","), more[2:]
+def command(gate, name, source):
+    """The words that check this crate over the libraries in `gate`, in whichever copy of its folder they are run."""
+    of = crates()
     if name not in of:
         sys.exit(f"{name} is no crate of crates.txt")
     kit = os.path.dirname(subprocess.run(["rt", "doc"], capture_output=True, text=True, check=True).stdout.strip())
@@ -83,7 +79,18 @@ def main():
         if one in source:
             words += ["--lib", f"{one}:{','.join(['std', *of[one]])}={TOP}/crates/{one}/src/lib.rt"]
     words += ["--antt-project", f"{kit}/rattle/logic/antt-project.json", "--logic-built", f"{kit}/logic_built", "--links", f"{name}="]
-    sys.exit(subprocess.run([*words, "--jobs", "1", "--incremental", kept, *more], cwd=folder).returncode)
+    return [*words, "--jobs", "1", "--incremental", kept]
 
 
-main()
+def main():
+    if len(sys.argv) < 3 or sys.argv[1] in ("-h", "--help"):
+        sys.exit(__doc__)
+    gate, name, more = os.path.abspath(sys.argv[1]), sys.argv[2], sys.argv[3:]
+    source = []
+    if more[:1] == ["--source"]:
+        source, more = more[1].split(","), more[2:]
+    sys.exit(subprocess.run([*command(gate, name, source), *more], cwd=f"{TOP}/crates/{name}").returncode)
+
+
+if __name__ == "__main__":
+    main()
