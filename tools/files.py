@@ -216,14 +216,18 @@ def look_at_full(program):
     print("right: a store for which there is no room goes on")
 
 
+def large_text(serial, count):
+    """A state with so many numbers of seven digits, so that its pages differ."""
+    return b'{"serial":%d,"x":"%s"}' % (serial, b"".join(b"%07d " % number for number in range(count)))
+
+
 def look_at_half(program):
     """A change whose first pages are in the log, where there is no room for the others, leaves all as it was; the next one is made."""
     filled(program, "half.db")
     service = Service(program, "half.db", 4, under=small_files(4096))
     try:
         get, text = request(b"GET /v1/acme/state/net HTTP/1.1"), b'{"serial":3}'
-        large = b'{"serial":3,"x":"%s"}' % b"".join(b"%07d " % number for number in range(500_000))
-        said("the change for which there is half of the room", exchanged(service.port, request(b"POST /v1/acme/state/net HTTP/1.1", large)), DOWN)
+        said("the change for which there is half of the room", exchanged(service.port, request(b"POST /v1/acme/state/net HTTP/1.1", large_text(3, 500_000))), DOWN)
         said("a read after it", exchanged(service.port, get), reply(b"200 OK", TEXTS[-1]))
         said("the next change", exchanged(service.port, request(b"POST /v1/acme/state/net HTTP/1.1", text)), reply(b"200 OK", b""))
         said("a read of it", exchanged(service.port, get), reply(b"200 OK", text))
@@ -232,6 +236,23 @@ def look_at_half(program):
         service.kill()
     said("no fault in the file", program.run(["check", "--db", "half.db"]), (0, b"ok\n", b""))
     print("right: a change for which there is half of the room leaves all as it was")
+
+
+def look_at_log(program):
+    """The log is copied into the file by the change behind its 4,000th page: so not behind a state of 4 MB, which has over 1,000, and behind one of 16 MB."""
+    filled(program, "log.db")
+    service = Service(program, "log.db", 4)
+    try:
+        before = os.path.getsize(program.folder + "/log.db")
+        for serial, count in ((3, 500_000), (5, 2_000_000)):
+            text = large_text(serial, count)
+            for one in (text, b'{"serial":%d}' % (serial + 1)):
+                said("a change", exchanged(service.port, request(b"POST /v1/acme/state/net HTTP/1.1", one)), reply(b"200 OK", b""))
+            said(f"whether {len(text)} bytes are copied", os.path.getsize(program.folder + "/log.db") - before > len(text), serial == 5)
+        service.ends()
+    finally:
+        service.kill()
+    print("right: the log is copied into the file by the change behind its 4,000th page, and not before")
 
 
 def look_at_shut(program):
@@ -254,4 +275,4 @@ def look_at_shut(program):
 
 
 if __name__ == "__main__":
-    look_at(__doc__, look_at_modes, look_at_owners, look_at_reasons, look_at_spoiled, look_at_full, look_at_half, look_at_shut)
+    look_at(__doc__, look_at_modes, look_at_owners, look_at_reasons, look_at_spoiled, look_at_full, look_at_half, look_at_log, look_at_shut)

@@ -126,8 +126,8 @@ const MOST_BYTES: u64 = 134_217_728;
 /// The most pages that a change has in memory. Behind them all go to the log, which they come to anyway.
 const MOST_HELD: usize = 256;
 
-/// Behind how many pages, 16 MB of them, the log is copied into the file. Of a page that has changed again and again, as those of
-/// indexes do, the newest alone is copied, so a longer log writes less.
+/// Behind how many pages, 16 MB of them, the next change copies the log into the file. Of a page that has changed again and again,
+/// as those of indexes do, the newest alone is copied, so a longer log writes less.
 const MOST_LOGGED: usize = 4_000;
 
 // How many bytes a page of a file has, as the bytes 16 and 17 of its header tell, where 65,536 don't fit. Only before the
