@@ -239,12 +239,12 @@ def look_at_half(program):
 
 
 def look_at_log(program):
-    """The log is copied into the file by the change behind its 4,000th page: so not behind a state of 4 MB, which has over 1,000, and behind one of 16 MB."""
+    """The log is copied into the file by the change behind its 1,000th page: so not behind a state of 1 MB, and behind one of 4 MB, which has more."""
     filled(program, "log.db")
     service = Service(program, "log.db", 4)
     try:
         before = os.path.getsize(program.folder + "/log.db")
-        for serial, count in ((3, 500_000), (5, 2_000_000)):
+        for serial, count in ((3, 125_000), (5, 500_000)):
             text = large_text(serial, count)
             for one in (text, b'{"serial":%d}' % (serial + 1)):
                 said("a change", exchanged(service.port, request(b"POST /v1/acme/state/net HTTP/1.1", one)), reply(b"200 OK", b""))
@@ -252,7 +252,7 @@ def look_at_log(program):
         service.ends()
     finally:
         service.kill()
-    print("right: the log is copied into the file by the change behind its 4,000th page, and not before")
+    print("right: the log is copied into the file by the change behind its 1,000th page, and not before")
 
 
 def look_at_shut(program):

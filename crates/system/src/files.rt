@@ -126,10 +126,6 @@ const MOST_BYTES: u64 = 134_217_728;
 /// The most pages that a change has in memory. Behind them all go to the log, which they come to anyway.
 const MOST_HELD: usize = 256;
 
-/// Behind how many pages, 16 MB of them, the next change copies the log into the file. Of a page that has changed again and again,
-/// as those of indexes do, the newest alone is copied, so a longer log writes less.
-const MOST_LOGGED: usize = 4_000;
-
 // How many bytes a page of a file has, as the bytes 16 and 17 of its header tell, where 65,536 don't fit. Only before the
 // file is opened: who closes it gives up the locks that its process has on it.
 fn page_bytes(rt: &HostRuntime, path: &str) -> io::Result<u64> {
@@ -156,7 +152,6 @@ fn options(rt: &HostRuntime, path: &str) -> io::Result<Options> {
     let pages = page_count(rt, path).unwrap_or(0);
     options.cache_pages = pages.max(FEWEST_PAGES) as usize;
     options.spill_pages = MOST_HELD;
-    options.checkpoint_frames = MOST_LOGGED;
     Ok(options)
 }
 
