@@ -217,8 +217,8 @@ def look_at_full(program):
 
 
 def large_text(serial, count):
-    """A state with so many numbers of seven digits, so that its pages differ."""
-    return b'{"serial":%d,"x":"%s"}' % (serial, b"".join(b"%07d " % number for number in range(count)))
+    """A state with so many numbers of seven digits, so that its pages differ, and those of another serial from them."""
+    return b'{"serial":%d,"x":"%s"}' % (serial, b"".join(b"%07d " % (serial * 1_000_000 + number) for number in range(count)))
 
 
 def look_at_half(program):
@@ -239,20 +239,28 @@ def look_at_half(program):
 
 
 def look_at_log(program):
-    """The log is copied into the file by the change behind its 1,000th page: so not behind a state of 1 MB, and behind one of 4 MB, which has more."""
+    """The log is copied into the file behind the reply to a state of 4 MB, which fills it; where smaller states fill it, by the change behind its
+    1,000th page. A read tells when what is done behind a reply is done."""
     filled(program, "log.db")
-    service = Service(program, "log.db", 4)
+    service = Service(program, "log.db", 12)
+
+    def size_behind(text):
+        said("a change", exchanged(service.port, request(b"POST /v1/acme/state/net HTTP/1.1", text)), reply(b"200 OK", b""))
+        said("a read behind it", exchanged(service.port, request(b"GET /v1/acme/state/net HTTP/1.1")), reply(b"200 OK", text))
+        return os.path.getsize(program.folder + "/log.db")
+
     try:
         before = os.path.getsize(program.folder + "/log.db")
-        for serial, count in ((3, 125_000), (5, 500_000)):
-            text = large_text(serial, count)
-            for one in (text, b'{"serial":%d}' % (serial + 1)):
-                said("a change", exchanged(service.port, request(b"POST /v1/acme/state/net HTTP/1.1", one)), reply(b"200 OK", b""))
-            said(f"whether {len(text)} bytes are copied", os.path.getsize(program.folder + "/log.db") - before > len(text), serial == 5)
+        text = large_text(3, 500_000)
+        after = size_behind(text)
+        said("whether 4 MB are copied", after - before > len(text), True)
+        smaller = [large_text(serial, 123_000) for serial in (4, 5, 6, 7)]
+        said("the file behind four states of less than 1 MB each", [size_behind(text) for text in smaller], 4 * [after])
+        said("whether they are copied with the next change", size_behind(b'{"serial":8}') - after > sum(map(len, smaller)), True)
         service.ends()
     finally:
         service.kill()
-    print("right: the log is copied into the file by the change behind its 1,000th page, and not before")
+    print("right: the log is copied into the file behind a reply where a state has filled it, else by the change behind its 1,000th page")
 
 
 def look_at_shut(program):

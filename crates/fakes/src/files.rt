@@ -69,6 +69,9 @@ impl Files<PlainKeep> for MemoryFile<'_> {
     // A store in memory is never shut.
     ghost shuts = { λ store said after. (said ≡ Ok false) × (after ≡ store) };
 
+    // It has no log.
+    ghost checkpoints = { λ store after. after ≡ store };
+
     // It has no tables: which faults are found is told to it.
     ghost finds = { λ store _ after. after ≡ store };
 
@@ -94,6 +97,10 @@ impl Files<PlainKeep> for MemoryFile<'_> {
 
     fn is_shut(&self, _store: &mut PlainKeep) -> Result<bool, Down> {
         Ok(false)
+    }
+
+    fn checkpoint(&self, _store: &mut PlainKeep) -> Result<(), Down> {
+        Ok(())
     }
 
     fn check(&self, alloc: Global, _store: &mut PlainKeep) -> Result<Items<Text>, Down> {

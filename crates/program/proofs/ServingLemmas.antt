@@ -23,7 +23,7 @@ use Rattle.program.specs.declared.outside.Connections as connections
 use Rattle.program.specs.declared.outside.Files as files
 use Rattle.program.specs.declared.outside.Clock as clock
 use Rattle.command_line.specs.declared.timeouts.Timeouts.{Timeouts}
-use Rattle.program.specs.Serving.{AreRequests, Serves, State, AsksAfter, AnswersNext, AnswersAll}
+use Rattle.program.specs.Serving.{AreRequests, Serves, State, Tends, AnswersNext, AnswersAll}
 use Rattle.program.specs.Inner.Serving.{TakesOne, ServesTo}
 
 answered : (now : ℕ) (received : List ℕ) (old new : List ℕ → Option Organization) (awaited : Bool) (text : List ℕ) (row : Option LogRow) → IsMoment now → (is_down : Bool) → IsAnswered now received old new awaited text row is_down → TakesOne old new
@@ -99,23 +99,23 @@ serves_of count most old new le so_far = record {
   rows = so_far.run.rows;
 }
 
--- what is so after the question whether a store is shut
+-- what is so once the store was tended
 module _ {K F : Type 0} (k : keep.Ghosts K) (f : files.Ghosts F K) where
-  pub asked_so_far : (is_down : Bool) (old : K) (is_shut : Bool) (new : K) → AsksAfter k f is_down old is_shut new → k.clean new → k.clean old
-  asked_so_far true old is_shut new asks clean = asks.2.so_far clean
-  asked_so_far false old is_shut new asks clean = subst (λ (store : K). k.clean store) asks.1 clean
+  pub tended_so_far : (is_down : Bool) (old : K) (is_shut : Bool) (new : K) → Tends k f is_down old is_shut new → k.clean new → k.clean old
+  tended_so_far true old is_shut new tends clean = tends.2.so_far clean
+  tended_so_far false old is_shut new tends clean = tends.2.so_far clean
 
-  pub asked_shield : (is_down : Bool) (old : K) (is_shut : Bool) (new : K) → AsksAfter k f is_down old is_shut new → k.shielded old → k.shielded new
-  asked_shield true old is_shut new asks is = asks.2.shield is
-  asked_shield false old is_shut new asks is = subst (λ (store : K). k.shielded store) (sym asks.1) is
+  pub tended_shield : (is_down : Bool) (old : K) (is_shut : Bool) (new : K) → Tends k f is_down old is_shut new → k.shielded old → k.shielded new
+  tended_shield true old is_shut new tends is = tends.2.shield is
+  tended_shield false old is_shut new tends is = tends.2.shield is
 
-  pub asked_kept : (is_down : Bool) (old : K) (is_shut : Bool) (new : K) → AsksAfter k f is_down old is_shut new → k.clean new → k.sound old → k.sound new
-  asked_kept true old is_shut new asks clean sound = asks.2.kept clean sound
-  asked_kept false old is_shut new asks clean sound = subst (λ (store : K). k.sound store) (sym asks.1) sound
+  pub tended_kept : (is_down : Bool) (old : K) (is_shut : Bool) (new : K) → Tends k f is_down old is_shut new → k.clean new → k.sound old → k.sound new
+  tended_kept true old is_shut new tends clean sound = tends.2.kept clean sound
+  tended_kept false old is_shut new tends clean sound = tends.2.kept clean sound
 
-  pub asked_rows : (is_down : Bool) (old : K) (is_shut : Bool) (new : K) → AsksAfter k f is_down old is_shut new → k.clean new → k.rows new ≡ k.rows old
-  asked_rows true old is_shut new asks clean = λ i org. asks.2.same clean org i
-  asked_rows false old is_shut new asks clean = ap k.rows asks.1
+  pub tended_rows : (is_down : Bool) (old : K) (is_shut : Bool) (new : K) → Tends k f is_down old is_shut new → k.clean new → k.sound old → k.rows new ≡ k.rows old
+  tended_rows true old is_shut new tends clean sound = λ i org. tends.2.same clean org i
+  tended_rows false old is_shut new tends clean sound = λ i org. tends.2.same clean sound org i
 
 -- one connection more behind those that were answered
 module _ {K F N C R W : Type 0} (k : keep.Ghosts K) (f : files.Ghosts F K) (n : connections.Ghosts N R W) (c : clock.Ghosts C) (i : inlet.Ghosts R) (o : outlet.Ghosts W) where

@@ -12,3 +12,4 @@ pub mod Paths
 pub mod Replies
 pub mod Secrets
 pub mod Serving
+pub mod Upkeep

@@ -14,6 +14,7 @@ use Rattle.serve.specs.Exchanges.{Exchanges, ChangesAsTold}
 use Rattle.serve.specs.Service.{AreAsked}
 use Rattle.serve.specs.Runs.{IsOwnRecord}
 use Rattle.program.specs.Errors.{GetsConnectionLines, GetsFront, cause_line}
+use Rattle.program.specs.Upkeep.{Upkeep}
 use Rattle.program.specs.Logs.{row_text, tells_act, with_log, Logs, Line, log_text, ChangeByLines}
 use Rattle.program.specs.declared.reasons.Cause.{Cause}
 use Rattle.program.specs.declared.reasons.Cause.TheVariants as cause
@@ -94,10 +95,10 @@ says_shut (Err down) = false
 
 module _ {K F : Type 0} (k : keep.Ghosts K) (f : files.Ghosts F K) where
   -- after the 503 the files are asked whether a fault of the disk has shut the store, and say so or not; after another reply
-  -- they aren't asked
-  abbrev pub AsksAfter : Bool → K → Bool → K → Type 0
-  AsksAfter true old is_shut new = (said : Result Bool Down) × f.shuts old said new × Looks k.rows k.clean k.sound k.shielded old new × (is_shut ≡ says_shut said)
-  AsksAfter false old is_shut new = (is_shut ≡ false) × (new ≡ old)
+  -- they aren't asked, and copy the log where it is long
+  abbrev pub Tends : Bool → K → Bool → K → Type 0
+  Tends true old is_shut new = (said : Result Bool Down) × f.shuts old said new × Looks k.rows k.clean k.sound k.shielded old new × (is_shut ≡ says_shut said)
+  Tends false old is_shut new = (is_shut ≡ false) × f.checkpoints old new × Upkeep k.rows k.clean k.sound k.shielded old new
 
 module _ {K N C R W : Type 0} (k : keep.Ghosts K) (n : connections.Ghosts N R W) (c : clock.Ghosts C) (i : inlet.Ghosts R) (o : outlet.Ghosts W) where
   -- a connection is accepted with these timeouts, the clock tells this moment, and the connection is answered as that of
@@ -111,12 +112,12 @@ module _ {K N C R W : Type 0} (k : keep.Ghosts K) (n : connections.Ghosts N R W)
     pub answers : AnswersOne k n i o logs place at is_down is_told reader writer network new.network old.store new.store old.errors new.errors old.output new.output
 
 module _ {K F N C R W : Type 0} (k : keep.Ghosts K) (f : files.Ghosts F K) (n : connections.Ghosts N R W) (c : clock.Ghosts C) (i : inlet.Ghosts R) (o : outlet.Ghosts W) where
-  -- a connection is answered so, and then it is known whether a fault of the disk has shut the store
+  -- a connection is answered so, and then the store is tended, and it is known whether a fault of the disk has shut it
   pub record AnswersNext (timeouts : Timeouts) (logs : Bool) (place at : ℕ) (is_shut is_told : Bool) (old new : State N C K) : Type 0 where
     pub is_down : Bool
     pub store : K
     pub answers : Answers k n c i o timeouts logs place at is_down is_told old (state new.network new.clock store new.errors new.output)
-    pub asks : AsksAfter k f is_down store is_shut new.store
+    pub tends : Tends k f is_down store is_shut new.store
 
   -- connections are answered in turn, one at each of these moments, each with these timeouts, by numbers from this one on; and
   -- after none of them was the store shut, and of none was the log's line not taken

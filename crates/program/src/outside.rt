@@ -10,6 +10,7 @@ ghost use Rattle.machine.specs.Keeping.{Looks};
 ghost use Rattle.program.specs.Moves.{org_copied};
 ghost use Rattle.program.specs.Paths.{AllStay, OthersStay};
 ghost use Rattle.program.specs.Replies.{AreReplies};
+ghost use Rattle.program.specs.Upkeep.{Upkeep};
 
 use crate::reasons::{Cause, OpenFault};
 use basis::{Bytes, Down, Items, Moment, OrgName, Text};
@@ -40,6 +41,9 @@ pub trait Files<K: Keep> {
     // What finds out whether a fault of the disk has shut a store: the store before and after.
     ghost shuts: { K → Result Bool AnyDown → K → Type 0 };
 
+    // What copies the log of a store into its file where it is long: the store before and after.
+    ghost checkpoints: { K → K → Type 0 };
+
     // What a look for faults in the tables of a store finds: the store before, a line for each fault, the store after.
     ghost finds: { K → Result (List (List ℕ)) AnyDown → K → Type 0 };
 
@@ -66,6 +70,12 @@ pub trait Files<K: Keep> {
     fn is_shut(&self, store: &mut K) -> Result<bool, Down>
         ensures told { shuts store.old result store.new }
         ensures looks { Looks K.rows K.clean K.sound K.shielded store.old store.new };
+
+    /// Copies the log of a store into its file where it is long, so that the next change needn't. No record of a sound
+    /// store changes. An error where memory or the store refused.
+    fn checkpoint(&self, store: &mut K) -> Result<(), Down>
+        ensures done { checkpoints store.old store.new }
+        ensures upkeep { Upkeep K.rows K.clean K.sound K.shielded store.old store.new };
 
     /// Looks for faults in the tables of a store: a line for each, without its line feed, and 50 at most. Where
     /// there is none the store is sound. An error where memory or the store refused.

@@ -5,7 +5,7 @@ ghost use Rattle.std.specs.Io.KnownBytes.{Appends, Consumes};
 ghost use Rattle.serve.specs.Exchanges.{Exchanges, ChangesAsTold};
 ghost use Rattle.wire.specs.Links.{Writes};
 ghost use Rattle.program.specs.Errors.{GetsConnectionLines, fault_text, down_line, fault_line};
-ghost use Rattle.program.specs.Serving.{listening_line, ListensAt, Serves, state, AcceptsNone, AnswersOne, Answers, AsksAfter, AnswersNext, EndsEarly, AnswersCount, LogTellsChanges};
+ghost use Rattle.program.specs.Serving.{listening_line, ListensAt, Serves, state, AcceptsNone, AnswersOne, Answers, Tends, AnswersNext, EndsEarly, AnswersCount, LogTellsChanges};
 ghost use Rattle.program.specs.Inner.Serving.{TakesOne};
 
 use crate::endings::Ending;
@@ -181,11 +181,13 @@ fn answer_next<K: Keep, N: Connections, C: Clock, O: Write, E: Write>(
     ))
 }
 
-// After the 503 the files are asked whether a fault of the disk has shut the store.
-fn ask_after<K: Keep, F: Files<K>>(files: &F, service: &mut Service<K>) -> bool
-    ensures { AsksAfter K.Keep F.Files service.old.was_down service.old.keep result service.new.keep }
+// After the 503 the files are asked whether a fault of the disk has shut the store. After another reply they copy the log
+// where it is long, while nobody waits for an answer; what they refuse then, the next request meets.
+fn tend<K: Keep, F: Files<K>>(files: &F, service: &mut Service<K>) -> bool
+    ensures { Tends K.Keep F.Files service.old.was_down service.old.keep result service.new.keep }
 {
     if !service.was_down() {
+        let _ = files.checkpoint(&mut service.keep);
         return false;
     }
     match files.is_shut(&mut service.keep) {
@@ -220,7 +222,7 @@ fn serve_next<K: Keep, F: Files<K>, N: Connections, C: Clock, O: Write, E: Write
         Ok(is_told) => is_told,
         Err(cause) => return Err(cause),
     };
-    if ask_after(files, service) {
+    if tend(files, service) {
         Err(Cause::Shut)
     } else if is_told {
         Ok(())

@@ -30,6 +30,7 @@ use Rattle.statements.specs.Place.{StandsAt, tree_of}
 use Rattle.statements.specs.Schema.{edition_table}
 use Rattle.statements.specs.Rows.{Kept, id_of, stored, number, edition_cells}
 use Rattle.statements.specs.Tables.{Tables, Holds, HoldsIn, count_in, edition_layout}
+use Rattle.statements.specs.Changes.{newest_told}
 use Rattle.statements.specs.Making.{HasEdition, like_edition, told_schema_version, edition_in}
 use Rattle.statements.specs.Inner.Making.{Moved, Told, edition_set, edition_moved}
 use Rattle.statements.specs.Calls.{IsQuery, FirstRow, Pins, IsNumber}
@@ -41,7 +42,7 @@ use Rattle.statements.proofs.Answered.{answered, point, first_is}
 use Rattle.statements.proofs.Commands.{is_number, update_query, point_rest, point_draft, no_page}
 use Rattle.statements.proofs.Own.{put_own, update_own, insert_others, stored_tree}
 use Rattle.statements.proofs.Casts.{edition_casts}
-use Rattle.statements.proofs.Frames.{moved_by, written_in}
+use Rattle.statements.proofs.Frames.{Turns, moved_by, written_in, updated}
 use Rattle.statements.proofs.Held.{IsHeld, editions, held_in, holds_all}
 use Rattle.statements.proofs.PointReads.{pinned}
 use Rattle.statements.proofs.ReadBack.{number_read}
@@ -166,3 +167,7 @@ set_version_does n some old new count ran = record {
   moved = set_version_moves n some n old new count ran;
   leaves = λ own. insert_others edition_table old new own set_version_text (number n ∷ []) count ran (Values set_version_terms 3) (set_version_means old.now.schema _ _ own.place) refl refl;
 }
+
+-- the newest version is said once more
+pub retold : (old new : State) (count : ℕ) (t : Tables) → Holds old.now t → Executes move_version_text (number NEWEST ∷ []) old new (Ok count) → Turns old.now new.now (newest_told t)
+retold old new count t h ran = updated editions edition_casts old new count t h _ _ ran (move_version_means old.now.schema) (λ x. true) (λ x. refl) (λ r. NEWEST) (λ x. refl) tt

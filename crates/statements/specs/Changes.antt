@@ -16,6 +16,7 @@ use Rattle.statements.specs.declared.rows.Workspace.{Workspace}
 use Rattle.basis.specs.declared.rows.RunRow.{RunRow as Run}
 use Rattle.statements.specs.Rows.{Kept, id_of, OrgRow, TokenRow, WsRow, VersionRow, RunRow, BoundRow, KeepingRow}
 use Rattle.statements.specs.Tables.{Tables}
+use Rattle.statements.specs.declared.making.TheConstants.{NEWEST}
 
 -- one more row, behind the others and with the next rowid
 abbrev pub with_next : {R : Type 0} → R → List (Kept R) → List (Kept R)
@@ -25,6 +26,12 @@ with_next r xs = xs ++ (next_key id_of xs, r) ∷ []
 abbrev pub with_all : {R : Type 0} → List R → List (Kept R) → List (Kept R)
 with_all [] xs = xs
 with_all (r ∷ rs) xs = with_all rs (with_next r xs)
+
+-- ---- the version
+
+-- edition tells the newest version, where it tells one
+abbrev pub newest_told : Tables → Tables
+newest_told t = record t { editions = map (λ x. (x.0, NEWEST)) t.editions }
 
 -- ---- organizations
 

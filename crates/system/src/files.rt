@@ -118,7 +118,7 @@ fn is_any_readable(rt: &HostRuntime, path: &str) -> io::Result<bool> {
 }
 
 /// The fewest pages of a file that are kept in memory.
-const FEWEST_PAGES: u64 = 2_000;
+const FEWEST_PAGES: u64 = 5_000;
 
 /// Of how many bytes of a file all pages are kept in memory.
 const MOST_BYTES: u64 = 134_217_728;
@@ -315,6 +315,9 @@ impl<S: Start> Files<FileKeep<S>> for DiskFiles<'_, S> {
     // A store is shut where its connection is, while its disk kept what it promised.
     ghost shuts = { λ store said after. ⟦<FileKeep<S> as Keep>⟧.clean after → IfOk said (λ is_shut. (file_state store.conn).is_open ≡ not is_shut) };
 
+    // How long a log is, and where its pages lie, no clause of the kit tells.
+    ghost checkpoints = { λ _ _. ⊤ };
+
     // No fault is found exactly where the tables are sound and each page's key is the SHA-256 of its bytes, while the disk
     // kept what it promised, of tables that stand in the database as ours are defined.
     ghost finds = { λ store said after. ⟦<FileKeep<S> as Keep>⟧.clean after → IfOk said (λ lines. (t : Tables) → Holds (file_state store.conn).committed t → (lines ≡ [] → IsSound t × ArePagesKeyed sha256 t) × (IsSound t → ArePagesKeyed sha256 t → lines ≡ [])) };
@@ -351,6 +354,10 @@ impl<S: Start> Files<FileKeep<S>> for DiskFiles<'_, S> {
 
     fn is_shut(&self, store: &mut FileKeep<S>) -> Result<bool, Down> {
         store.is_shut()
+    }
+
+    fn checkpoint(&self, store: &mut FileKeep<S>) -> Result<(), Down> {
+        store.checkpoint()
     }
 
     fn check(&self, alloc: Global, store: &mut FileKeep<S>) -> Result<Items<Text>, Down> {

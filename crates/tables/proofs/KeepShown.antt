@@ -1,5 +1,5 @@
 -- From the rows of a connection to the records of its store.
-use Rattle.std.proofs.Common.{◌≡◌, ◌≢◌, ℕ, ◌<◌, ◌≤◌, ◌||◌, List, [], length, is_some, Option, Some, None, IfSome, IsTrue, refl, sym, ap, ◌∙◌, subst}
+use Rattle.std.proofs.Common.{◌≡◌, ◌≢◌, ℕ, ◌<◌, ◌≤◌, ◌||◌, List, [], map, length, is_some, Option, Some, None, IfSome, IsTrue, refl, sym, ap, ◌∙◌, subst}
 use Rattle.sqlite.specs.Effect.{Database}
 use Rattle.sqlite.specs.State.{State, KeepsCommit}
 use Rattle.basis.specs.Names.{is_org_name, is_ws_name, is_prefix}
@@ -21,9 +21,11 @@ use Rattle.machine.specs.declared.records.Organization.{Organization}
 use Rattle.machine.specs.declared.keeps.AdminAnswer.{AdminAnswer}
 use Rattle.machine.specs.declared.keeps.TokenRow.{TokenRow}
 use Rattle.machine.specs.declared.keeps.AdminAnswer.TheVariants.{Done, Exists, Absent}
-use Rattle.statements.specs.Changes.{org_row_added, org_capped, token_added, token_removed}
+use Rattle.statements.specs.Changes.{newest_told, org_row_added, org_capped, token_added, token_removed}
 use Rattle.statements.specs.Finds.{cap_of, role_of_name, role_of_digest}
+use Rattle.statements.specs.Steps.{AnyRows}
 use Rattle.statements.specs.Tables.{Tables, Holds, tables_of}
+use Rattle.statements.specs.declared.making.TheConstants.{NEWEST}
 use Rattle.statements.proofs.Decoding.{tables-held}
 use Rattle.tables.specs.Inner.Edits.{changed_rows, TakesEdit}
 use Rattle.tables.specs.Records.{record_of}
@@ -42,6 +44,7 @@ use Rattle.tables.specs.Inner.Units.{text_in, unit_in}
 use Rattle.tables.specs.Stores.{records_of, IsSoundStore}
 use Rattle.tables.specs.Opening.{IsSoundKeep}
 use Rattle.tables.specs.declared.counts.Counted.{Counted}
+use Rattle.tables.specs.Counting.{IsCounted}
 use Rattle.tables.specs.Inner.Counting.{known_of, looked, changed_count}
 use Rattle.tables.proofs.Remembering.{known_is, kept_is, changed_is}
 use Rattle.tables.specs.Inner.Steps.{Commits, org_managed_by, org_managed, limit_managed_by, limit_managed, token_managed_by, token_managed, revocation_managed_by, revocation_managed}
@@ -134,6 +137,28 @@ module _ {counted : Option Counted} (db : Database) (a : State) (s : IsSoundKeep
       applied_keeps o named there due = record {
         store = store_changed_keeps db b.committed s.store keys org ws change moves takes o named there due;
         counts = changed_is (records_of db) (records_of b.committed) org ws change applied_other o there (applied_own o there due) counted s.counts;
+        tied = λ _. refl;
+      }
+
+    -- ---- the version is said once more
+
+    module _ (done : Commits newest_told AnyRows a b) where
+      retold_holds : Holds b.committed now
+      retold_holds =
+          let told = s.store.sound.told.0 in
+          let same : newest_told now ≡ now = ap (λ es. record now { editions = es }) (ap (map (λ x. (x.0, NEWEST))) told ∙ sym told) in
+          subst (Holds b.committed) same (done.rows now (held done.was_open))
+
+      retold_same : records_of b.committed ≡ records_of db
+      retold_same = ap record_of (tables-held b.committed now retold_holds)
+
+      pub retold_rows : (org : List ℕ) → records_of b.committed org ≡ records_of db org
+      retold_rows org = ap (λ rows. rows org) retold_same
+
+      pub retold_keeps : IsSoundKeep b.committed counted b
+      retold_keeps = record {
+        store = store_by b.committed now retold_holds s.store.sound;
+        counts = subst (λ rows. IsCounted rows counted) (sym retold_same) s.counts;
         tied = λ _. refl;
       }
 

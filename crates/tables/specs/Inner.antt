@@ -5,6 +5,7 @@ pub mod Counting
 pub mod Departures
 pub mod Edits
 pub mod Lists
+pub mod Logged
 pub mod Looks
 pub mod Making
 pub mod Scans

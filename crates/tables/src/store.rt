@@ -12,6 +12,7 @@ ghost use Rattle.machine.specs.Keeping.{Looks};
 ghost use Rattle.machine.specs.Ranges.{IsMoment};
 ghost use Rattle.tables.specs.Copying.{IsCopied};
 ghost use Rattle.tables.specs.Scans.{AreRowsOf};
+ghost use Rattle.tables.specs.Inner.Logged.{text_bytes};
 ghost use Rattle.tables.specs.Versions.{HoldsSchema, schema_records};
 
 use crate::counts::Counted;
@@ -22,13 +23,17 @@ use basis::{
     Bounds, Bytes, Down, Limit, Listing, Number, OrgName, Prefix, Role, RunRow, VersionRow, WsName,
     WsRow,
 };
-use machine::{Act, AdminAnswer, Change, Fault, Keep, TokenRow, Unit};
+use machine::{Act, AdminAnswer, Change, Edit, Fault, Keep, TokenRow, Unit};
 use pages::PageKey;
 use sqlite::{Alter, Connection, MemStore};
 use statements::rows::Rows;
 use std::alloc::Global;
 use std::marker::PhantomData;
 use std::snapshot::Snapshot;
+
+// A log is long once so many bytes of texts stand in it: those of 245 pages, each with four of the file for its bytes, are the
+// 1,000 at which a write copies the log first.
+const LONG_LOG: u64 = 4_000_000;
 
 /// The store of all organizations in tables of a database. `K` says by which keys it names the pages of texts.
 #[derive(Drop)]
@@ -38,6 +43,8 @@ pub struct SqlKeep<S: Alter, K: PageKey> {
     seen: Snapshot<Connection<S>>,
     // How many workspaces the organization has that made one last, so that they aren't counted again.
     counted: Option<Counted>,
+    // How many bytes of texts were written since the log was known to be copied.
+    logged: u64,
     // what names the pages of texts
     key: PhantomData<K>,
     ghost idle: { conn.in_transaction ≡ false },
@@ -118,6 +125,7 @@ impl<S: Alter, K: PageKey> SqlKeep<S, K> {
                     conn,
                     seen,
                     counted: None,
+                    logged: 0,
                     key: PhantomData,
                 })
             }
@@ -132,6 +140,27 @@ impl<S: Alter, K: PageKey> SqlKeep<S, K> {
     {
         match looks::is_shut(&mut self.conn) {
             Ok(is_shut) => Ok(is_shut),
+            Err(_) => Err(Down),
+        }
+    }
+
+    /// Where the log is long, copies it into the file, so that the next change needn't. A write copies a long log first: this
+    /// one says the schema's version once more. No record of a sound store changes. An error where memory or the store refused.
+    pub fn checkpoint(&mut self) -> Result<(), Down>
+        ensures so_far { ⟦<SqlKeep<S, K> as Keep>⟧.clean self.new → ⟦<SqlKeep<S, K> as Keep>⟧.clean self.old }
+        ensures shield { ⟦<SqlKeep<S, K> as Keep>⟧.shielded self.old → ⟦<SqlKeep<S, K> as Keep>⟧.shielded self.new }
+        ensures kept { ⟦<SqlKeep<S, K> as Keep>⟧.clean self.new → ⟦<SqlKeep<S, K> as Keep>⟧.sound self.old → ⟦<SqlKeep<S, K> as Keep>⟧.sound self.new }
+        ensures same { ⟦<SqlKeep<S, K> as Keep>⟧.clean self.new → ⟦<SqlKeep<S, K> as Keep>⟧.sound self.old → (o : List ℕ) → ⟦<SqlKeep<S, K> as Keep>⟧.rows self.new o ≡ ⟦<SqlKeep<S, K> as Keep>⟧.rows self.old o }
+    {
+        if self.logged < LONG_LOG {
+            return Ok(());
+        }
+        self.logged = 0;
+        match transactions::retell(&mut self.conn) {
+            Ok(()) => {
+                self.seen = Snapshot::of(&self.conn);
+                Ok(())
+            }
             Err(_) => Err(Down),
         }
     }
@@ -187,6 +216,7 @@ impl<S: Alter, K: PageKey> SqlKeep<S, K> {
             conn,
             seen: _,
             counted: _,
+            logged: _,
             key: _,
         } = self;
         conn
@@ -200,6 +230,23 @@ fn name_after(after: Option<&WsName>) -> &str
     match after {
         None => "",
         Some(name) => name.as_str(),
+    }
+}
+
+/// How many bytes of a text an edit writes.
+fn text_bytes(edit: &Edit) -> u64
+    ensures { result ≡ text_bytes edit.now }
+{
+    match edit {
+        Edit::AddVersion { version, .. } => version.text.as_slice().len() as u64,
+        Edit::Make(_) => 0,
+        Edit::Configure { .. } => 0,
+        Edit::Remove => 0,
+        Edit::Purge => 0,
+        Edit::Hold { .. } => 0,
+        Edit::Release(_) => 0,
+        Edit::AddRun { .. } => 0,
+        Edit::Report { .. } => 0,
     }
 }
 
@@ -336,6 +383,7 @@ impl<S: Alter, K: PageKey> Keep for SqlKeep<S, K> {
             Ok(()) => {
                 self.seen = Snapshot::of(&self.conn);
                 self.counted = counts::changed(counted, org, ws, change);
+                self.logged = self.logged.saturating_add(text_bytes(&change.edit));
                 Ok(())
             }
             Err(_) => Err(Down),

@@ -3,7 +3,7 @@ ghost use Rattle.std.specs.Prelude.{◌≡◌, ◌<◌, ℕ, true, false, List, 
 ghost use Rattle.sqlite.specs.Held.{state};
 ghost use Rattle.sqlite.specs.State.{HasCleanDisk, KeepsCommit};
 ghost use Rattle.statements.specs.declared.making.TheConstants.{NEWEST};
-ghost use Rattle.statements.specs.Changes.{org_row_added, org_capped, token_added, token_removed};
+ghost use Rattle.statements.specs.Changes.{newest_told, org_row_added, org_capped, token_added, token_removed};
 ghost use Rattle.statements.specs.Steps.{AnyRows, Sees};
 ghost use Rattle.tables.specs.Inner.Arrivals.{TakesFrom, Brings, CommitsRelated};
 ghost use Rattle.tables.specs.Inner.Copies.{AreMadeBy};
@@ -65,6 +65,19 @@ pub(crate) fn raise<S: Alter>(conn: &mut Connection<S>, from: u64) -> Result<(),
 {
     let mut tx = begin(conn);
     making::raise(&mut tx, from)?;
+    tx.commit()
+}
+
+/// Says the newest version once more.
+pub(crate) fn retell<S: Alter>(conn: &mut Connection<S>) -> Result<(), Error>
+    requires idle { conn.old.in_transaction ≡ false }
+    ensures idle { conn.new.in_transaction ≡ false }
+    ensures so_far { HasCleanDisk (state S.Store conn.new) → HasCleanDisk (state S.Store conn.old) }
+    ensures shield { (state S.Store conn.old).IsShielded → (state S.Store conn.new).IsShielded }
+    ensures done { Transacts newest_told (λ _. AnyRows) (state S.Store conn.old) (state S.Store conn.new) result }
+{
+    let mut tx = begin(conn);
+    making::retell_newest(&mut tx)?;
     tx.commit()
 }
 

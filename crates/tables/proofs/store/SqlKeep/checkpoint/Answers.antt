@@ -1,0 +1,11 @@
+use Rattle.sqlite.specs.Held.{state}
+use Rattle.tables.proofs.KeepShown.{retold_rows, retold_keeps}
+use Rattle.tables.proofs.store.SqlKeep.checkpoint.Goals as goal
+
+pub returns-in-Ok-clause-kept : goal.returns-in-Ok-clause-kept
+returns-in-Ok-clause-kept g c = rw c.of.ensures (λ clean sound.
+    retold_keeps (state g.S.Store c.args.self.now.seen.value).committed (state g.S.Store c.args.self.now.conn) sound (state g.S.Store c.retell.new.conn) (c.in-Ok.ensures.done clean).0)
+
+pub returns-in-Ok-clause-same : goal.returns-in-Ok-clause-same
+returns-in-Ok-clause-same g c = rw c.of.ensures (λ clean sound o.
+    retold_rows (state g.S.Store c.args.self.now.seen.value).committed (state g.S.Store c.args.self.now.conn) sound (state g.S.Store c.retell.new.conn) (c.in-Ok.ensures.done clean).0 o)
