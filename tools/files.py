@@ -239,14 +239,17 @@ def look_at_half(program):
 
 
 def look_at_log(program):
-    """The log is copied into the file behind the reply to a state of 4 MB, which fills it; where smaller states fill it, by the change behind its
-    1,000th page. A read tells when what is done behind a reply is done."""
+    """The log is copied into the file behind the reply to a state of 4 MB, which fills it, once; where smaller states fill it, by the change behind
+    its 1,000th page. A read tells that what is done behind the reply before it is done."""
     filled(program, "log.db")
-    service = Service(program, "log.db", 12)
+    service = Service(program, "log.db", 14)
+
+    def read(text):
+        said("a read", exchanged(service.port, request(b"GET /v1/acme/state/net HTTP/1.1")), reply(b"200 OK", text))
 
     def size_behind(text):
         said("a change", exchanged(service.port, request(b"POST /v1/acme/state/net HTTP/1.1", text)), reply(b"200 OK", b""))
-        said("a read behind it", exchanged(service.port, request(b"GET /v1/acme/state/net HTTP/1.1")), reply(b"200 OK", text))
+        read(text)
         return os.path.getsize(program.folder + "/log.db")
 
     try:
@@ -254,6 +257,10 @@ def look_at_log(program):
         text = large_text(3, 500_000)
         after = size_behind(text)
         said("whether 4 MB are copied", after - before > len(text), True)
+        written = os.stat(program.folder + "/log.db-wal").st_mtime_ns
+        read(text)
+        read(text)
+        said("when the log was written, behind further reads", os.stat(program.folder + "/log.db-wal").st_mtime_ns, written)
         smaller = [large_text(serial, 123_000) for serial in (4, 5, 6, 7)]
         said("the file behind four states of less than 1 MB each", [size_behind(text) for text in smaller], 4 * [after])
         said("whether they are copied with the next change", size_behind(b'{"serial":8}') - after > sum(map(len, smaller)), True)
