@@ -4,8 +4,10 @@
     python3 bench/turns.py [--folder FOLDER] [--sizes 40000,4194304,16700000] [--turns N] [--before N] SERVER SERVER ..
 
 A SERVER is a program of this tree, or of an earlier one under another name (custody...), or a reference: `anchor`, the server
-in C, or `baseline`, that in Python, both with room for a body of 16 MB. In each turn every server gets the same POST and a GET
-of it, on a connection of its own; who comes first changes. All servers stand on one processor, this script on another.
+in C, or `baseline`, that in Python, both with room for a body of 16 MB. In each turn every server gets the same POST, and then
+every one a GET of it, each on a connection of its own; who comes first changes. Behind each, of large states, it waits (50 ms), so
+that what a server does behind its reply is of no other request; the processor's time has it. With --pause 0 and one server the
+GET comes right behind the POST. All servers stand on one processor, this script on another.
 Sizes are in bytes. Each has turns in which all pages are new, and turns in which the serial alone differs; N of them (20), of
 small states 16 times as many. With --before 100 so many states are posted first, and a version goes with each that counts.
 
@@ -20,6 +22,7 @@ import statistics
 import subprocess
 import sys
 import tempfile
+import time
 
 import load
 
@@ -83,16 +86,20 @@ class Side:
         self.times, self.spent = {"POST": [], "GET": []}, {"POST": [], "GET": []}
 
     def ask(self, method, message, body, counts):
-        before = load.cpu(self.process.pid)
-        time, reply = load.exchange(self.port, message)
+        self.before = load.cpu(self.process.pid)
+        taken, reply = load.exchange(self.port, message)
         load.check(reply, 200, body)
         if counts:
-            self.times[method].append(time / 1e3)
-            self.spent[method].append((load.cpu(self.process.pid) - before) / 1e3)
+            self.times[method].append(taken / 1e3)
+
+    def settle(self, method, counts):
+        """The processor's time since the request, what came behind its reply with it."""
+        if counts:
+            self.spent[method].append((load.cpu(self.process.pid) - self.before) / 1e3)
 
 
-def in_turn(sides, ws, size, changed, before, turns):
-    """Posts and reads states by turns; the first ones aren't counted."""
+def in_turn(sides, ws, size, changed, before, turns, pause):
+    """Posts and reads states by turns; the first ones aren't counted. A pause, in seconds, stands behind each."""
     for side in sides:
         side.begin()
         side.ask("PUT", *load.put_step(ws)[::2], False)
@@ -101,9 +108,12 @@ def in_turn(sides, ws, size, changed, before, turns):
         post, _, empty = load.post_step(ws, text)
         get, _, whole = load.get_step(ws, text)
         first = serial % len(sides)
-        for side in sides[first:] + sides[:first]:
-            side.ask("POST", post, empty, serial >= before)
-            side.ask("GET", get, whole, serial >= before)
+        for method, message, body in (("POST", post, empty), ("GET", get, whole)):
+            for side in sides[first:] + sides[:first]:
+                side.ask(method, message, body, serial >= before)
+            time.sleep(pause)
+            for side in sides:
+                side.settle(method, serial >= before)
 
 
 def row(request, side, one):
@@ -122,6 +132,7 @@ def main():
     words.add_argument("--sizes", default="40000,4194304,16700000")
     words.add_argument("--turns", type=int, default=20)
     words.add_argument("--before", type=int, default=2)
+    words.add_argument("--pause", type=float, default=0.05)
     words.add_argument("servers", nargs="+")
     asked = words.parse_args()
     folder = tempfile.mkdtemp(dir=asked.folder)
@@ -134,7 +145,7 @@ def main():
         for size in map(int, asked.sizes.split(",")):
             turns = asked.turns * (16 if size < SMALL else 1)
             for changed, kind in ((True, "each page new"), (False, "the serial alone differs")):
-                in_turn(sides, f"w{size}-{changed}", size, changed, asked.before, turns)
+                in_turn(sides, f"w{size}-{changed}", size, changed, asked.before, turns, asked.pause if size >= SMALL else 0)
                 for request in ("POST", "GET"):
                     for side in sides:
                         print(f"| {request} {size:,}, {kind} | {side.name} | {row(request, side, sides[0])} |", flush=True)
