@@ -1,5 +1,5 @@
 -- The loop of `serve`: what it prints, the connections that it answers, the records that it leaves, and what its log tells of those.
-use Rattle.std.specs.Prelude.{◌≡◌, ◌<◌, ◌≤◌, ℕ, suc, List, [], ◌∷◌, ◌++◌, ◌⊎◌, ⊤, Bool, true, false, Option, Some, None, IfSome, Result, Ok, Err, codes, decimal, length}
+use Rattle.std.specs.Prelude.{◌≡◌, ◌<◌, ◌≤◌, ℕ, suc, List, [], ◌∷◌, ◌++◌, ◌⊎◌, ⊤, Bool, true, false, Option, Some, None, IfSome, Result, Ok, Err, MatchResult, codes, decimal, length}
 use Rattle.std.specs.Io.KnownBytes.{Appends, Consumes}
 use Rattle.basis.specs.declared.memory.Down.{Down}
 use Rattle.docs.specs.declared.logs.LogRow.{LogRow}
@@ -46,10 +46,6 @@ ListensAt port logs ending.Down old new = (log : List ℕ) × Appends old new (w
 ListensAt port logs ending.Unprinted old new = ⊤
 ListensAt port logs other old new = ⊥
 
--- the address that is listened at: 127.0.0.1
-abbrev pub loopback : List ℕ
-loopback = 127 ∷ 0 ∷ 0 ∷ 1 ∷ []
-
 -- the network, the clock, the store and what the error stream and standard output have, between two connections
 pub record State (N C K : Type 0) : Type 0 where
   pub network : N
@@ -88,16 +84,11 @@ module _ {K N R W : Type 0} (k : keep.Ghosts K) (n : connections.Ghosts N R W) (
     pub logged : Logs logs is_told (row_text place result row) output output'
     pub ends : n.ends network read written (tells_act row) network'
 
--- what the files said of a store, where they weren't refused memory
-abbrev pub says_shut : Result Bool Down → Bool
-says_shut (Ok is_shut) = is_shut
-says_shut (Err down) = false
-
 module _ {K F : Type 0} (k : keep.Ghosts K) (f : files.Ghosts F K) where
-  -- after the 503 the files are asked whether a fault of the disk has shut the store, and say so or not; after another reply
-  -- they aren't asked, and copy the log where it is long
+  -- after the 503 the files are asked whether a fault of the disk has shut the store, and say so or not, or they are refused
+  -- memory, which counts as not; after another reply they aren't asked, and copy the log where it is long
   abbrev pub Tends : Bool → K → Bool → K → Type 0
-  Tends true old is_shut new = (said : Result Bool Down) × f.shuts old said new × Looks k.rows k.clean k.sound k.shielded old new × (is_shut ≡ says_shut said)
+  Tends true old is_shut new = (said : Result Bool Down) × f.shuts old said new × Looks k.rows k.clean k.sound k.shielded old new × MatchResult said (λ told. is_shut ≡ told) (λ down. is_shut ≡ false)
   Tends false old is_shut new = (is_shut ≡ false) × f.checkpoints old new × Upkeep k.rows k.clean k.sound k.shielded old new
 
 module _ {K N C R W : Type 0} (k : keep.Ghosts K) (n : connections.Ghosts N R W) (c : clock.Ghosts C) (i : inlet.Ghosts R) (o : outlet.Ghosts W) where
@@ -146,13 +137,13 @@ module _ {K F N C R W : Type 0} (k : keep.Ghosts K) (f : files.Ghosts F K) (n : 
   AnswersCount port timeouts logs count old new ending.Unprinted = (new.network ≡ old.network) × (new.clock ≡ old.clock) × (new.store ≡ old.store) × (new.errors ≡ old.errors)
   AnswersCount port timeouts logs count old new other = ⊥
 
-  -- the loopback address is bound at a port, and nothing else is; the port that it gave is told, and so many connections
+  -- 127.0.0.1 is bound at a port, and nothing else is; the port that it gave is told, and so many connections
   -- are answered; or it can't be bound, and the error stream is told the cause
   abbrev pub AnswersAtPort : ℕ → Timeouts → Bool → ℕ → State N C K → State N C K → Ending → Type 0
   AnswersAtPort port timeouts logs count old new e =
-      ((bound : N) × (given : ℕ) × n.binds old.network loopback port (Ok given) bound
+      ((bound : N) × (given : ℕ) × n.binds old.network (127 ∷ 0 ∷ 0 ∷ 1 ∷ []) port (Ok given) bound
       × AnswersCount given timeouts logs count (state bound old.clock old.store old.errors old.output) new e × ListensAt given logs e old.output new.output)
-      ⊎ ((why : Cause) × n.binds old.network loopback port (Err why) new.network
+      ⊎ ((why : Cause) × n.binds old.network (127 ∷ 0 ∷ 0 ∷ 1 ∷ []) port (Err why) new.network
       × (new.clock ≡ old.clock) × (new.store ≡ old.store) × GetsFront old.errors new.errors (cause_line why) × (e ≡ ending.Down) × (new.output ≡ old.output))
 
   -- the log tells each connection that was answered by one line, in turn; and between two lines no record changes but that of the
