@@ -14,6 +14,7 @@ import os
 import shutil
 import sqlite3
 import subprocess
+import time
 
 from program import ANSWERED_503, DOWN, LOG_STAYS, NEW_FILE, PATIENCE, compiled, exchanged, free_port, look_at, reply, request, said
 
@@ -270,6 +271,27 @@ def look_at_log(program):
     print("right: the log is copied into the file behind a reply where a state has filled it, else by the change behind its 1,000th page")
 
 
+def look_at_killed_behind(program):
+    """A service that is killed behind the reply to a state of 4 MB, while its log is copied, has lost nothing."""
+    filled(program, "behind.db")
+    for serial, milliseconds in enumerate((0, 2, 4, 6, 8), 3):
+        text = large_text(serial, 500_000)
+        service = Service(program, "behind.db", 2)
+        try:
+            said("a change", exchanged(service.port, request(b"POST /v1/acme/state/net HTTP/1.1", text)), reply(b"200 OK", b""))
+            time.sleep(milliseconds / 1e3)
+        finally:
+            service.kill()
+        said("no fault in the file behind it", program.run(["check", "--db", "behind.db"]), (0, b"ok\n", b""))
+        service = Service(program, "behind.db", 1)
+        try:
+            said("a read behind it", exchanged(service.port, request(b"GET /v1/acme/state/net HTTP/1.1")), reply(b"200 OK", text))
+            service.ends()
+        finally:
+            service.kill()
+    print("right: a service that is killed while its log is copied behind a reply has lost nothing")
+
+
 def look_at_shut(program):
     """A fault of the disk that shuts the store ends the service, once that is answered and told; what was acknowledged stands there."""
     filled(program, "shut.db")
@@ -290,4 +312,4 @@ def look_at_shut(program):
 
 
 if __name__ == "__main__":
-    look_at(__doc__, look_at_modes, look_at_owners, look_at_reasons, look_at_spoiled, look_at_full, look_at_half, look_at_log, look_at_shut)
+    look_at(__doc__, look_at_modes, look_at_owners, look_at_reasons, look_at_spoiled, look_at_full, look_at_half, look_at_log, look_at_killed_behind, look_at_shut)
