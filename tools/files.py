@@ -6,10 +6,12 @@
 A file behind a link is told of by its own mode and by that of its log. A file that isn't opened is told why. One program at a
 time has a file. A file that sqlite3 wrote to, and whose sums (those of SQLite's cksumvfs, which a new file has) it spoiled so,
 comes back by a dump. A write without room shuts no store; a fault of the disk that does ends the service (unsynced.c makes
-one). What damage does is looked at by flips.py. It prints a line for each thing that holds, and ends with status 1 at the
+one). The log is copied into the file behind the reply to a state that fills it, and a service killed meanwhile has lost
+nothing. What damage does is looked at by flips.py. It prints a line for each thing that holds, and ends with status 1 at the
 first that doesn't.
 """
 
+import contextlib
 import os
 import shutil
 import sqlite3
@@ -266,6 +268,8 @@ def look_at_log(program):
         said("the file behind four states of less than 1 MB each", [size_behind(text) for text in smaller], 4 * [after])
         said("whether they are copied with the next change", size_behind(b'{"serial":8}') - after > sum(map(len, smaller)), True)
         service.ends()
+        with contextlib.closing(sqlite3.connect(program.folder + "/log.db")) as database:
+            said("the row that is written for it", database.execute("SELECT rowid, version FROM edition").fetchall(), [(1, 3)])
     finally:
         service.kill()
     print("right: the log is copied into the file behind a reply where a state has filled it, else by the change behind its 1,000th page")
