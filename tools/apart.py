@@ -8,8 +8,9 @@ repository. A crate is checked once more for that, `tables` for 10 processor min
 
 With `--over`, only the modules that an edit changes are checked, over the libraries that a whole `rt ci` left in the clone
 GATE, of the same text (tools/over.py): the 8 edits of `route` take 4 minutes. That is enough where no contract changes, and no
-edit changes one. Each module is checked unchanged first, which has to pass. What can't be read, what ends without a goal, and
-what is refused only since a proof names what went, isn't taken for refused.
+edit changes one; of an edit that turns a definition with the code, the whole crate is checked. Each module is checked unchanged
+first, which has to pass. What can't be read, what ends without a goal, and what is refused only since a proof names what went,
+isn't taken for refused.
 
 Ends with status 1 where an edit isn't refused, or none is there. Run it where a contract or the text of such a crate changed.
 """
@@ -60,7 +61,7 @@ def module(name, path):
 
 
 def check(words, folder, changed, one):
-    """The status of the check of a module, with these files changed, and the lines in which it says what isn't proved or can't be read."""
+    """The status of the check of a module, or of the crate where it is None, with these files changed, and the lines in which it says what isn't proved or can't be read."""
     with tempfile.TemporaryDirectory() as room:
         for part in PARTS:
             if os.path.isdir(f"{folder}/{part}"):
@@ -68,7 +69,7 @@ def check(words, folder, changed, one):
         for path, text in changed.items():
             with open(f"{room}/{path}", "w", encoding="utf-8") as it:
                 it.write(text)
-        ran = subprocess.run([*words, "--only", one], cwd=room, stdin=subprocess.DEVNULL, stdout=subprocess.PIPE, stderr=subprocess.STDOUT, text=True, errors="replace")
+        ran = subprocess.run([*words, *(["--only", one] if one else [])], cwd=room, stdin=subprocess.DEVNULL, stdout=subprocess.PIPE, stderr=subprocess.STDOUT, text=True, errors="replace")
     return ran.returncode, [it for it in ran.stdout.split("\n") if GOAL.match(it)]
 
 
@@ -91,12 +92,14 @@ def tried_over(gate, names):
     """How many edits of these crates aren't refused over a gate's libraries."""
     let_through = 0
     for name in names:
-        folder, passed = f"{TOP}/crates/{name}", {}
+        # the gate has passed the crate as it is
+        folder, passed = f"{TOP}/crates/{name}", {None: (0, [])}
         words = over.command(gate, name, [])
         for edit in sorted(os.listdir(f"{folder}/apart")):
             changed = edited(f"{folder}/apart/{edit}", folder)
             told = "NOT TRIED: it changes no module"
-            for one in dict.fromkeys(module(name, path) for path in changed if path.startswith("src/")):
+            # an edit that turns a definition with the code is refused by a law, wherever that stands
+            for one in dict.fromkeys(module(name, path) if path.startswith("src/") else None for path in changed):
                 if one not in passed:
                     passed[one] = check(words, folder, {}, one)
                 if passed[one][0]:
