@@ -4,7 +4,8 @@
     python3 tools/files.py CUSTODY    the program as `rt ci` or `rt run` leaves it
 
 A file behind a link is told of by its own mode and by that of its log. A file that isn't opened is told why. One program at a
-time has a file. A file that sqlite3 wrote to, and whose sums (those of SQLite's cksumvfs, which a new file has) it spoiled so,
+time has a file, and of two that make one neither spoils it. A new file has pages of 1,024 bytes, each with its sum; one that
+an older program made keeps its own. A file that sqlite3 wrote to, and whose sums (those of SQLite's cksumvfs, which a new file has) it spoiled so,
 comes back by a dump. A write without room shuts no store; a fault of the disk that does ends the service (unsynced.c makes
 one). The log is copied into the file behind the reply to a state that fills it, and a service killed meanwhile has lost
 nothing. What damage does is looked at by flips.py. It prints a line for each thing that holds, and ends with status 1 at the
@@ -15,10 +16,11 @@ import contextlib
 import os
 import shutil
 import sqlite3
+import struct
 import subprocess
 import time
 
-from program import ANSWERED_503, DOWN, LOG_STAYS, NEW_FILE, PATIENCE, compiled, exchanged, free_port, look_at, reply, request, said
+from program import ANSWERED_503, DOWN, LOG_STAYS, NEW_FILE, PATIENCE, Wrong, compiled, exchanged, free_port, look_at, reply, request, said
 
 READABLE = b"custody: others than its owner may read the file or its log: chmod 600 ends that\n"
 IN_USE = b"custody: another program has the file open\n"
@@ -39,6 +41,9 @@ def small_files(blocks):
 
 SMALL_FILES = small_files(8)
 SECRET = b"adminadminadmin1\n"
+
+# The bytes of a page of a new file, those of one that an older program made, and those of a page's sum.
+PAGE, OLDER_PAGE, SUM_BYTES = 1024, 4096, 8
 
 TEXTS = [b'{"serial":%d,"x":"%s"}' % (serial, b"%d " % serial * 9000) for serial in (1, 2)]
 
@@ -65,9 +70,9 @@ class Service:
         self.process.wait()
 
 
-def filled(program, path):
+def filled(program, path, told=NEW_FILE):
     """A file with an organization, a workspace and two versions of two pages; closed."""
-    said("an organization", program.run(["org-add", "--db", path, "acme"]), (0, b"ok\n", NEW_FILE))
+    said("an organization", program.run(["org-add", "--db", path, "acme"]), (0, b"ok\n", told))
     said("a token", program.run(["token-add", "--db", path, "acme", "root", "admin"], SECRET), (0, b"ok\n", b""))
     service = Service(program, path, 1 + len(TEXTS))
     exchanged(service.port, request(b"PUT /v1/acme/workspaces/net HTTP/1.1"))
@@ -115,6 +120,70 @@ def look_at_owners(program):
     program.is_due("and leaves it to the next", ["org-list", "--db", "one.db"], 0, b"acme 1 200\n")
 
 
+def sum_of(body):
+    """The sum that SQLite's cksumvfs puts behind the bytes of a page."""
+    one = other = 0
+    for first, second in struct.iter_unpack("<II", body):
+        one = one + first + other & 0xFFFFFFFF
+        other = other + second + one & 0xFFFFFFFF
+    return struct.pack("<II", one, other)
+
+
+def blank(size):
+    """The only page of a database that has nothing, with its sum, as SQLite's file format has it."""
+    head = struct.pack(">16sH6B2I12xII4xI28x4xII", b"SQLite format 3\0", size, 2, 2, SUM_BYTES, 64, 32, 32, 1, 1, 0, 4, 1, 1, 3040001)
+    body = (head + struct.pack(">B4xHx", 13, size - SUM_BYTES)).ljust(size - SUM_BYTES, b"\0")
+    return body + sum_of(body)
+
+
+def pages_of(path):
+    """How many bytes a page of a closed file has, each of which ends with its sum."""
+    with open(path, "rb") as file:
+        content = file.read()
+    size = struct.unpack_from(">H", content, 16)[0]
+    for start in range(0, len(content), size):
+        body, tail = content[start : start + size - SUM_BYTES], content[start + size - SUM_BYTES : start + size]
+        said("the sum of page %d" % (start // size + 1), tail, sum_of(body))
+    return size
+
+
+def look_at_pages(program):
+    """A new file has small pages, and each its sum. In a file that an older program made pages stay as large as they are."""
+    filled(program, "new.db")
+    said("the bytes of a page of a new file", pages_of(program.folder + "/new.db"), PAGE)
+    print("right: a new file has pages of %d bytes, each with its sum" % PAGE)
+    older = program.folder + "/older.db"
+    with open(os.open(older, os.O_CREAT | os.O_WRONLY, 0o600), "wb") as file:
+        file.write(blank(OLDER_PAGE))
+    filled(program, "older.db", told=b"")
+    said("the bytes of a page of an older file", pages_of(older), OLDER_PAGE)
+    said("its states", is_right(program, "older.db"), True)
+    print("right: a file that has pages of %d bytes keeps them" % OLDER_PAGE)
+
+
+def look_at_makers(program):
+    """Two programs that make one file at a time don't spoil it: each has done what it was asked, or is refused."""
+    both, path = 0, program.folder + "/made.db"
+    for _ in range(20):
+        makers = [program.start(["org-add", "--db", "made.db", org], subprocess.DEVNULL) for org in ("acme", "beta")]
+        done = []
+        for org, maker in zip((b"acme", b"beta"), makers):
+            output, errors = maker.communicate(timeout=PATIENCE)
+            if maker.returncode == 0:
+                said("what is done", output, b"ok\n")
+                done.append(b"%s 0 200\n" % org)
+            else:
+                said("what isn't", (maker.returncode, output, errors.endswith(IN_USE)), (3, b"refused down\n", True))
+        if not done:
+            raise Wrong("of two programs that make a file neither does what it was asked")
+        both += len(done) == 2
+        said("what two programs have made", program.run(["org-list", "--db", "made.db"]), (0, b"".join(done), b""))
+        said("the bytes of a page of what they made", pages_of(path), PAGE)
+        os.remove(path)
+        os.remove(path + "-wal")
+    print("right: a file that two programs make at once is whole, and has what they acknowledged (20 times, both %d times)" % both)
+
+
 def is_right(program, path):
     """Whether a service over the file gives the newest text and the one before it."""
     service = Service(program, path, 2)
@@ -158,9 +227,10 @@ def look_at_reasons(program):
         refused(what, why)
         said("the file", open(folder + "/bad.db", "rb").read() == damaged, True)
     os.remove(folder + "/bad.db")
-    ran = program.run(["org-add", "--db", "small.db", "acme"], under=SMALL_FILES)
-    said("a file that may not grow", ran, (3, b"refused down\n", DISK))
-    print("right: told: a file that may not grow")
+    for blocks in (1, 8):
+        ran = program.run(["org-add", "--db", "small.db", "acme"], under=small_files(blocks))
+        said("a file that may not grow", ran, (3, b"refused down\n", DISK))
+    program.is_due("told: a file that may not grow; it is made later", ["org-add", "--db", "small.db", "acme"], 0, b"ok\n")
     # (who may read everything isn't refused)
     if os.getuid():
         os.mkdir(folder + "/closed", 0o500)
@@ -243,7 +313,7 @@ def look_at_half(program):
 
 def look_at_log(program):
     """The log is copied into the file behind the reply to a state of 4 MB, which fills it, once; where smaller states fill it, by the change behind
-    its 1,000th page. A read tells that what is done behind the reply before it is done."""
+    its 4,000th page. A read tells that what is done behind the reply before it is done."""
     filled(program, "log.db")
     service = Service(program, "log.db", 14)
 
@@ -272,7 +342,7 @@ def look_at_log(program):
             said("the row that is written for it", database.execute("SELECT rowid, version FROM edition").fetchall(), [(1, 3)])
     finally:
         service.kill()
-    print("right: the log is copied into the file behind a reply where a state has filled it, else by the change behind its 1,000th page")
+    print("right: the log is copied into the file behind a reply where a state has filled it, else by the change behind its %dth page" % (4_096_000 // PAGE))
 
 
 def look_at_killed_behind(program):
@@ -316,4 +386,4 @@ def look_at_shut(program):
 
 
 if __name__ == "__main__":
-    look_at(__doc__, look_at_modes, look_at_owners, look_at_reasons, look_at_spoiled, look_at_full, look_at_half, look_at_log, look_at_killed_behind, look_at_shut)
+    look_at(__doc__, look_at_modes, look_at_pages, look_at_owners, look_at_makers, look_at_reasons, look_at_spoiled, look_at_full, look_at_half, look_at_log, look_at_killed_behind, look_at_shut)

@@ -32,7 +32,7 @@ SEED = 49
 FLIPS, PAGES, CUTS = 300, 60, 30
 
 # The bytes of a page, how many of them at its end are the sum, and where the header says so.
-PAGE = 4096
+PAGE = 1024
 SUM_BYTES = 8
 RESERVED_AT = 20
 
@@ -445,11 +445,17 @@ def look_at_logs(program):
 WORKSPACES, STATE_BYTES = 45, 4_000_000
 
 
+def midst_of(content, text):
+    """The page that has the midst of a text, or some bytes behind it: those of the midst may stand in two pages."""
+    half, some = len(text) // 2, 50
+    return max(content.find(text[start : start + some]) for start in (half, half + some)) // PAGE
+
+
 def swap_beneath(path, due):
     """Each second of these texts has a page of its midst swapped with the next one's, in a file that somebody has open."""
     with open(path, "r+b") as file:
         content = file.read()
-        at = [content.find(text[len(text) // 2 :][:200]) // PAGE for text in due]
+        at = [midst_of(content, text) for text in due]
         for one, other in zip(at[0::2], at[1::2]):
             for number, from_number in ((one, other), (other, one)):
                 file.seek(number * PAGE)

@@ -15,7 +15,7 @@ file (ended.c): the organization is there whole or not at all, all else is as it
 `compact`, which goes on. What is compacted has the same rows, sums, and no free pages but those few that the last page of a
 text leaves.
 
-Each request for memory of `org-copy` and `compact` is refused in turn (refuse.c): it ends as it is due, or with `refused
+Each request for memory of `org-copy` and `compact` is refused in turn (of many alike in a row some, refuse.c): it ends as it is due, or with `refused
 down`, when of an organization nothing was copied; and sent again it is done. (Those of `org-remove`: refusals.py.)
 
 It prints a line for each thing that holds, and ends with status 1 at the first that doesn't.
@@ -382,7 +382,7 @@ class Refused:
 
 
 def look_at_memory(program, path):
-    """Each request for memory is refused in turn."""
+    """Each request for memory is refused in turn, of many alike in a row some."""
     library, counts = compiled("refuse", program.folder), refusals.Counts()
     for words, orgs in [(["org-copy", "--db", "from.db", "--to", "to.db", "acme"], ["acme"]), (["compact", "--db", "from.db", "--to", "to.db"], ["acme", "beta"])]:
         with tempfile.TemporaryDirectory(dir=program.folder) as folder:

@@ -4,7 +4,8 @@
     python3 tools/refusals.py CUSTODY STORIES    the two programs as `rt ci` or `rt run` leaves them
     python3 tools/refusals.py CUSTODY            all but the replays that the program `stories` tells
 
-Request for memory number N is refused, for N from 1 on, until a run meets no refusal; and then N and the one behind it.
+Request for memory number N is refused, for N from 1 on, until a run meets no refusal; and then N and the one behind it. (Of
+many alike in a row, of a command or a replay, some: refuse.c.)
 tools/refusals.txt has what is done meanwhile: requests of a service over a file, each by itself, over what the requests
 before it left; frames over a database in memory; commands on a file. Each run has to end in the right reply, with the
 rows of the tables that are due, or in a 503 (`refused down`), with the rows as before; and what was refused is sent
@@ -58,6 +59,8 @@ CAUSES = [
     b"custody: memory was refused\n",
     b"custody: memory or the store refused, and no record changed\n",
     b"custody: the input can't be read, or memory was refused\n",
+    # A copy shares the locks of the process that it was made from: one made while a new file is begun finds it in use.
+    b"custody: another program has the file open\n",
 ]
 
 # The stories whose requests are sent to a service with `--log` too.

@@ -4,10 +4,10 @@
 //     cc -O1 -Wall -Wextra -Werror -shared -fPIC -o refuse.so tools/refuse.c -ldl
 //     REFUSE=MOMENT ASKED=FD TOLD=FD LD_PRELOAD=./refuse.so PROGRAM ..
 //
-// At the moment (`start`: before its first line; `request`: before each request for memory; `accept`: before it accepts
-// a connection) the process tells `ready` and reads lines from the descriptor ASKED. `try K L`: a copy of it goes on, in
-// which the requests K to L are refused, counted from that moment on, or from the copy's connection on. `go`: it goes on
-// itself, up to the next such moment. At the end of ASKED it ends.
+// At the moment (`start`: before its first line; `request`: before each request for memory, of many alike before some;
+// `accept`: before it accepts a connection) the process tells `ready` and reads lines from the descriptor ASKED. `try K L`: a
+// copy of it goes on, in which the requests K to L are refused, counted from that moment on, or from the copy's connection on.
+// `go`: it goes on itself, up to the next such moment. At the end of ASKED it ends.
 //
 // What is told, a line each on the descriptor TOLD, beside `ready`: `ended STATUS ASKED REFUSED` where a copy has ended
 // (a signal is 128 and its number), with how many requests were made and how many refused; `accepts 0 ASKED REFUSED`
@@ -33,6 +33,9 @@
 
 #define MOMENT 1700000000
 #define LINE 64
+// Behind so many requests in a row for as many bytes, as for the slots of pages, one in so many is a moment.
+#define ALIKE 64
+#define LEAP 50
 
 struct counts {
   long asked, refused;
@@ -110,8 +113,16 @@ static void __attribute__((constructor)) begin(void) {
   is_counting = is_copy;
 }
 
-static int is_refused(void) {
-  if (waits_at_request && !is_copy) {
+static int is_one_of_many(size_t size) {
+  static size_t last;
+  static long row;
+  row = size == last ? row + 1 : 0;
+  last = size;
+  return row >= ALIKE && row % LEAP;
+}
+
+static int is_refused(size_t size) {
+  if (waits_at_request && !is_copy && !is_one_of_many(size)) {
     make_copies();
     is_counting = is_copy;
   }
@@ -125,7 +136,7 @@ static int is_refused(void) {
 void *malloc(size_t size) {
   static void *(*real)(size_t);
   if (!real) real = dlsym(RTLD_NEXT, "malloc");
-  if (!is_refused()) return real(size);
+  if (!is_refused(size)) return real(size);
   errno = ENOMEM;
   return NULL;
 }
@@ -133,7 +144,7 @@ void *malloc(size_t size) {
 void *realloc(void *place, size_t size) {
   static void *(*real)(void *, size_t);
   if (!real) real = dlsym(RTLD_NEXT, "realloc");
-  if (!is_refused()) return real(place, size);
+  if (!is_refused(size)) return real(place, size);
   errno = ENOMEM;
   return NULL;
 }
@@ -141,7 +152,7 @@ void *realloc(void *place, size_t size) {
 void *aligned_alloc(size_t align, size_t size) {
   static void *(*real)(size_t, size_t);
   if (!real) real = dlsym(RTLD_NEXT, "aligned_alloc");
-  if (!is_refused()) return real(align, size);
+  if (!is_refused(size)) return real(align, size);
   errno = ENOMEM;
   return NULL;
 }
@@ -149,7 +160,7 @@ void *aligned_alloc(size_t align, size_t size) {
 int posix_memalign(void **place, size_t align, size_t size) {
   static int (*real)(void **, size_t, size_t);
   if (!real) real = dlsym(RTLD_NEXT, "posix_memalign");
-  return is_refused() ? ENOMEM : real(place, align, size);
+  return is_refused(size) ? ENOMEM : real(place, align, size);
 }
 
 // A copy, which ends soon, gives nothing back: it would have each page that it frees to itself first, a copy of that too.

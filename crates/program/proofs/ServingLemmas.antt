@@ -105,10 +105,6 @@ module _ {K F : Type 0} (k : keep.Ghosts K) (f : files.Ghosts F K) where
   tended_so_far true old is_shut new tends clean = tends.2.so_far clean
   tended_so_far false old is_shut new tends clean = tends.2.so_far clean
 
-  pub tended_shield : (is_down : Bool) (old : K) (is_shut : Bool) (new : K) → Tends k f is_down old is_shut new → k.shielded old → k.shielded new
-  tended_shield true old is_shut new tends is = tends.2.shield is
-  tended_shield false old is_shut new tends is = tends.2.shield is
-
   pub tended_kept : (is_down : Bool) (old : K) (is_shut : Bool) (new : K) → Tends k f is_down old is_shut new → k.clean new → k.sound old → k.sound new
   tended_kept true old is_shut new tends clean sound = tends.2.kept clean sound
   tended_kept false old is_shut new tends clean sound = tends.2.kept clean sound

@@ -30,9 +30,9 @@ use Rattle.statements.specs.Place.{StandsAt, tree_of}
 use Rattle.statements.specs.Schema.{edition_table}
 use Rattle.statements.specs.Rows.{Kept, id_of, stored, number, edition_cells}
 use Rattle.statements.specs.Tables.{Tables, Holds, HoldsIn, count_in, edition_layout}
-use Rattle.statements.specs.Changes.{newest_told}
+use Rattle.statements.specs.Changes.{edition_moved}
 use Rattle.statements.specs.Making.{HasEdition, like_edition, told_schema_version, edition_in}
-use Rattle.statements.specs.Inner.Making.{Moved, Told, edition_set, edition_moved}
+use Rattle.statements.specs.Inner.Making.{Moved, Told, edition_set}
 use Rattle.statements.specs.Calls.{IsQuery, FirstRow, Pins, IsNumber}
 use Rattle.statements.proofs.SyntaxTrees as st
 use Rattle.statements.proofs.Meaning.{Means, means, some_parsed, as_read}
@@ -169,5 +169,5 @@ set_version_does n some old new count ran = record {
 }
 
 -- the newest version is said once more
-pub retold : (old new : State) (count : ℕ) (t : Tables) → Holds old.now t → Executes move_version_text (number NEWEST ∷ []) old new (Ok count) → Turns old.now new.now (newest_told t)
+pub retold : (old new : State) (count : ℕ) (t : Tables) → Holds old.now t → Executes move_version_text (number NEWEST ∷ []) old new (Ok count) → Turns old.now new.now (edition_moved NEWEST t)
 retold old new count t h ran = updated editions edition_casts old new count t h _ _ ran (move_version_means old.now.schema) (λ x. true) (λ x. refl) (λ r. NEWEST) (λ x. refl) tt

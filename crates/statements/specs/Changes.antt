@@ -16,7 +16,6 @@ use Rattle.statements.specs.declared.rows.Workspace.{Workspace}
 use Rattle.basis.specs.declared.rows.RunRow.{RunRow as Run}
 use Rattle.statements.specs.Rows.{Kept, id_of, OrgRow, TokenRow, WsRow, VersionRow, RunRow, BoundRow, KeepingRow}
 use Rattle.statements.specs.Tables.{Tables}
-use Rattle.statements.specs.declared.making.TheConstants.{NEWEST}
 
 -- one more row, behind the others and with the next rowid
 abbrev pub with_next : {R : Type 0} → R → List (Kept R) → List (Kept R)
@@ -29,9 +28,9 @@ with_all (r ∷ rs) xs = with_all rs (with_next r xs)
 
 -- ---- the version
 
--- edition tells the newest version, where it tells one
-abbrev pub newest_told : Tables → Tables
-newest_told t = record t { editions = map (λ x. (x.0, NEWEST)) t.editions }
+-- edition tells this version, where it told one
+abbrev pub edition_moved : ℕ → Tables → Tables
+edition_moved version t = record t { editions = map (λ x. (x.0, version)) t.editions }
 
 -- ---- organizations
 

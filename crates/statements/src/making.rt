@@ -6,10 +6,11 @@ ghost use Rattle.sqlite_schema.specs.declared.schema.Table.{Table};
 ghost use Rattle.sqlite.specs.Held.{state};
 ghost use Rattle.sqlite.specs.State.{HasCleanDisk};
 ghost use Rattle.statements.specs.Steps.{AnyRows, Equals, Writes, Queries};
-ghost use Rattle.statements.specs.Changes.{newest_told};
+ghost use Rattle.statements.specs.Changes.{edition_moved};
+ghost use Rattle.statements.specs.declared.making.TheConstants.{NEWEST};
 ghost use Rattle.statements.specs.Tables.{count_in, added_by, our_tables};
 ghost use Rattle.statements.specs.Making.{MakesBy, HasSchema, Raises, HasMeta, HasEdition, told_schema_version, schema_version_in, edition_in};
-ghost use Rattle.statements.specs.Inner.Making.{Grows, IsMaker, texts_in, all_of, Moved, Told, edition_moved, schema_version_cleared};
+ghost use Rattle.statements.specs.Inner.Making.{Grows, IsMaker, texts_in, all_of, Moved, Told, schema_version_cleared};
 ghost use Rattle.statements.specs.Rows.{Kept};
 
 use crate::calls::{first_row, read_one, write};
@@ -155,7 +156,7 @@ fn move_schema_version<S: Alter>(
 
 /// Says the newest version once more. In a database that says it already no row changes, and yet one is written.
 pub fn retell_newest<S: Alter>(tx: &mut Transaction<'_, S>) -> Result<(), Error>
-    ensures { Writes S.Store AnyRows newest_told tx.old tx.new result }
+    ensures { Writes S.Store AnyRows (edition_moved NEWEST) tx.old tx.new result }
 {
     write(tx, MOVE_VERSION, params![NEWEST as u32])
 }

@@ -14,25 +14,24 @@ ghost use Rattle.tables.specs.Sound.{IsSound};
 ghost use Rattle.system.specs.Files.{OpensOn, IsClosedOn};
 ghost use Rattle.system.specs.Shields.{AreCleanOrCollided};
 
+use crate::causes::{database_cause, pair_cause, system_cause};
 use crate::copies::copy_between;
+use crate::making::make;
 use crate::pairs::Pair;
 use crate::replays::replayed;
+use crate::tuning::options;
 use basis::{Bytes, Down, Items, OrgName, Text};
 use machine::{AdminAnswer, Fault, Keep};
 use pages::ShaKey;
 use program::outside::Files;
 use program::reasons::{Cause, OpenFault, OtherSchema};
 use serve::Step;
-use sqlite::{Alter, Connection, Error, ErrorCode, Row};
+use sqlite::{Alter, Connection, Error, Row};
 use sqlite_disk::{Calls, Disk, Start};
-use sqlite_pager::Options;
-use sqlite_std_file::{FileFrom, Host, OpenError};
+use sqlite_std_file::{FileFrom, Host};
 use sqlite_store::FileStore;
 use std::alloc::Global;
-use std::fs::OpenOptions;
-use std::hash::{BuildHasher, RandomState};
-use std::io::{ErrorKind, Read};
-use std::os::unix::fs::{MetadataExt, OpenOptionsExt};
+use std::os::unix::fs::MetadataExt;
 use std::rt::HostRuntime;
 use std::{fs, io};
 use tables::{SqlKeep, Unopened};
@@ -40,68 +39,8 @@ use tables::{SqlKeep, Unopened};
 /// The store in a file, its pages named by SHA-256, which `start` stands for as it is opened.
 pub type FileKeep<S> = SqlKeep<FileStore<FileFrom<S>>, ShaKey>;
 
-/// The mode of a file that is made: its owner reads and writes it, and nobody else.
-const OWNER_ALONE: u32 = 0o600;
-
 /// By which of these bits of a file's mode others than its owner may read it.
 const OTHERS_READ: u32 = 0o044;
-
-/// Why the system refused a file.
-fn system_cause(kind: ErrorKind) -> Cause {
-    match kind {
-        ErrorKind::PermissionDenied | ErrorKind::ReadOnlyFilesystem => Cause::NotPermitted,
-        ErrorKind::Unsupported | ErrorKind::IsADirectory => Cause::NoFile,
-        ErrorKind::NotFound | ErrorKind::NotADirectory => Cause::NoFolder,
-        ErrorKind::StorageFull | ErrorKind::QuotaExceeded => Cause::NoRoom,
-        ErrorKind::OutOfMemory => Cause::NoMemory,
-        _ => Cause::Disk,
-    }
-}
-
-/// Why a file and its log weren't had.
-fn pair_cause(error: OpenError) -> Cause {
-    match error {
-        OpenError::Io(error) => system_cause(error.kind()),
-        OpenError::OutOfMemory => Cause::NoMemory,
-        OpenError::Busy => Cause::InUse,
-        OpenError::HotJournal => Cause::Journal,
-    }
-}
-
-/// Why a database in files wasn't opened.
-fn database_cause(error: Error) -> Cause {
-    match error {
-        Error::SqliteFailure(ErrorCode::OutOfMemory) => Cause::NoMemory,
-        Error::SqliteFailure(ErrorCode::DiskFull) => Cause::NoRoom,
-        Error::SqliteFailure(ErrorCode::DatabaseCorrupt) => Cause::Corrupt,
-        Error::SqliteFailure(ErrorCode::NotADatabase) => Cause::Unsound,
-        _ => Cause::Disk,
-    }
-}
-
-/// Makes the file for its owner alone, where nothing lies at the path; its log gets the file's mode. Where
-/// it isn't made the open behind it would make one that others may read, so the store is down. So it is where
-/// SQLite's programs take the path for no file's name.
-fn make_private(rt: &HostRuntime, path: &str) -> Result<(), Cause> {
-    if path == ":memory:" || path.starts_with("file:") {
-        return Err(Cause::NoFile);
-    }
-    let made = OpenOptions::new()
-        .write(true)
-        .create_new(true)
-        .mode(OWNER_ALONE)
-        .open(rt, path);
-    match made {
-        Ok(file) => {
-            drop(file);
-            Ok(())
-        }
-        Err(error) => match error.kind() {
-            ErrorKind::AlreadyExists => Ok(()),
-            kind => Err(system_cause(kind)),
-        },
-    }
-}
 
 fn is_readable(rt: &HostRuntime, path: &str) -> bool {
     match fs::metadata(rt, path) {
@@ -115,44 +54,6 @@ fn is_any_readable(rt: &HostRuntime, path: &str) -> io::Result<bool> {
     let real = fs::canonicalize(rt, path)?;
     let log = format!(in rt.alloc(); "{}-wal", real.as_str())?;
     Ok(is_readable(rt, real.as_str()) || is_readable(rt, log.as_str()))
-}
-
-/// The fewest pages of a file that are kept in memory.
-const FEWEST_PAGES: u64 = 5_000;
-
-/// Of how many bytes of a file all pages are kept in memory.
-const MOST_BYTES: u64 = 134_217_728;
-
-/// The most pages that a change has in memory. Behind them all go to the log, which they come to anyway.
-const MOST_HELD: usize = 256;
-
-// How many bytes a page of a file has, as the bytes 16 and 17 of its header tell, where 65,536 don't fit. Only before the
-// file is opened: who closes it gives up the locks that its process has on it.
-fn page_bytes(rt: &HostRuntime, path: &str) -> io::Result<u64> {
-    let mut head = [0u8; 18];
-    fs::open(rt, path)?.read_exact(&mut head)?;
-    match u16::from_be_bytes([head[16], head[17]]) {
-        1 => Ok(65_536),
-        bytes => Ok(u64::from(bytes)),
-    }
-}
-
-// How many pages a file has, or as many bytes of it as are kept in memory. What isn't a file isn't read.
-fn page_count(rt: &HostRuntime, path: &str) -> io::Result<u64> {
-    let found = fs::metadata(rt, path)?;
-    if !found.is_file() {
-        return Ok(0);
-    }
-    let bytes = page_bytes(rt, path)?;
-    Ok(found.len().min(MOST_BYTES).checked_div(bytes).unwrap_or(0))
-}
-
-fn options(rt: &HostRuntime, path: &str) -> io::Result<Options> {
-    let mut options = Options::new(RandomState::new(rt)?.hash_one(&0u8));
-    let pages = page_count(rt, path).unwrap_or(0);
-    options.cache_pages = pages.max(FEWEST_PAGES) as usize;
-    options.spill_pages = MOST_HELD;
-    Ok(options)
 }
 
 /// Opens the database in a file. One that is made, where the file is empty, has SQLite's sums (cksumvfs): each page
@@ -220,7 +121,7 @@ pub fn open_file<S: Start>(rt: &HostRuntime, path: &str, start: S) -> Result<Fil
     ensures guarded { IfOk result (λ keep. ⟦<FileKeep<S> as Keep>⟧.clean keep → ⟦<FileKeep<S> as Keep>⟧.shielded keep) }
     ensures as_opened { IfOk result (λ keep. ⟦<FileKeep<S> as Keep>⟧.clean keep → IsFresh (file_state keep.seen.value).committed keep.counted (file_state keep.conn)) }
 {
-    match make_private(rt, path) {
+    match make(rt, path) {
         Ok(()) => {}
         Err(cause) => return Err(OpenFault::Down(cause)),
     }

@@ -1,15 +1,18 @@
 //! The files, the sockets and the clock of the system, for the program.
 #![tactic(auto)]
 
+mod causes;
 mod clock;
 mod copies;
 mod files;
 mod laws;
+mod making;
 mod pairs;
 mod replays;
 mod running;
 mod sockets;
 mod streams;
+mod tuning;
 
 pub use clock::SystemClock;
 pub use files::{DiskFiles, FileKeep, close_file, open_file};

@@ -21,7 +21,7 @@ use Rattle.machine.specs.declared.records.Organization.{Organization}
 use Rattle.machine.specs.declared.keeps.AdminAnswer.{AdminAnswer}
 use Rattle.machine.specs.declared.keeps.TokenRow.{TokenRow}
 use Rattle.machine.specs.declared.keeps.AdminAnswer.TheVariants.{Done, Exists, Absent}
-use Rattle.statements.specs.Changes.{newest_told, org_row_added, org_capped, token_added, token_removed}
+use Rattle.statements.specs.Changes.{edition_moved, org_row_added, org_capped, token_added, token_removed}
 use Rattle.statements.specs.Finds.{cap_of, role_of_name, role_of_digest}
 use Rattle.statements.specs.Steps.{AnyRows}
 use Rattle.statements.specs.Tables.{Tables, Holds, tables_of}
@@ -142,11 +142,11 @@ module _ {counted : Option Counted} (db : Database) (a : State) (s : IsSoundKeep
 
     -- ---- the version is said once more
 
-    module _ (done : Commits newest_told AnyRows a b) where
+    module _ (done : Commits (edition_moved NEWEST) AnyRows a b) where
       retold_holds : Holds b.committed now
       retold_holds =
           let told = s.store.sound.told.0 in
-          let same : newest_told now ≡ now = ap (λ es. record now { editions = es }) (ap (map (λ x. (x.0, NEWEST))) told ∙ sym told) in
+          let same : edition_moved NEWEST now ≡ now = ap (λ es. record now { editions = es }) (ap (map (λ x. (x.0, NEWEST))) told ∙ sym told) in
           subst (Holds b.committed) same (done.rows now (held done.was_open))
 
       retold_same : records_of b.committed ≡ records_of db

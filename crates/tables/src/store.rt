@@ -1,5 +1,5 @@
 //! The store of all organizations over one connection to a database.
-ghost use Rattle.std.specs.Prelude.{◌≡◌, true, false, not, ◌≢◌, ℕ, List, [], Option, Some, None, option_copied, IsTrue, IfSome, IfOk, IfErr, OnErr};
+ghost use Rattle.std.specs.Prelude.{◌≡◌, true, false, not, ◌≢◌, ◌<◌, ◌+◌, ◌-◌, ◌^◌, min, ℕ, List, [], Option, Some, None, option_copied, Ok, IsTrue, IfSome, IfOk, IfErr, OnOk, OnErr};
 ghost use Rattle.std.specs.Option.{unwrap_or};
 ghost use Rattle.sqlite.specs.Held.{state};
 ghost use Rattle.sqlite.specs.State.{HasCleanDisk, KeepsCommit};
@@ -8,11 +8,16 @@ ghost use Rattle.statements.specs.Making.{KeepsTables, KeepsForeign};
 ghost use Rattle.statements.specs.Tables.{Tables, Holds, HoldsIn, schema_tables, our_tables};
 ghost use Rattle.tables.specs.Opening.{IsSoundKeep, IsFresh, any_there, all_there, newest_there, tells_edition, is_meta, is_edition, has_versions, TellsIn, ToldBy, IsOther, GivesBack};
 ghost use Rattle.basis.specs.Names.{is_prefix};
+ghost use Rattle.std.specs.FinMap.{get};
 ghost use Rattle.machine.specs.Keeping.{Looks};
+ghost use Rattle.machine.specs.Records.{seen_in, placed};
+ghost use Rattle.machine.specs.Changes.{changed_by, IsDue};
+ghost use Rattle.machine.specs.declared.records.Organization.{Organization as AnyOrganization};
 ghost use Rattle.machine.specs.Ranges.{IsMoment};
 ghost use Rattle.tables.specs.Copying.{IsCopied};
 ghost use Rattle.tables.specs.Scans.{AreRowsOf};
 ghost use Rattle.tables.specs.Inner.Logged.{text_bytes};
+ghost use Rattle.tables.specs.declared.store.TheConstants.{LONG_LOG};
 ghost use Rattle.tables.specs.Versions.{HoldsSchema, schema_records};
 
 use crate::counts::Counted;
@@ -31,8 +36,8 @@ use std::alloc::Global;
 use std::marker::PhantomData;
 use std::snapshot::Snapshot;
 
-// A log is long once so many bytes of texts stand in it: those of 245 pages, each with four of the file for its bytes, are the
-// 1,000 at which a write copies the log first.
+// A log is long once so many bytes of texts stand in it: with what stands beside them they are the 4,096,000 at which a write copies
+// the log first.
 const LONG_LOG: u64 = 4_000_000;
 
 /// The store of all organizations in tables of a database. `K` says by which keys it names the pages of texts.
@@ -147,6 +152,7 @@ impl<S: Alter, K: PageKey> SqlKeep<S, K> {
     /// Where the log is long, copies it into the file, so that the next change needn't. A write copies a long log first: this
     /// one says the schema's version once more. No record of a sound store changes. An error where memory or the store refused.
     pub fn checkpoint(&mut self) -> Result<(), Down>
+        ensures short { self.old.logged < LONG_LOG → (self.new ≡ self.old) × (result ≡ Ok tt) }
         ensures so_far { ⟦<SqlKeep<S, K> as Keep>⟧.clean self.new → ⟦<SqlKeep<S, K> as Keep>⟧.clean self.old }
         ensures shield { ⟦<SqlKeep<S, K> as Keep>⟧.shielded self.old → ⟦<SqlKeep<S, K> as Keep>⟧.shielded self.new }
         ensures kept { ⟦<SqlKeep<S, K> as Keep>⟧.clean self.new → ⟦<SqlKeep<S, K> as Keep>⟧.sound self.old → ⟦<SqlKeep<S, K> as Keep>⟧.sound self.new }
@@ -376,7 +382,18 @@ impl<S: Alter, K: PageKey> Keep for SqlKeep<S, K> {
         org: &OrgName,
         ws: &WsName,
         change: &Change,
-    ) -> Result<(), Down> {
+    ) -> Result<(), Down>
+        ensures so_far { ⟦<SqlKeep<S, K> as Keep>⟧.clean self.new → ⟦<SqlKeep<S, K> as Keep>⟧.clean self.old }
+        ensures shield { ⟦<SqlKeep<S, K> as Keep>⟧.shielded self.old → ⟦<SqlKeep<S, K> as Keep>⟧.shielded self.new }
+        ensures kept { ⟦<SqlKeep<S, K> as Keep>⟧.clean self.new → ⟦<SqlKeep<S, K> as Keep>⟧.sound self.old → (o : AnyOrganization) → ⟦<SqlKeep<S, K> as Keep>⟧.rows self.old org.now ≡ Some o
+            → IsDue (seen_in o ws.now) change.now → ⟦<SqlKeep<S, K> as Keep>⟧.sound self.new }
+        ensures own { ⟦<SqlKeep<S, K> as Keep>⟧.clean self.new → ⟦<SqlKeep<S, K> as Keep>⟧.sound self.old → OnOk result ((o : AnyOrganization) → ⟦<SqlKeep<S, K> as Keep>⟧.rows self.old org.now ≡ Some o
+            → IsDue (seen_in o ws.now) change.now
+            → ⟦<SqlKeep<S, K> as Keep>⟧.rows self.new org.now ≡ Some (placed o ws.now (changed_by change.now (get o.workspaces ws.now)))) }
+        ensures others { ⟦<SqlKeep<S, K> as Keep>⟧.clean self.new → ⟦<SqlKeep<S, K> as Keep>⟧.sound self.old → (o : List ℕ) → o ≢ org.now → ⟦<SqlKeep<S, K> as Keep>⟧.rows self.new o ≡ ⟦<SqlKeep<S, K> as Keep>⟧.rows self.old o }
+        ensures err { ⟦<SqlKeep<S, K> as Keep>⟧.clean self.new → OnErr result ((o : List ℕ) → ⟦<SqlKeep<S, K> as Keep>⟧.rows self.new o ≡ ⟦<SqlKeep<S, K> as Keep>⟧.rows self.old o) }
+        ensures logged { OnOk result (self.new.logged ≡ min (self.old.logged + text_bytes change.now.edit) (2 ^ 64 - 1)) }
+    {
         let (org, ws) = (org.as_str(), ws.as_str());
         let counted = self.counted.take();
         match transactions::change::<K, S>(&mut self.conn, org, ws, change) {

@@ -3,7 +3,7 @@ ghost use Rattle.std.specs.Prelude.{◌≡◌, ◌<◌, ℕ, true, false, List, 
 ghost use Rattle.sqlite.specs.Held.{state};
 ghost use Rattle.sqlite.specs.State.{HasCleanDisk, KeepsCommit};
 ghost use Rattle.statements.specs.declared.making.TheConstants.{NEWEST};
-ghost use Rattle.statements.specs.Changes.{newest_told, org_row_added, org_capped, token_added, token_removed};
+ghost use Rattle.statements.specs.Changes.{edition_moved, org_row_added, org_capped, token_added, token_removed};
 ghost use Rattle.statements.specs.Steps.{AnyRows, Sees};
 ghost use Rattle.tables.specs.Inner.Arrivals.{TakesFrom, Brings, CommitsRelated};
 ghost use Rattle.tables.specs.Inner.Copies.{AreMadeBy};
@@ -74,7 +74,7 @@ pub(crate) fn retell<S: Alter>(conn: &mut Connection<S>) -> Result<(), Error>
     ensures idle { conn.new.in_transaction ≡ false }
     ensures so_far { HasCleanDisk (state S.Store conn.new) → HasCleanDisk (state S.Store conn.old) }
     ensures shield { (state S.Store conn.old).IsShielded → (state S.Store conn.new).IsShielded }
-    ensures done { Transacts newest_told (λ _. AnyRows) (state S.Store conn.old) (state S.Store conn.new) result }
+    ensures done { Transacts (edition_moved NEWEST) (λ _. AnyRows) (state S.Store conn.old) (state S.Store conn.new) result }
 {
     let mut tx = begin(conn);
     making::retell_newest(&mut tx)?;

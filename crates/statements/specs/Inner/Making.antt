@@ -64,10 +64,6 @@ pub record Moved (n : ℕ) (change : Tables → Tables) (old new : Database) : T
 abbrev pub edition_set : ℕ → Tables → Tables
 edition_set version t = record t { editions = insert_by id_of t.editions (pos 1, version) }
 
--- edition tells this version, where it told one
-abbrev pub edition_moved : ℕ → Tables → Tables
-edition_moved version t = record t { editions = map (λ x. (x.0, version)) t.editions }
-
 -- meta tells no version
 abbrev pub schema_version_cleared : Tables → Tables
 schema_version_cleared t = record t { metas = [] }

@@ -1,8 +1,8 @@
 use Rattle.std.proofs.Common.{refl}
-use Rattle.statements.specs.Changes.{keepings_filled}
+use Rattle.statements.specs.Changes.{edition_moved, keepings_filled}
 use Rattle.statements.specs.Making.{Raises}
 use Rattle.statements.specs.Tables.{Tables, added_by}
-use Rattle.statements.specs.Inner.Making.{Grows, Moved, edition_moved}
+use Rattle.statements.specs.Inner.Making.{Grows, Moved}
 use Rattle.statements.proofs.Schemas.{makes_then, moved_then, raised_by}
 use Rattle.statements.proofs.making.raise_second.Goals as goal
 

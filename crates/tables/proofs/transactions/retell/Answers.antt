@@ -1,7 +1,8 @@
 use Rattle.std.proofs.Common.{rules}
 use Rattle.sqlite.specs.Held.{state}
 use Rattle.sqlite.specs.State.{HasCleanDisk}
-use Rattle.statements.specs.Changes.{newest_told}
+use Rattle.statements.specs.Changes.{edition_moved}
+use Rattle.statements.specs.declared.making.TheConstants.{NEWEST}
 use Rattle.statements.proofs.Transactions.{clean_before}
 use Rattle.tables.proofs.KeepCommits.{inside_by, commits_by}
 use Rattle.tables.proofs.transactions.retell.Goals as goal
@@ -16,5 +17,5 @@ returns-clause-done g c clean =
     let before = clean_before (state g.S.Store l) (state g.S.Store m) _ c.commit.ensures.survives late in
     let settled = c.begin-tx.ensures.settled in
     let moved = (c.in_ok-retell_newest.ensures.changed before (inside_by c.args.conn.now c.begin-tx.result.conn.now c.begin-tx.ensures.begun)).0 in
-    let all = commits_by g.S.Store h k l m settled c.begin-tx.ensures.begun newest_told c.commit.result moved (c.commit.ensures.ok late) (c.commit.ensures.err late) in
+    let all = commits_by g.S.Store h k l m settled c.begin-tx.ensures.begun (edition_moved NEWEST) c.commit.result moved (c.commit.ensures.ok late) (c.commit.ensures.err late) in
     search (rules, all)

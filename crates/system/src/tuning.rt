@@ -1,0 +1,59 @@
+//! What an open file keeps in memory, and how long its log grows, by the bytes of its pages.
+use sqlite_pager::Options;
+use std::hash::{BuildHasher, RandomState};
+use std::io::Read;
+use std::rt::HostRuntime;
+use std::{fs, io};
+
+/// How many bytes a page has where the file doesn't tell: the kit's own number.
+const PAGE_BYTES: u64 = 4_096;
+
+/// The fewest bytes a page may have.
+const LEAST_PAGE: u64 = 512;
+
+/// Of how many bytes of a file pages are kept in memory, at the least and at the most.
+const FEWEST_BYTES: u64 = 20_480_000;
+
+const MOST_BYTES: u64 = 134_217_728;
+
+/// How many bytes of changed pages a change has in memory. Behind them all go to the log, which they come to anyway.
+const MOST_HELD: u64 = 1_048_576;
+
+/// How many bytes of pages the log has when it is copied into the file: SQLite's 1,000 of its own.
+const LOG_BYTES: u64 = 4_096_000;
+
+// How many bytes a page of a file has, as the bytes 16 and 17 of its header tell, where 65,536 don't fit. What isn't a file isn't
+// read. Only before the file is opened: who closes it gives up the locks that its process has on it.
+fn page_bytes(rt: &HostRuntime, path: &str) -> io::Result<u64> {
+    if !fs::metadata(rt, path)?.is_file() {
+        return Ok(PAGE_BYTES);
+    }
+    let mut head = [0u8; 18];
+    fs::open(rt, path)?.read_exact(&mut head)?;
+    match u16::from_be_bytes([head[16], head[17]]) {
+        1 => Ok(65_536),
+        bytes => Ok(u64::from(bytes)),
+    }
+}
+
+fn file_bytes(rt: &HostRuntime, path: &str) -> io::Result<u64> {
+    Ok(fs::metadata(rt, path)?.len())
+}
+
+/// What is kept in memory while a database is begun, which has one page.
+pub fn first_options(rt: &HostRuntime) -> io::Result<Options> {
+    let mut options = Options::new(RandomState::new(rt)?.hash_one(&0u8));
+    options.cache_pages = 1;
+    Ok(options)
+}
+
+/// What is kept in memory of the file at a path.
+pub fn options(rt: &HostRuntime, path: &str) -> io::Result<Options> {
+    let mut options = Options::new(RandomState::new(rt)?.hash_one(&0u8));
+    let page = page_bytes(rt, path).unwrap_or(PAGE_BYTES).max(LEAST_PAGE);
+    let bytes = file_bytes(rt, path).unwrap_or(0);
+    options.cache_pages = (bytes.clamp(FEWEST_BYTES, MOST_BYTES) / page) as usize;
+    options.spill_pages = (MOST_HELD / page) as usize;
+    options.checkpoint_frames = (LOG_BYTES / page) as usize;
+    Ok(options)
+}
