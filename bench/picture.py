@@ -31,7 +31,7 @@ def words(x, y, text, more=""):
 
 def bars(rows, top):
     """A bar for each request, as long as its ratio."""
-    most = max(float(row[3]) for row in rows)
+    most = max(float(row[3].split()[0]) for row in rows)
     scale, drawn = WIDTH / math.ceil(most), [words(20, top, "Time of a request over that of a server in C (one processor, tmpfs)", 'class="head"')]
     end = top + 14 + ROW * len(rows)
     for mark in range(1, math.ceil(most) + 1):
@@ -39,10 +39,10 @@ def bars(rows, top):
         drawn.append(f'<line x1="{x:.0f}" y1="{top + 10}" x2="{x:.0f}" y2="{end}" class="{"limit" if mark == 2 else "grid"}"/>')
         drawn.append(words(x, end + 14, str(mark), 'text-anchor="middle"'))
     for place, row in enumerate(rows):
-        y, ratio = top + 14 + ROW * place, float(row[3])
+        y, ratio = top + 14 + ROW * place, float(row[3].split()[0])
         drawn.append(words(LEFT - 8, y + 14, row[0], 'text-anchor="end"'))
         drawn.append(f'<rect x="{LEFT}" y="{y + 2}" width="{ratio * scale:.0f}" height="{ROW - 6}" fill="{COLORS[0]}"/>')
-        drawn.append(words(LEFT + ratio * scale + 5, y + 14, row[3]))
+        drawn.append(words(LEFT + ratio * scale + 5, y + 14, row[3].split()[0]))
     return drawn, end + 40
 
 
