@@ -311,6 +311,30 @@ def look_at_half(program):
     print("right: a change for which there is half of the room leaves all as it was")
 
 
+def look_at_memory(program):
+    """A service has room for 20 MB of pages of its file, from the start; of the pages that a change writes it has 1 MB in memory, so
+    that states of 4 MB take less than 13 MB beside."""
+    filled(program, "memory.db")
+    service = Service(program, "memory.db", 5)
+
+    def most():
+        with open("/proc/%d/status" % service.process.pid, encoding="utf-8") as status:
+            return next(int(line.split()[1]) * 1024 for line in status if line.startswith("VmHWM"))
+
+    try:
+        before = most()
+        said("whether 20 MB of pages have room from the start", 20_480_000 < before < 32_000_000, True)
+        for text in (large_text(3, 500_000), large_text(4, 500_000)):
+            said("a change", exchanged(service.port, request(b"POST /v1/acme/state/net HTTP/1.1", text)), reply(b"200 OK", b""))
+            said("a read", exchanged(service.port, request(b"GET /v1/acme/state/net HTTP/1.1")), reply(b"200 OK", text))
+        said("whether states of 4 MB take less than 13 MB", most() - before < 13_000_000, True)
+        said("a last read", exchanged(service.port, request(b"GET /v1/acme/state/net HTTP/1.1")), reply(b"200 OK", text))
+        service.ends()
+    finally:
+        service.kill()
+    print("right: a service has room for 20 MB of pages, and states of 4 MB take less than 13 MB more")
+
+
 def look_at_log(program):
     """The log is copied into the file behind the reply to a state of 4 MB, which fills it, once; where smaller states fill it, by the change behind
     its 4,000th page. A read tells that what is done behind the reply before it is done."""
@@ -386,4 +410,4 @@ def look_at_shut(program):
 
 
 if __name__ == "__main__":
-    look_at(__doc__, look_at_modes, look_at_pages, look_at_owners, look_at_makers, look_at_reasons, look_at_spoiled, look_at_full, look_at_half, look_at_log, look_at_killed_behind, look_at_shut)
+    look_at(__doc__, look_at_modes, look_at_pages, look_at_owners, look_at_makers, look_at_reasons, look_at_spoiled, look_at_full, look_at_half, look_at_memory, look_at_log, look_at_killed_behind, look_at_shut)
