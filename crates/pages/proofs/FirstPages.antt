@@ -1,11 +1,11 @@
--- A page that is put by the first page of its key: where there is none, it is the key's only one; where that has its bytes, it is the one that is used again.
+-- A page that is put by the first page of its key: where there is none, it is the key's only one; where that has the bytes, it is the one that is used again.
 use Rattle.std.proofs.Common.{◌≡◌, ◌==◌, ℕ, ◌+◌, Bool, true, false, ◌&&◌, cond, List, [], ◌∷◌, find, is_some, Option, Some, None, IsSome, option_map, inr, refl, sym, ap, ◌∙◌, subst, arith}
 use Rattle.std.specs.Str.{bytes_eq}
 use Rattle.statements.specs.Rows.{Kept, PageRow}
 use Rattle.statements.specs.Tables.{Tables}
 use Rattle.pages.specs.declared.rows.FirstPage.{FirstPage}
 use Rattle.pages.specs.declared.rows.PageUse.{PageUse}
-use Rattle.pages.specs.Rows.{page_added, page_used, page_use, page_uses, equal_page, is_of_key, compared, first_page}
+use Rattle.pages.specs.Rows.{page_added, page_used, page_use, page_uses, equal_page, is_of_key, first_twin, compared, first_page}
 use Rattle.pages.specs.Pages.{IsKeyFor}
 use Rattle.pages.specs.Puts.{twin_limit, free_twin, twin_found, twin_for, put_found, page_put}
 use Rattle.pages.specs.Inner.Calls.{put_with, twin_with, alike}
@@ -54,27 +54,19 @@ module _ (key bytes : List ℕ) (t : Tables) where
           by_bytes true same is = first_equal x there same ∙ is
           by_bytes false other is = absurd (let no_one : ⊥ = cc in no_one)
 
-  pub put_with_is : put_with key bytes (first_page key bytes t) t ≡ page_put key bytes t
+  pub put_with_is : put_with key bytes (first_twin key t) t ≡ page_put key bytes t
   put_with_is = go (find (is_of_key key) t.pages) refl
     where
-      go : (o : Option (Kept PageRow)) → find (is_of_key key) t.pages ≡ o → put_with key bytes (option_map (compared bytes) o) t ≡ page_put key bytes t
+      go : (o : Option (Kept PageRow)) → find (is_of_key key) t.pages ≡ o → put_with key bytes (option_map (λ (x : Kept PageRow). x.1.twin) o) t ≡ page_put key bytes t
       go None none = sym (ap (λ o. put_found key bytes o t) (none_equal none) ∙ ap (λ n. page_added key n bytes t) (first_free none))
-      go (Some x) found = by_bytes (bytes_eq x.1.bytes bytes) refl
-        where
-          by_bytes : (b : Bool) → bytes_eq x.1.bytes bytes ≡ b → cond b (put_found key bytes (Some (page_use x)) t) (page_put key bytes t) ≡ page_put key bytes t
-          by_bytes true same = sym (ap (λ o. put_found key bytes o t) (first_equal x found same))
-          by_bytes false other = refl
+      go (Some x) found = refl
 
-  pub twin_with_is : twin_with key bytes (first_page key bytes t) t ≡ twin_for key bytes t
+  pub twin_with_is : twin_with key bytes (first_twin key t) t ≡ twin_for key bytes t
   twin_with_is = go (find (is_of_key key) t.pages) refl
     where
-      go : (o : Option (Kept PageRow)) → find (is_of_key key) t.pages ≡ o → twin_with key bytes (option_map (compared bytes) o) t ≡ twin_for key bytes t
+      go : (o : Option (Kept PageRow)) → find (is_of_key key) t.pages ≡ o → twin_with key bytes (option_map (λ (x : Kept PageRow). x.1.twin) o) t ≡ twin_for key bytes t
       go None none = sym (ap (λ o. twin_found key o t) (none_equal none) ∙ first_free none)
-      go (Some x) found = by_bytes (bytes_eq x.1.bytes bytes) refl
-        where
-          by_bytes : (b : Bool) → bytes_eq x.1.bytes bytes ≡ b → cond b x.1.twin (twin_for key bytes t) ≡ twin_for key bytes t
-          by_bytes true same = sym (ap (λ o. twin_found key o t) (first_equal x found same))
-          by_bytes false other = refl
+      go (Some x) found = refl
 
 -- so it is where the key that was asked for is this one
 pub found_equal : (asked key bytes : List ℕ) (t : Tables) (first : Option FirstPage) (found : PageUse) → asked ≡ key → first ≡ first_page asked bytes t → alike first ≡ Some found → equal_page key bytes t ≡ Some found

@@ -1,3 +1,4 @@
+pub mod Alone
 pub mod Behind
 pub mod Examples
 pub mod FirstPages

@@ -41,7 +41,7 @@ moved_behind f h a b c look is moved = record {
   inside = moved.inside;
 }
 
-done_behind : {X E : Type 0} (f h : Tables → Tables) (a b c : State) (result : Result X E) → LeavesAsIs a b → ((t : Tables) → Holds a.now t → f t ≡ h t)
+pub done_behind : {X E : Type 0} (f h : Tables → Tables) (a b c : State) (result : Result X E) → LeavesAsIs a b → ((t : Tables) → Holds a.now t → f t ≡ h t)
     → OnOk result (Moves AnyRows f b c) × OnErr result (KeepsCommit b c) → OnOk result (Moves AnyRows h a c) × OnErr result (KeepsCommit a c)
 done_behind f h a b c (Ok x) look is done = (moved_behind f h a b c look is done.0, tt)
 done_behind f h a b c (Err e) look is done = (tt, record { was_open = λ open_is. look.was_open (done.1.was_open open_is); committed = λ open_is. done.1.committed open_is ∙ look.committed })

@@ -84,7 +84,7 @@ module _ (key : List ℕ) (twin : ℕ) (t : Tables) where
 
 -- ---- put
 
-no_row : (o : Option (Kept PageRow)) → option_map (λ (x : Kept PageRow). x.1.uses) o ≡ None → o ≡ None
+pub no_row : (o : Option (Kept PageRow)) → option_map (λ (x : Kept PageRow). x.1.uses) o ≡ None → o ≡ None
 no_row None e = refl
 no_row (Some x) e = absurd (let no_one : ⊥ = cc in no_one)
 

@@ -20,9 +20,9 @@ use Rattle.statements.proofs.ReadBack.{number_read, blob_read}
 use Rattle.statements.proofs.Conditions.{same_blob}
 use Rattle.pages.specs.declared.rows.FirstPage.{FirstPage}
 use Rattle.pages.specs.declared.rows.PageUse.{PageUse}
-use Rattle.pages.specs.Rows.{is_page, is_equal_page, page_bytes, page_uses, page_use, equal_page, is_of_key, compared, first_page}
+use Rattle.pages.specs.Rows.{is_page, is_equal_page, page_bytes, page_uses, page_use, equal_page, is_of_key, first_twin, compared, first_page}
 use Rattle.pages.specs.Inner.Calls.{IsPageUse, IsFirstPage}
-use Rattle.pages.proofs.PageTexts.{page_bytes_text, page_bytes_means, page_bytes_rest, page_uses_text, page_uses_means, page_uses_rest, equal_page_text, equal_page_means, equal_page_rest, first_page_text, first_page_means, first_page_rest, first_page_names}
+use Rattle.pages.proofs.PageTexts.{page_bytes_text, page_bytes_means, page_bytes_rest, page_uses_text, page_uses_means, page_uses_rest, equal_page_text, equal_page_means, equal_page_rest, first_twin_text, first_twin_means, first_twin_rest, first_page_text, first_page_means, first_page_rest, first_page_names}
 use Rattle.pages.proofs.PageWrites.{blob_number}
 
 two_blobs : (a b c d : List ℕ) → (is_true (binary (Compare Eq Binary) (Blob a) (Blob b)) && (is_true (binary (Compare Eq Binary) (Blob c) (Blob d)) && true)) ≡ (bytes_eq a b && bytes_eq c d)
@@ -61,6 +61,11 @@ module _ (old new : State) (t : Tables) (h : Holds old.now t) where
   equal_page_shows key bytes row first =
       first_own page_cells page_table old new held.own t.pages held.rows held.keyed equal_page_text (Blob key ∷ Blob bytes ∷ []) row first equal_page_rest (codes "twin" ∷ codes "uses" ∷ [])
       (is_equal_page key bytes) (λ x. two_blobs x.1.key key x.1.bytes bytes) IsPageUse page_use (λ x y told. page_use_read x.1.twin x.1.uses y told) (equal_page_means old.now.schema _ _ held.own.place) (λ l. refl)
+
+  pub first_twin_shows : (key : List ℕ) (row : Option Row) → FirstRow first_twin_text (Blob key ∷ []) old new row → Pins IsNumber row (first_twin key t)
+  first_twin_shows key row first =
+      first_own page_cells page_table old new held.own t.pages held.rows held.keyed first_twin_text (Blob key ∷ []) row first first_twin_rest (codes "twin" ∷ [])
+      (is_of_key key) (λ x. one_blob x.1.key key) IsNumber (λ x. x.1.twin) (λ x y told. number_read x.1.twin y told) (first_twin_means old.now.schema _ _ held.own.place) (λ l. refl)
 
   pub first_page_shows : (key bytes : List ℕ) (row : Option Row) → FirstRow first_page_text (Blob key ∷ Blob bytes ∷ []) old new row → Pins IsFirstPage row (first_page key bytes t)
   first_page_shows key bytes row first =

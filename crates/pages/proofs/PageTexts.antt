@@ -9,7 +9,8 @@ use Rattle.sqlite_schema.specs.declared.command.Source.TheVariants.{Values}
 use Rattle.sqlite_schema.specs.declared.command.Command.TheVariants.{Select, Insert, Update, Delete}
 use Rattle.sqlite_ast.specs.declared.Statement.{Statement}
 use Rattle.sqlite_ast.specs.declared.Statement.TheVariants as written
-use Rattle.sqlite_ast.specs.declared.Expr.TheVariants.{Parameter}
+use Rattle.sqlite_ast.specs.declared.Binary.TheVariants.{Lt}
+use Rattle.sqlite_ast.specs.declared.Expr.TheVariants.{Parameter, Integer, Binary as Two}
 use Rattle.sqlite_ast.specs.declared.Shown.TheVariants.{One}
 use Rattle.sqlite_ast.specs.declared.Core.{Core}
 use Rattle.sqlite_ast.specs.declared.Select as ast
@@ -25,8 +26,8 @@ use Rattle.statements.proofs.Meaning.{Means, means, some_parsed, as_read}
 use Rattle.statements.proofs.Reading.{read_is}
 use Rattle.statements.proofs.Writes.{plain_program}
 use Rattle.statements.proofs.Answered.{point}
-use Rattle.statements.proofs.Commands.{is_at, update_query, delete_query, point_rest, point_draft, no_page}
-use Rattle.pages.specs.declared.rows.TheConstants.{ADD_PAGE, SET_PAGE_USES, REMOVE_PAGE, PAGE_BYTES, PAGE_USES, EQUAL_PAGE, FIRST_PAGE}
+use Rattle.statements.proofs.Commands.{is_at, is_under, update_query, delete_query, point_rest, point_draft, no_page}
+use Rattle.pages.specs.declared.rows.TheConstants.{ADD_PAGE, SET_PAGE_USES, REMOVE_PAGE, REMOVE_LAST_PAGE, PAGE_BYTES, PAGE_USES, EQUAL_PAGE, FIRST_TWIN, FIRST_PAGE}
 
 abbrev pub add_page_text : List ℕ
 add_page_text = ADD_PAGE.now
@@ -66,6 +67,19 @@ remove_page_reads = refl
 
 abbrev pub remove_page_query : ℕ → Query
 remove_page_query tree = delete_query tree (is_at 1 0 ∷ is_at 2 1 ∷ [])
+
+abbrev pub remove_last_page_text : List ℕ
+remove_last_page_text = REMOVE_LAST_PAGE.now
+
+abbrev remove_last_page : Statement
+remove_last_page = st.delete (codes "page") (st.also (st.at_key (codes "pkey") (codes "twin")) (Two Lt (st.named (codes "uses")) (Integer (codes "2"))))
+
+remove_last_page_reads : first remove_last_page_text ≡ Ok (as_read (some_parsed (first remove_last_page_text)) remove_last_page)
+unfolding everything
+remove_last_page_reads = refl
+
+abbrev pub remove_last_page_query : ℕ → Query
+remove_last_page_query tree = delete_query tree (is_at 1 0 ∷ is_at 2 1 ∷ is_under 4 2 ∷ [])
 
 abbrev pub page_bytes_text : List ℕ
 page_bytes_text = PAGE_BYTES.now
@@ -124,6 +138,25 @@ equal_page_is_query = (equal_page_select, some_parsed (first equal_page_text), e
 abbrev pub equal_page_rest : Query
 equal_page_rest = point_rest (is_at 1 0 ∷ is_at 3 1 ∷ []) (col 1 2 ∷ col 1 4 ∷ []) no_page
 
+abbrev pub first_twin_text : List ℕ
+first_twin_text = FIRST_TWIN.now
+
+abbrev first_twin_core : Core
+first_twin_core = st.from_table (st.shown_columns (codes "twin" ∷ [])) (codes "page") (st.is_given (codes "pkey") 1)
+
+abbrev first_twin_select : ast.Select
+first_twin_select = st.select first_twin_core (st.by_rowid false) None
+
+first_twin_reads : first first_twin_text ≡ Ok (as_read (some_parsed (first first_twin_text)) (written.Select first_twin_select))
+unfolding everything
+first_twin_reads = refl
+
+pub first_twin_is_query : IsQuery first_twin_text
+first_twin_is_query = (first_twin_select, some_parsed (first first_twin_text), first_twin_reads)
+
+abbrev pub first_twin_rest : Query
+first_twin_rest = point_rest (is_at 1 0 ∷ []) (col 1 2 ∷ []) no_page
+
 abbrev pub first_page_text : List ℕ
 first_page_text = FIRST_PAGE.now
 
@@ -170,6 +203,14 @@ module _ (s : Schema) (at tree : ℕ) (h : StandsAt s (codes "page") page_table 
   pub remove_page_means : Means s (Delete at (plain_program (remove_page_query tree))) remove_page_text
   unfolding everything
   remove_page_means = means s remove_page _ refl (λ _. refl) remove_page_is remove_page_text (some_parsed (first remove_page_text)) remove_page_reads
+
+  remove_last_page_is : (base : ℕ) → command s [] base remove_last_page ≡ Ok (Delete at (plain_program (remove_last_page_query tree)))
+  unfolding everything
+  remove_last_page_is base = rw (h.named, h.found, h.found, h.found, h.treed, h.low) refl
+
+  pub remove_last_page_means : Means s (Delete at (plain_program (remove_last_page_query tree))) remove_last_page_text
+  unfolding everything
+  remove_last_page_means = means s remove_last_page _ refl (λ _. refl) remove_last_page_is remove_last_page_text (some_parsed (first remove_last_page_text)) remove_last_page_reads
 
   page_bytes_named : named s page_bytes_core (st.by_rowid false) no_page ≡ Ok ((point_draft page_bytes_rest tree false), (codes "bytes" ∷ []), (Some Binary ∷ []))
   unfolding everything
@@ -221,6 +262,23 @@ module _ (s : Schema) (at tree : ℕ) (h : StandsAt s (codes "page") page_table 
   pub equal_page_means : Means s (Select (plain_program (point equal_page_rest tree false)) (codes "twin" ∷ codes "uses" ∷ [])) equal_page_text
   unfolding timed returning
   equal_page_means = means s (written.Select equal_page_select) _ refl (λ _. refl) equal_page_is equal_page_text (some_parsed (first equal_page_text)) equal_page_reads
+
+  first_twin_named : named s first_twin_core (st.by_rowid false) no_page ≡ Ok ((point_draft first_twin_rest tree false), (codes "twin" ∷ []), (Some Binary ∷ []))
+  unfolding everything
+  first_twin_named = rw (h.named, h.found, h.found, h.found, h.small) refl
+
+  first_twin_fits : program s [] (point_draft first_twin_rest tree false) ≡ Ok (plain_program (point first_twin_rest tree false))
+  unfolding everything
+  first_twin_fits = rw (h.low, h.treed) refl
+
+  first_twin_is : (base : ℕ) → command s [] base (written.Select first_twin_select) ≡ Ok (Select (plain_program (point first_twin_rest tree false)) (codes "twin" ∷ []))
+  unfolding everything
+  first_twin_is base =
+      read_is s first_twin_select first_twin_core (st.by_rowid false) no_page ((point_draft first_twin_rest tree false), (codes "twin" ∷ []), (Some Binary ∷ [])) refl refl refl refl refl (λ again. refl) first_twin_named (plain_program (point first_twin_rest tree false)) first_twin_fits base
+
+  pub first_twin_means : Means s (Select (plain_program (point first_twin_rest tree false)) (codes "twin" ∷ [])) first_twin_text
+  unfolding timed returning
+  first_twin_means = means s (written.Select first_twin_select) _ refl (λ _. refl) first_twin_is first_twin_text (some_parsed (first first_twin_text)) first_twin_reads
 
   first_page_named : named s first_page_core (st.by_rowid false) no_page ≡ Ok ((point_draft first_page_rest tree false), first_page_names, (Some Binary ∷ Some Binary ∷ None ∷ []))
   unfolding everything

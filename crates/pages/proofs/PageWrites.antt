@@ -1,24 +1,32 @@
 -- What the writes to the table page do to its rows.
-use Rattle.std.proofs.Common.{◌≡◌, ℕ, pos, true, ◌&&◌, List, [], ◌∷◌, Ok, refl, eqb}
+use Rattle.std.proofs.Common.{◌≡◌, ◌==◌, ℕ, pos, nat_lt, true, ◌&&◌, not, List, [], ◌∷◌, find, Ok, refl, ap, ◌∙◌, eqb}
 use Rattle.std.specs.Str.{bytes_eq}
 use Rattle.sqlite_value.specs.declared.keys.Collation.TheVariants.{Binary}
 use Rattle.sqlite_value.specs.declared.value.Value.TheVariants.{Int, Blob}
-use Rattle.sqlite_sql.specs.declared.ops.CompareOp.TheVariants.{Eq}
+use Rattle.sqlite_sql.specs.declared.ops.CompareOp.TheVariants.{Eq, Lt}
 use Rattle.sqlite_sql.specs.declared.ops.BinaryOp.TheVariants.{Compare}
 use Rattle.sqlite_sql.specs.Ops.{is_true, binary}
-use Rattle.sqlite_typed.proofs.TestLemmas.{then_term, last_term}
+use Rattle.sqlite_keyed.proofs.SliceLemmas.{is_some-map}
+use Rattle.sqlite_typed.proofs.TestLemmas.{at_ints, then_term, last_term}
 use Rattle.sqlite.specs.State.{State, Executes}
-use Rattle.statements.specs.Rows.{number}
+use Rattle.statements.specs.Rows.{number, page_cells}
 use Rattle.statements.specs.Tables.{Tables, Holds}
-use Rattle.statements.proofs.Held.{pages}
+use Rattle.statements.specs.Schema.{page_table}
+use Rattle.statements.proofs.Held.{pages, pages_held}
+use Rattle.statements.proofs.Own.{count_deleted, first_if_any}
 use Rattle.statements.proofs.Casts.{page_casts}
-use Rattle.statements.proofs.Conditions.{same_blob, same_number}
+use Rattle.statements.proofs.Conditions.{same_blob, same_number, below_is}
 use Rattle.statements.proofs.Frames.{Turns, updated, deleted, inserted}
-use Rattle.pages.specs.Rows.{is_page, page_added, page_used, page_removed}
-use Rattle.pages.proofs.PageTexts.{add_page_text, add_page_means, set_page_uses_text, set_page_uses_means, remove_page_text, remove_page_means}
+use Rattle.pages.specs.Rows.{is_page, is_last, page_added, page_used, page_removed, has_last, last_removed}
+use Rattle.pages.proofs.PageTexts.{add_page_text, add_page_means, set_page_uses_text, set_page_uses_means, remove_page_text, remove_page_means, remove_last_page_text, remove_last_page_means}
 
 pub blob_number : (a b : List ℕ) (m n : ℕ) → (is_true (binary (Compare Eq Binary) (Blob a) (Blob b)) && (is_true (binary (Compare Eq Binary) (Int (pos m)) (Int (pos n))) && true)) ≡ (bytes_eq a b && eqb m n)
 blob_number a b m n = then_term (same_blob a b) (last_term (same_number m n))
+
+blob_number_below : (a b : List ℕ) (m n k l : ℕ)
+    → (is_true (binary (Compare Eq Binary) (Blob a) (Blob b)) && (is_true (binary (Compare Eq Binary) (Int (pos m)) (Int (pos n))) && (is_true (binary (Compare Lt Binary) (Int (pos k)) (Int (pos l))) && true)))
+    ≡ (bytes_eq a b && (eqb m n && nat_lt k l))
+blob_number_below a b m n k l = then_term (same_blob a b) (then_term (same_number m n) (last_term (at_ints _ Lt (pos k) (pos l) ∙ below_is k l)))
 
 module _ (old new : State) (count : ℕ) (t : Tables) (h : Holds old.now t) where
   pub add_page_does : (key : List ℕ) (twin : ℕ) (bytes : List ℕ) → Executes add_page_text (Blob key ∷ number twin ∷ Blob bytes ∷ []) old new (Ok count) → Turns old.now new.now (page_added key twin bytes t)
@@ -29,3 +37,13 @@ module _ (old new : State) (count : ℕ) (t : Tables) (h : Holds old.now t) wher
 
   pub remove_page_does : (key : List ℕ) (twin : ℕ) → Executes remove_page_text (Blob key ∷ number twin ∷ []) old new (Ok count) → Turns old.now new.now (page_removed key twin t)
   remove_page_does key twin ran = deleted pages page_casts old new count t h _ _ ran (remove_page_means old.now.schema) (is_page key twin) (λ x. blob_number x.1.key key x.1.twin twin) tt
+
+  pub remove_last_page_does : (key : List ℕ) (twin : ℕ) → Executes remove_last_page_text (Blob key ∷ number twin ∷ []) old new (Ok count) → Turns old.now new.now (last_removed key twin t)
+  remove_last_page_does key twin ran = deleted pages page_casts old new count t h _ _ ran (remove_last_page_means old.now.schema) (is_last key twin) (λ x. blob_number_below x.1.key key x.1.twin twin x.1.uses 2) tt
+
+  pub remove_last_page_finds : (key : List ℕ) (twin : ℕ) → Executes remove_last_page_text (Blob key ∷ number twin ∷ []) old new (Ok count) → not (count == 0) ≡ has_last key twin t
+  remove_last_page_finds key twin ran =
+      let held = pages_held old.now t h in
+      let counted = count_deleted page_cells page_table page_casts old new held.own held.steady t.pages held.rows held.keyed _ _ count ran _ (remove_last_page_means old.now.schema _ _ held.own.place) refl refl refl (λ rows. refl)
+      (is_last key twin) (λ x. blob_number_below x.1.key key x.1.twin twin x.1.uses 2) in
+      ap (λ n. not (n == 0)) counted ∙ first_if_any (is_last key twin) (λ x. x.1) t.pages ∙ is_some-map (λ x. x.1) (find (is_last key twin) t.pages)

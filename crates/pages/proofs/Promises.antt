@@ -16,7 +16,7 @@ use Rattle.pages.proofs.Looking.{one_look, still_holds, step_after}
 use Rattle.pages.proofs.PageLaws.{put_is, put_keeps, release_is, release_keeps}
 
 -- the rows that a database holds after a step are those of the step
-rows_are : (f : Tables → Tables) (a b : State) → Moves AnyRows f a b → (t u : Tables) → Holds a.now t → Holds b.now u → f t ≡ u
+pub rows_are : (f : Tables → Tables) (a b : State) → Moves AnyRows f a b → (t u : Tables) → Holds a.now t → Holds b.now u → f t ≡ u
 rows_are f a b moved t u before after = sym (tables-held b.now (f t) (moved.rows t before tt)) ∙ tables-held b.now u after
 
 pub puts_by : (key bytes : List ℕ) (twin : ℕ) (a b : State) → Moves AnyRows (page_put key bytes) a b → twin < twin_limit → ((t : Tables) → Holds a.now t → twin ≡ twin_for key bytes t)

@@ -29,7 +29,7 @@ use Rattle.statements.specs.Steps.{LeavesAsIs}
 use Rattle.pages.specs.Rows.{is_page}
 use Rattle.pages.specs.Pages.{Page, pages_in, NamedAreThere}
 use Rattle.pages.proofs.Looking.{still_holds}
-use Rattle.pages.proofs.PageTexts.{set_page_uses_text, set_page_uses_query, set_page_uses_means, remove_page_text, remove_page_query, remove_page_means}
+use Rattle.pages.proofs.PageTexts.{set_page_uses_text, set_page_uses_query, set_page_uses_means, remove_page_text, remove_page_query, remove_page_means, remove_last_page_text, remove_last_page_query, remove_last_page_means}
 use Rattle.pages.proofs.PageWrites.{blob_number}
 
 -- the reference of vpage
@@ -121,6 +121,12 @@ module _ (old new : State) (params : Row) (t : Tables) (h : Holds old.now t) (co
   removed_is_sound ran =
       let means = remove_page_means old.now.schema _ _ own.place in
       let w = runs_as remove_page_text params old new old.now.schema refl (Delete (at_of old.now.schema page_table.name) (plain_program (remove_page_query (tree_of old.now.schema page_table.name)))) means.0 means.1 count ran in
+      w.sound
+
+  pub last_is_sound : Executes remove_last_page_text params old new (Ok count) → IsDatabase new.now
+  last_is_sound ran =
+      let means = remove_last_page_means old.now.schema _ _ own.place in
+      let w = runs_as remove_last_page_text params old new old.now.schema refl (Delete (at_of old.now.schema page_table.name) (plain_program (remove_last_page_query (tree_of old.now.schema page_table.name)))) means.0 means.1 count ran in
       w.sound
 
 -- a text that was run, and leaves a database where it succeeds

@@ -89,7 +89,7 @@ abbrev pub NamedAreThere : Tables → Type 0
 NamedAreThere t = AllByRecursion (λ x. IsSome (pages_in t x.1.key x.1.twin)) t.vpages
 
 -- A page that a row of vpage names hasn't gone, in a transaction: where a page would, it is refused.
-abbrev pub SparesNamed : {E : Type 0} → State → State → Result ⊤ E → Type 0
+abbrev pub SparesNamed : {X E : Type 0} → State → State → Result X E → Type 0
 SparesNamed old new result = HasCleanDisk new → IsTrue old.in_transaction → OnOk result ((t u : Tables) → Holds old.now t → Holds new.now u → NamedAreThere u)
 
 -- a value that is there is read, outside a transaction; after a failure nothing is committed

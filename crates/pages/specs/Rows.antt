@@ -1,5 +1,5 @@
 -- What the statements on the table page change and read of its rows.
-use Rattle.std.specs.Prelude.{◌≡◌, ℕ, Bool, ◌&&◌, ◌==◌, List, find, Option, option_map}
+use Rattle.std.specs.Prelude.{◌≡◌, ℕ, Bool, ◌&&◌, ◌==◌, nat_lt, List, find, is_some, Option, option_map}
 use Rattle.std.specs.Str.{bytes_eq}
 use Rattle.sqlite_value.specs.declared.value.Value.TheVariants.{Blob}
 use Rattle.sqlite_value.specs.Order.{Row, column}
@@ -28,6 +28,16 @@ page_used key twin uses t = record t { pages = update_where (is_page key twin) (
 abbrev pub page_removed : List ℕ → ℕ → Tables → Tables
 page_removed key twin t = record t { pages = delete_where (is_page key twin) t.pages }
 
+-- that page, if it is in use once at most
+abbrev pub is_last : List ℕ → ℕ → Kept PageRow → Bool
+is_last key twin x = bytes_eq x.1.key key && (x.1.twin == twin && nat_lt x.1.uses 2)
+
+abbrev pub has_last : List ℕ → ℕ → Tables → Bool
+has_last key twin t = is_some (find (is_last key twin) t.pages)
+
+abbrev pub last_removed : List ℕ → ℕ → Tables → Tables
+last_removed key twin t = record t { pages = delete_where (is_last key twin) t.pages }
+
 abbrev pub page_bytes : List ℕ → ℕ → Tables → Option (List ℕ)
 page_bytes key twin t = option_map (λ x. x.1.bytes) (find (is_page key twin) t.pages)
 
@@ -43,6 +53,10 @@ equal_page key bytes t = option_map page_use (find (is_equal_page key bytes) t.p
 -- a page of the key
 abbrev pub is_of_key : List ℕ → Kept PageRow → Bool
 is_of_key key x = bytes_eq x.1.key key
+
+-- the twin number of the page of the key that was added first
+abbrev pub first_twin : List ℕ → Tables → Option ℕ
+first_twin key t = option_map (λ x. x.1.twin) (find (is_of_key key) t.pages)
 
 -- a page, and whether it has these bytes
 abbrev pub compared : List ℕ → Kept PageRow → FirstPage

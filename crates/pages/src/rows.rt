@@ -2,15 +2,15 @@
 ghost use Rattle.std.specs.Prelude.{◌≡◌, ◌<◌, ◌^◌};
 ghost use Rattle.sqlite.specs.Held.{state};
 ghost use Rattle.sqlite.specs.State.{Survives};
-ghost use Rattle.statements.specs.Steps.{AnyRows, Equals, Writes, Reads, Queries};
-ghost use Rattle.pages.specs.Rows.{page_added, page_used, page_removed, page_bytes, page_uses, equal_page, first_page};
+ghost use Rattle.statements.specs.Steps.{AnyRows, Equals, Writes, Tells, Reads, Queries};
+ghost use Rattle.pages.specs.Rows.{page_added, page_used, page_removed, last_removed, has_last, page_bytes, page_uses, equal_page, first_page, first_twin};
 ghost use Rattle.pages.specs.Pages.{SparesNamed};
 ghost use Rattle.pages.specs.Inner.Calls.{IsPageUse, IsFirstPage};
 
 use crate::twins::{Twin, twin_in};
 use basis::Bytes;
 use sqlite::{Alter, Connection, Error, Row, Transaction, params};
-use statements::calls::{Read, first_row, first_row_inside, read_one, signed, write};
+use statements::calls::{Read, first_row, first_row_inside, read_one, signed, update, write};
 
 /// The twin number of a page, and how often it is in use.
 #[derive(Clone, Copy)]
@@ -78,6 +78,22 @@ pub(crate) fn remove<'v, S: Alter>(
     write(tx, REMOVE_PAGE, params![key, &twin])
 }
 
+const REMOVE_LAST_PAGE: &str = "DELETE FROM page WHERE pkey = ?1 AND twin = ?2 AND uses < 2";
+
+/// Removes a page that is in use once at most, and tells whether there was one.
+pub(crate) fn remove_last<'v, S: Alter>(
+    tx: &mut Transaction<'_, S>,
+    key: &'v [u8],
+    twin: Twin,
+) -> Result<bool, Error>
+    ensures writes { Writes S.Store AnyRows (last_removed key.now twin) tx.old tx.new result }
+    ensures found { Tells (Equals (has_last key.now twin)) (state S.Store tx.old.conn.now) (state S.Store tx.new.conn.now) result }
+    ensures spares { SparesNamed (state S.Store tx.old.conn.now) (state S.Store tx.new.conn.now) result }
+{
+    let twin = twin.signed();
+    update(tx, REMOVE_LAST_PAGE, params![key, &twin])
+}
+
 const PAGE_BYTES: &str = "SELECT bytes FROM page WHERE pkey = ?1 AND twin = ?2 ORDER BY rowid";
 
 /// The bytes of a page.
@@ -107,6 +123,21 @@ pub(crate) fn uses<'v, S: Alter>(
 {
     let twin = twin.signed();
     let row = first_row_inside(tx, PAGE_USES, params![key, &twin]);
+    read_one(row)
+}
+
+const FIRST_TWIN: &str = "SELECT twin FROM page WHERE pkey = ?1 ORDER BY rowid";
+
+/// The twin number of the first page of this key.
+pub(crate) fn first_twin<S: Alter>(
+    tx: &mut Transaction<'_, S>,
+    key: &[u8],
+) -> Result<Option<Twin>, Error>
+    ensures same_reference { tx.new.conn.ghost_name ≡ tx.old.conn.ghost_name }
+    ensures read { Reads (Equals (first_twin key.now)) (state S.Store tx.old.conn.now) (state S.Store tx.new.conn.now) result }
+    ensures survives { Survives (state S.Store tx.old.conn.now) (state S.Store tx.new.conn.now) (λ _. ⊥) }
+{
+    let row = first_row_inside(tx, FIRST_TWIN, params![key]);
     read_one(row)
 }
 

@@ -1,18 +1,20 @@
 //! Pages are put, read, compared and released.
-ghost use Rattle.std.specs.Prelude.{◌≡◌, ◌+◌, false, ℕ, List, IsSome, IfOk, OnOk};
+ghost use Rattle.std.specs.Prelude.{◌≡◌, ◌+◌, false, ℕ, List, None, IsSome, IfOk, OnOk};
 ghost use Rattle.sqlite_value.specs.declared.value.Value.TheVariants.{Blob};
 ghost use Rattle.sqlite_value.specs.Order.{column};
 ghost use Rattle.sqlite.specs.Held.{state};
 ghost use Rattle.sqlite.specs.State.{HasCleanDisk};
-ghost use Rattle.statements.specs.Steps.{Steps};
+ghost use Rattle.statements.specs.Steps.{Steps, Tells};
 ghost use Rattle.statements.specs.Tables.{Tables, Holds};
-ghost use Rattle.pages.specs.Rows.{page_added, page_used, page_bytes, IsPageName};
+ghost use Rattle.pages.specs.Rows.{page_added, page_used, page_bytes, page_uses, IsPageName};
 ghost use Rattle.pages.specs.Puts.{free_twin, twin_found, twin_for, put_found, page_put, lessened, released_found, page_released, is_bytes_of};
 ghost use Rattle.pages.specs.Pages.{IsKeyFor, PutsUnder, ReleasesBy, SparesNamed, GetsBy};
 ghost use Rattle.pages.specs.Inner.Calls.{OnlyLooks, TellsBy, put_with, twin_with, alike};
 
 use crate::keys::PageKey;
-use crate::rows::{FirstPage, PageUse, add, bytes, equal, first, remove, set_uses, uses};
+use crate::rows::{
+    FirstPage, PageUse, add, bytes, equal, first, first_twin, remove, remove_last, set_uses, uses,
+};
 use crate::twins::{MAX_TWIN, Twin, twin_in};
 use basis::Bytes;
 use sqlite::types::{Type, ValueRef};
@@ -137,10 +139,11 @@ fn put_among<S: Alter>(tx: &mut Transaction<'_, S>, key: &[u8], page: &[u8]) -> 
     put_beside(tx, key, found, page)
 }
 
+/// Puts a page, by the first page of its key, if there is one.
 fn put_with<S: Alter>(
     tx: &mut Transaction<'_, S>,
     key: &[u8],
-    first: Option<FirstPage>,
+    first: Option<Twin>,
     page: &[u8],
 ) -> Result<Twin, Error>
     ensures steps { Steps S.Store (put_with key.now page.now first) tx.old tx.new result }
@@ -148,21 +151,16 @@ fn put_with<S: Alter>(
 {
     match first {
         None => add_first(tx, key, page),
-        Some(first) => {
-            if first.same {
-                use_again(tx, key, first.found)
-            } else {
-                put_among(tx, key, page)
-            }
-        }
+        Some(_) => put_among(tx, key, page),
     }
 }
 
+/// Puts a page. Whether its key has others is asked without its bytes: most pages are new.
 fn put_under<S: Alter>(tx: &mut Transaction<'_, S>, key: &[u8], page: &[u8]) -> Result<Twin, Error>
     ensures steps { Steps S.Store (page_put key.now page.now) tx.old tx.new result }
     ensures twin { TellsBy (twin_for key.now page.now) (state S.Store tx.old.conn.now) (state S.Store tx.new.conn.now) result }
 {
-    let first = first(tx, key, page)?;
+    let first = first_twin(tx, key)?;
     put_with(tx, key, first, page)
 }
 
@@ -297,15 +295,82 @@ fn release_found<S: Alter>(
     }
 }
 
+/// Whether a page stays where one use of it goes.
+fn stays(uses: Option<u64>) -> bool {
+    match uses {
+        None => false,
+        Some(uses) => uses > 1,
+    }
+}
+
+/// Takes one use of a page, whose uses are looked up. `shared` is whether it has others.
+fn release_counted<S: Alter>(
+    tx: &mut Transaction<'_, S>,
+    key: &[u8],
+    twin: Twin,
+    shared: &mut bool,
+) -> Result<(), Error>
+    ensures steps { Steps S.Store (page_released key.now twin) tx.old tx.new result }
+    ensures releases { ReleasesBy key.now twin (state S.Store tx.old.conn.now) (state S.Store tx.new.conn.now) result }
+    ensures spares { SparesNamed (state S.Store tx.old.conn.now) (state S.Store tx.new.conn.now) result }
+{
+    let found = uses(tx, key, twin)?;
+    *shared = stays(found);
+    release_found(tx, key, twin, found)
+}
+
+/// Tells that no page of this name is left.
+fn none_left<S: Alter>(tx: &mut Transaction<'_, S>, key: &[u8], twin: Twin) -> Result<(), Error>
+    ensures same_reference { tx.new.conn.ghost_name ≡ tx.old.conn.ghost_name }
+    ensures looks { OnlyLooks (state S.Store tx.old.conn.now) (state S.Store tx.new.conn.now) result }
+    ensures none { Tells (λ _ t. page_uses key.now twin t ≡ None) (state S.Store tx.old.conn.now) (state S.Store tx.new.conn.now) result }
+    ensures so_far { HasCleanDisk (state S.Store tx.new.conn.now) → HasCleanDisk (state S.Store tx.old.conn.now) }
+    ensures shield { (state S.Store tx.old.conn.now).IsShielded → (state S.Store tx.new.conn.now).IsShielded }
+{
+    let found = uses(tx, key, twin)?;
+    match found {
+        None => Ok(()),
+        Some(_) => Err(Error::QueryReturnedNoRows),
+    }
+}
+
+/// Takes the only use of a page, and the page, without a look at its row, or else one of more.
+fn release_alone<S: Alter>(
+    tx: &mut Transaction<'_, S>,
+    key: &[u8],
+    twin: Twin,
+    shared: &mut bool,
+) -> Result<(), Error>
+    ensures steps { Steps S.Store (page_released key.now twin) tx.old tx.new result }
+    ensures releases { ReleasesBy key.now twin (state S.Store tx.old.conn.now) (state S.Store tx.new.conn.now) result }
+    ensures spares { SparesNamed (state S.Store tx.old.conn.now) (state S.Store tx.new.conn.now) result }
+{
+    let gone = remove_last(tx, key, twin)?;
+    if gone {
+        none_left(tx, key, twin)
+    } else {
+        release_counted(tx, key, twin, shared)
+    }
+}
+
 /// Takes one use of a page, and the page with the last. It is an error where the page isn't there,
 /// and where the last use would go of a page that a row of vpage names.
-pub fn release<S: Alter>(tx: &mut Transaction<'_, S>, id: &PageId) -> Result<(), Error>
+/// `shared` is whether the page released before stayed, and then whether this one does: where it did, the uses of
+/// this one are looked up first. So a page in one use, whose row is long, is read once, and one in more twice.
+pub fn release<S: Alter>(
+    tx: &mut Transaction<'_, S>,
+    id: &PageId,
+    shared: &mut bool,
+) -> Result<(), Error>
     ensures steps { Steps S.Store (page_released id.now.key id.now.twin) tx.old tx.new result }
     ensures releases { ReleasesBy id.now.key id.now.twin (state S.Store tx.old.conn.now) (state S.Store tx.new.conn.now) result }
     ensures spares { SparesNamed (state S.Store tx.old.conn.now) (state S.Store tx.new.conn.now) result }
 {
     let twin = id.twin;
     let key = id.key.as_slice();
-    let found = uses(tx, key, twin)?;
-    release_found(tx, key, twin, found)
+    if *shared {
+        release_counted(tx, key, twin, shared)
+    } else {
+        release_alone(tx, key, twin, shared)
+    }
 }

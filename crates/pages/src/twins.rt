@@ -4,9 +4,10 @@ ghost use Rattle.sqlite_value.specs.Order.{column};
 ghost use Rattle.basis.specs.Numbers.{within};
 ghost use Rattle.statements.specs.Rows.{number};
 ghost use Rattle.pages.specs.declared.twins.TheConstants.{MAX_TWIN};
+ghost use Rattle.statements.specs.Calls.{IsNumber};
 
 use sqlite::{Error, Row};
-use statements::calls::signed;
+use statements::calls::{Read, signed};
 use std::marker::Model;
 
 /// The greatest twin number: SQL has no integer above it.
@@ -59,6 +60,14 @@ impl Twin {
         ensures fits { self < 2 ^ 63 }
     {
         signed(self.value)
+    }
+}
+
+impl Read for Twin {
+    ghost is_in = { IsNumber };
+
+    fn of_row(row: &Row) -> Result<Twin, Error> {
+        twin_in(row, 0)
     }
 }
 

@@ -83,7 +83,7 @@ pub two_texts_one_less : (a b c d : List ℕ) (m n : ℕ)
     ≡ (bytes_eq a b && (bytes_eq c d && is_one_less m n))
 two_texts_one_less a b c d m n = then_term (same_text a b) (then_term (same_text c d) (last_term {a = is_one_less m n} refl))
 
-below_is : (a b : ℕ) → int_lt (pos a) (pos b) ≡ nat_lt a b
+pub below_is : (a b : ℕ) → int_lt (pos a) (pos b) ≡ nat_lt a b
 below_is a b = grind (arith, ints, nat_tests)
 
 pub two_texts_below : (a b c d : List ℕ) (m n : ℕ)

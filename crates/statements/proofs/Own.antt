@@ -186,6 +186,14 @@ module _ {R : Type 0} (cells : R → Row) (table : Table) (casts : (r : R) → c
       let went = written s table own steady old.now.trees new.now.trees _ refl made.2 in
       (record { rows = went.rows ∙ rows; others = went.others; followers = went.followers }, made.3)
 
+  -- how many rows a DELETE removes
+  pub count_deleted : (q : Query) → Means s (Delete (at_of s table.name) (plain_program q)) text → q.from ≡ inner here end → q.group ≡ None → q.distinct ≡ false → ((rows : List Row) → page q params rows ≡ rows)
+      → (p : Kept R → Bool) → ((x : Kept R) → list_all (holds (params ∷ stored cells x ∷ [])) q.filter ≡ p x) → count ≡ length (filter p xs)
+  count_deleted q means from none all whole p tests =
+      let made = deletes old new text params (at_of s table.name) (record table { tree = here }) own.place.found q means count ran in
+      let some = all_shown cells (overlay old.now.trees []) here xs seen keyed q from none all params p tests whole made.0 made.1 in
+      made.4 ∙ ap length some.2 ∙ length-map some.0 _ ∙ length_permutation (filter p xs) some.0 some.1
+
   pub insert_own : (terms : List Term) (width : ℕ) → Means s (Insert (at_of s table.name) (Values terms width)) text → table.is_counted ≡ false → stamped table params ≡ params
       → (new_row : R) → value_rows params width (length terms / width) terms ≡ (Null ∷ cells new_row) ∷ [] → Left (xs ++ (next_key id_of xs, new_row) ∷ [])
   insert_own terms width means uncounted unstamped new_row given =

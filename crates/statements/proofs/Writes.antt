@@ -10,7 +10,7 @@ use Rattle.sqlite_schema.specs.declared.schema.Keys.TheVariants.{Enforced}
 use Rattle.sqlite_schema.specs.declared.command.Command.TheVariants.{Insert, Update, Delete}
 use Rattle.sqlite_schema.specs.declared.command.Source.{Source}
 use Rattle.sqlite_rules.specs.declared.error.Rowids.TheVariants.{Above, Chosen, Given}
-use Rattle.sqlite_rules.specs.Edit.{edit_of}
+use Rattle.sqlite_rules.specs.Edit.{edit_of, taken_by}
 use Rattle.sqlite_rules.specs.Calls.{ids_of}
 use Rattle.sqlite_rules.specs.Action.{Writes}
 use Rattle.sqlite.specs.Effect.{Database, IsSource}
@@ -72,7 +72,7 @@ module _ (old new : State) (text : List ℕ) (params : Row) (at : ℕ) (table : 
 
   pub deletes : (q : Query) → Means old.now.schema (Delete at (plain_program q)) text → (count : ℕ) → Executes text params old new (Ok count)
       → (rows : List Row) × IsAnswer q (overlay old.now.trees []) params rows
-      × Writes old.now.schema Enforced old.now.trees (edit_of old.now.trees table (ids_of rows) Given 0 []) (Ok new.now.trees) × (new.now.schema ≡ old.now.schema)
+      × Writes old.now.schema Enforced old.now.trees (edit_of old.now.trees table (ids_of rows) Given 0 []) (Ok new.now.trees) × (new.now.schema ≡ old.now.schema) × (count ≡ length rows)
   deletes q m count ran =
       let w = runs_as text params old new old.now.schema refl (Delete at (plain_program q)) m.0 m.1 count ran in
       let done = went (rw found at w.changed) in
@@ -81,7 +81,13 @@ module _ (old new : State) (text : List ℕ) (params : Row) (at : ℕ) (table : 
       let now = ends done.0 w.tally done.2 in
       let trees : done.0.trees ≡ edit.0 = ap (λ (it : Written). it.trees) (same_value edit.2) in
       let last : new.now.trees ≡ edit.0 = ap (λ (d : Database). d.trees) now ∙ trees in
-      (shown.0, shown.1.answer Null, subst (λ t. Writes old.now.schema Enforced old.now.trees (edit_of old.now.trees table (ids_of shown.0) Given 0 []) (Ok t)) (sym last) edit.1, ap (λ (d : Database). d.schema) now)
+      let counted : count ≡ length (taken_by old.now.trees (edit_of old.now.trees table (ids_of shown.0) Given 0 [])) = w.counted ∙ ap (λ o. unwrap_or o 0) (tallied done.0 w.tally done.2) ∙ ap (λ (it : Written). length it.rows) (same_value edit.2) in (
+        shown.0,
+        shown.1.answer Null,
+        subst (λ t. Writes old.now.schema Enforced old.now.trees (edit_of old.now.trees table (ids_of shown.0) Given 0 []) (Ok t)) (sym last) edit.1,
+        ap (λ (d : Database). d.schema) now,
+        counted ∙ length-map (ids_of shown.0) _ ∙ length-map shown.0 _,
+      )
 
   -- of a table without AUTOINCREMENT, and with no default that reads the time
   pub inserts : (from : Source) → table.is_counted ≡ false → stamped table params ≡ params → Means old.now.schema (Insert at from) text → (count : ℕ) → Executes text params old new (Ok count)

@@ -35,7 +35,7 @@ pub fn write<S: Alter>(
 }
 
 /// Runs a write in a transaction, and tells whether there were rows to write.
-pub(crate) fn update<S: Alter>(
+pub fn update<S: Alter>(
     tx: &mut Transaction<'_, S>,
     sql: &str,
     params: &[ValueRef<'_>],

@@ -1,3 +1,4 @@
+pub mod Begun
 pub mod Clock
 pub mod Files
 pub mod Shields

@@ -8,6 +8,7 @@ ghost use Rattle.sqlite.specs.Start.{FindsIn};
 ghost use Rattle.sqlite.specs.State.{HasCleanDisk};
 ghost use Rattle.sqlite_disk.specs.Modelled.{calls_of, start_of};
 ghost use Rattle.statements.specs.Tables.{Tables, Holds, tables_of};
+ghost use Rattle.tables.specs.Logs.{CopiesLog};
 ghost use Rattle.tables.specs.Opening.{IsFresh};
 ghost use Rattle.tables.specs.Scans.{ArePagesKeyed};
 ghost use Rattle.tables.specs.Sound.{IsSound};
@@ -216,8 +217,9 @@ impl<S: Start> Files<FileKeep<S>> for DiskFiles<'_, S> {
     // A store is shut where its connection is, while its disk kept what it promised.
     ghost shuts = { λ store said after. ⟦<FileKeep<S> as Keep>⟧.clean after → IfOk said (λ is_shut. (file_state store.conn).is_open ≡ not is_shut) };
 
-    // How long a log is, and where its pages lie, no clause of the kit tells.
-    ghost checkpoints = { λ _ _. ⊤ };
+    // What was written is counted, and no longer once a long log was copied. How long the log is, and where its pages lie, no
+    // clause of the kit tells.
+    ghost checkpoints = { λ old new. CopiesLog old.logged new.logged old new };
 
     // No fault is found exactly where the tables are sound and each page's key is the SHA-256 of its bytes, while the disk
     // kept what it promised, of tables that stand in the database as ours are defined.

@@ -1,6 +1,8 @@
 //! A file that is new: made for its owner alone, and begun as a database whose pages are small.
-ghost use Rattle.std.specs.Prelude.{◌≡◌, ◌+◌, IsTrue, IfSome, IfOk};
+ghost use Rattle.std.specs.Prelude.{◌≡◌, ◌+◌, IsTrue, IfOk, IfErr};
+ghost use Rattle.sqlite_wal.specs.Files.{seen_image};
 ghost use Rattle.sqlite_store.specs.FileStore.{state};
+ghost use Rattle.system.specs.Begun.{FailsToBegin};
 ghost use Rattle.system.specs.declared.making.TheConstants.{NEW_PAGE_BYTES};
 
 use crate::causes::{pair_cause, system_cause};
@@ -10,7 +12,7 @@ use sqlite_disk::{Disk, Files, Tally, Unknown};
 use sqlite_pager::{Options, Pager};
 use sqlite_store::{FileStore, OpenError, Unopened};
 use sqlite_wal::PageSize;
-use std::alloc::{AllocFailed, Global};
+use std::alloc::Global;
 use std::fs;
 use std::fs::OpenOptions;
 use std::io::ErrorKind;
@@ -58,30 +60,29 @@ fn begun_cause(error: OpenError, before: Tally, since: Tally) -> Cause {
 }
 
 /// Begins a database with no row in files that hold none, or in which one was begun and not ended. Its pages have 1,024 bytes,
-/// and each ends with SQLite's sum (cksumvfs). Files that hold a database stay as they are.
+/// and each ends with SQLite's sum (cksumvfs). Files that hold a database stay as they are: for them it is refused.
 fn begin<D: Disk + Drop>(
     alloc: Global,
     files: Files<D>,
     options: Options,
-) -> Result<Option<FileStore<D>>, Cause>
+) -> Result<FileStore<D>, (OpenError, Option<Unopened<D>>)>
     requires log { IsTrue (D.Disk.is_usable files.log) }
     requires db { IsTrue (D.Disk.is_usable files.db) }
-    ensures pages { IfOk result (λ begun. IfSome begun (λ store. IsTrue (state store).is_clean → (state store).page_size + 8 ≡ NEW_PAGE_BYTES)) }
+    ensures pages { IfOk result (λ store. IsTrue (state store).is_clean → (state store).page_size + 8 ≡ NEW_PAGE_BYTES) }
+    ensures cause { IfErr result (λ e. FailsToBegin NEW_PAGE_BYTES (seen_image D.Disk files.log files.db) e.0 e.1) }
 {
-    let before = files.tally();
     let size = PageSize::new(NEW_PAGE_BYTES).unwrap();
     let pager = match Pager::new(alloc, files, size, options) {
         Ok(pager) => pager,
-        Err(_) => return Err(Cause::NoMemory),
+        Err(_) => return Err((OpenError::OutOfMemory, None)),
     };
     let unbegun = match Unopened::with_sums(alloc, pager, &[], true) {
         Ok(unbegun) => unbegun,
-        Err(_) => return Err(Cause::NoMemory),
+        Err(_) => return Err((OpenError::OutOfMemory, None)),
     };
     match unbegun.create() {
-        Ok(store) => Ok(Some(store)),
-        Err((OpenError::Refused, _)) => Ok(None),
-        Err((error, left)) => Err(begun_cause(error, before, left.tally())),
+        Ok(store) => Ok(store),
+        Err((error, left)) => Err((error, Some(left))),
     }
 }
 
@@ -90,6 +91,14 @@ fn is_small(rt: &HostRuntime, path: &str) -> bool {
     match fs::metadata(rt, path) {
         Ok(found) => found.is_file() && found.len() <= NEW_PAGE_BYTES as u64,
         Err(_) => false,
+    }
+}
+
+/// What the calls of the disk have met, where the files were looked at.
+fn tally_since<D: Disk + Drop>(before: Tally, left: Option<Unopened<D>>) -> Tally {
+    match left {
+        None => before,
+        Some(left) => left.tally(),
     }
 }
 
@@ -102,12 +111,14 @@ fn begin_at(rt: &HostRuntime, path: &str) -> Result<(), Cause> {
         Ok(files) => files,
         Err(error) => return Err(pair_cause(error)),
     };
+    let before = files.tally();
     match begin(rt.alloc(), files, options) {
         Ok(begun) => {
             drop(begun);
             Ok(())
         }
-        Err(cause) => Err(cause),
+        Err((OpenError::Refused, _)) => Ok(()),
+        Err((error, left)) => Err(begun_cause(error, before, tally_since(before, left))),
     }
 }
 

@@ -31,6 +31,7 @@ fn page_bytes(rt: &HostRuntime, path: &str) -> io::Result<u64> {
     let mut head = [0u8; 18];
     fs::open(rt, path)?.read_exact(&mut head)?;
     match u16::from_be_bytes([head[16], head[17]]) {
+        0 => Ok(PAGE_BYTES),
         1 => Ok(65_536),
         bytes => Ok(u64::from(bytes)),
     }

@@ -2,6 +2,7 @@ pub mod Copying
 pub mod Counting
 pub mod Inner
 pub mod Laws
+pub mod Logs
 pub mod Opening
 pub mod Records
 pub mod Scans

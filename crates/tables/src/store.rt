@@ -17,6 +17,7 @@ ghost use Rattle.machine.specs.Ranges.{IsMoment};
 ghost use Rattle.tables.specs.Copying.{IsCopied};
 ghost use Rattle.tables.specs.Scans.{AreRowsOf};
 ghost use Rattle.tables.specs.Inner.Logged.{text_bytes};
+ghost use Rattle.tables.specs.Logs.{CopiesLog};
 ghost use Rattle.tables.specs.declared.store.TheConstants.{LONG_LOG};
 ghost use Rattle.tables.specs.Versions.{HoldsSchema, schema_records};
 
@@ -152,7 +153,8 @@ impl<S: Alter, K: PageKey> SqlKeep<S, K> {
     /// Where the log is long, copies it into the file, so that the next change needn't. A write copies a long log first: this
     /// one says the schema's version once more. No record of a sound store changes. An error where memory or the store refused.
     pub fn checkpoint(&mut self) -> Result<(), Down>
-        ensures short { self.old.logged < LONG_LOG → (self.new ≡ self.old) × (result ≡ Ok tt) }
+        ensures short { self.old.logged < LONG_LOG → result ≡ Ok tt }
+        ensures log { CopiesLog self.old.logged self.new.logged self.old self.new }
         ensures so_far { ⟦<SqlKeep<S, K> as Keep>⟧.clean self.new → ⟦<SqlKeep<S, K> as Keep>⟧.clean self.old }
         ensures shield { ⟦<SqlKeep<S, K> as Keep>⟧.shielded self.old → ⟦<SqlKeep<S, K> as Keep>⟧.shielded self.new }
         ensures kept { ⟦<SqlKeep<S, K> as Keep>⟧.clean self.new → ⟦<SqlKeep<S, K> as Keep>⟧.sound self.old → ⟦<SqlKeep<S, K> as Keep>⟧.sound self.new }

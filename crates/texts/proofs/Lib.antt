@@ -10,6 +10,7 @@ pub mod PlaceReads
 pub mod PlaceScans
 pub mod PlaceTexts
 pub mod PlaceWrites
+pub mod Releasing
 pub mod RemovedLaws
 pub mod TextExamples
 pub mod TextLaws

@@ -6,10 +6,10 @@ use Rattle.statements.specs.Tables.{Tables}
 use Rattle.pages.specs.Pages.{IsKeyFor}
 use Rattle.pages.specs.Puts.{twin_limit, twin_for}
 use Rattle.texts.specs.declared.texts.TheConstants.{PAGE_BYTES}
-use Rattle.texts.specs.Texts.{piece_at, pieces_added, TwinsFit, KeysFit, pieces_removed, piece_removed, piece_of, AreThere, WereThere, joined, are_pieces}
+use Rattle.texts.specs.Texts.{piece_at, pieces_added, TwinsFit, KeysFit, piece_of, AreThere, joined, are_pieces}
 use Rattle.texts.specs.Inner.Calls.{piece_placed, is_piece_of}
 
-one_more : (n : ℕ) → suc n ≡ n + 1
+pub one_more : (n : ℕ) → suc n ≡ n + 1
 one_more n = omega arith
 
 -- the first byte of the page at a place tells the place
@@ -17,7 +17,7 @@ pub place_of_start : (place : ℕ) → place * PAGE_BYTES / PAGE_BYTES ≡ place
 place_of_start place = omega arith
 
 -- what holds below a number and at it
-each_more : (P : ℕ → Type 0) (n : ℕ) → ((m : ℕ) → m < n → P m) → P n → (m : ℕ) → m < n + 1 → P m
+pub each_more : (P : ℕ → Type 0) (n : ℕ) → ((m : ℕ) → m < n → P m) → P n → (m : ℕ) → m < n + 1 → P m
 each_more P n below at m low = elim (cases_Bool (nat_lt m n)) [
   | inl less ↦ below m (ltb-true m n less)
   | inr not_less ↦ let from : n ≤ m = ltb-false m n not_less in let same : n ≡ m = omega (arith, from, low) in subst P same at
@@ -79,17 +79,6 @@ module _ (org ws : List ℕ) (n : ℕ) (t : Tables) where
       same_keyed (keys_to keys place key) keys text key_of place (keys_below keys place key) fit,
       keyed_as key_of (sym (key_at keys place key)) (sym (same_added (keys_to keys place key) keys text place (keys_below keys place key))) (piece_at text place) one,
     )
-
-  -- ---- taking away
-
-  pub removed_more : (place : ℕ) → piece_removed org ws n place (pieces_removed org ws n place t) ≡ pieces_removed org ws n (place + 1) t
-  removed_more place = ap (λ m. pieces_removed org ws n m t) (one_more place)
-
-  pub none_were_there : WereThere org ws n 0 t
-  none_were_there place low = absurd (let none : ⊥ = omega (arith, low) in none)
-
-  pub were_there_more : (places : ℕ) → WereThere org ws n places t → IsSome (piece_of org ws n places (pieces_removed org ws n places t)) → WereThere org ws n (places + 1) t
-  were_there_more places there one = each_more (λ m. IsSome (piece_of org ws n m (pieces_removed org ws n m t))) places there one
 
   -- ---- reading
 

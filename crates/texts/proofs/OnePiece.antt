@@ -1,4 +1,4 @@
--- One piece of a text: the page that a row named was there.
+-- One piece of a text: the page that it is, or was.
 use Rattle.std.proofs.Common.{◌≡◌, ◌<◌, ℕ, true, List, is_some, Option, Some, None, IsSome, option_map, Result, Ok, Err, IfOk, OnOk, OnErr, refl, sym, ◌∙◌, subst}
 use Rattle.std.specs.Prelude.{find}
 use Rattle.sqlite.specs.State.{State, IsUnchanged, KeepsCommit}
@@ -8,8 +8,8 @@ use Rattle.statements.specs.Tables.{Tables, Holds}
 use Rattle.pages.specs.Rows.{is_page, page_bytes}
 use Rattle.pages.specs.Pages.{pages_in, HasSoundPages, ReleasesPage}
 use Rattle.pages.proofs.Looking.{one_look, still_holds}
-use Rattle.pages.specs.Puts.{twin_limit, twin_for, page_put}
-use Rattle.texts.specs.Texts.{place_added, place_removed}
+use Rattle.pages.specs.Puts.{twin_limit, twin_for, page_put, page_released}
+use Rattle.texts.specs.Texts.{place_added}
 use Rattle.texts.specs.Inner.Calls.{piece_placed}
 use Rattle.texts.proofs.Many.{reads_failed}
 
@@ -26,15 +26,12 @@ placed_as_told own org ws n place piece key twin t key_is twin_is i = place_adde
 pub told_fits : (own piece : List ℕ) (twin : ℕ) (t : Tables) → twin ≡ twin_for own piece t → twin < twin_limit → twin_for own piece t < twin_limit
 told_fits own piece twin t twin_is low = subst (λ m. m < twin_limit) twin_is low
 
--- a page of which a use was taken, behind the row that goes
-pub released_was_there : {X E : Type 0} (org ws : List ℕ) (n place : ℕ) (key : List ℕ) (twin : ℕ) (g : Tables → Tables) (a b c : State) (result : Result X E) → Moves AnyRows (place_removed org ws n place) a b
-    → OnOk result (Moves AnyRows g b c) → OnOk result ((t u : Tables) → Holds b.now t → Holds c.now u → ReleasesPage key twin (pages_in t) (pages_in u) × (HasSoundPages t → HasSoundPages u))
-    → OnOk result ((t : Tables) → Holds a.now t → IsSome (page_bytes key twin t))
-released_was_there org ws n place key twin g a b c (Ok x) removed moved releases = λ t holds.
-    let left = removed.rows t holds tt in
-    let released = releases (place_removed org ws n place t) (g (place_removed org ws n place t)) left (moved.rows (place_removed org ws n place t) left tt) in
+-- a page of which a use was taken was there
+pub released_there : (key : List ℕ) (twin : ℕ) (a b : State) → Moves AnyRows (page_released key twin) a b → ((t u : Tables) → Holds a.now t → Holds b.now u → ReleasesPage key twin (pages_in t) (pages_in u) × (HasSoundPages t → HasSoundPages u))
+    → (t : Tables) → Holds a.now t → IsSome (page_bytes key twin t)
+released_there key twin a b moved releases t holds =
+    let released = releases t (page_released key twin t) holds (moved.rows t holds tt) in
     some_of _ (λ x. x.1.bytes) (find (is_page key twin) t.pages) released.0.page.0 released.0.page.1
-released_was_there org ws n place key twin g a b c (Err e) removed moved releases = tt
 
 -- a value that is there, read behind a query
 pub got_behind : {X E : Type 0} (one whole : Tables → Option X) (a b c : State) (result : Result X E) → ((t : Tables) → Holds a.now t → one t ≡ whole t) → IsUnchanged a b

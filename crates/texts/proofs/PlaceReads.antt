@@ -1,19 +1,29 @@
 -- What the query on the table vpage reads of its rows.
-use Rattle.std.proofs.Common.{◌≡◌, ℕ, List, [], ◌∷◌, Option, codes, refl}
-use Rattle.sqlite_value.specs.declared.value.Value.TheVariants.{Text, Blob}
+use Rattle.std.proofs.Common.{◌≡◌, ℕ, List, [], ◌∷◌, Option, codes, refl, ◌∙◌}
+use Rattle.sqlite_value.specs.declared.value.Value.TheVariants.{Null, Text, Blob}
 use Rattle.sqlite_value.specs.Order.{Row}
-use Rattle.sqlite.specs.State.{State}
+use Rattle.sqlite_sql.specs.Program.{overlay}
+use Rattle.sqlite_schema.specs.declared.command.Command.TheVariants.{Select}
+use Rattle.sqlite.specs.State.{State, Shown}
+use Rattle.sqlite.proofs.Callers.{reads_as}
+use Rattle.statements.specs.Place.{tree_of}
 use Rattle.statements.specs.Schema.{vpage_table}
 use Rattle.statements.specs.Rows.{vpage_cells, number}
 use Rattle.statements.specs.Tables.{Tables, Holds, vpage_layout}
 use Rattle.statements.specs.Calls.{FirstRow, Pins}
 use Rattle.statements.proofs.Held.{IsHeld, vpages_held}
+use Rattle.statements.proofs.Conditions.{two_texts_number}
+use Rattle.statements.proofs.Edits.{all_shown}
+use Rattle.statements.proofs.Listed.{listing}
+use Rattle.statements.proofs.Own.{stored_tree}
+use Rattle.statements.proofs.Writes.{plain_program}
 use Rattle.statements.proofs.PointReads.{first_own}
 use Rattle.statements.proofs.ReadBack.{number_read, blob_read}
 use Rattle.pages.specs.Rows.{IsPageName}
 use Rattle.pages.specs.declared.store.PageId.{PageId}
-use Rattle.texts.specs.Texts.{is_place, page_name, page_at}
-use Rattle.texts.proofs.PlaceTexts.{page_at_text, page_at_means, page_at_rest}
+use Rattle.texts.specs.Texts.{is_place_of, is_place, page_name, page_at}
+use Rattle.texts.specs.Inner.Calls.{AreRowsOf}
+use Rattle.texts.proofs.PlaceTexts.{page_at_text, page_at_means, page_at_rest, places_text, places_names, places_means, places_rest}
 use Rattle.texts.proofs.PlaceWrites.{two_texts_two_numbers}
 
 page_name_read : (key : List ℕ) (twin : ℕ) (id : PageId) → IsPageName (Blob key ∷ number twin ∷ []) id → id ≡ record { key = key; twin = twin }
@@ -27,3 +37,12 @@ module _ (old new : State) (t : Tables) (h : Holds old.now t) where
   page_at_shows org ws n place row first =
       first_own vpage_cells vpage_table old new held.own t.vpages held.rows held.keyed page_at_text (Text org ∷ Text ws ∷ number n ∷ number place ∷ []) row first page_at_rest (codes "pkey" ∷ codes "twin" ∷ [])
       (is_place org ws n place) (λ x. two_texts_two_numbers x.1.org org x.1.ws ws x.1.number n x.1.place place) IsPageName page_name (λ x y told. page_name_read x.1.key x.1.twin y told) (page_at_means old.now.schema _ _ held.own.place) (λ l. refl)
+
+  pub places_show : (org ws : List ℕ) (n : ℕ) (rows : List Row) → Shown places_text (Text org ∷ Text ws ∷ number n ∷ []) old new rows → AreRowsOf org ws n t rows
+  places_show org ws n rows shown =
+      let params : Row = Text org ∷ Text ws ∷ number n ∷ [] in
+      let tree = tree_of old.now.schema vpage_table.name in
+      let means = places_means old.now.schema _ _ held.own.place in
+      let a = (reads_as places_text params old new old.now.schema refl (Select (plain_program (listing places_rest tree 4)) places_names) means.0 means.1 means.2 rows shown).answer Null in
+      all_shown vpage_cells (overlay old.now.trees []) tree t.vpages (stored_tree old.now.trees tree held.own.place.low ∙ held.rows) held.keyed (listing places_rest tree 4) refl refl refl params
+      (is_place_of org ws n) (λ x. two_texts_number x.1.org org x.1.ws ws x.1.number n) (λ l. refl) rows a

@@ -25,8 +25,9 @@ use Rattle.statements.proofs.Meaning.{Means, means, some_parsed, as_read}
 use Rattle.statements.proofs.Reading.{read_is}
 use Rattle.statements.proofs.Writes.{plain_program}
 use Rattle.statements.proofs.Answered.{point}
-use Rattle.statements.proofs.Commands.{is_at, delete_query, point_rest, point_draft, no_page}
-use Rattle.texts.specs.declared.places.TheConstants.{ADD_PLACE, REMOVE_PLACE, PAGE_AT}
+use Rattle.statements.proofs.Commands.{is_at, delete_query, point_rest, point_draft, listing_draft, no_page}
+use Rattle.statements.proofs.Listed.{listing}
+use Rattle.texts.specs.declared.places.TheConstants.{ADD_PLACE, REMOVE_PLACES, PLACES, PAGE_AT}
 
 -- WHERE of a place of a version
 abbrev at_place : Expr
@@ -49,18 +50,47 @@ add_place_reads = refl
 abbrev pub add_place_terms : List Term
 add_place_terms = lit Null ∷ col 0 0 ∷ col 0 1 ∷ col 0 2 ∷ col 0 3 ∷ col 0 4 ∷ col 0 5 ∷ []
 
-abbrev pub remove_place_text : List ℕ
-remove_place_text = REMOVE_PLACE.now
+-- WHERE of a version
+abbrev of_version : Expr
+of_version = st.also (st.at_key (codes "org") (codes "ws")) (st.is_given (codes "number") 3)
 
-abbrev remove_place : Statement
-remove_place = st.delete (codes "vpage") at_place
+abbrev of_version_terms : List Term
+of_version_terms = is_at 1 0 ∷ is_at 2 1 ∷ is_at 3 2 ∷ []
 
-remove_place_reads : first remove_place_text ≡ Ok (as_read (some_parsed (first remove_place_text)) remove_place)
+abbrev pub remove_places_text : List ℕ
+remove_places_text = REMOVE_PLACES.now
+
+abbrev remove_places : Statement
+remove_places = st.delete (codes "vpage") of_version
+
+remove_places_reads : first remove_places_text ≡ Ok (as_read (some_parsed (first remove_places_text)) remove_places)
 unfolding everything
-remove_place_reads = refl
+remove_places_reads = refl
 
-abbrev pub remove_place_query : ℕ → Query
-remove_place_query tree = delete_query tree at_place_terms
+abbrev pub remove_places_query : ℕ → Query
+remove_places_query tree = delete_query tree of_version_terms
+
+abbrev pub places_text : List ℕ
+places_text = PLACES.now
+
+abbrev pub places_names : List (List ℕ)
+places_names = codes "pkey" ∷ codes "twin" ∷ codes "place" ∷ []
+
+abbrev places_core : Core
+places_core = st.from_table (st.shown_columns places_names) (codes "vpage") of_version
+
+abbrev places_select : ast.Select
+places_select = st.select places_core (st.by_column (codes "place")) None
+
+places_reads : first places_text ≡ Ok (as_read (some_parsed (first places_text)) (written.Select places_select))
+unfolding everything
+places_reads = refl
+
+pub places_is_query : IsQuery places_text
+places_is_query = (places_select, some_parsed (first places_text), places_reads)
+
+abbrev pub places_rest : Query
+places_rest = point_rest of_version_terms (col 1 5 ∷ col 1 6 ∷ col 1 4 ∷ []) no_page
 
 abbrev pub page_at_text : List ℕ
 page_at_text = PAGE_AT.now
@@ -90,13 +120,30 @@ module _ (s : Schema) (at tree : ℕ) (h : StandsAt s (codes "vpage") vpage_tabl
   unfolding everything
   add_place_means = means s add_place _ (rw (h.named, h.found) refl) (λ _. refl) add_place_is add_place_text (some_parsed (first add_place_text)) add_place_reads
 
-  remove_place_is : (base : ℕ) → command s [] base remove_place ≡ Ok (Delete at (plain_program (remove_place_query tree)))
+  remove_places_is : (base : ℕ) → command s [] base remove_places ≡ Ok (Delete at (plain_program (remove_places_query tree)))
   unfolding everything
-  remove_place_is base = rw (h.named, h.found, h.found, h.found, h.treed, h.low) refl
+  remove_places_is base = rw (h.named, h.found, h.found, h.found, h.treed, h.low) refl
 
-  pub remove_place_means : Means s (Delete at (plain_program (remove_place_query tree))) remove_place_text
+  pub remove_places_means : Means s (Delete at (plain_program (remove_places_query tree))) remove_places_text
   unfolding everything
-  remove_place_means = means s remove_place _ refl (λ _. refl) remove_place_is remove_place_text (some_parsed (first remove_place_text)) remove_place_reads
+  remove_places_means = means s remove_places _ refl (λ _. refl) remove_places_is remove_places_text (some_parsed (first remove_places_text)) remove_places_reads
+
+  places_named : named s places_core (st.by_column (codes "place")) no_page ≡ Ok ((listing_draft places_rest tree 4), places_names, (Some Binary ∷ Some Binary ∷ Some Binary ∷ []))
+  unfolding everything
+  places_named = rw (h.named, h.found, h.found, h.found, h.found) refl
+
+  places_fits : program s [] (listing_draft places_rest tree 4) ≡ Ok (plain_program (listing places_rest tree 4))
+  unfolding everything
+  places_fits = rw (h.low, h.treed) refl
+
+  places_is : (base : ℕ) → command s [] base (written.Select places_select) ≡ Ok (Select (plain_program (listing places_rest tree 4)) places_names)
+  unfolding everything
+  places_is base =
+      read_is s places_select places_core (st.by_column (codes "place")) no_page ((listing_draft places_rest tree 4), places_names, (Some Binary ∷ Some Binary ∷ Some Binary ∷ [])) refl refl refl refl refl (λ again. refl) places_named (plain_program (listing places_rest tree 4)) places_fits base
+
+  pub places_means : Means s (Select (plain_program (listing places_rest tree 4)) places_names) places_text
+  unfolding timed returning
+  places_means = means s (written.Select places_select) _ refl (λ _. refl) places_is places_text (some_parsed (first places_text)) places_reads
 
   page_at_named : named s page_at_core (st.by_rowid false) no_page ≡ Ok ((point_draft page_at_rest tree false), (codes "pkey" ∷ codes "twin" ∷ []), (Some Binary ∷ Some Binary ∷ []))
   unfolding everything

@@ -12,10 +12,11 @@ use Rattle.statements.specs.Rows.{number}
 use Rattle.statements.specs.Tables.{Tables, Holds}
 use Rattle.statements.proofs.Held.{vpages}
 use Rattle.statements.proofs.Casts.{vpage_casts}
-use Rattle.statements.proofs.Conditions.{same_text, same_number}
+use Rattle.statements.proofs.Conditions.{same_text, same_number, two_texts_number}
 use Rattle.statements.proofs.Frames.{Turns, deleted, inserted}
-use Rattle.texts.specs.Texts.{is_place, place_added, place_removed}
-use Rattle.texts.proofs.PlaceTexts.{add_place_text, add_place_means, remove_place_text, remove_place_means}
+use Rattle.texts.specs.Texts.{is_place_of, place_added}
+use Rattle.texts.specs.Inner.Calls.{places_removed}
+use Rattle.texts.proofs.PlaceTexts.{add_place_text, add_place_means, remove_places_text, remove_places_means}
 
 -- WHERE of a place of a version
 pub two_texts_two_numbers : (a b c d : List ℕ) (m n p q : ℕ)
@@ -28,5 +29,5 @@ module _ (old new : State) (count : ℕ) (t : Tables) (h : Holds old.now t) wher
       → Turns old.now new.now (place_added org ws n place key twin t)
   add_place_does org ws n place key twin ran = inserted vpages vpage_casts old new count t h _ _ ran (add_place_means old.now.schema) refl refl (record { org = org; ws = ws; number = n; place = place; key = key; twin = twin }) refl
 
-  pub remove_place_does : (org ws : List ℕ) (n place : ℕ) → Executes remove_place_text (Text org ∷ Text ws ∷ number n ∷ number place ∷ []) old new (Ok count) → Turns old.now new.now (place_removed org ws n place t)
-  remove_place_does org ws n place ran = deleted vpages vpage_casts old new count t h _ _ ran (remove_place_means old.now.schema) (is_place org ws n place) (λ x. two_texts_two_numbers x.1.org org x.1.ws ws x.1.number n x.1.place place) tt
+  pub remove_places_does : (org ws : List ℕ) (n : ℕ) → Executes remove_places_text (Text org ∷ Text ws ∷ number n ∷ []) old new (Ok count) → Turns old.now new.now (places_removed org ws n t)
+  remove_places_does org ws n ran = deleted vpages vpage_casts old new count t h _ _ ran (remove_places_means old.now.schema) (is_place_of org ws n) (λ x. two_texts_number x.1.org org x.1.ws ws x.1.number n) tt

@@ -50,11 +50,11 @@ all_given P f [] all = tt
 all_given P f (x ∷ xs) all = (all_front P (f x) (flat_map f xs) all, all_given P f xs (all_back P (f x) (flat_map f xs) all))
 
 -- what holds of all of a list holds of all of it in another order
-all_shuffled : {A : Type 0} (P : A → Type 0) (xs ys : List A) → IsPermutation xs ys → AllByRecursion P xs → AllByRecursion P ys
+pub all_shuffled : {A : Type 0} (P : A → Type 0) (xs ys : List A) → IsPermutation xs ys → AllByRecursion P xs → AllByRecursion P ys
 all_shuffled P xs ys same all = recursion_from_All P ys (All-permutation P xs ys same (All-from_recursion P xs all))
 
 -- and of the member that is found
-all_found : {A : Type 0} (P : A → Type 0) (p : A → Bool) (xs : List A) (x : A) → find p xs ≡ Some x → AllByRecursion P xs → P x × (p x ≡ true)
+pub all_found : {A : Type 0} (P : A → Type 0) (p : A → Bool) (xs : List A) (x : A) → find p xs ≡ Some x → AllByRecursion P xs → P x × (p x ≡ true)
 all_found P p [] x e all = absurd (let none : ⊥ = cc in none)
 all_found {A} P p (y ∷ ys) x e all = go (p y) refl e (all_found P p ys x)
   where

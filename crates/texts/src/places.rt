@@ -1,15 +1,18 @@
 //! Statements on the table vpage.
-ghost use Rattle.std.specs.Prelude.{◌≡◌, ℕ, ◌<◌, ◌^◌, ◌/◌, pos};
+ghost use Rattle.std.specs.Prelude.{◌≡◌, ℕ, ◌<◌, ◌^◌, ◌/◌, pos, IfOk};
 ghost use Rattle.sqlite.specs.Held.{state};
-ghost use Rattle.sqlite.specs.State.{Survives};
+ghost use Rattle.sqlite.specs.State.{HasCleanDisk, Survives};
 ghost use Rattle.statements.specs.Steps.{AnyRows, Equals, Writes, Reads, Queries};
-ghost use Rattle.texts.specs.Texts.{place_added, place_removed, page_at};
+ghost use Rattle.statements.specs.Tables.{Tables, Holds};
+ghost use Rattle.pages.specs.Inner.Calls.{OnlyLooks};
+ghost use Rattle.texts.specs.Texts.{place_added, page_at};
+ghost use Rattle.texts.specs.Inner.Calls.{places_removed, AreRowsOf};
 ghost use Rattle.texts.specs.declared.texts.TheConstants.{PAGE_BYTES};
 
 use crate::texts::PAGE_BYTES;
 use basis::Number;
 use pages::{PageId, Twin};
-use sqlite::{Alter, Connection, Error, Transaction, params};
+use sqlite::{Alter, Connection, Error, Row, Transaction, params};
 use statements::calls::{first_row, first_row_inside, read_one, signed, write};
 use std::marker::Model;
 
@@ -75,22 +78,39 @@ pub(crate) fn add<'v, S: Alter>(
     write(tx, ADD_PLACE, params![org, ws, number, &place, key, &twin])
 }
 
-const REMOVE_PLACE: &str =
-    "DELETE FROM vpage WHERE org = ?1 AND ws = ?2 AND number = ?3 AND place = ?4";
+const REMOVE_PLACES: &str = "DELETE FROM vpage WHERE org = ?1 AND ws = ?2 AND number = ?3";
 
-/// A place of a version loses its page.
-pub(crate) fn remove<S: Alter>(
+/// All places of a version lose their pages.
+pub(crate) fn remove_all<S: Alter>(
     tx: &mut Transaction<'_, S>,
     org: &str,
     ws: &str,
     number: Number,
-    place: Place,
 ) -> Result<(), Error>
-    ensures { Writes S.Store AnyRows (place_removed org.now ws.now number place) tx.old tx.new result }
+    ensures { Writes S.Store AnyRows (places_removed org.now ws.now number) tx.old tx.new result }
 {
     let number = number.get();
-    let place = place.signed();
-    write(tx, REMOVE_PLACE, params![org, ws, number, &place])
+    write(tx, REMOVE_PLACES, params![org, ws, number])
+}
+
+const PLACES: &str =
+    "SELECT pkey, twin, place FROM vpage WHERE org = ?1 AND ws = ?2 AND number = ?3 ORDER BY place";
+
+/// The rows of a version: its pages' names, and the places. They stand in the order of their places.
+pub(crate) fn all<S: Alter>(
+    tx: &mut Transaction<'_, S>,
+    org: &str,
+    ws: &str,
+    number: Number,
+) -> Result<Vec<Row>, Error>
+    ensures same_reference { tx.new.conn.ghost_name ≡ tx.old.conn.ghost_name }
+    ensures rows { HasCleanDisk (state S.Store tx.new.conn.now) → IfOk result (λ rows. (t : Tables) → Holds (state S.Store tx.old.conn.now).now t → AreRowsOf org.now ws.now number t rows.items) }
+    ensures looks { OnlyLooks (state S.Store tx.old.conn.now) (state S.Store tx.new.conn.now) result }
+    ensures so_far { HasCleanDisk (state S.Store tx.new.conn.now) → HasCleanDisk (state S.Store tx.old.conn.now) }
+    ensures shield { (state S.Store tx.old.conn.now).IsShielded → (state S.Store tx.new.conn.now).IsShielded }
+{
+    let number = number.get();
+    tx.query_all(PLACES, params![org, ws, number])
 }
 
 const PAGE_AT: &str =

@@ -1,19 +1,22 @@
 //! A version's text is put, taken away, read and compared, page by page.
-ghost use Rattle.std.specs.Prelude.{◌≡◌, ◌≤◌, ◌*◌, ℕ, List, length, false, IsTrue, IsSome, IfOk, OnOk};
+ghost use Rattle.std.specs.Prelude.{◌≡◌, ◌≤◌, ◌*◌, ℕ, List, length, false, IsTrue, IfOk, OnOk};
+ghost use Rattle.sqlite_value.specs.Order.{column};
 ghost use Rattle.sqlite.specs.Held.{state};
 ghost use Rattle.sqlite.specs.State.{HasCleanDisk};
 ghost use Rattle.statements.specs.Steps.{Equals, Steps, Tells, Sees};
 ghost use Rattle.statements.specs.Tables.{Tables, Holds};
 ghost use Rattle.pages.specs.Pages.{GetsBy};
 ghost use Rattle.pages.specs.Inner.Calls.{OnlyLooks};
-ghost use Rattle.texts.specs.Texts.{pages_for, piece_at, AddsText, bytes_named, piece_of, piece_removed, text_removed, WereThere, AreThere, text_of, are_pieces};
-ghost use Rattle.texts.specs.Inner.Calls.{AddsPiece, named_removed, is_piece_of};
+ghost use Rattle.statements.specs.Rows.{number};
+ghost use Rattle.texts.specs.Texts.{pages_for, piece_at, AddsText, text_removed, WereThere, AreThere, text_of, are_pieces};
+ghost use Rattle.texts.specs.Inner.Calls.{AddsPiece, name_in, released_by, WereReleased, is_piece_of};
 
-use crate::places::{Place, add, find, find_inside, remove};
+use crate::places::{Place, add, all, find, find_inside, remove_all};
 use crate::whole::read_whole;
 use basis::{Bytes, Number};
 use pages::{PageId, PageKey, put, release, same};
-use sqlite::{Alter, Connection, Error, Transaction};
+use sqlite::{Alter, Connection, Error, Row, Transaction};
+use statements::calls::Read;
 use std::alloc::Global;
 
 /// The most bytes of a page.
@@ -43,11 +46,18 @@ fn piece_at(text: &[u8], place: u64) -> &[u8]
     piece
 }
 
-/// How many pages in a row may differ from those at their places in the version before. Behind them none is looked at: where
-/// something was put in, all that follows has moved.
-const MOST_MOVED: u64 = 4;
+/// How often the places that are looked at get twice as far apart.
+const MOST_MOVED: u64 = 16;
 
-/// The page at a place of a version that is looked at, if one is. None is looked for at the first place: it holds the serial.
+/// Whether the page at a place is looked at, where so many in a row differed from those at their places in the version before:
+/// each one, then each second, each fourth. Where something was put in, all that follows has moved. None is looked at for the
+/// first place: it holds the serial.
+fn is_looked_at(place: u64, moved: u64) -> bool {
+    let last = (1u64 << moved.min(MOST_MOVED)) - 1;
+    place != 0 && place & last == last
+}
+
+/// The page at a place of the version before, if it is looked at.
 fn look_at<S: Alter>(
     tx: &mut Transaction<'_, S>,
     org: &str,
@@ -64,10 +74,10 @@ fn look_at<S: Alter>(
     match before {
         None => Ok(None),
         Some(before) => {
-            if place.get() == 0 || moved >= MOST_MOVED {
-                Ok(None)
-            } else {
+            if is_looked_at(place.get(), moved) {
                 find_inside(tx, org, ws, *before, place)
+            } else {
+                Ok(None)
             }
         }
     }
@@ -80,7 +90,7 @@ fn key_in(found: &Option<PageId>) -> Option<&[u8; 32]> {
     }
 }
 
-/// How many pages in a row differ, by the one that was looked at and the one that was put.
+/// How many pages in a row differ of those that were looked at, by this one and the one that was put.
 fn moved_after(moved: u64, found: &Option<PageId>, put: &PageId) -> u64 {
     match found {
         None => moved,
@@ -139,42 +149,40 @@ pub fn add_text<K: PageKey, S: Alter>(
     Ok(())
 }
 
-fn remove_named<S: Alter>(
-    tx: &mut Transaction<'_, S>,
-    org: &str,
-    ws: &str,
-    number: Number,
-    place: Place,
-    id: Option<PageId>,
-) -> Result<(), Error>
-    ensures steps { Steps S.Store (named_removed org.now ws.now number place id) tx.old tx.new result }
-    ensures there { Tells (λ _ t. IsSome (bytes_named id t)) (state S.Store tx.old.conn.now) (state S.Store tx.new.conn.now) result }
+/// The page that a row names, which is that of this place.
+fn named_at(row: &Row, place: u64) -> Result<PageId, Error>
+    ensures place { OnOk result (column row.now 2 ≡ number place) }
+    ensures name { IfOk result (λ id. id ≡ name_in row.now) }
 {
-    match id {
-        Some(id) => {
-            remove(tx, org, ws, number, place)?;
-            release(tx, &id)
-        }
-        None => Err(Error::QueryReturnedNoRows),
+    if row.get::<u64>(2)? != place {
+        return Err(Error::QueryReturnedNoRows);
     }
+    PageId::of_row(row)
 }
 
-/// Takes the piece at a place of a version's text away. Nothing else removes a row of the table vpage.
-fn remove_piece<S: Alter>(
+/// Takes a use of each page that the rows name, which are those of the places from 0 on, so many.
+fn release_each<S: Alter>(
     tx: &mut Transaction<'_, S>,
-    org: &str,
-    ws: &str,
-    number: Number,
-    place: Place,
+    rows: &[Row],
+    places: u64,
 ) -> Result<(), Error>
-    ensures steps { Steps S.Store (piece_removed org.now ws.now number place) tx.old tx.new result }
-    ensures there { Tells (λ _ t. IsSome (piece_of org.now ws.now number place t)) (state S.Store tx.old.conn.now) (state S.Store tx.new.conn.now) result }
+    requires as_many { length rows.now ≡ places }
+    ensures same_reference { tx.new.conn.ghost_name ≡ tx.old.conn.ghost_name }
+    ensures steps { IsTrue (state S.Store tx.old.conn.now).is_open → Steps S.Store (released_by rows.now places) tx.old tx.new result }
+    ensures there { IsTrue (state S.Store tx.old.conn.now).is_open → Tells (λ _. WereReleased rows.now places) (state S.Store tx.old.conn.now) (state S.Store tx.new.conn.now) result }
+    ensures so_far { HasCleanDisk (state S.Store tx.new.conn.now) → HasCleanDisk (state S.Store tx.old.conn.now) }
+    ensures shield { (state S.Store tx.old.conn.now).IsShielded → (state S.Store tx.new.conn.now).IsShielded }
 {
-    let found = find_inside(tx, org, ws, number, place)?;
-    remove_named(tx, org, ws, number, place, found)
+    let mut shared = false;
+    'places: for place in 0..places {
+        let id = named_at(&rows[place as usize], place)?;
+        release(tx, &id, &mut shared)?;
+    }
+    Ok(())
 }
 
-/// Takes a version's text of this size away. It is an error where one of its pages isn't there.
+/// Takes a version's text of this size away. It is an error where one of its pages isn't there, or one stands behind them.
+/// Nothing else removes a row of the table vpage.
 pub fn remove_text<S: Alter>(
     tx: &mut Transaction<'_, S>,
     org: &str,
@@ -189,11 +197,12 @@ pub fn remove_text<S: Alter>(
     ensures shield { (state S.Store tx.old.conn.now).IsShielded → (state S.Store tx.new.conn.now).IsShielded }
 {
     let pages = pages_for(size);
-    'places: for place in 0..pages {
-        let at = Place::of_byte(place * PAGE_BYTES as u64);
-        remove_piece(tx, org, ws, number, at)?;
+    let rows = all(tx, org, ws, number)?;
+    if rows.len() as u64 != pages {
+        return Err(Error::QueryReturnedNoRows);
     }
-    Ok(())
+    remove_all(tx, org, ws, number)?;
+    release_each(tx, rows.as_slice(), pages)
 }
 
 /// The text of a version whose text has this size. It is an error where one of its pages isn't there, and where one stands behind them.

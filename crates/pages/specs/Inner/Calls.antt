@@ -1,5 +1,5 @@
 -- What calls inside a transaction leave and tell.
-use Rattle.std.specs.Prelude.{◌≡◌, ◌+◌, ℕ, cond, List, Option, Some, None, Result, IfOk, OnOk, OnErr}
+use Rattle.std.specs.Prelude.{◌≡◌, ℕ, cond, List, Option, Some, None, Result, IfOk, OnOk, OnErr}
 use Rattle.sqlite_value.specs.Order.{Row, column}
 use Rattle.sqlite.specs.State.{State, HasCleanDisk, KeepsCommit}
 use Rattle.statements.specs.Rows.{number}
@@ -9,7 +9,7 @@ use Rattle.statements.specs.Tables.{Tables, Holds}
 use Rattle.pages.specs.declared.rows.FirstPage.{FirstPage}
 use Rattle.pages.specs.declared.rows.PageUse.{PageUse}
 use Rattle.pages.specs.Puts.{twin_for, page_put}
-use Rattle.pages.specs.Rows.{page_added, page_used}
+use Rattle.pages.specs.Rows.{page_added}
 
 pub record IsPageUse (row : Row) (found : PageUse) : Type 0 where
   pub twin : column row 0 ≡ number found.twin
@@ -19,14 +19,14 @@ pub record IsFirstPage (row : Row) (first : FirstPage) : Type 0 where
   pub found : IsPageUse row first.found
   pub same : IsFlagCell (column row 2) first.same
 
--- what a page that is put leaves, by the first page of its key: there is none, it has the bytes, or it has others
-abbrev pub put_with : List ℕ → List ℕ → Option FirstPage → Tables → Tables
+-- what a page that is put leaves, by the twin number of the first page of its key: there is none, or it has others
+abbrev pub put_with : List ℕ → List ℕ → Option ℕ → Tables → Tables
 put_with key bytes None t = page_added key 0 bytes t
-put_with key bytes (Some first) t = cond first.same (page_used key first.found.twin (first.found.uses + 1) t) (page_put key bytes t)
+put_with key bytes (Some first) t = page_put key bytes t
 
-abbrev pub twin_with : List ℕ → List ℕ → Option FirstPage → Tables → ℕ
+abbrev pub twin_with : List ℕ → List ℕ → Option ℕ → Tables → ℕ
 twin_with key bytes None t = 0
-twin_with key bytes (Some first) t = cond first.same first.found.twin (twin_for key bytes t)
+twin_with key bytes (Some first) t = twin_for key bytes t
 
 -- the first page of a key, if it has the bytes that were asked for
 abbrev pub alike : Option FirstPage → Option PageUse

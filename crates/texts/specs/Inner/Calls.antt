@@ -1,5 +1,5 @@
 -- What calls on one page of a text change and read.
-use Rattle.std.specs.Prelude.{◌≡◌, ◌<◌, ◌++◌, ℕ, ⊤, Bool, false, List, Option, Some, option_map, Result, IfOk, OnOk}
+use Rattle.std.specs.Prelude.{◌≡◌, ◌<◌, ◌++◌, ℕ, zero, suc, ⊤, Bool, false, List, [], ◌∷◌, map, filter, slice_index_or, IsPermutation, Option, Some, IsSome, option_map, Result, IfOk, OnOk}
 use Rattle.std.specs.List.{AllByRecursion}
 use Rattle.std.specs.Str.{bytes_eq}
 use Rattle.sqlite_value.specs.declared.value.Value.TheVariants.{Blob}
@@ -8,15 +8,17 @@ use Rattle.sqlite_trees.specs.declared.store.Store.{Ghosts}
 use Rattle.sqlite.specs.Held.{Held, state}
 use Rattle.sqlite.specs.State.{HasCleanDisk, Shown}
 use Rattle.sqlite.specs.declared.transaction.Transaction.{Transaction}
-use Rattle.statements.specs.Rows.{number}
+use Rattle.sqlite_keyed.specs.Lists.{delete_where}
+use Rattle.statements.specs.Rows.{Kept, VpageRow, number, number_at, bytes_at}
 use Rattle.statements.specs.Calls.{IsQuery}
 use Rattle.statements.specs.Steps.{Steps}
 use Rattle.statements.specs.Tables.{Tables, Holds}
 use Rattle.pages.specs.Pages.{IsKeyFor}
-use Rattle.pages.specs.Puts.{twin_limit, twin_for, page_put}
+use Rattle.pages.specs.Puts.{twin_limit, twin_for, page_put, page_released}
+use Rattle.pages.specs.Rows.{page_bytes}
 use Rattle.pages.specs.Inner.Calls.{OnlyLooks}
 use Rattle.pages.specs.declared.store.PageId.{PageId}
-use Rattle.texts.specs.Texts.{place_added, place_removed, released_at, piece_of, joined, AreThere}
+use Rattle.texts.specs.Texts.{is_place_of, place_added, piece_of, joined, AreThere}
 
 -- a piece is put under a key, and the row that names it is there
 abbrev pub piece_placed : List ℕ → List ℕ → List ℕ → ℕ → ℕ → List ℕ → Tables → Tables
@@ -28,9 +30,37 @@ pub record AddsPiece {S E : Type 0} (g : Ghosts S) (key_of : List ℕ → List �
   pub fits : HasCleanDisk (state g new.conn.now) → OnOk result ((t : Tables) → Holds (state g old.conn.now).now t → twin_for key piece t < twin_limit)
   pub keyed : HasCleanDisk (state g new.conn.now) → OnOk result ((t : Tables) → Holds (state g old.conn.now).now t → IsKeyFor key_of piece key t)
 
--- the row at the place goes, and then a use of this page
-abbrev pub named_removed : List ℕ → List ℕ → ℕ → ℕ → Option PageId → Tables → Tables
-named_removed org ws n place id t = released_at id (place_removed org ws n place t)
+-- ---- a text that is taken away: its rows go at once, and then a use of each page that they named
+
+abbrev pub places_removed : List ℕ → List ℕ → ℕ → Tables → Tables
+places_removed org ws n t = record t { vpages = delete_where (is_place_of org ws n) t.vpages }
+
+-- a row of vpage as it is shown: the name of its page, and its place
+abbrev pub place_shown : Kept VpageRow → Row
+place_shown x = Blob x.1.key ∷ number x.1.twin ∷ number x.1.place ∷ []
+
+-- the rows of a version are shown, in some order
+abbrev pub AreRowsOf : List ℕ → List ℕ → ℕ → Tables → List Row → Type 0
+AreRowsOf org ws n t rows = (xs : List (Kept VpageRow)) × IsPermutation (filter (is_place_of org ws n) t.vpages) xs × (rows ≡ map place_shown xs)
+
+-- the page that a row names, and that one of so many names
+abbrev pub name_in : Row → PageId
+name_in r = record { key = bytes_at r 0; twin = number_at r 1 }
+
+abbrev pub row_at : List Row → ℕ → Row
+row_at rows place = slice_index_or rows place []
+
+abbrev pub name_at : List Row → ℕ → PageId
+name_at rows place = name_in (row_at rows place)
+
+-- a use of each page that the first rows name, so many, goes
+abbrev pub released_by : List Row → ℕ → Tables → Tables
+released_by rows zero t = t
+released_by rows (suc place) t = page_released (name_at rows place).key (name_at rows place).twin (released_by rows place t)
+
+-- each of the first rows, so many, shows its place, and the page that it names was there as a use of it went
+abbrev pub WereReleased : List Row → ℕ → Tables → Type 0
+WereReleased rows places t = (place : ℕ) → place < places → (column (row_at rows place) 2 ≡ number place) × IsSome (page_bytes (name_at rows place).key (name_at rows place).twin (released_by rows place t))
 
 -- whether the page at a place has these bytes, if it is there
 abbrev pub is_piece_of : List ℕ → List ℕ → ℕ → ℕ → List ℕ → Tables → Option Bool

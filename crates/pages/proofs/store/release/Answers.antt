@@ -1,40 +1,22 @@
-use Rattle.std.proofs.Common.{ℕ, List, OnOk, ap, subst}
+use Rattle.std.proofs.Common.{ℕ, List, subst}
 use Rattle.sqlite.specs.Held.{state}
 use Rattle.statements.specs.Steps.{Steps}
-use Rattle.statements.specs.Tables.{Tables, Holds}
-use Rattle.pages.specs.Pages.{pages_in, HasSoundPages, ReleasesPage}
-use Rattle.pages.specs.Puts.{released_found, page_released}
-use Rattle.pages.proofs.Looking.{one_look, still_inside, step_behind}
-use Rattle.pages.proofs.Promises.{releases_if}
-use Rattle.pages.proofs.Referring.{spared_behind}
+use Rattle.pages.specs.Pages.{ReleasesBy}
+use Rattle.pages.specs.Puts.{page_released}
 use Rattle.pages.proofs.store.release.Goals as goal
 
-pub returns-clause-steps : goal.returns-clause-steps
-returns-clause-steps g c =
-    let key = c.as_slice-key.result.now in
-    let twin = c.args.id.now.twin in
-    subst (λ (k : List ℕ). Steps g.S.Store (page_released k twin) c.args.tx.now c.release_found.new.tx c.release_found.result) c.as_slice-key.ensures
-    (step_behind g.S.Store c.args.tx.now c.uses.new.tx c.uses.ensures.same_reference c.uses.ensures.survives (released_found key twin c.in_ok-found.found) (page_released key twin) c.release_found.new.tx c.release_found.result
-    (λ clean. let read = c.in_ok-found.ensures.read clean in (λ t holds. ap (λ o. released_found key twin o t) (read.0 t holds), read.1.0)) c.release_found.ensures.steps)
+pub returns-then-shared-clause-steps : goal.returns-then-shared-clause-steps
+returns-then-shared-clause-steps g c =
+    subst (λ (k : List ℕ). Steps g.S.Store (page_released k c.args.id.now.twin) c.args.tx.now c.release_counted.new.tx c.release_counted.result) c.as_slice-key.ensures c.release_counted.ensures.steps
 
-pub returns-clause-releases : goal.returns-clause-releases
-returns-clause-releases g c clean inside =
-    let key = c.as_slice-key.result.now in
-    let twin = c.args.id.now.twin in
-    let s0 = state g.S.Store c.args.tx.now.conn.now in
-    let s1 = state g.S.Store c.uses.new.tx.conn.now in
-    let s2 = state g.S.Store c.release_found.new.tx.conn.now in
-    let read = c.in_ok-found.ensures.read (c.release_found.ensures.steps.so_far clean) in
-    let steps = step_behind g.S.Store c.args.tx.now c.uses.new.tx c.uses.ensures.same_reference c.uses.ensures.survives (released_found key twin c.in_ok-found.found) (page_released key twin) c.release_found.new.tx c.release_found.result
-    (λ early. let told = c.in_ok-found.ensures.read early in (λ t holds. ap (λ o. released_found key twin o t) (told.0 t holds), told.1.0)) c.release_found.ensures.steps in
-    let done = steps.changed clean inside in
-    subst (λ (k : List ℕ). OnOk c.release_found.result ((t u : Tables) → Holds s0.now t → Holds s2.now u → ReleasesPage k twin (pages_in t) (pages_in u) × (HasSoundPages t → HasSoundPages u))) c.as_slice-key.ensures
-    (releases_if key twin c.in_ok-found.found s0 s2 c.release_found.result done.0 c.release_found.ensures.found read.0)
+pub returns-then-shared-clause-releases : goal.returns-then-shared-clause-releases
+returns-then-shared-clause-releases g c =
+    subst (λ (k : List ℕ). ReleasesBy k c.args.id.now.twin (state g.S.Store c.args.tx.now.conn.now) (state g.S.Store c.release_counted.new.tx.conn.now) c.release_counted.result) c.as_slice-key.ensures c.release_counted.ensures.releases
 
-pub returns-clause-spares : goal.returns-clause-spares
-returns-clause-spares g c clean inside =
-    let s0 = state g.S.Store c.args.tx.now.conn.now in
-    let s1 = state g.S.Store c.uses.new.tx.conn.now in
-    let s2 = state g.S.Store c.release_found.new.tx.conn.now in
-    let look = one_look s0 s1 (c.in_ok-found.ensures.read (c.release_found.ensures.steps.so_far clean)).1.0 in
-    spared_behind s0 s1 s2 c.release_found.result look (c.release_found.ensures.spares clean (still_inside s0 s1 look inside))
+pub returns-else-shared-clause-steps : goal.returns-else-shared-clause-steps
+returns-else-shared-clause-steps g c =
+    subst (λ (k : List ℕ). Steps g.S.Store (page_released k c.args.id.now.twin) c.args.tx.now c.release_alone.new.tx c.release_alone.result) c.as_slice-key.ensures c.release_alone.ensures.steps
+
+pub returns-else-shared-clause-releases : goal.returns-else-shared-clause-releases
+returns-else-shared-clause-releases g c =
+    subst (λ (k : List ℕ). ReleasesBy k c.args.id.now.twin (state g.S.Store c.args.tx.now.conn.now) (state g.S.Store c.release_alone.new.tx.conn.now) c.release_alone.result) c.as_slice-key.ensures c.release_alone.ensures.releases

@@ -1,35 +1,46 @@
-use Rattle.std.proofs.Common.{◌≡◌, ◌+◌, IsSome, ◌∙◌, subst, arith}
+use Rattle.std.proofs.Common.{rules, ◌≡◌, length, sym, ◌∙◌, subst}
 use Rattle.sqlite.specs.Held.{state}
-use Rattle.statements.specs.Steps.{AnyRows, Moves}
-use Rattle.texts.specs.Texts.{pieces_removed, piece_removed, piece_of, WereThere}
-use Rattle.texts.proofs.Many.{writes_more}
-use Rattle.texts.proofs.NextPiece.{place_of_start, removed_more, were_there_more}
+use Rattle.sqlite.specs.State.{HasCleanDisk}
+use Rattle.statements.proofs.Transactions.{clean_before}
+use Rattle.pages.proofs.Looking.{still_inside}
+use Rattle.texts.specs.Inner.Calls.{AreRowsOf}
+use Rattle.texts.proofs.Releasing.{text_gone, text_was_there}
 use Rattle.texts.proofs.texts.remove_text.Goals as goal
-
-pub places-preserved : goal.places-preserved
-places-preserved g c =
-    let org = c.args.org.now in
-    let ws = c.args.ws.now in
-    let n = c.args.number in
-    let place = c.places.place in
-    let s0 = state g.S.Store c.args.tx.now.conn.now in
-    let s1 = state g.S.Store c.places.tx.conn.now in
-    let s2 = state g.S.Store c.remove_piece.new.tx.conn.now in
-    let one = rw (c.of_byte-at.ensures, place_of_start place) at c.in_ok-remove_piece.ensures in (
-      one.steps.same_reference ∙ c.places.invariant.0,
-      writes_more (pieces_removed org ws n place) (piece_removed org ws n place) (pieces_removed org ws n (place + 1)) (WereThere org ws n place) (λ t. IsSome (piece_of org ws n place t)) (WereThere org ws n (place + 1)) s0 s1 s2
-          (λ t. removed_more org ws n t place) (λ t there left. were_there_more org ws n t place there left) c.places.invariant.1 one.steps.so_far one.steps.shield
-          (λ clean inside. ((one.steps.changed clean inside).0, one.there clean inside)),
-    )
 
 pub returns-clause-steps : goal.returns-clause-steps
 returns-clause-steps g c open_is =
     let s0 = state g.S.Store c.args.tx.now.conn.now in
-    let s1 = state g.S.Store c.places.tx.conn.now in
-    let end : c.places.place ≡ c.pages_for-pages.result = omega (arith, c.places.auto.place-end, c.places-test.false) in
+    let s1 = state g.S.Store c.all.new.tx.conn.now in
+    let s2 = state g.S.Store c.remove_all.new.tx.conn.now in
+    let s3 = state g.S.Store c.release_each.new.tx.conn.now in
+    let rows = c.as_slice.result.now in
+    let pages = c.pages_for-pages.result in
+    let many : length rows ≡ pages = search rules in
+    let writes = c.in_ok-remove_all.ensures in
+    let early = λ (clean : HasCleanDisk s3). clean_before s1 s2 _ writes.survives (c.release_each.ensures.so_far clean) in
     record {
-      same_reference = c.places.invariant.0;
-      changed = λ clean inside. (subst (λ m. Moves AnyRows (pieces_removed c.args.org.now c.args.ws.now c.args.number m) s0 s1) (end ∙ c.pages_for-pages.ensures) (c.places.invariant.1.moves clean open_is inside), tt);
-      so_far = c.places.invariant.1.so_far;
-      shield = c.places.invariant.1.shield;
+      same_reference = c.release_each.ensures.same_reference ∙ writes.same_reference ∙ c.in_ok-rows.ensures.same_reference;
+      changed = λ clean inside.
+          let look = (c.in_ok-rows.ensures.looks (early clean)).0 in
+          let removed = (writes.changed (c.release_each.ensures.so_far clean) (still_inside s0 s1 look inside)).0 in
+          text_gone c.args.org.now c.args.ws.now c.args.number c.args.size pages rows many c.pages_for-pages.ensures s0 s1 s2 s3 look (λ t holds. subst (AreRowsOf c.args.org.now c.args.ws.now c.args.number t) (sym c.as_slice.ensures.value) (c.in_ok-rows.ensures.rows (early clean) t holds)) removed c.release_each.result
+          ((c.release_each.ensures.steps removed.is_open).changed clean removed.inside) (c.release_each.ensures.there removed.is_open clean removed.inside);
+      so_far = λ clean. c.in_ok-rows.ensures.so_far (early clean);
+      shield = λ s. c.release_each.ensures.shield (writes.survives.shield (c.in_ok-rows.ensures.shield s));
     }
+
+pub returns-clause-there : goal.returns-clause-there
+returns-clause-there g c open_is clean inside =
+    let s0 = state g.S.Store c.args.tx.now.conn.now in
+    let s1 = state g.S.Store c.all.new.tx.conn.now in
+    let s2 = state g.S.Store c.remove_all.new.tx.conn.now in
+    let s3 = state g.S.Store c.release_each.new.tx.conn.now in
+    let rows = c.as_slice.result.now in
+    let pages = c.pages_for-pages.result in
+    let many : length rows ≡ pages = search rules in
+    let writes = c.in_ok-remove_all.ensures in
+    let early = clean_before s1 s2 _ writes.survives (c.release_each.ensures.so_far clean) in
+    let look = (c.in_ok-rows.ensures.looks early).0 in
+    let removed = (writes.changed (c.release_each.ensures.so_far clean) (still_inside s0 s1 look inside)).0 in
+    text_was_there c.args.org.now c.args.ws.now c.args.number c.args.size pages rows many c.pages_for-pages.ensures s0 s1 s2 s3 look (λ t holds. subst (AreRowsOf c.args.org.now c.args.ws.now c.args.number t) (sym c.as_slice.ensures.value) (c.in_ok-rows.ensures.rows early t holds)) removed c.release_each.result
+    (c.release_each.ensures.there removed.is_open clean removed.inside)

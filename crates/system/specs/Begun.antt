@@ -1,0 +1,23 @@
+-- Files in which a database may be begun, and why none was.
+use Rattle.std.specs.Prelude.{◌≡◌, ◌⊎◌, ℕ, true, IsTrue, Option, Some, None}
+use Rattle.sqlite_disk.specs.declared.Disk.{Ghosts}
+use Rattle.sqlite_pages.specs.PageMap.{PageMap}
+use Rattle.sqlite_pool.specs.Opening.{IsBlankFile}
+use Rattle.sqlite_pool.specs.Stored.{used_size, Recovers}
+use Rattle.sqlite_wal.specs.Recovery.{Image}
+use Rattle.sqlite_store.specs.Opening.{IsEmptyFile, FailsToOpen}
+use Rattle.sqlite_store.specs.Unopened.{state_of, StopsCreating}
+use Rattle.sqlite_store.specs.declared.error.OpenError.{OpenError}
+use Rattle.sqlite_store.specs.declared.error.OpenError.TheVariants.{OutOfMemory}
+use Rattle.sqlite_store.specs.declared.store.open.Unopened.{Unopened}
+
+-- They hold none, or one that has no table yet, in pages of which so many bytes are not their sum.
+abbrev pub MayBegin : ℕ → Image → Type 0
+MayBegin size image = IsBlankFile size image ⊎ ((pages : PageMap) × Recovers size image pages × IsEmptyFile size pages)
+
+-- Of pages of so many bytes none was begun: memory was short before the files were looked at, or, while the disk returns what was
+-- written, it is refused where they hold a database and nowhere else, and else the disk failed, memory was short, or the file is full.
+abbrev pub FailsToBegin : {D : Type 0} {g : Ghosts D} → ℕ → Image → OpenError → Option (Unopened D g) → Type 0
+FailsToBegin bytes image error None = error ≡ OutOfMemory
+FailsToBegin bytes image error (Some left) =
+    IsTrue (state_of left).is_clean → (faults : ℕ) × FailsToOpen faults (state_of left).faults (StopsCreating left) (MayBegin (used_size bytes true) image) error
