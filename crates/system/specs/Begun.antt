@@ -16,7 +16,7 @@ abbrev pub MayBegin : ℕ → Image → Type 0
 MayBegin size image = IsBlankFile size image ⊎ ((pages : PageMap) × Recovers size image pages × IsEmptyFile size pages)
 
 -- Of pages of so many bytes none was begun: memory was short before the files were looked at, or, while the disk returns what was
--- written, it is refused where they hold a database and nowhere else, and else the disk failed, memory was short, or the file is full.
+-- written, it is refused since they hold a database, and else the disk failed, memory was short, or the file is full.
 abbrev pub FailsToBegin : {D : Type 0} {g : Ghosts D} → ℕ → Image → OpenError → Option (Unopened D g) → Type 0
 FailsToBegin bytes image error None = error ≡ OutOfMemory
 FailsToBegin bytes image error (Some left) =

@@ -1,8 +1,9 @@
 //! A file that is new: made for its owner alone, and begun as a database whose pages are small.
-ghost use Rattle.std.specs.Prelude.{◌≡◌, ◌+◌, IsTrue, IfOk, IfErr};
+ghost use Rattle.std.specs.Prelude.{◌≡◌, ◌+◌, true, IsTrue, IfOk, IfErr};
+ghost use Rattle.sqlite_pool.specs.Stored.{used_size};
 ghost use Rattle.sqlite_wal.specs.Files.{seen_image};
 ghost use Rattle.sqlite_store.specs.FileStore.{state};
-ghost use Rattle.system.specs.Begun.{FailsToBegin};
+ghost use Rattle.system.specs.Begun.{MayBegin, FailsToBegin};
 ghost use Rattle.system.specs.declared.making.TheConstants.{NEW_PAGE_BYTES};
 
 use crate::causes::{pair_cause, system_cause};
@@ -69,6 +70,7 @@ fn begin<D: Disk + Drop>(
     requires log { IsTrue (D.Disk.is_usable files.log) }
     requires db { IsTrue (D.Disk.is_usable files.db) }
     ensures pages { IfOk result (λ store. IsTrue (state store).is_clean → (state store).page_size + 8 ≡ NEW_PAGE_BYTES) }
+    ensures begun { IfOk result (λ store. IsTrue (state store).is_clean → ∥ MayBegin (used_size NEW_PAGE_BYTES true) (seen_image D.Disk files.log files.db) ∥₁) }
     ensures cause { IfErr result (λ e. FailsToBegin NEW_PAGE_BYTES (seen_image D.Disk files.log files.db) e.0 e.1) }
 {
     let size = PageSize::new(NEW_PAGE_BYTES).unwrap();

@@ -1,7 +1,8 @@
 use Rattle.std.proofs.Common.{rules, ◌≡◌, [], ap, ◌∙◌, arith}
+use Rattle.std.proofs.Math.Logic.{∥∥₁_map}
 use Rattle.sqlite_wal.specs.Files.{seen_image}
 use Rattle.sqlite_store.specs.Unopened.{state_of, wanted_by, image}
-use Rattle.system.proofs.Beginning.{fails_for, can_create}
+use Rattle.system.proofs.Beginning.{fails_for, may_begin, can_create}
 use Rattle.system.proofs.making.begin.Goals as goal
 
 pub returns-in-Err-create-clause-cause : goal.returns-in-Err-create-clause-cause
@@ -13,3 +14,12 @@ returns-in-Err-create-clause-cause g c clean =
     let at : image unbegun ≡ seen_image g.D.Disk c.args.files.log c.args.files.db = ap (λ f. seen_image g.D.Disk f.0 f.1) (made.files ∙ c.in-Ok.ensures.files) in
     let none : wanted_by unbegun ≡ [] = made.schema in
     ((state_of unbegun).faults, fails_for _ _ _ _ _ c.in-Err-create.error (can_create unbegun 1016 _ size at none) (c.in-Err-create.ensures.cause clean))
+
+pub returns-in-Ok-create-clause-begun : goal.returns-in-Ok-create-clause-begun
+returns-in-Ok-create-clause-begun g c clean =
+    let unbegun = c.in-Ok-with_sums.unbegun in
+    let made = c.in-Ok-with_sums.ensures in
+    let page : c.in-Ok.pager.log.page_size ≡ 1024 = search rules in
+    let size : (state_of unbegun).page_size ≡ 1016 = omega (arith, made.size, page) in
+    let at : image unbegun ≡ seen_image g.D.Disk c.args.files.log c.args.files.db = ap (λ f. seen_image g.D.Disk f.0 f.1) (made.files ∙ c.in-Ok.ensures.files) in
+    ∥∥₁_map (c.in-Ok-create.ensures.started clean) (may_begin unbegun 1016 _ size at)
