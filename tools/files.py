@@ -31,6 +31,7 @@ JOURNAL = b"custody: a rollback journal lies beside the file: open it with sqlit
 CORRUPT = b"custody: the file is damaged: a page's sum or form is wrong\n"
 UNSOUND = b"custody: the file is damaged or no database: its rows break its schema\n"
 DISK = b"custody: the disk or the system refused\n"
+NO_ROOM = b"custody: there is no room on the disk\n"
 SHUT = b"custody: a fault of the disk has shut the store: see to the disk\n"
 
 
@@ -231,6 +232,10 @@ def look_at_reasons(program):
         ran = program.run(["org-add", "--db", "small.db", "acme"], under=small_files(blocks))
         said("a file that may not grow", ran, (3, b"refused down\n", DISK))
     program.is_due("told: a file that may not grow; it is made later", ["org-add", "--db", "small.db", "acme"], 0, b"ok\n")
+    full = dict(os.environ, LD_PRELOAD=compiled("unsynced", folder), FULL=folder)
+    ran = program.run(["org-add", "--db", "roomless.db", "acme"], env=full)
+    said("a new file for which the disk has no room", ran, (3, b"refused down\n", NO_ROOM))
+    program.is_due("told: the disk has no room; the file is made later", ["org-add", "--db", "roomless.db", "acme"], 0, b"ok\n")
     # (who may read everything isn't refused)
     if os.getuid():
         os.mkdir(folder + "/closed", 0o500)

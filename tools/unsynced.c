@@ -1,18 +1,33 @@
-// Stands before the C library's fdatasync, which fails as long as the file lies there that FAILS names:
+// Stands before the C library's fdatasync, which fails as long as the file lies there that FAILS names, and before its writes at
+// a place, which find no room on the disk as long as that lies there which FULL names:
 //
 //     cc -O1 -Wall -Wextra -Werror -shared -fPIC -o unsynced.so tools/unsynced.c -ldl
-//     FAILS=FILE LD_PRELOAD=./unsynced.so PROGRAM ..
+//     FAILS=FILE FULL=FILE LD_PRELOAD=./unsynced.so PROGRAM ..
 #define _GNU_SOURCE
 #include <dlfcn.h>
 #include <errno.h>
 #include <stdlib.h>
 #include <unistd.h>
 
+static int is_there(const char *name) {
+  const char *path = getenv(name);
+  return path && !access(path, F_OK);
+}
+
+ssize_t pwrite64(int file, const void *from, size_t size, off64_t at) {
+  static ssize_t (*real)(int, const void *, size_t, off64_t);
+  if (!real) real = dlsym(RTLD_NEXT, "pwrite64");
+  if (!is_there("FULL")) return real(file, from, size, at);
+  errno = ENOSPC;
+  return -1;
+}
+
+ssize_t pwrite(int file, const void *from, size_t size, off_t at) { return pwrite64(file, from, size, at); }
+
 int fdatasync(int file) {
   static int (*real)(int);
-  const char *fails = getenv("FAILS");
   if (!real) real = dlsym(RTLD_NEXT, "fdatasync");
-  if (!fails || access(fails, F_OK)) return real(file);
+  if (!is_there("FAILS")) return real(file);
   errno = EIO;
   return -1;
 }
