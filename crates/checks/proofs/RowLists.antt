@@ -37,7 +37,7 @@ module _ {X : Type 0} where
       let rest = apart_less clash xs x h.1 in
       ((first.0, rest.0), (first.1, rest.1))
 
-  next_row : (xs : List X) (i : ℕ) (x : X) → i < length xs → x ≡ get_or xs i x → take (i + 1) xs ≡ take i xs ++ x ∷ []
+  pub next_row : (xs : List X) (i : ℕ) (x : X) → i < length xs → x ≡ get_or xs i x → take (i + 1) xs ≡ take i xs ++ x ∷ []
   next_row xs i x inside is = take_more xs i x inside ∙ ap (λ y. take i xs ++ y ∷ []) (sym is)
 
   -- a test of the first rows, and of the next one

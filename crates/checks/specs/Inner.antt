@@ -7,5 +7,6 @@ pub mod Keys
 pub mod Looks
 pub mod Places
 pub mod Runs
+pub mod Stores
 pub mod Versions
 pub mod Workspaces

@@ -1,3 +1,5 @@
 pub mod Inner
 pub mod Judging
 pub mod Lines
+pub mod Standing
+pub mod Totals

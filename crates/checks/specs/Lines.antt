@@ -11,6 +11,7 @@ use Rattle.checks.specs.declared.found.FaultKind.{FaultKind}
 use Rattle.checks.specs.declared.found.FaultKind.TheVariants as kind
 
 abbrev pub fault_word : FaultKind → List ℕ
+fault_word kind.Table = codes "table"
 fault_word kind.Version = codes "version"
 fault_word kind.Twice = codes "twice"
 fault_word kind.DigestTwice = codes "digest-twice"
@@ -36,7 +37,7 @@ abbrev pub number_or_hyphen : Option ℕ → List ℕ
 number_or_hyphen None = codes "-"
 number_or_hyphen (Some n) = decimal n
 
--- `fault`, the word, the names of organization and workspace (of a token's row its name), and the number, a space between them
+-- `fault`, the word, the names of organization and workspace (of a token's row and of a table its name), and the number, a space between them
 abbrev pub fault_line : Fault → List ℕ
 fault_line f =
     codes "fault " ++ fault_word f.kind ++ codes " " ++ name_or_hyphen f.org ++ codes " " ++ name_or_hyphen f.ws ++ codes " " ++ number_or_hyphen f.number

@@ -11,6 +11,8 @@ pub const MAX_FAULTS: usize = 50;
 /// What is wrong with a row, or with a page.
 #[derive(Clone, Copy, PartialEq, Eq)]
 pub enum FaultKind {
+    /// A table is missing, or defined otherwise than ours.
+    Table,
     /// The tables tell another version of the schema, or none.
     Version,
     /// There is another row of the same key.
@@ -50,7 +52,7 @@ pub enum FaultKind {
 pub struct Fault {
     pub kind: FaultKind,
     pub org: Text,
-    /// The name of a workspace, or of a token.
+    /// The name of a workspace, of a token, or of a table.
     pub ws: Text,
     /// The number of a version or of a run.
     pub number: Option<u64>,

@@ -13,6 +13,7 @@ impl FaultKind {
         ensures { result.now ≡ fault_word self }
     {
         match self {
+            FaultKind::Table => "table",
             FaultKind::Version => "version",
             FaultKind::Twice => "twice",
             FaultKind::DigestTwice => "digest-twice",
@@ -44,7 +45,8 @@ fn name_or_hyphen(alloc: Global, name: &str) -> Result<&str, Down>
     }
 }
 
-/// The line that tells a fault, without its line feed: `fault WORD ORG WS NUMBER`, a hyphen for what isn't known.
+/// The line that tells a fault, without its line feed: `fault WORD ORG WS NUMBER`, a hyphen for what isn't known. A table's
+/// name, as a token's, stands in the place of WS.
 pub fn fault_line(alloc: Global, fault: &Fault) -> Result<Text, Down>
     ensures { IfOk result (λ line. line ≡ fault_line fault.now) }
 {

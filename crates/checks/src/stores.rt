@@ -5,13 +5,16 @@ ghost use Rattle.sqlite.specs.State.{HasCleanDisk};
 ghost use Rattle.machine.specs.Keeping.{Looks};
 ghost use Rattle.statements.specs.Tables.{Tables, Holds, tables_of};
 ghost use Rattle.tables.specs.Opening.{IsFresh};
-ghost use Rattle.tables.specs.Scans.{ArePagesKeyed};
-ghost use Rattle.tables.specs.Sound.{IsSound};
 ghost use Rattle.checks.specs.Lines.{fault_line, TellsFaults};
+ghost use Rattle.checks.specs.Standing.{HaveRows, TellsStore};
+ghost use Rattle.checks.specs.Totals.{AreTotalsOf};
+ghost use Rattle.checks.specs.Inner.Stores.{TellsTables, LooksAtRows};
 
+use crate::defined::other_tables;
 use crate::found::Fault;
 use crate::lines::fault_line;
 use crate::looks::faults;
+use crate::totals::{NOTHING, Totals, totals_of};
 use basis::{Down, Items, Text};
 use machine::Keep;
 use pages::PageKey;
@@ -39,18 +42,58 @@ fn tell(alloc: Global, rows: &Rows) -> Result<Items<Text>, Down>
     lines_of(alloc, found.faults())
 }
 
-/// Looks for faults in the tables of a store: a line for each, the first 50 of them; none exactly where the tables are
-/// sound, and each page's key is that of its bytes. An error where memory or the store refused.
-pub fn check<S: Alter, K: PageKey>(
+/// What a look at a store found.
+#[derive(Drop)]
+pub struct Looked {
+    /// A line for each fault, the first 50 of them.
+    pub faults: Items<Text>,
+    /// How much stands in the tables. Where they aren't ours nothing is counted.
+    pub totals: Totals,
+}
+
+/// A line for each of our tables that doesn't stand in the database as it is defined.
+fn tell_tables<S: Alter, K: PageKey>(
     keep: &mut SqlKeep<S, K>,
     alloc: Global,
 ) -> Result<Items<Text>, Down>
-    ensures decides { HasCleanDisk (state S.Store keep.new.conn) → IfOk result (λ lines. (t : Tables) → Holds (state S.Store keep.old.conn).committed t
-        → (lines ≡ [] → IsSound t × ArePagesKeyed K.key_of t) × (IsSound t → ArePagesKeyed K.key_of t → lines ≡ [])) }
-    ensures sound { HasCleanDisk (state S.Store keep.new.conn) → IfOk result (λ lines. lines ≡ [] → IsFresh (state S.Store keep.old.seen.value).committed keep.old.counted (state S.Store keep.old.conn)
-        → Holds (state S.Store keep.old.seen.value).committed (tables_of (state S.Store keep.old.seen.value).committed) → ⟦<SqlKeep<S, K> as Keep>⟧.sound keep.old) }
+    ensures told { HasCleanDisk (state S.Store keep.new.conn) → IfOk result (TellsTables (state S.Store keep.old.conn).committed (state S.Store keep.new.conn).committed) }
+    ensures looks { Looks ⟦<SqlKeep<S, K> as Keep>⟧.rows ⟦<SqlKeep<S, K> as Keep>⟧.clean ⟦<SqlKeep<S, K> as Keep>⟧.sound ⟦<SqlKeep<S, K> as Keep>⟧.shielded keep.old keep.new }
+{
+    let names = keep.other_tables(alloc)?;
+    let found = other_tables(alloc, names.as_slice())?;
+    lines_of(alloc, found.faults())
+}
+
+/// A line for each fault of the rows, and how many rows there are.
+fn look_at_rows<S: Alter, K: PageKey>(
+    keep: &mut SqlKeep<S, K>,
+    alloc: Global,
+) -> Result<Looked, Down>
+    ensures told { HasCleanDisk (state S.Store keep.new.conn) → IfOk result (LooksAtRows K.key_of (state S.Store keep.old.conn).committed) }
     ensures looks { Looks ⟦<SqlKeep<S, K> as Keep>⟧.rows ⟦<SqlKeep<S, K> as Keep>⟧.clean ⟦<SqlKeep<S, K> as Keep>⟧.sound ⟦<SqlKeep<S, K> as Keep>⟧.shielded keep.old keep.new }
 {
     let rows = keep.scan(alloc)?;
-    tell(alloc, &rows)
+    let totals = totals_of(&rows);
+    let faults = tell(alloc, &rows)?;
+    Ok(Looked { faults, totals })
+}
+
+/// Looks for faults in a store: a line for each, the first 50 of them; none exactly where our tables stand in the database as
+/// they are defined, they are sound, and each page's key is that of its bytes. Where tables are defined otherwise they alone are
+/// told. And how much stands in the tables. An error where memory or the store refused.
+pub fn check<S: Alter, K: PageKey>(keep: &mut SqlKeep<S, K>, alloc: Global) -> Result<Looked, Down>
+    ensures decides { HasCleanDisk (state S.Store keep.new.conn) → IfOk result (λ looked. TellsStore K.key_of (state S.Store keep.old.conn).committed looked.faults) }
+    ensures totals { HasCleanDisk (state S.Store keep.new.conn) → IfOk result (λ looked. (t : Tables) → Holds (state S.Store keep.old.conn).committed t → AreTotalsOf t looked.totals) }
+    ensures sound { HasCleanDisk (state S.Store keep.new.conn) → IfOk result (λ looked. looked.faults ≡ [] → IsFresh (state S.Store keep.old.seen.value).committed keep.old.counted (state S.Store keep.old.conn)
+        → HaveRows (state S.Store keep.old.seen.value).committed (tables_of (state S.Store keep.old.seen.value).committed) → ⟦<SqlKeep<S, K> as Keep>⟧.sound keep.old) }
+    ensures looks { Looks ⟦<SqlKeep<S, K> as Keep>⟧.rows ⟦<SqlKeep<S, K> as Keep>⟧.clean ⟦<SqlKeep<S, K> as Keep>⟧.sound ⟦<SqlKeep<S, K> as Keep>⟧.shielded keep.old keep.new }
+{
+    let others = tell_tables(keep, alloc)?;
+    if !others.as_slice().is_empty() {
+        return Ok(Looked {
+            faults: others,
+            totals: NOTHING,
+        });
+    }
+    look_at_rows(keep, alloc)
 }

@@ -4,4 +4,4 @@ use Rattle.sqlite.specs.Effect.{Database}
 use Rattle.statements.specs.Tables.{HoldsAll}
 
 pub none_made : (db : Database) → HoldsAll db []
-none_made db = record { own = record { own = tt; order = tt }; rows = tt }
+none_made db = record { own = record { own = tt; apart = tt }; rows = tt }

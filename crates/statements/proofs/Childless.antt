@@ -179,7 +179,7 @@ token_goes org name old new t h count none ran =
     goes_alone token_layout bound_layout to_token token_order org name (is_token org name) (is_bound org name)
     (λ b z other mine. bound_agrees b z ∙ apart_by org name b.1.org b.1.name z.1.org z.1.name other mine) (λ x. two_texts x.1.org org x.1.name name)
     old new t.tokens tokens t.bounds (bounds_held old.now t h) (bound_follows old.now.schema tokens.own) refl
-    (λ same. trees_apart old.now.schema our_tables 2 8 token_table bound_table refl refl (omega arith) h.ours.order (sym same)) (token_key old.now.schema tokens.own)
+    (λ same. trees_apart old.now.schema our_tables 2 8 token_table bound_table refl refl (omega arith) h.ours.apart (sym same)) (token_key old.now.schema tokens.own)
     remove_token_text count none (remove_token_means old.now.schema _ _ tokens.own.place) ran
 
 -- ---- a workspace and a row of keeping
@@ -205,5 +205,5 @@ ws_goes org name old new t h count none ran =
     goes_alone ws_layout keeping_layout to_ws ws_order org name (is_ws org name) (is_keeping org name)
     (λ b z other mine. keeping_agrees b z ∙ apart_by org name b.1.org b.1.ws z.1.org z.1.name other mine) (λ x. two_texts x.1.org org x.1.name name)
     old new t.wss wss t.keepings (keepings_held old.now t h) (keeping_follows old.now.schema wss.own) refl
-    (λ same. trees_apart old.now.schema our_tables 3 10 ws_table keeping_table refl refl (omega arith) h.ours.order (sym same)) (ws_key old.now.schema wss.own)
+    (λ same. trees_apart old.now.schema our_tables 3 10 ws_table keeping_table refl refl (omega arith) h.ours.apart (sym same)) (ws_key old.now.schema wss.own)
     remove_ws_text count none (remove_ws_means old.now.schema _ _ wss.own.place) ran

@@ -113,18 +113,18 @@ module _ (old new : Database) (same : new.schema ≡ old.schema) where
     others_stay [] stay apart h = tt
     others_stay (x ∷ xs) stay apart h = (record { rows = stay.0 apart.0 ∙ h.0.rows; keyed = h.0.keyed }, others_stay xs stay.1 apart.1 h.1)
 
-    -- the table at a place has the new rows, and each other those that it had, since their trees ascend
+    -- the table at a place has the new rows, and each other those that it had, since no two have one tree
     one_written : (n : ℕ) (xs : List StoredTable) → slice_get (tables_in xs) n ≡ Some table → AreOwn s (tables_in xs) → AllByRecursion Stays (tables_in xs) → AllByRecursion (HasRows old) xs → AllByRecursion (HasRows now) (with_rows n rows xs)
     one_written n [] is ours stay h = tt
     one_written zero (x ∷ xs) is ours stay h =
         let this : x.table ≡ table = cc in
-        let above : AllByRecursion (λ (b : Table). tree_of s table.name < tree_of s b.name) (tables_in xs) = subst (λ (a : Table). AllByRecursion (λ (b : Table). tree_of s a.name < tree_of s b.name) (tables_in xs)) this ours.order.0 in
-        let apart = all_weaker _ (λ (b : Table). tree_of s b.name ≢ tree_of s table.name) (λ b low e. absurd (omega (arith, low, e))) (tables_in xs) above in
+        let others : AllByRecursion (λ (b : Table). tree_of s table.name ≢ tree_of s b.name) (tables_in xs) = subst (λ (a : Table). AllByRecursion (λ (b : Table). tree_of s a.name ≢ tree_of s b.name) (tables_in xs)) this ours.apart.0 in
+        let apart = all_weaker _ (λ (b : Table). tree_of s b.name ≢ tree_of s table.name) (λ b other e. other (sym e)) (tables_in xs) others in
         (record { rows = ap (λ (a : Table). new.trees (tree_of s a.name)) this ∙ w.rows; keyed = keyed }, others_stay xs stay.1 apart h.1)
     one_written (suc n) (x ∷ xs) is ours stay h =
-        let below : tree_of s x.table.name < tree_of s table.name = all-slice_get (λ (b : Table). tree_of s x.table.name < tree_of s b.name) (tables_in xs) n table is ours.order.0 in (
-          record { rows = stay.0 (λ e. absurd (omega (arith, below, e))) ∙ h.0.rows; keyed = h.0.keyed },
-          one_written n xs is (record { own = ours.own.1; order = ours.order.1 }) stay.1 h.1,
+        let other : tree_of s x.table.name ≢ tree_of s table.name = all-slice_get (λ (b : Table). tree_of s x.table.name ≢ tree_of s b.name) (tables_in xs) n table is ours.apart.0 in (
+          record { rows = stay.0 other ∙ h.0.rows; keyed = h.0.keyed },
+          one_written n xs is (record { own = ours.own.1; apart = ours.apart.1 }) stay.1 h.1,
         )
 
     -- whichever tables the database holds

@@ -190,18 +190,18 @@ module _ (table : Table) (old new : Database) (g : Grown table old new) where
   rows_all [] h k = (record { rows = ap new.trees tree_added ∙ g.empty; keyed = tt }, tt)
   rows_all (x ∷ xs) h k = (record { rows = ap new.trees (tree_kept x.table h.0) ∙ rows_kept x.table h.0 ∙ k.0.rows; keyed = k.0.keyed }, rows_all xs h.1 k.1)
 
-  above_one : (t : Table) → IsOwn old.schema t → (xs : List StoredTable) → AllByRecursion (IsOwn old.schema) (tables_in xs) → AllByRecursion (λ (b : Table). tree_of old.schema t.name < tree_of old.schema b.name) (tables_in xs)
-      → AllByRecursion (λ (b : Table). tree_of new.schema t.name < tree_of new.schema b.name) (tables_in (xs ++ bare_table table ∷ []))
-  above_one t own [] h k = let a = tree_kept t own in let b = tree_added in let c = tree_below t own in (omega arith, tt)
-  above_one t own (u ∷ xs) h k = let a = tree_kept t own in let b = tree_kept u.table h.0 in let c = k.0 in (omega arith, above_one t own xs h.1 k.1)
+  apart_one : (t : Table) → IsOwn old.schema t → (xs : List StoredTable) → AllByRecursion (IsOwn old.schema) (tables_in xs) → AllByRecursion (λ (b : Table). tree_of old.schema t.name ≢ tree_of old.schema b.name) (tables_in xs)
+      → AllByRecursion (λ (b : Table). tree_of new.schema t.name ≢ tree_of new.schema b.name) (tables_in (xs ++ bare_table table ∷ []))
+  apart_one t own [] h k = let a = tree_kept t own in let b = tree_added in let c = tree_below t own in ((λ same. absurd (omega (arith, a, b, c, same))), tt)
+  apart_one t own (u ∷ xs) h k = let a = tree_kept t own in let b = tree_kept u.table h.0 in let c = k.0 in ((λ same. c (omega (arith, a, b, same))), apart_one t own xs h.1 k.1)
 
-  order_all : (xs : List StoredTable) → AllByRecursion (IsOwn old.schema) (tables_in xs) → IsAscending (λ (a b : Table). tree_of old.schema a.name < tree_of old.schema b.name) (tables_in xs)
-      → IsAscending (λ (a b : Table). tree_of new.schema a.name < tree_of new.schema b.name) (tables_in (xs ++ bare_table table ∷ []))
-  order_all [] h k = (tt, tt)
-  order_all (x ∷ xs) h k = (above_one x.table h.0 xs h.1 k.0, order_all xs h.1 k.1)
+  apart_all : (xs : List StoredTable) → AllByRecursion (IsOwn old.schema) (tables_in xs) → IsAscending (λ (a b : Table). tree_of old.schema a.name ≢ tree_of old.schema b.name) (tables_in xs)
+      → IsAscending (λ (a b : Table). tree_of new.schema a.name ≢ tree_of new.schema b.name) (tables_in (xs ++ bare_table table ∷ []))
+  apart_all [] h k = (tt, tt)
+  apart_all (x ∷ xs) h k = (apart_one x.table h.0 xs h.1 k.0, apart_all xs h.1 k.1)
 
   pub made_grown : (xs : List StoredTable) → HoldsAll old xs → HoldsAll new (xs ++ bare_table table ∷ [])
-  made_grown xs m = record { own = record { own = own_all xs m.own.own; order = order_all xs m.own.own m.own.order }; rows = rows_all xs m.own.own m.rows }
+  made_grown xs m = record { own = record { own = own_all xs m.own.own; apart = apart_all xs m.own.own m.own.apart }; rows = rows_all xs m.own.own m.rows }
 
   -- the tree is none of a table that was there
   pub added_apart : AllByRecursion (λ (t : Table). t.tree ≢ tree_of new.schema table.name) old.schema.tables

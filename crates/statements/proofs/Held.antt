@@ -92,9 +92,9 @@ pub rows_keyed : {R : Type 0} (layout : Layout R) (xs : List (Kept R)) → IsKey
 rows_keyed layout xs = ascending-map _ (stored layout.cells) xs
 
 -- two of them have different trees
-pub trees_apart : (s : Schema) (xs : List Table) (n m : ℕ) (a b : Table) → slice_get xs n ≡ Some a → slice_get xs m ≡ Some b → n < m → IsAscending (λ (x y : Table). tree_of s x.name < tree_of s y.name) xs
+pub trees_apart : (s : Schema) (xs : List Table) (n m : ℕ) (a b : Table) → slice_get xs n ≡ Some a → slice_get xs m ≡ Some b → n < m → IsAscending (λ (x y : Table). tree_of s x.name ≢ tree_of s y.name) xs
     → tree_of s a.name ≢ tree_of s b.name
-trees_apart s xs n m a b at_n at_m low up same = let below = rising (λ (x y : Table). tree_of s x.name < tree_of s y.name) xs n m a b at_n at_m low up in absurd (omega (arith, below, same))
+trees_apart s xs n m a b at_n at_m low up = rising (λ (x y : Table). tree_of s x.name ≢ tree_of s y.name) xs n m a b at_n at_m low up
 
 -- the first ones of our tables, whatever their rows
 pub tables_taken : (k : ℕ) (t : Tables) → tables_in (take k (stored_tables t)) ≡ take k our_tables
@@ -107,7 +107,7 @@ module _ (s : Schema) (k : ℕ) (own : AreOwn s (take k our_tables)) where
   own_in n table low at = all-slice_get (IsOwn s) (take k our_tables) n table (get_take k n our_tables low ∙ at) own.own
 
   pub apart_in : (n m : ℕ) (a b : Table) → slice_get our_tables n ≡ Some a → slice_get our_tables m ≡ Some b → n < m → m < k → tree_of s a.name ≢ tree_of s b.name
-  apart_in n m a b at_n at_m less low = trees_apart s (take k our_tables) n m a b (get_take k n our_tables (omega (arith, less, low)) ∙ at_n) (get_take k m our_tables low ∙ at_m) less own.order
+  apart_in n m a b at_n at_m less low = trees_apart s (take k our_tables) n m a b (get_take k n our_tables (omega (arith, less, low)) ∙ at_n) (get_take k m our_tables low ∙ at_m) less own.apart
 
   -- in whichever order they stand
   pub apart_both : (n m : ℕ) (a b : Table) → slice_get our_tables n ≡ Some a → slice_get our_tables m ≡ Some b → n < k → m < k → (n == m) ≡ false → tree_of s a.name ≢ tree_of s b.name

@@ -1,5 +1,5 @@
 -- What a CREATE TABLE and a CREATE INDEX do, in a database with whatever schema.
-use Rattle.std.proofs.Common.{◌≡◌, ◌⊎◌, inl, inr, ℕ, ◌+◌, ◌<◌, Bool, true, false, cond, ◌||◌, ◌&&◌, List, [], ◌∷◌, ◌++◌, slice_get, slice_range, Option, Some, None, is_some, Result, Ok, Err, refl, sym, ap, ◌∙◌, subst, arith, append_assoc, append-nil}
+use Rattle.std.proofs.Common.{◌≡◌, ◌≢◌, ◌⊎◌, inl, inr, ℕ, ◌+◌, ◌<◌, Bool, true, false, cond, ◌||◌, ◌&&◌, List, [], ◌∷◌, ◌++◌, slice_get, slice_range, Option, Some, None, is_some, Result, Ok, Err, refl, sym, ap, ◌∙◌, subst, arith, append_assoc, append-nil}
 use Rattle.std.specs.List.{AllByRecursion, AllZip, position_from}
 use Rattle.std.proofs.lemmas.Bool.{cases_Bool, or_parts}
 use Rattle.sqlite_value.specs.Order.{Row}
@@ -318,12 +318,12 @@ module _ (old new : Database) (is : new.schema.tables ≡ old.schema.tables) (ro
     rows_same xs h.1 k.1,
   )
 
-  order_same : (ts : List Table) → IsAscending (λ (a b : Table). tree_of old.schema a.name < tree_of old.schema b.name) ts → IsAscending (λ (a b : Table). tree_of new.schema a.name < tree_of new.schema b.name) ts
-  order_same ts h = ascending_weaker _ (λ (a b : Table). tree_of new.schema a.name < tree_of new.schema b.name)
-      (λ a b low. let x = same_tree a old.schema new.schema is in let y = same_tree b old.schema new.schema is in omega arith) ts h
+  apart_same : (ts : List Table) → IsAscending (λ (a b : Table). tree_of old.schema a.name ≢ tree_of old.schema b.name) ts → IsAscending (λ (a b : Table). tree_of new.schema a.name ≢ tree_of new.schema b.name) ts
+  apart_same ts h = ascending_weaker _ (λ (a b : Table). tree_of new.schema a.name ≢ tree_of new.schema b.name)
+      (λ a b other same. let x = same_tree a old.schema new.schema is in let y = same_tree b old.schema new.schema is in other (omega (arith, x, y, same))) ts h
 
   made_same : (xs : List StoredTable) → HoldsAll old xs → HoldsAll new xs
-  made_same xs m = record { own = record { own = own_same (tables_in xs) m.own.own; order = order_same (tables_in xs) m.own.order }; rows = rows_same xs m.own.own m.rows }
+  made_same xs m = record { own = record { own = own_same (tables_in xs) m.own.own; apart = apart_same (tables_in xs) m.own.apart }; rows = rows_same xs m.own.own m.rows }
 
 indexes_at : (old new : State) (text : List ℕ) (place : Option Table) (tally : Tally)
     → AtPlace (λ table. Defines (mode_of old) (MakesIndex text old.now table)) place (Ok (tally, new.now))

@@ -8,9 +8,10 @@ use Rattle.sqlite_ast.specs.declared.Statement.TheVariants as written
 use Rattle.sqlite_resolve.specs.Compile.{first}
 use Rattle.sqlite_tied.specs.Compute.{everything}
 use Rattle.sqlite_schema.specs.declared.schema.Table.{Table}
-use Rattle.statements.specs.declared.making.TheConstants.{FIRST, SECOND, THIRD, MAKE_META, MAKE_ORG, MAKE_TOKEN, MAKE_WS, MAKE_VERSION, MAKE_RUN, MAKE_PAGE, MAKE_VPAGE, MAKE_BOUND, MAKE_EDITION, MAKE_KEEPING, MAKE_RUN_INDEX, MAKE_VPAGE_INDEX}
+use Rattle.statements.specs.declared.making.TheConstants.{TABLE_TEXTS, FIRST, SECOND, THIRD, MAKE_META, MAKE_ORG, MAKE_TOKEN, MAKE_WS, MAKE_VERSION, MAKE_RUN, MAKE_PAGE, MAKE_VPAGE, MAKE_BOUND, MAKE_EDITION, MAKE_KEEPING, MAKE_RUN_INDEX, MAKE_VPAGE_INDEX}
 use Rattle.statements.specs.Schema.{meta_table, org_table, token_table, ws_table, version_table, run_table, page_table, vpage_table, bound_table, edition_table, keeping_table}
-use Rattle.statements.specs.Inner.Making.{IsTableText, IsIndexText, IsMaker}
+use Rattle.statements.specs.Tables.{our_tables}
+use Rattle.statements.specs.Inner.Making.{IsTableText, IsDefinedBy, IsIndexText, IsMaker}
 use Rattle.statements.proofs.Meaning.{some_parsed}
 
 -- the definition that a text has
@@ -93,3 +94,7 @@ third_made = (keeping_table ∷ []) ∷ []
 
 pub third_are : AllZip IsMaker (map (λ x. x.now) THIRD.now) third_made
 third_are = (make_keeping, tt)
+
+-- the texts define our tables
+pub tables_defined : AllZip IsDefinedBy (map (λ x. x.now) TABLE_TEXTS.now) our_tables
+tables_defined = (make_meta.defines, (make_org.defines, (make_token.defines, (make_ws.defines, (make_tables_of.defines, (make_run.defines, (make_page.defines, (make_vpage.defines, (make_bound.defines, (make_edition.defines, (make_keeping.defines, tt)))))))))))

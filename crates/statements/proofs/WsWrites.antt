@@ -38,7 +38,7 @@ module _ (old new : State) (count : ℕ) (t : Tables) (h : Holds old.now t) wher
   keeping_own = (keepings_held old.now t h).own
 
   keeping_apart : tree_of old.now.schema keeping_table.name ≢ tree_of old.now.schema ws_table.name
-  keeping_apart same = trees_apart old.now.schema our_tables 3 10 ws_table keeping_table refl refl (omega arith) h.ours.order (sym same)
+  keeping_apart same = trees_apart old.now.schema our_tables 3 10 ws_table keeping_table refl refl (omega arith) h.ours.apart (sym same)
 
   -- the numbers of versions to keep stay where no workspace goes
   keeping_stays : (text : List ℕ) (params : Row) → Executes text params old new (Ok count) → (q : Query) → Means old.now.schema (Update (at_of old.now.schema ws_table.name) (plain_program q)) text

@@ -1,5 +1,5 @@
 -- Where a table stands in a schema, whatever other tables, indexes and views stand there too.
-use Rattle.std.specs.Prelude.{◌≡◌, ◌<◌, ◌^◌, ◌&&◌, ℕ, nat_le, nat_lt, Bool, true, false, List, ◌==◌, find, slice_get, Some, option_map, unwrap_or}
+use Rattle.std.specs.Prelude.{◌≡◌, ◌≢◌, ◌^◌, ◌&&◌, ℕ, nat_le, nat_lt, Bool, true, false, List, ◌==◌, find, slice_get, Some, option_map, unwrap_or}
 use Rattle.std.specs.List.{AllByRecursion}
 use Rattle.sqlite_trees.specs.Tree.{IsAscending}
 use Rattle.sqlite_schema.specs.declared.schema.Action.{Action}
@@ -45,7 +45,7 @@ pub record IsOwn (s : Schema) (table : Table) : Type 0 where
   pub place : StandsAt s table.name table (at_of s table.name) (tree_of s table.name)
   pub refers : AllByRecursion (λ (t : Table). t.tree ≡ tree_of s table.name → t.references ≡ table.references) s.tables
 
--- Each of these tables stands somewhere in the schema, and no two have one tree: they were made in this order.
+-- Each of these tables stands somewhere in the schema, and no two have one tree.
 pub record AreOwn (s : Schema) (tables : List Table) : Type 0 where
   pub own : AllByRecursion (IsOwn s) tables
-  pub order : IsAscending (λ (a b : Table). tree_of s a.name < tree_of s b.name) tables
+  pub apart : IsAscending (λ (a b : Table). tree_of s a.name ≢ tree_of s b.name) tables

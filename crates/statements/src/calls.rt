@@ -7,7 +7,7 @@ ghost use Rattle.sqlite.specs.Values.{bound};
 ghost use Rattle.sqlite.specs.Held.{state};
 ghost use Rattle.sqlite.specs.State.{HasCleanDisk, Survives, Shown};
 ghost use Rattle.basis.specs.declared.numbers.TheConstants.{MAX_MOMENT, MAX_SERIAL};
-ghost use Rattle.statements.specs.Rows.{number, role_code, status_code, action_code, number_at, flag_at, bytes_at, some_bytes_at, status_at, some_action_at, version_in_row, run_in_row};
+ghost use Rattle.statements.specs.Rows.{number, role_code, status_code, action_code, number_at, flag, flag_at, bytes_at, some_bytes_at, status_at, some_action_at, version_in_row, run_in_row};
 ghost use Rattle.statements.specs.Steps.{Queries};
 ghost use Rattle.statements.specs.Calls.{Wrote, WroteAny, IsQuery, FirstRow, FirstRows, LimitsTo, IsCalm, AreAllRead, IsRead, IsOnly, AreRead, IsOrganization, IsVersionIn, IsVersionRow, IsRunIn, IsRunRow, IsNamedRole, IsNamedToken, IsFlagCell, IsTextOrNull, IsNumberOrNull, IsActionOrNull, IsBound, IsBoundedRole, IsBody, IsNumber, IsRole, IsStatus, IsCount};
 
@@ -345,12 +345,17 @@ pub(crate) fn role_in(row: &Row, at: usize) -> Result<Role, Error>
     }
 }
 
-/// Whether a number in a row is another than 0.
+/// Whether a number in a row is 1, not 0. No other is kept, so a row that has one was written by another program.
 pub(crate) fn flag_in(row: &Row, at: usize) -> Result<bool, Error>
-    ensures is { IfOk result (λ flag. flag ≡ flag_at row.now at) }
+    ensures is { IfOk result (λ b. b ≡ flag_at row.now at) }
     ensures cell { IfOk result (IsFlagCell (column row.now at)) }
+    ensures exact { IfOk result (λ b. column row.now at ≡ flag b) }
 {
-    row.get::<bool>(at)
+    match row.get::<u64>(at)? {
+        0 => Ok(false),
+        1 => Ok(true),
+        _ => Err(Error::IntegralValueOutOfRange(at)),
+    }
 }
 
 pub(crate) fn status_in(row: &Row, at: usize) -> Result<RunStatus, Error>

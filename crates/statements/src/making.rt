@@ -68,6 +68,21 @@ const MAKE_RUN_INDEX: &str =
 /// By it it is known whether a page is still named, when it goes.
 const MAKE_VPAGE_INDEX: &str = "CREATE INDEX IF NOT EXISTS vpage_page ON vpage (pkey, twin)";
 
+/// The texts that make the tables, in the order in which they are run.
+pub const TABLE_TEXTS: &[&str] = &[
+    MAKE_META,
+    MAKE_ORG,
+    MAKE_TOKEN,
+    MAKE_WS,
+    MAKE_VERSION,
+    MAKE_RUN,
+    MAKE_PAGE,
+    MAKE_VPAGE,
+    MAKE_BOUND,
+    MAKE_EDITION,
+    MAKE_KEEPING,
+];
+
 /// The texts that make the tables of schema 1 and the indexes on them, in the order in which they are run.
 /// An index is left out where one of others has its name.
 const FIRST: &[&str] = &[

@@ -54,3 +54,4 @@ pub mod KeepCopied
 pub mod Departing
 pub mod KeepRemoved
 pub mod Using
+pub mod OwnTables

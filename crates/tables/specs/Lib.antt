@@ -1,5 +1,6 @@
 pub mod Copying
 pub mod Counting
+pub mod Defined
 pub mod Inner
 pub mod Laws
 pub mod Logs

@@ -16,4 +16,5 @@ mod store;
 mod transactions;
 mod wholes;
 
+pub use opening::has_any_of_ours;
 pub use store::{SqlKeep, Unopened};

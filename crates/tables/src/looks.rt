@@ -2,12 +2,13 @@
 ghost use Rattle.std.specs.Prelude.{◌≡◌, false, not, cond, is_some, option_copied, Option, IsSome, IfOk, OnOk, unwrap_or};
 ghost use Rattle.basis.specs.declared.numbers.TheConstants.{FIRST_KEPT};
 ghost use Rattle.sqlite.specs.Held.{state};
-ghost use Rattle.sqlite.specs.State.{HasCleanDisk, KeepsCommit};
+ghost use Rattle.sqlite.specs.State.{HasCleanDisk, IsUnchanged, KeepsCommit};
 ghost use Rattle.statements.specs.Finds.{size_of, cap_of, workspaces_of, first_waiting_of, open_runs_of, bound_of};
 ghost use Rattle.statements.specs.Steps.{Equals, Sees};
 ghost use Rattle.statements.specs.Tables.{Tables, Holds};
 ghost use Rattle.machine.specs.Needs.{needed_of};
 ghost use Rattle.machine.specs.Units.{if_needed};
+ghost use Rattle.tables.specs.Defined.{TellsTables};
 ghost use Rattle.tables.specs.Records.{caller_with, bounds_at, IsBound};
 ghost use Rattle.tables.specs.Inner.Lists.{asker_in};
 ghost use Rattle.tables.specs.Inner.Steps.{LooksAt};
@@ -16,9 +17,10 @@ ghost use Rattle.tables.specs.Inner.Looks.{absent_in, runs_in, around_in, unit_f
 
 use crate::transactions::assert_settled;
 use basis::{
-    Bounds, Bytes, Caller, Holder, Limit, Number, Retention, Role, RunRow, RunStatus, Settings,
-    Text, VersionRow,
+    Bounds, Bytes, Caller, Holder, Items, Limit, Number, Retention, Role, RunRow, RunStatus,
+    Settings, Text, VersionRow,
 };
+use definitions::others;
 use machine::{Needs, Newest, Staying, TokenRow, Unit, WorkspaceUnit};
 use sqlite::{Alter, Connection, Error, ErrorCode};
 use statements::rows::{NamedRole, Workspace as WorkspaceCells};
@@ -57,6 +59,41 @@ pub(crate) fn is_shut<S: Alter>(conn: &mut Connection<S>) -> Result<bool, Error>
         Err(Error::SqliteFailure(ErrorCode::Closed)) => Ok(true),
         Err(error) => Err(error),
     }
+}
+
+/// An error where the connection is shut. It compiles a statement, and runs none.
+fn assert_open<S: Alter>(conn: &mut Connection<S>) -> Result<(), Error>
+    requires idle { conn.old.in_transaction ≡ false }
+    ensures idle { conn.new.in_transaction ≡ false }
+    ensures so_far { HasCleanDisk (state S.Store conn.new) → HasCleanDisk (state S.Store conn.old) }
+    ensures shield { (state S.Store conn.old).IsShielded → (state S.Store conn.new).IsShielded }
+    ensures same { HasCleanDisk (state S.Store conn.new) → OnOk result (IsUnchanged (state S.Store conn.old) (state S.Store conn.new)) }
+    ensures kept { HasCleanDisk (state S.Store conn.new) → KeepsCommit (state S.Store conn.old) (state S.Store conn.new) }
+{
+    match conn.prepare("SELECT 1") {
+        Ok(_) => Ok(()),
+        Err(error) => Err(error),
+    }
+}
+
+/// The names of our tables that don't stand in the database as they are defined; an error where the connection is shut.
+pub(crate) fn other_tables<S: Alter>(
+    conn: &mut Connection<S>,
+    alloc: Global,
+) -> Result<Items<Text>, Error>
+    requires idle { conn.old.in_transaction ≡ false }
+    ensures idle { conn.new.in_transaction ≡ false }
+    ensures so_far { HasCleanDisk (state S.Store conn.new) → HasCleanDisk (state S.Store conn.old) }
+    ensures shield { (state S.Store conn.old).IsShielded → (state S.Store conn.new).IsShielded }
+    ensures told { HasCleanDisk (state S.Store conn.new) → IfOk result (TellsTables (state S.Store conn.old) (state S.Store conn.new)) }
+    ensures kept { HasCleanDisk (state S.Store conn.new) → KeepsCommit (state S.Store conn.old) (state S.Store conn.new) }
+{
+    assert_settled(conn);
+    assert_open(conn)?;
+    let Ok(names) = others(alloc, conn.schema()) else {
+        return Err(Error::SqliteFailure(ErrorCode::OutOfMemory));
+    };
+    Ok(names)
 }
 
 /// The text of a version, if it is kept.

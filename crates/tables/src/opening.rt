@@ -63,6 +63,13 @@ fn any_there(schema: &Schema) -> bool
     any_named(schema, TABLES)
 }
 
+/// Whether a database has one of our tables, of whatever version. It only looks at the schema.
+pub fn has_any_of_ours<S: Alter>(conn: &Connection<S>) -> bool
+    ensures { result ≡ any_there (state S.Store conn.now).now.schema }
+{
+    any_there(conn.schema())
+}
+
 /// How many tables a version has, if there is that version.
 fn count_in(schema_version: u64) -> Option<usize>
     ensures { result ≡ slice_get table_counts schema_version }

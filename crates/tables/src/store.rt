@@ -15,6 +15,7 @@ ghost use Rattle.machine.specs.Changes.{changed_by, IsDue};
 ghost use Rattle.machine.specs.declared.records.Organization.{Organization as AnyOrganization};
 ghost use Rattle.machine.specs.Ranges.{IsMoment};
 ghost use Rattle.tables.specs.Copying.{IsCopied};
+ghost use Rattle.tables.specs.Defined.{TellsTables};
 ghost use Rattle.tables.specs.Scans.{AreRowsOf};
 ghost use Rattle.tables.specs.Inner.Logged.{text_bytes};
 ghost use Rattle.tables.specs.Logs.{CopiesLog};
@@ -26,8 +27,8 @@ use crate::opening::ready;
 use crate::{counts, listings, looks, operators, scans, transactions};
 use basis::numbers::{MAX_LIMIT, MAX_MOMENT, MAX_NUMBER};
 use basis::{
-    Bounds, Bytes, Down, Limit, Listing, Number, OrgName, Prefix, Role, RunRow, VersionRow, WsName,
-    WsRow,
+    Bounds, Bytes, Down, Items, Limit, Listing, Number, OrgName, Prefix, Role, RunRow, Text,
+    VersionRow, WsName, WsRow,
 };
 use machine::{Act, AdminAnswer, Change, Edit, Fault, Keep, TokenRow, Unit};
 use pages::PageKey;
@@ -146,6 +147,17 @@ impl<S: Alter, K: PageKey> SqlKeep<S, K> {
     {
         match looks::is_shut(&mut self.conn) {
             Ok(is_shut) => Ok(is_shut),
+            Err(_) => Err(Down),
+        }
+    }
+
+    /// The names of our tables that don't stand in the database as they are defined. An error where memory or the store refused.
+    pub fn other_tables(&mut self, alloc: Global) -> Result<Items<Text>, Down>
+        ensures told { HasCleanDisk (state S.Store self.new.conn) → IfOk result (TellsTables (state S.Store self.old.conn) (state S.Store self.new.conn)) }
+        ensures looks { Looks ⟦<SqlKeep<S, K> as Keep>⟧.rows ⟦<SqlKeep<S, K> as Keep>⟧.clean ⟦<SqlKeep<S, K> as Keep>⟧.sound ⟦<SqlKeep<S, K> as Keep>⟧.shielded self.old self.new }
+    {
+        match looks::other_tables(&mut self.conn, alloc) {
+            Ok(names) => Ok(names),
             Err(_) => Err(Down),
         }
     }

@@ -33,6 +33,10 @@ pub record IsTableText (text : List ℕ) (table : Table) : Type 0 where
   pub whole : slice_range text parsed.start parsed.end ≡ text
   pub defines : table_defined_by text ≡ Ok table
 
+-- the text defines the table
+abbrev pub IsDefinedBy : List ℕ → Table → Type 0
+IsDefinedBy text table = table_defined_by text ≡ Ok table
+
 -- the text is one statement, a CREATE INDEX IF NOT EXISTS
 pub record IsIndexText (text : List ℕ) : Type 0 where
   pub def : CreateIndex

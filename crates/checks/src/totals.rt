@@ -1,0 +1,67 @@
+//! How much stands in the tables.
+ghost use Rattle.std.specs.Prelude.{◌++◌, ◌∷◌, [], ℕ, List, map};
+ghost use Rattle.statements.specs.Tables.{Tables};
+ghost use Rattle.tables.specs.Scans.{AreRowsOf};
+ghost use Rattle.checks.specs.Totals.{IsGreatest, made_at, AreTotalsOf};
+
+use statements::rows::{Rows, VersionRow};
+
+/// How many rows the tables have of each kind, and when the newest version was made.
+#[derive(Clone, Copy)]
+pub struct Totals {
+    pub organizations: u64,
+    pub workspaces: u64,
+    pub versions: u64,
+    pub runs: u64,
+    /// The second in which the newest version was made, if there is a version.
+    pub newest: Option<u64>,
+}
+
+/// What is told of tables that aren't ours.
+pub(crate) const NOTHING: Totals = Totals {
+    organizations: 0,
+    workspaces: 0,
+    versions: 0,
+    runs: 0,
+    newest: None,
+};
+
+/// The greatest second, where one more comes.
+fn later(newest: Option<u64>, second: u64) -> Option<u64>
+    ensures { (xs : List ℕ) → IsGreatest xs newest → IsGreatest (xs ++ second ∷ []) result }
+{
+    match newest {
+        None => Some(second),
+        Some(greatest) => {
+            if second > greatest {
+                Some(second)
+            } else {
+                Some(greatest)
+            }
+        }
+    }
+}
+
+/// The second in which the newest version was made, if there is a version.
+fn newest(versions: &[(i64, VersionRow)]) -> Option<u64>
+    ensures { IsGreatest (map made_at versions.now) result }
+{
+    let mut newest = None;
+    for row in versions {
+        newest = later(newest, row.1.it.created.seconds());
+    }
+    newest
+}
+
+/// The totals of the tables that have these rows.
+pub(crate) fn totals_of(rows: &Rows) -> Totals
+    ensures { (key_of : List ℕ → List ℕ) (t : Tables) → AreRowsOf key_of t rows.now → AreTotalsOf t result }
+{
+    Totals {
+        organizations: rows.orgs.as_slice().len() as u64,
+        workspaces: rows.wss.as_slice().len() as u64,
+        versions: rows.versions.as_slice().len() as u64,
+        runs: rows.runs.as_slice().len() as u64,
+        newest: newest(rows.versions.as_slice()),
+    }
+}

@@ -1,0 +1,5 @@
+use Rattle.std.proofs.Common.{length}
+use Rattle.definitions.proofs.alike.+same_keys.Given as goal
+
+abbrev pub decreases-same_keys : goal.decreases-same_keys
+decreases-same_keys l = length l.a.now

@@ -1,0 +1,5 @@
+use Rattle.std.proofs.Common.{length}
+use Rattle.definitions.proofs.alike.+same_orders.Given as goal
+
+abbrev pub decreases-same_orders : goal.decreases-same_orders
+decreases-same_orders l = length l.a.now
