@@ -98,6 +98,17 @@ def row_of(at, **known):
     return {**dict.fromkeys(KEYS), "at": at, **known}
 
 
+def rows_of_503(sent, row):
+    """The rows that a 503 may have in place of the row of this request, by what was read before memory or the store was refused:
+    nothing; the head; then the token; then the document. The last row is due where only the change was left."""
+    down = {"at": row["at"], "status": 503, "refusal": "down"}
+    rows = [row_of(**down)]
+    if row["act"] is not None:
+        down.update({key: row[key] for key in ["act", "organization", "workspace"]}, id=Asked(Message(sent)).id)
+        rows += [row_of(**down), row_of(**{**down, "token": row["token"]}), row_of(**{**down, "token": row["token"], "id": row["id"]})]
+    return rows
+
+
 def line_of(connection, end, row):
     whole = {**row, "connection": connection, "end": end}
     return json.dumps(whole, sort_keys=True, separators=(",", ":"), ensure_ascii=False).encode() + b"\n"

@@ -31,7 +31,7 @@ import stories
 from files import SMALL_FILES, Service
 from links import READ_FAILED, SMALL_BUFFER, UNWRITTEN, moment_of, received, undated, wait_until
 from logged import ask, line_of, row_of
-from program import ANSWERED_503, DOWN, LEFT_EARLY, NEW_FILE, PATIENCE, Wrong, closed_pipe, free_port, look_at, said
+from program import ANSWERED_503, DOWN, LEFT_EARLY, NEW_FILE, PATIENCE, UNPRINTED, Wrong, closed_pipe, free_port, look_at, said
 
 CONTINUE_UNWRITTEN = b"custody: connection %d: 100 Continue could not be written\n"
 UNLOGGED = b"custody: the exchange log could not be written, so nothing more is answered\n"
@@ -143,6 +143,7 @@ $ serve --db m.db --port 8090 --count 1 --log
 |
 ?
 | custody: there was no file at the path: a new one was made
+| custody: standard output or error did not take all that was to be printed
 |
 
 breaks clock
@@ -481,7 +482,7 @@ def look_at_links(program):
 
 
 def look_at_full(program):
-    """A change for which there is no room isn't told: its line has the 503 alone."""
+    """A change for which there is no room: its line has the 503, and names what was asked, and no version."""
     custody, reader = begun(program, "full.db", logged.OPERATED)
     served(program, "full.db", "a state", custody, reader, [(ask("A", "PUT", "workspaces/net"), None), (logged.POST, None)])
     service = Service(program, "full.db", 3, "--log", under=SMALL_FILES)
@@ -489,14 +490,15 @@ def look_at_full(program):
         dues = [exchange(service.port, custody, GET)]
         first = now()
         said("a change without room", undated(answered(service.port, ask("W", "POST", "state/net", logged.state(2)))), DOWN)
-        dues += [Due("ok", row_of(first, status=503, refusal="down"), first, now()), exchange(service.port, custody, GET)]
+        asked = {"act": "update state", "organization": "acme", "workspace": "net", "token": "ci"}
+        dues += [Due("ok", row_of(first, status=503, refusal="down", **asked), first, now()), exchange(service.port, custody, GET)]
         status, output, errors = service.left()
     finally:
         service.kill()
     said("how a service without room ends", (status, errors.startswith(ANSWERED_503 % 2)), (0, True))
     look_at_lines("a disk without room", output, dues, reader)
     look_at_tables(program, "full.db", reader)
-    print("right: a change without room is told as a 503")
+    print("right: a change without room is told as a 503 of what was asked")
 
 
 def look_at_silence(program):
@@ -531,14 +533,14 @@ def look_at_closed(program):
         service.process.stdout.close()
         exchange(service.port, custody, GET)
         said("whether a further connection is refused", is_refused(service.port), True)
-        said("how a service ends whose log nobody reads", (service.process.wait(PATIENCE), service.process.stderr.read()), (3, UNLOGGED))
+        said("how a service ends whose log nobody reads", (service.process.wait(PATIENCE), service.process.stderr.read()), (3, UNLOGGED + UNPRINTED))
     finally:
         service.kill()
     look_at_tables(program, "closed.db", reader)
     with closed_pipe() as pipe, open("/dev/full", "wb") as full:
         for output in (pipe, full):
             words = ["serve", "--db", "closed.db", "--log", "--port", str(free_port()), "--count", "1"]
-            said("a service that can't print its first line", program.run(words, output=output), (3, None, b""))
+            said("a service that can't print its first line", program.run(words, output=output), (3, None, UNPRINTED))
     print("right: a service whose log nobody reads ends with status 3 before it accepts a further connection, and says so")
 
 
@@ -557,7 +559,7 @@ def look_at_filled(program):
             dues.append(exchange(port, custody, GET))
             wait_until(lambda: printed(path).count(b"\n") > len(dues) or os.path.getsize(path) >= MOST_PRINTED)
         said("whether a further connection is refused", is_refused(port), True)
-        said("how a service ends whose log is full", (process.wait(PATIENCE), process.stderr.read()), (3, UNLOGGED))
+        said("how a service ends whose log is full", (process.wait(PATIENCE), process.stderr.read()), (3, UNLOGGED + UNPRINTED))
     finally:
         process.kill()
         process.wait()

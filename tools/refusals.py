@@ -11,7 +11,8 @@ before it left; frames over a database in memory; commands on a file. Each run h
 rows of the tables that are due, or in a 503 (`refused down`), with the rows as before; and what was refused is sent
 again and has its right reply. Rows are read by SQLite's own library.
 
-With `--log` a service prints the line of either reply, by the rules of logged.py. Where memory for the line is refused it
+With `--log` a service prints the line of either reply, by the rules of logged.py; the line of a 503 names what had been read, and
+for each request some 503's line has to name all of it. Where memory for the line is refused it
 prints nothing of it, says so, and ends with status 3; that has to be met behind both replies of each request.
 """
 
@@ -54,9 +55,10 @@ DOWN_HEAD = (
 DOWN = DOWN_HEAD + b'{"error":"down"}'
 LENGTHS = [len(DOWN), len(DOWN_HEAD), len(CONTINUE + DOWN)]
 REFUSED = (3, b"refused down\n")
-# Why `refused down`. Where memory is refused the line that a file was made may be missing.
+# Why `refused down`, as regular expressions. Where memory is refused the line that a file was made may be missing.
 CAUSES = [
     b"custody: memory was refused\n",
+    b"custody: memory was refused to open the file of [0-9]+ bytes\n",
     b"custody: memory or the store refused, and no record changed\n",
     b"custody: the input can't be read, or memory was refused\n",
     # A copy shares the locks of the process that it was made from: one made while a new file is begun finds it in use.
@@ -104,6 +106,11 @@ PAGE = 16384
 
 class Wrong(Exception):
     """What no run may do."""
+
+
+def is_cause(line, causes=CAUSES):
+    """Whether a line tells one of these causes."""
+    return any(re.fullmatch(cause, line) for cause in causes)
 
 
 def sha(text):
@@ -349,8 +356,8 @@ class Asked:
 
     def __init__(self, sent, due, before, rows, told=None):
         self.sent, self.due, self.rows, self.told = sent, due, {False: before, True: rows}, told
-        # Behind which replies the log lacked the line, the right one or the 503.
-        self.untold = set()
+        # Behind which replies the log lacked the line, the right one or the 503; and the rows that it had of the 503.
+        self.untold, self.told_down = set(), []
 
     def downs(self):
         """Its 503: for HEAD without its body, where the head was read; behind the line, where one was due."""
@@ -359,12 +366,17 @@ class Asked:
     def widths(self):
         return WIDTHS if len(self.sent) < LONG and len(self.due) < LONG else [1]
 
-    def line(self, place, is_right=True):
-        """Its line in the log; that of a 503 tells the moment, and nothing of what was asked."""
-        if not self.told:
-            return b""
-        row = self.told.row
-        return logged.line_of(place, "ok", row if is_right else logged.row_of(row["at"], status=503, refusal="down"))
+    def rows_told(self, is_right):
+        """The rows that the log may have: of the right reply, or of its 503."""
+        return [self.told.row] if is_right else logged.rows_of_503(self.sent, self.told.row)
+
+    def lines(self, place, is_right=True):
+        """Its line in the log: each that may be there."""
+        return [logged.line_of(place, "ok", row) for row in self.rows_told(is_right)] if self.told else [b""]
+
+    def tells_all(self):
+        """Whether some 503 had the line that tells all that was read: memory was refused behind that."""
+        return not self.told or self.rows_told(False)[-1] in self.told_down
 
 
 class Service:
@@ -404,7 +416,10 @@ class Service:
         """Whether a copy said what is due of a reply, and goes on; it may end where the log lacks the line alone."""
         out, errors = self.program.said()
         reason = b"" if is_right else ANSWERED_503 % self.place
-        if (word, out, errors) == ("accepts", asked.line(self.place, is_right), reason):
+        lines = asked.lines(self.place, is_right)
+        if (word, errors) == ("accepts", reason) and out in lines:
+            if asked.told and not is_right:
+                asked.told_down.append(asked.rows_told(False)[lines.index(out)])
             return True
         if asked.told and (word, (status, out), errors) == ("ended", REFUSED, reason + UNLOGGED):
             asked.untold.add(is_right)
@@ -443,7 +458,7 @@ class Service:
         if self.file.rows(self.file.bytes()) != asked.rows[True]:
             raise Wrong("%s it left other rows" % how)
         said = self.program.said()
-        if said != [asked.line(place), b""]:
+        if said != [asked.lines(place)[0], b""]:
             raise Wrong("%s it said %s" % (how, said))
 
     def refuse_each(self, asked):
@@ -458,6 +473,8 @@ class Service:
                     raise Wrong("request %d for memory refused, %d in a row: %s" % (first, width, wrong))
         if asked.told and asked.untold != {True, False}:
             raise Wrong("the line was left out behind these replies alone, right or not: %s" % asked.untold)
+        if not asked.tells_all():
+            raise Wrong("no line of a 503 tells all that was read: %s" % asked.told_down)
 
 
 def asked_in(story):
@@ -556,7 +573,7 @@ def refuse_frames(custody, library, steps, folder, counts, first):
     due = stories.printed(steps)
 
     def judge(status, out, errors):
-        if (status, out) not in [(0, due), REFUSED] or errors not in (CAUSES if status else [b""]):
+        if (status, out) not in [(0, due), REFUSED] or (not is_cause(errors) if status else errors):
             raise Wrong("status %d, %s, %s" % (status, out[:400], errors))
         return status == 0
 
@@ -609,7 +626,7 @@ class Command:
         if rows != self.rows[is_right]:
             raise Wrong("after %s the rows are %s" % (out, rows))
         told = errors.removeprefix(NEW_FILE).removesuffix(LOG_STAYS)
-        if told not in ([self.errors.removeprefix(NEW_FILE)] if is_right else CAUSES):
+        if told != self.errors.removeprefix(NEW_FILE) if is_right else not is_cause(told):
             raise Wrong("after %s the error stream has %s" % (out, errors))
         if not is_right:
             self.look_again(found)

@@ -65,7 +65,7 @@ const USUAL_LINE: usize = 512;
 /// and the rest.
 pub fn write_log_line(
     alloc: Global,
-    connection: u32,
+    connection: u64,
     end: &str,
     row: &LogRow,
 ) -> Result<Vec<u8>, Down>
@@ -98,7 +98,7 @@ fn act_word(act: &Option<LogAct>) -> Option<&'static str>
 // What was asked, when, and how the exchange ended.
 fn put_asked(
     writer: &mut Writer,
-    connection: u32,
+    connection: u64,
     end: &str,
     row: &LogRow,
 ) -> Result<(), AllocError>
@@ -106,7 +106,7 @@ fn put_asked(
 {
     put_text(writer, "act", act_word(&row.act))?;
     put_number(writer, "at", Some(row.at.seconds()))?;
-    put_number(writer, "connection", Some(u64::from(connection)))?;
+    put_number(writer, "connection", Some(connection))?;
     put_text(writer, "end", Some(end))
 }
 

@@ -1,5 +1,5 @@
 -- One exchange: the reply to what was read, and what is written in all.
-use Rattle.std.proofs.Common.{◌≡◌, ◌≢◌, ℕ, Bool, true, false, List, [], ◌++◌, Option, Some, None, Result, Ok, Err, IsSome, IfSome, IfErr, refl, sym, ap, subst, ◌∙◌}
+use Rattle.std.proofs.Common.{◌≡◌, ◌≢◌, ℕ, Bool, true, false, List, [], ◌++◌, Option, Some, None, Result, Ok, Err, IsSome, IfSome, IfErr, refl, sym, ap, subst, ◌∙◌, inl, inr}
 use Rattle.std.specs.Io.KnownBytes.{Appends, Consumes}
 use Rattle.std.specs.Str.{bytes_eq}
 use Rattle.std.proofs.lemmas.Slice.Eq.{bytes_eq-Decides}
@@ -10,26 +10,27 @@ use Rattle.route.specs.Asks as route
 use Rattle.wire.specs.declared.messages.Message.{Message}
 use Rattle.wire.specs.declared.messages.WireFault.{WireFault}
 use Rattle.wire.specs.declared.messages.WireFault.TheVariants.{Refused, Down, Ended, Read, Continue}
-use Rattle.wire.specs.Messages.{refused, whole}
+use Rattle.wire.specs.Messages.{Reading, refused, whole}
 use Rattle.wire.specs.Links.{ReportsReceived, ReportsInput, continue_if, Writes}
 use Rattle.wire.specs.Replies.{Answer, IsReplyText, unavailable_answer}
 use Rattle.wire.proofs.LinkLemmas.{Appends-none, Appends-then, Consumes-none}
 use Rattle.docs.specs.declared.logs.LogRow.{LogRow}
-use Rattle.serve.specs.Logs.{silent_row, with_answer, unavailable_row, request_row, row_of_ask}
+use Rattle.serve.specs.Logs.{silent_row, with_answer, unavailable_row, IsUnavailableRow, request_row, row_of_ask, token_named, id_spelt, task_read}
 use Rattle.serve.specs.Asks.{Ask, Owner, owner_of, organization, unattributed, operator, silent, requests, commands}
 use Rattle.serve.specs.Asks as ask
 use Rattle.serve.specs.Steps.{Said, replies, refusing, request_step, step}
 use Rattle.serve.specs.Inner.Prepared.{IsPrepared}
-use Rattle.serve.specs.Inner.Replying.{without_body, PreparesFor, LogsFor, due_reply, due_row, Settles}
-use Rattle.serve.specs.Service.{same_owner, record_for, asked_by, Asks, Carries, Stays, said_to, IsSaidText, is_head, after_ask}
-use Rattle.serve.specs.Exchanges.{IsServed, IsAnswered, Exchanges, ChangesAtMostOne, ComesAsTold, ChangesAsTold}
+use Rattle.serve.specs.Inner.Replying.{without_body, PreparesFor, LogsFor, LogsDownFor, due_reply, due_row, Settles}
+use Rattle.serve.specs.Inner.Tracing.{as_unavailable}
+use Rattle.serve.specs.Service.{same_owner, record_for, asked_by, ask_of, Asks, Carries, Stays, said_to, IsSaidText, is_head, after_ask}
+use Rattle.serve.specs.Exchanges.{IsServed, IsUnavailableFor, IsAnswered, Exchanges, ChangesAtMostOne, ComesAsTold, ChangesAsTold}
 use Rattle.serve.specs.declared.exchanges.LinkFault.{LinkFault}
 use Rattle.serve.specs.declared.exchanges.LinkFault.TheVariants.{Ended as LinkEnded, Read as LinkRead, Continue as LinkContinue, Write as LinkWrite}
 use Rattle.serve.specs.declared.prepared.Prepared.{Prepared}
 use Rattle.basis.specs.declared.refusals.Refusal.{Refusal}
 use Rattle.serve.proofs.LawLemmas.{refusals_change_nothing}
 use Rattle.serve.proofs.RecordLemmas.{workspace_lawful}
-use Rattle.serve.proofs.ToldLemmas.{request_as_told}
+use Rattle.serve.proofs.ToldLemmas.{request_as_told, still_told}
 use Rattle.serve.proofs.TakenLemmas.{prepared_after, carries_after}
 
 -- what is prepared is what is said
@@ -80,32 +81,53 @@ bytes_of a b e = cc
 one_row : (a b : LogRow) → Some a ≡ Some b → a ≡ b
 one_row a b e = cc
 
--- a row of no organization, which tells of no version and of no run
-pub record IsOfNobody (row : LogRow) : Type 0 where
-  pub nobody : row.organization ≡ None
+-- a row that tells of no version and of no run
+pub record MakesNothing (row : LogRow) : Type 0 where
   pub version : row.version ≡ None
   pub run : row.run ≡ None
 
-pub silent_of_nobody : (row : LogRow) (now : ℕ) → row ≡ silent_row now → IsOfNobody row
-silent_of_nobody row now is = subst IsOfNobody (sym is) (record { nobody = refl; version = refl; run = refl })
+pub silent_makes_nothing : (row : LogRow) (now : ℕ) → row ≡ silent_row now → MakesNothing row
+silent_makes_nothing row now is = subst MakesNothing (sym is) (record { version = refl; run = refl })
 
-pub unavailable_of_nobody : (row : LogRow) (now : ℕ) → row ≡ unavailable_row now → IsOfNobody row
-unavailable_of_nobody row now is = subst IsOfNobody (sym is) (record { nobody = refl; version = refl; run = refl })
+pub unavailable_makes_nothing : (row : LogRow) (now : ℕ) → row ≡ unavailable_row now → MakesNothing row
+unavailable_makes_nothing row now is = subst MakesNothing (sym is) (record { version = refl; run = refl })
 
-pub stayed_told : (row : LogRow) (old new : List ℕ → Option Organization) → IsOfNobody row → Stays old new → ChangesAsTold row old new
-stayed_told row old new of_nobody stays = record {
+row_makes_nothing : (r : Option Organization) (a : Ask) (row : LogRow) → IsUnavailableRow r a row → MakesNothing row
+row_makes_nothing r silent row h = absurd h
+row_makes_nothing r (ask.refused at awaited refusal is_head) row h = unavailable_makes_nothing row at h
+row_makes_nothing r (requests at awaited asked content_md5 body) row (inl is) = unavailable_makes_nothing row at is
+row_makes_nothing r (requests at awaited asked content_md5 body) row (inr request) = subst MakesNothing (sym request.is) (record { version = refl; run = refl })
+row_makes_nothing r (commands at command) row h = absurd h
+
+down_makes_nothing : (now : ℕ) (old : List ℕ → Option Organization) (reading : Option Reading) (row : LogRow) → IsUnavailableFor now old reading row → MakesNothing row
+down_makes_nothing now old None row h = unavailable_makes_nothing row now h
+down_makes_nothing now old (Some reading) row h = row_makes_nothing (record_for old (owner_of (ask_of now reading))) (ask_of now reading) row h
+
+read_makes_nothing : (now : ℕ) (old : List ℕ → Option Organization) (read : Result Message WireFault) (row : LogRow) → LogsDownFor now old read row → MakesNothing row
+read_makes_nothing now old (Ok message) row h = let a : Ask = asked_by now false message (asked_of message) in row_makes_nothing (record_for old (owner_of a)) a row (h false)
+read_makes_nothing now old (Err (Refused refusal head)) row h = unavailable_makes_nothing row now h
+read_makes_nothing now old (Err Down) row h = unavailable_makes_nothing row now h
+read_makes_nothing now old (Err Ended) row h = absurd h
+read_makes_nothing now old (Err Read) row h = absurd h
+read_makes_nothing now old (Err Continue) row h = absurd h
+
+pub stayed_told : (row : LogRow) (old new : List ℕ → Option Organization) → MakesNothing row → Stays old new → ChangesAsTold row old new
+stayed_told row old new nothing stays = record {
   others = λ org apart. stays org;
   refused = λ some. stays;
-  own = λ org named. absurd (let none : ⊥ = cc (sym of_nobody.nobody ∙ named) in none);
-  nobody = λ none. (of_nobody.version, of_nobody.run);
+  own = λ org named. subst (ComesAsTold row (old org)) (sym (stays org)) (still_told row (old org) nothing.version nothing.run);
+  nobody = λ none. (nothing.version, nothing.run);
 }
+
+pub down_told : (now : ℕ) (old new : List ℕ → Option Organization) (read : Result Message WireFault) (row : LogRow) → LogsDownFor now old read row → Stays old new → ChangesAsTold row old new
+down_told now old new read row h stays = stayed_told row old new (read_makes_nothing now old read row h) stays
 
 -- what is asked changes what its row tells
 asked_told : (a : Ask) (row : LogRow) (old new : List ℕ → Option Organization) → AreLawful old → Some row ≡ row_of_ask (record_for old (owner_of a)) a → Carries a old new → ChangesAsTold row old new
 asked_told silent row old new lawful is carries = absurd (let none : ⊥ = cc in none)
 asked_told (ask.refused at awaited refusal is_head) row old new lawful is carries =
     subst (λ (x : LogRow). ChangesAsTold x old new) (sym (one_row row (with_answer (refusing refusal None).answer (silent_row at)) is))
-    (stayed_told (with_answer (refusing refusal None).answer (silent_row at)) old new (record { nobody = refl; version = refl; run = refl }) carries)
+    (stayed_told (with_answer (refusing refusal None).answer (silent_row at)) old new (record { version = refl; run = refl }) carries)
 asked_told (requests at awaited asked content_md5 body) row old new lawful is carries =
     let same : row ≡ request_row (old asked.caller) at asked content_md5 body = one_row row (request_row (old asked.caller) at asked content_md5 body) is in
     subst (λ (x : LogRow). ChangesAsTold x old new) (sym same) (record {
@@ -135,7 +157,8 @@ asked_told (commands at command) row old new lawful is carries = absurd (let non
 
 answered_told : (now : ℕ) (received : List ℕ) (old new : List ℕ → Option Organization) (awaited : Bool) (text : List ℕ) (row : LogRow) (is_down : Bool) → AreLawful old → IsAnswered now received old new awaited text (Some row) is_down → ChangesAsTold row old new
 answered_told now received old new awaited text row false lawful served = asked_told served.ask row old new lawful served.logged served.carries
-answered_told now received old new awaited text row true lawful unavailable = stayed_told row old new (unavailable_of_nobody row now (one_row row (unavailable_row now) unavailable.1.logged)) unavailable.1.stays
+answered_told now received old new awaited text row true lawful (reading, unavailable) =
+    stayed_told row old new (subst MakesNothing (sym (one_row row unavailable.told unavailable.tells)) (down_makes_nothing now old reading unavailable.told unavailable.logged)) unavailable.stays
 
 -- what was read of what received is answered by this text
 abbrev pub AnswersRead : ℕ → Result Message WireFault → (List ℕ → Option Organization) → (List ℕ → Option Organization) → Bool → List ℕ → Option LogRow → Type 0
@@ -143,25 +166,33 @@ AnswersRead now read old new is_down text row = (received : List ℕ) (left befo
     → (awaited : Bool) × Appends before after (continue_if awaited) × IsAnswered now received old new awaited text row is_down
 
 -- memory or the store was refused, inside the reading or past it
-pub refused_read : (now : ℕ) (read : Result Message WireFault) (old new : List ℕ → Option Organization) (text : List ℕ)
-    → (read ≡ Err Ended → ⊥) → (read ≡ Err Read → ⊥) → (read ≡ Err Continue → ⊥)
-    → Stays old new → IsReplyText (unavailable_answer (without_body read)) now text → AnswersRead now read old new true text (Some (unavailable_row now))
-refused_read now (Ok message) old new text ended failed continued stays is_text received left before after told = (
+pub refused_read : (now : ℕ) (read : Result Message WireFault) (old new : List ℕ → Option Organization) (text : List ℕ) (row : LogRow)
+    → Stays old new → IsReplyText (unavailable_answer (without_body read)) now text → LogsDownFor now old read row → AnswersRead now read old new true text (Some row)
+refused_read now (Ok message) old new text row stays is_text logs received left before after told = (
   told.0,
   told.2,
-  (Some (whole message told.0), record { stays = stays; reads = told.1; without_body = is_head message; shaped = (refl, refl); is = is_text; logged = refl }),
+  (Some (whole message told.0), record { stays = stays; reads = told.1; without_body = is_head message; shaped = (refl, refl); is = is_text; told = row; tells = refl; logged = logs told.0 }),
 )
-refused_read now (Err (Refused refusal head)) old new text ended failed continued stays is_text received left before after told =
-    (false, told.1, (Some (refused refusal head), record { stays = stays; reads = told.0; without_body = head; shaped = (refl, refl); is = is_text; logged = refl }))
-refused_read now (Err Down) old new text ended failed continued stays is_text received left before after told =
-    (false, told, (None, record { stays = stays; reads = tt; without_body = false; shaped = (refl, refl); is = is_text; logged = refl }))
-refused_read now (Err Ended) old new text ended failed continued stays is_text received left before after told = absurd (ended refl)
-refused_read now (Err Read) old new text ended failed continued stays is_text received left before after told = absurd (failed refl)
-refused_read now (Err Continue) old new text ended failed continued stays is_text received left before after told = absurd (continued refl)
+refused_read now (Err (Refused refusal head)) old new text row stays is_text logs received left before after told =
+    (false, told.1, (Some (refused refusal head), record { stays = stays; reads = told.0; without_body = head; shaped = (refl, refl); is = is_text; told = row; tells = refl; logged = logs }))
+refused_read now (Err Down) old new text row stays is_text logs received left before after told =
+    (false, told, (None, record { stays = stays; reads = tt; without_body = false; shaped = (refl, refl); is = is_text; told = row; tells = refl; logged = logs }))
+refused_read now (Err Ended) old new text row stays is_text logs received left before after told = absurd logs
+refused_read now (Err Read) old new text row stays is_text logs received left before after told = absurd logs
+refused_read now (Err Continue) old new text row stays is_text logs received left before after told = absurd logs
 
--- a good result is no fault
-pub no_fault : {T E : Type 0} (result : Result T E) (x : T) (fault : E) → result ≡ Ok x → result ≡ Err fault → ⊥
-no_fault result x fault is other = let none : ⊥ = cc in none
+-- the row of a 503 in place of an answer: all of it had been read
+down_logged : (r : Option Organization) (a : Ask) (row : LogRow) → row_of_ask r a ≡ Some row → IsUnavailableRow r a (as_unavailable row)
+down_logged r silent row e = absurd (let none : ⊥ = cc in none)
+down_logged r (ask.refused at awaited refusal is_head) row e = ap as_unavailable (sym (one_row (with_answer (refusing refusal r).answer (silent_row at)) row e))
+down_logged r (requests at awaited asked content_md5 body) row e =
+    inr (record {
+      token = token_named r at asked;
+      id = id_spelt (task_read r at asked content_md5 body);
+      read = inr (refl, inr refl);
+      is = ap as_unavailable (sym (one_row (request_row r at asked content_md5 body) row e));
+    })
+down_logged r (commands at command) row e = absurd (let none : ⊥ = cc in none)
 
 stays_both : (old mid new : List ℕ → Option Organization) → Stays old mid → Stays mid new → Stays old new
 stays_both old mid new first second = λ org. second org ∙ first org
@@ -169,7 +200,7 @@ stays_both old mid new first second = λ org. second org ∙ first org
 -- what was read is prepared, and its change is made, or isn't
 pub answered_read : (now : ℕ) (read : Result Message WireFault) (old mid new : List ℕ → Option Organization) (p : Prepared) (row : LogRow) (is_down : Bool) (text : List ℕ)
     → Stays old mid → PreparesFor now old read p → LogsFor now old read row → Settles is_down p mid new
-    → IsReplyText (due_reply is_down (without_body read) p.reply) now text → AnswersRead now read old new is_down text (Some (due_row is_down now row))
+    → IsReplyText (due_reply is_down (without_body read) p.reply) now text → AnswersRead now read old new is_down text (Some (due_row is_down row))
 answered_read now (Ok message) old mid new p row false text stays prepared logs settled is_text received left before after told =
     let h = message_answered old mid new now told.0 message p stays (prepared told.0) settled in (
       told.0,
@@ -185,7 +216,8 @@ answered_read now (Ok message) old mid new p row false text stays prepared logs 
       },
     )
 answered_read now (Ok message) old mid new p row true text stays prepared logs settled is_text received left before after told =
-    refused_read now (Ok message) old new text (λ e. let none : ⊥ = cc in none) (λ e. let none : ⊥ = cc in none) (λ e. let none : ⊥ = cc in none) (stays_both old mid new stays settled) is_text received left before after told
+    refused_read now (Ok message) old new text (as_unavailable row) (stays_both old mid new stays settled) is_text
+    (λ due. let a : Ask = asked_by now due message (asked_of message) in down_logged (record_for old (owner_of a)) a row (logs due)) received left before after told
 answered_read now (Err (Refused refusal head)) old mid new p row false text stays prepared logs settled is_text received left before after told =
     let a : Ask = ask.refused now false refusal head in (
       false,
@@ -201,7 +233,7 @@ answered_read now (Err (Refused refusal head)) old mid new p row false text stay
       },
     )
 answered_read now (Err (Refused refusal head)) old mid new p row true text stays prepared logs settled is_text received left before after told =
-    refused_read now (Err (Refused refusal head)) old new text (λ e. let none : ⊥ = cc in none) (λ e. let none : ⊥ = cc in none) (λ e. let none : ⊥ = cc in none) (stays_both old mid new stays settled) is_text received left before after told
+    refused_read now (Err (Refused refusal head)) old new text (as_unavailable row) (stays_both old mid new stays settled) is_text (down_logged None (ask.refused now false refusal head) row logs) received left before after told
 answered_read now (Err Down) old mid new p row is_down text stays prepared logs settled is_text received left before after told = absurd prepared
 answered_read now (Err Ended) old mid new p row is_down text stays prepared logs settled is_text received left before after told = absurd prepared
 answered_read now (Err Read) old mid new p row is_down text stays prepared logs settled is_text received left before after told = absurd prepared
@@ -245,9 +277,7 @@ pub refused_unread : {T : Type 0} (left : Option (List ℕ)) (now : ℕ) (rows :
     → row ≡ unavailable_row now → IsReplyText (unavailable_answer false) now text → Writes a c text result → IfErr result (λ fault. fault ≡ LinkWrite)
     → Received left left (λ received. Exchanges now received left rows rows a c true (Some row) result)
 refused_unread left now rows row a c text result is is_text =
-    replied left left now (Err Down) rows rows true (Some row) a a c text result ([], Consumes-none left, Appends-none a)
-    (subst (λ (x : LogRow). AnswersRead now (Err Down) rows rows true text (Some x)) (sym is)
-    (refused_read now (Err Down) rows rows text (λ e. let none : ⊥ = cc in none) (λ e. let none : ⊥ = cc in none) (λ e. let none : ⊥ = cc in none) (λ org. refl) is_text))
+    replied left left now (Err Down) rows rows true (Some row) a a c text result ([], Consumes-none left, Appends-none a) (refused_read now (Err Down) rows rows text row (λ org. refl) is_text is)
 
 -- no reply: what received is unfinished, or `100 Continue` wasn't taken
 pub no_reply : (unread left : Option (List ℕ)) (now : ℕ) (read : Result Message WireFault) (old new : List ℕ → Option Organization) (row : LogRow) (a b : Option (List ℕ)) (fault : LinkFault)

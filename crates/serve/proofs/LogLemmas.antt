@@ -1,5 +1,5 @@
 -- What the log tells: of a decision, of what isn't there, and of the token that asks.
-use Rattle.std.proofs.Common.{◌≡◌, ℕ, Bool, true, false, cond, List, Option, Some, None, Result, Ok, Err, IsSome, IfOk, OnOk, refl, sym, ap, ◌∙◌, eq-eqb}
+use Rattle.std.proofs.Common.{◌≡◌, ◌⊎◌, ℕ, Bool, true, false, cond, List, Option, Some, None, Result, Ok, Err, IsSome, IfOk, OnOk, refl, sym, ap, subst, ◌∙◌, eq-eqb, inl, inr}
 use Rattle.std.specs.Prelude.{if◌then◌else◌, option_map, ◌==◌}
 use Rattle.std.specs.Option.{option_map_or}
 use Rattle.std.specs.FinMap.{get}
@@ -40,7 +40,7 @@ use Rattle.basis.specs.declared.acts.WsAct.{WsAct}
 use Rattle.serve.specs.Checks.{while_it_counts, in_reach, is_found, found, act_of}
 use Rattle.serve.specs.Inner.Judging.{judged_task}
 use Rattle.serve.specs.Inner.Prepared.{found_counted, row_known, caller_known}
-use Rattle.serve.specs.Inner.Tracing.{told_by, edit_number, start_of, unless_held, trace_by}
+use Rattle.serve.specs.Inner.Tracing.{told_by, edit_number, start_of, unless_held, trace_by, read_so_far, AreReadSoFar}
 use Rattle.serve.specs.Logs.{run_told, number_given, version_made, run_holding, run_started, trace_of, no_trace, traced, name_counted, token_named, id_spelt, task_read}
 use Rattle.serve.specs.Steps.{seen_at}
 use Rattle.serve.specs.declared.logs.RowFacts.{RowFacts}
@@ -256,3 +256,14 @@ facts token id trace = record { token = token; id = id; trace = trace }
 
 pub facts_same : (a b c d : Option (List ℕ)) (s t : Trace) → a ≡ b → c ≡ d → s ≡ t → facts a c s ≡ facts b d t
 facts_same a b c d s t x y z = ap (λ (q : Option (List ℕ)). facts q c s) x ∙ (ap (λ (q : Option (List ℕ)). facts b q s) y ∙ ap (facts b d) z)
+
+-- what had been read where memory or the store refused: by what had passed the checks, or in them
+module _ (r : Option Organization) (at : ℕ) (asked : Asked) (content_md5 : Option (List ℕ)) (body : List ℕ) where
+  pub carried_so_far : (token id : Option (List ℕ)) (told : RowFacts) → token ≡ token_named r at asked → id ≡ id_spelt (task_read r at asked content_md5 body)
+      → (read : Option (List ℕ)) × ((read ≡ None) ⊎ (read ≡ id)) × (told ≡ read_so_far token read) → AreReadSoFar r at asked content_md5 body told
+  carried_so_far token id told named spelt (read, inl none, is) = subst (AreReadSoFar r at asked content_md5 body) (sym is) (record { read = inr (named, inl none); trace = refl })
+  carried_so_far token id told named spelt (read, inr same, is) = subst (AreReadSoFar r at asked content_md5 body) (sym is) (record { read = inr (named, inr (same ∙ spelt)); trace = refl })
+
+  pub refused_so_far : (token : Option (List ℕ)) (told : RowFacts) → (token ≡ None) ⊎ (token ≡ token_named r at asked) → told ≡ read_so_far token None → AreReadSoFar r at asked content_md5 body told
+  refused_so_far token told (inl none) is = subst (AreReadSoFar r at asked content_md5 body) (sym is) (record { read = inl (none, refl); trace = refl })
+  refused_so_far token told (inr named) is = subst (AreReadSoFar r at asked content_md5 body) (sym is) (record { read = inr (named, inl refl); trace = refl })

@@ -133,6 +133,16 @@ keeps_same w v same = subst (KeepsVersions w) same (record { next = refl; left =
 none_starts : (w v : Workspace) (n : ℕ) → w ≡ v → Starts n w v → ⊥
 none_starts w v n same (unheld, held) = let none : ⊥ = cc (sym unheld ∙ ap (λ (x : Workspace). holds x.holder n) same ∙ held) in none
 
+-- of a record that stays a row tells that nothing was made
+pub still_told : (row : LogRow) (r : Option Organization) → row.version ≡ None → row.run ≡ None → ComesAsTold row r r
+still_told row r made started = record {
+  version = subst (λ (o : Option ℕ). IfSome o (λ n. OfNamed row.workspace r r (Makes n))) (sym made) tt;
+  run = subst (λ (o : Option ℕ). IfSome o (λ n. OfNamed row.workspace r r (Starts n))) (sym started) tt;
+  versions = λ ws w v stood stands. inl (keeps_same w v (one_of w v (sym stood ∙ stands)));
+  runs = λ ws w v n stood stands starts. absurd (none_starts w v n (one_of w v (sym stood ∙ stands)) starts);
+  anew = λ ws v gone stands. absurd (let none : ⊥ = cc (sym gone ∙ stands) in none);
+}
+
 -- what comes of the record is what is told
 module _ (row : LogRow) (r after : Option Organization) (lawful : (ws : List ℕ) → IsLawfulIfThere (workspace_in r ws)) where
   abbrev Ruled : Type 0

@@ -12,9 +12,9 @@ use Rattle.wire.specs.Links.{continue_if, continue_text, WritesPrefix, WritesCon
 use Rattle.wire.specs.Replies.{Answer, IsReplyText, unavailable_answer}
 use Rattle.docs.specs.declared.logs.LogRow.{LogRow}
 use Rattle.serve.specs.Asks.{Ask, owner_of}
-use Rattle.serve.specs.Logs.{silent_row, unavailable_row, row_of_ask}
+use Rattle.serve.specs.Logs.{silent_row, unavailable_row, IsUnavailableRow, row_of_ask}
 use Rattle.serve.specs.Steps.{replies}
-use Rattle.serve.specs.Service.{Asks, Carries, Stays, record_for, said_to, is_head}
+use Rattle.serve.specs.Service.{Asks, Carries, Stays, ask_of, record_for, said_to, is_head}
 use Rattle.serve.specs.declared.exchanges.LinkFault.{LinkFault}
 use Rattle.serve.specs.declared.exchanges.LinkFault.TheVariants.{Ended, Read, Continue, Write}
 
@@ -37,6 +37,11 @@ IsShapedBy (Some unfinished) awaited without_body = ⊥
 IsShapedBy (Some (refused refusal head)) awaited without_body = (awaited ≡ false) × (without_body ≡ head)
 IsShapedBy (Some (whole message due)) awaited without_body = (awaited ≡ due) × (without_body ≡ is_head message)
 
+-- the row of a 503, by what was read: where memory was refused inside the reading (none), only the moment
+abbrev pub IsUnavailableFor : ℕ → (List ℕ → Option Organization) → Option Reading → LogRow → Type 0
+IsUnavailableFor now old None row = row ≡ unavailable_row now
+IsUnavailableFor now old (Some reading) row = IsUnavailableRow (record_for old (owner_of (ask_of now reading))) (ask_of now reading) row
+
 -- memory or the store refused, inside the reading (none) or past it: nothing changes, and the reply's text says so
 pub record IsUnavailable (now : ℕ) (received : List ℕ) (old new : List ℕ → Option Organization) (reading : Option Reading) (awaited : Bool) (text : List ℕ) (row : Option LogRow) : Type 0 where
   pub stays : Stays old new
@@ -44,7 +49,9 @@ pub record IsUnavailable (now : ℕ) (received : List ℕ) (old new : List ℕ �
   pub without_body : Bool
   pub shaped : IsShapedBy reading awaited without_body
   pub is : IsReplyText (unavailable_answer without_body) now text
-  pub logged : row ≡ Some (unavailable_row now)
+  pub told : LogRow
+  pub tells : row ≡ Some told
+  pub logged : IsUnavailableFor now old reading told
 
 -- what was received is answered: it is served (`false`), or memory or the store refused (`true`)
 abbrev pub IsAnswered : ℕ → List ℕ → (List ℕ → Option Organization) → (List ℕ → Option Organization) → Bool → List ℕ → Option LogRow → Bool → Type 0

@@ -1,5 +1,5 @@
 -- What the log tells of an exchange: by what was asked, the record before it, and what it was answered.
-use Rattle.std.specs.Prelude.{ℕ, zero, suc, ◌==◌, if◌then◌else◌, List, Option, Some, None, Result, Ok, Err}
+use Rattle.std.specs.Prelude.{◌≡◌, ◌⊎◌, ℕ, zero, suc, ◌==◌, if◌then◌else◌, List, Option, Some, None, Result, Ok, Err}
 use Rattle.std.specs.Option.{option_or}
 use Rattle.basis.specs.Acts.{act_number}
 use Rattle.basis.specs.Checks.{and_then}
@@ -159,6 +159,36 @@ row_of_ask r (ask.refused at awaited refusal is_head) = Some (with_answer (refus
 row_of_ask r (requests at awaited asked content_md5 body) = Some (request_row r at asked content_md5 body)
 row_of_ask r (commands at command) = None
 
--- the row of the 503 of memory or a store that refused
+-- the row of the 503 of memory or a store that refused, where nothing was read of what is asked
 abbrev pub unavailable_row : ℕ → LogRow
 unavailable_row at = with_answer (refusing Unavailable None).answer (silent_row at)
+
+-- that of a request: what its head asks, the token's name, and the ID in the document. It has no number, no version and no run
+abbrev pub row_of_unavailable : ℕ → Asked → Option (List ℕ) → Option (List ℕ) → LogRow
+row_of_unavailable at asked token id = record (unavailable_row at) {
+  act = Some (act_logged asked.act);
+  id = option_or id asked.lock_id;
+  organization = Some asked.caller;
+  token = token;
+  workspace = workspace_named asked.act;
+}
+
+-- the token's name and the ID in the document, as far as they had been read of a request: neither; the name; or both. What was read
+-- is that of the token that asks, by the record before, and that of the document
+abbrev pub IsReadSoFar : Option Organization → ℕ → Asked → Option (List ℕ) → List ℕ → Option (List ℕ) → Option (List ℕ) → Type 0
+IsReadSoFar r at asked content_md5 body token id =
+    ((token ≡ None) × (id ≡ None))
+    ⊎ ((token ≡ token_named r at asked) × ((id ≡ None) ⊎ (id ≡ id_spelt (task_read r at asked content_md5 body))))
+
+pub record IsUnavailableRequest (r : Option Organization) (at : ℕ) (asked : Asked) (content_md5 : Option (List ℕ)) (body : List ℕ) (row : LogRow) : Type 0 where
+  pub token : Option (List ℕ)
+  pub id : Option (List ℕ)
+  pub read : IsReadSoFar r at asked content_md5 body token id
+  pub is : row ≡ row_of_unavailable at asked token id
+
+-- the row of a 503 to what is asked, over the record that it reads: a request's is told, unless memory was refused before its head was read
+abbrev pub IsUnavailableRow : Option Organization → Ask → LogRow → Type 0
+IsUnavailableRow r silent row = ⊥
+IsUnavailableRow r (ask.refused at awaited refusal is_head) row = row ≡ unavailable_row at
+IsUnavailableRow r (requests at awaited asked content_md5 body) row = (row ≡ unavailable_row at) ⊎ IsUnavailableRequest r at asked content_md5 body row
+IsUnavailableRow r (commands at command) row = ⊥

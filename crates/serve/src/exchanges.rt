@@ -9,7 +9,7 @@ ghost use Rattle.serve.specs.Exchanges.{Exchanges, ChangesAtMostOne, ChangesAsTo
 ghost use Rattle.serve.specs.Inner.Prepared.{IsPrepared};
 ghost use Rattle.serve.specs.Inner.Replying.{due_reply, due_row, Settles};
 
-use crate::logs::{silent_row, unavailable_row};
+use crate::logs::{as_unavailable, silent_row};
 use crate::messages::{commit, prepare, without_body};
 use crate::prepared::Prepared;
 use basis::{Down, Moment};
@@ -92,12 +92,12 @@ fn settle<K: Keep, O: Outlet>(
     }
 }
 
-// What was prepared has its row once its change is made; where it isn't (`is_down`), the 503 has its own.
-fn row_after(ready: Prepared, now: Moment, is_down: bool) -> LogRow
-    ensures { result ≡ due_row is_down now ready.row }
+// What was prepared has its row once its change is made; where it isn't (`is_down`), the 503 has that of what is asked.
+fn row_after(ready: Prepared, is_down: bool) -> LogRow
+    ensures { result ≡ due_row is_down ready.row }
 {
     if is_down {
-        unavailable_row(now)
+        as_unavailable(ready.row)
     } else {
         ready.row
     }
@@ -135,14 +135,14 @@ pub fn exchange<K: Keep, I: Inlet, O: Outlet>(
     let read = read_message(alloc, inlet, outlet);
     let head_only = without_body(&read);
     match prepare(alloc, keep, routes, now, read) {
-        Ok(Some(ready)) => {
+        Ok(Ok(ready)) => {
             let result = settle(alloc, keep, &ready, head_only, now, outlet, is_down);
-            *row = Some(row_after(ready, now, *is_down));
+            *row = Some(row_after(ready, *is_down));
             result
         }
-        Ok(None) => {
+        Ok(Err(so_far)) => {
             *is_down = true;
-            *row = Some(unavailable_row(now));
+            *row = Some(so_far);
             refuse_exchange(head_only, now, outlet)
         }
         Err(fault) => {

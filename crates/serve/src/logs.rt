@@ -2,7 +2,7 @@
 ghost use Rattle.std.specs.Prelude.{◌≡◌, ◌+◌, Some, None};
 ghost use Rattle.serve.specs.Logs.{act_logged, workspace_named, number_named, number_given, no_trace, silent_row, with_answer, row_of_request, unavailable_row};
 ghost use Rattle.machine.specs.Laws.{holds};
-ghost use Rattle.serve.specs.Inner.Tracing.{told_by, edit_number, edit_start, version_by, run_by, trace_by};
+ghost use Rattle.serve.specs.Inner.Tracing.{told_by, edit_number, edit_start, version_by, run_by, trace_by, read_so_far, as_unavailable};
 
 use basis::{Holder, LockId, Moment, Number, Refusal, Text, WsName};
 use docs::{LogAct, LogRow};
@@ -30,6 +30,19 @@ pub struct RowFacts {
     /// The lock's ID in the document.
     pub id: Option<LockId>,
     pub trace: Trace,
+}
+
+impl RowFacts {
+    /// What had been read where memory or the store refused.
+    pub fn read_so_far(token: Option<Text>, id: Option<LockId>) -> RowFacts
+        ensures { result ≡ read_so_far token id }
+    {
+        RowFacts {
+            token,
+            id,
+            trace: Trace::none(),
+        }
+    }
 }
 
 impl Trace {
@@ -197,12 +210,26 @@ pub fn refused_row(at: Moment, reply: &Reply) -> LogRow
     }
 }
 
-/// The row of the 503 of memory or a store that refused.
+/// The row of the 503 of memory or a store that refused, where nothing was read of what is asked.
 pub fn unavailable_row(at: Moment) -> LogRow
     ensures { result ≡ unavailable_row at }
 {
+    as_unavailable(silent_row(at))
+}
+
+/// The row of the 503 in place of what was to be answered: what is asked, and by whom. Nothing was made, so it has no number.
+pub fn as_unavailable(row: LogRow) -> LogRow
+    ensures { result ≡ as_unavailable row }
+{
     let reply = Reply::unavailable(false);
-    refused_row(at, &reply)
+    LogRow {
+        number: None,
+        refusal: reply.refusal(),
+        run: None,
+        status: Some(reply.status()),
+        version: None,
+        ..row
+    }
 }
 
 /// The row of a request.

@@ -1,5 +1,5 @@
 //! A request of an organization: the checks in their order, and the answer of the rules.
-ghost use Rattle.std.specs.Prelude.{◌≡◌, ◌≢◌, ℕ, [], false, Option, Some, None, Ok, Err, IsSome, IfOk, OnOk, option_copied};
+ghost use Rattle.std.specs.Prelude.{◌≡◌, ◌≢◌, ◌⊎◌, ℕ, [], false, List, Option, Some, None, Ok, Err, IsSome, IfOk, IfErr, OnOk, option_copied};
 ghost use Rattle.machine.specs.Keeping.{Looks};
 ghost use Rattle.machine.specs.Ranges.{IsInRange};
 ghost use Rattle.machine.specs.Records.{workspace_in, seen_in};
@@ -13,9 +13,9 @@ ghost use Rattle.docs.specs.Bodies.{error_text};
 ghost use Rattle.wire.specs.Replies.{refused_answer};
 ghost use Rattle.serve.specs.Steps.{holder_text, answer_to, ruled_in, carried, request_step};
 ghost use Rattle.serve.specs.Checks.{checked};
-ghost use Rattle.serve.specs.Logs.{id_of_task, id_spelt, task_read, no_trace, traced, token_named, workspace_named};
+ghost use Rattle.serve.specs.Logs.{id_of_task, id_spelt, task_read, traced, token_named, workspace_named};
 ghost use Rattle.serve.specs.Inner.Judging.{Stands};
-ghost use Rattle.serve.specs.Inner.Tracing.{facts_of};
+ghost use Rattle.serve.specs.Inner.Tracing.{facts_of, read_so_far, AreReadSoFar};
 ghost use Rattle.serve.specs.Inner.Prepared.{Foresees, IsTaskInRange, workspace_of_task};
 ghost use Rattle.serve.specs.Inner.Units.{holder_in};
 
@@ -33,7 +33,8 @@ use route::{Asked, allowed};
 use std::alloc::Global;
 use wire::Reply;
 
-/// What a request is answered at a moment, and the change that is to follow.
+/// What a request is answered at a moment, and the change that is to follow; or what had been read of it
+/// where memory or the store refused.
 pub fn request<K: Keep>(
     alloc: Global,
     keep: &mut K,
@@ -41,11 +42,12 @@ pub fn request<K: Keep>(
     asked: &Asked,
     content_md5: &Option<Bytes>,
     body: Bytes,
-) -> Result<(Reply, Option<Change>, RowFacts), Down>
+) -> Result<(Reply, Option<Change>, RowFacts), RowFacts>
     ensures looks { Looks K.rows K.clean K.sound K.shielded keep.old keep.new }
     ensures ok { K.clean keep.new → K.sound keep.old → IfOk result (λ p. Foresees (K.rows keep.old asked.now.caller) (workspace_named asked.now.act)
         (request_step (K.rows keep.old asked.now.caller) at asked.now content_md5.now body) p.0 p.1) }
     ensures facts { K.clean keep.new → K.sound keep.old → IfOk result (λ p. p.2 ≡ facts_of (K.rows keep.old asked.now.caller) at asked.now content_md5.now body) }
+    ensures down { K.clean keep.new → K.sound keep.old → IfErr result (λ facts. AreReadSoFar (K.rows keep.old asked.now.caller) at asked.now content_md5.now body facts) }
 {
     let mut token = None;
     match checked(alloc, keep, at, asked, content_md5, body, &mut token) {
@@ -62,19 +64,20 @@ fn carry<K: Keep>(
     org: &OrgName,
     task: Task,
     token: Option<Text>,
-) -> Result<(Reply, Option<Change>, RowFacts), Down>
+) -> Result<(Reply, Option<Change>, RowFacts), RowFacts>
     ensures looks { Looks K.rows K.clean K.sound K.shielded keep.old keep.new }
     ensures ok { K.clean keep.new → K.sound keep.old → IfOk result (λ p. IsSome (K.rows keep.old org.now) → IsTaskInRange task
         → Foresees (K.rows keep.old org.now) (workspace_of_task task) (carried org.now at (K.rows keep.old org.now) (Ok task)) p.0 p.1) }
     ensures facts { K.clean keep.new → K.sound keep.old → IfOk result (λ p. IsSome (K.rows keep.old org.now)
         → p.2 ≡ record { token = token; id = id_of_task task; trace = traced at (K.rows keep.old org.now) (Ok task) }) }
+    ensures down { IfErr result (λ facts. (id : Option (List ℕ)) × ((id ≡ None) ⊎ (id ≡ id_of_task task)) × (facts ≡ read_so_far token id)) }
 {
     let Ok(id) = spelt_id(&task) else {
-        return Err(Down);
+        return Err(RowFacts::read_so_far(token, None));
     };
     match perform(alloc, keep, at, org, task) {
         Ok((reply, change, trace)) => Ok((reply, change, RowFacts { token, id, trace })),
-        Err(down) => Err(down),
+        Err(Down) => Err(RowFacts::read_so_far(token, id)),
     }
 }
 
@@ -83,22 +86,15 @@ fn refuse_request(
     alloc: Global,
     why: Refusal,
     token: Option<Text>,
-) -> Result<(Reply, Option<Change>, RowFacts), Down>
+) -> Result<(Reply, Option<Change>, RowFacts), RowFacts>
     ensures known { OnOk result (why ≢ Refusal.Unavailable) }
     ensures ok { IfOk result (λ p. (p.0 ≡ refused_answer why (error_text why) false) × (p.1 ≡ None)) }
-    ensures facts { IfOk result (λ p. p.2 ≡ record { token = token; id = None; trace = no_trace }) }
+    ensures facts { IfOk result (λ p. p.2 ≡ read_so_far token None) }
+    ensures down { IfErr result (λ facts. facts ≡ read_so_far token None) }
 {
     match refuse(alloc, why, false) {
-        Ok(reply) => Ok((
-            reply,
-            None,
-            RowFacts {
-                token,
-                id: None,
-                trace: Trace::none(),
-            },
-        )),
-        Err(down) => Err(down),
+        Ok(reply) => Ok((reply, None, RowFacts::read_so_far(token, None))),
+        Err(Down) => Err(RowFacts::read_so_far(token, None)),
     }
 }
 
@@ -124,6 +120,9 @@ fn checked<K: Keep>(
     ensures spells { K.clean keep.new → K.sound keep.old → result ≢ Err Refusal.Unavailable
         → id_spelt result ≡ id_spelt (task_read (K.rows keep.old asked.now.caller) at asked.now content_md5.now body) }
     ensures names { K.clean keep.new → K.sound keep.old → result ≢ Err Refusal.Unavailable → token.new ≡ token_named (K.rows keep.old asked.now.caller) at asked.now }
+
+    // Where it is for want of memory, too: no name, or that of the token.
+    ensures reads { K.clean keep.new → K.sound keep.old → (token.new ≡ None) ⊎ (token.new ≡ token_named (K.rows keep.old asked.now.caller) at asked.now) }
 {
     *token = None;
     let TokenRow { name, caller } = match known_caller(alloc, keep, at, asked) {

@@ -9,9 +9,10 @@ use Rattle.wire.specs.Replies.{Answer, unavailable_answer}
 use Rattle.docs.specs.declared.logs.LogRow.{LogRow}
 use Rattle.serve.specs.Asks.{Ask, owner_of}
 use Rattle.serve.specs.Asks as ask
-use Rattle.serve.specs.Logs.{row_of_ask, unavailable_row}
+use Rattle.serve.specs.Logs.{row_of_ask, unavailable_row, IsUnavailableRow}
 use Rattle.serve.specs.Service.{is_head, asked_by, record_for, Carries, Stays}
 use Rattle.serve.specs.Inner.Prepared.{IsPrepared}
+use Rattle.serve.specs.Inner.Tracing.{as_unavailable}
 use Rattle.serve.specs.declared.prepared.Prepared.{Prepared}
 
 -- whether the body of the reply to what was read is left out
@@ -44,10 +45,22 @@ LogsFor at rows (Err Ended) row = ⊥
 LogsFor at rows (Err Read) row = ⊥
 LogsFor at rows (Err Continue) row = ⊥
 
--- the row that is due: of what was prepared (`false`), or of memory or a store that refused (`true`)
-abbrev pub due_row : Bool → ℕ → LogRow → LogRow
-due_row false now row = row
-due_row true now row = unavailable_row now
+-- the row of the 503
+abbrev pub IsLoggedDown : (List ℕ → Option Organization) → Ask → LogRow → Type 0
+IsLoggedDown rows a row = IsUnavailableRow (record_for rows (owner_of a)) a row
+
+abbrev pub LogsDownFor : ℕ → (List ℕ → Option Organization) → Result Message WireFault → LogRow → Type 0
+LogsDownFor at rows (Ok message) row = (awaited : Bool) → IsLoggedDown rows (asked_by at awaited message (asked_of message)) row
+LogsDownFor at rows (Err (Refused refusal head)) row = row ≡ unavailable_row at
+LogsDownFor at rows (Err Down) row = row ≡ unavailable_row at
+LogsDownFor at rows (Err Ended) row = ⊥
+LogsDownFor at rows (Err Read) row = ⊥
+LogsDownFor at rows (Err Continue) row = ⊥
+
+-- the row that is due: of what was prepared (`false`), or that of its 503 (`true`)
+abbrev pub due_row : Bool → LogRow → LogRow
+due_row false row = row
+due_row true row = as_unavailable row
 
 -- the reply that is due: what was prepared (`false`), or that of memory or a store that refused (`true`)
 abbrev pub due_reply : Bool → Bool → Answer → Answer

@@ -1,6 +1,8 @@
 -- Contracts between functions: what the log tells of a decision, by what is seen of its workspace before it.
-use Rattle.std.specs.Prelude.{ℕ, ◌+◌, if◌then◌else◌, List, Option, Some, None}
+use Rattle.std.specs.Prelude.{◌≡◌, ℕ, ◌+◌, if◌then◌else◌, List, Option, Some, None}
+use Rattle.basis.specs.declared.refusals.Refusal.TheVariants.{Unavailable}
 use Rattle.basis.specs.declared.rows.Holder.{Holder}
+use Rattle.docs.specs.declared.logs.LogRow.{LogRow}
 use Rattle.machine.specs.Laws.{holds}
 use Rattle.machine.specs.declared.acts.Answer.{Answer}
 use Rattle.machine.specs.declared.acts.Answer.TheVariants as answer
@@ -14,7 +16,7 @@ use Rattle.machine.specs.declared.acts.Unit.TheVariants.{Absent, Present}
 use Rattle.machine.specs.declared.records.Organization.{Organization}
 use Rattle.route.specs.declared.acts.Asked.{Asked}
 use Rattle.serve.specs.Checks.{checked}
-use Rattle.serve.specs.Logs.{number_given, no_trace, token_named, id_spelt, task_read, traced}
+use Rattle.serve.specs.Logs.{number_given, no_trace, token_named, id_spelt, task_read, traced, unavailable_row, IsReadSoFar}
 use Rattle.serve.specs.declared.logs.RowFacts.{RowFacts}
 use Rattle.serve.specs.declared.logs.Trace.{Trace}
 
@@ -71,6 +73,18 @@ abbrev pub trace_by : AnyUnit → Decision → Trace
 trace_by u (Refused refusal) = no_trace
 trace_by u (Accepted answer None) = record { shown_run = told_by answer; version = None; run = None }
 trace_by u (Accepted answer (Some change)) = record { shown_run = told_by answer; version = version_by u change; run = run_by u change }
+
+-- what had been read of a request where memory or the store refused
+abbrev pub read_so_far : Option (List ℕ) → Option (List ℕ) → RowFacts
+read_so_far token id = record { token = token; id = id; trace = no_trace }
+
+pub record AreReadSoFar (r : Option Organization) (at : ℕ) (asked : Asked) (content_md5 : Option (List ℕ)) (body : List ℕ) (facts : RowFacts) : Type 0 where
+  pub read : IsReadSoFar r at asked content_md5 body facts.token facts.id
+  pub trace : facts.trace ≡ no_trace
+
+-- the row of the 503 in place of an answer: nothing was made
+abbrev pub as_unavailable : LogRow → LogRow
+as_unavailable row = record row { number = None; refusal = Some Unavailable; run = None; status = (unavailable_row row.at).status; version = None }
 
 -- what the log tells of a request besides its head and its answer
 abbrev pub facts_of : Option Organization → ℕ → Asked → Option (List ℕ) → List ℕ → RowFacts

@@ -10,5 +10,5 @@ returns c =
     on_ok_weaker c.put_text-2.result (λ put.
     then_put (put_as (ap text_value c.act_word.ensures) c.in_ok-put_text.ensures) (
     then_put (put_as (ap (λ n. number_value (Some n)) c.seconds.ensures.value) c.in_ok-put_number.ensures) (
-    then_put (put_as (ap (λ n. number_value (Some n)) c.from.ensures) c.in_ok-put_number-2.ensures)
+    then_put c.in_ok-put_number-2.ensures
     put))) c.put_text-2.ensures

@@ -1,4 +1,5 @@
-use Rattle.std.proofs.Common.{◌≡◌, Option, Some, IfSome, ap, subst, ◌∙◌, rules}
+use Rattle.std.proofs.Common.{◌≡◌, Some, Result, Ok, IfOk, ap, subst, ◌∙◌, rules}
+use Rattle.docs.specs.declared.logs.LogRow.{LogRow}
 use Rattle.serve.specs.Inner.Replying.{PreparesFor, LogsFor}
 use Rattle.serve.specs.declared.prepared.Prepared.{Prepared}
 use Rattle.serve.proofs.ExchangeLemmas.{input_read, input_answered, bytes_of, asks_something}
@@ -8,29 +9,29 @@ pub returns-in_err-commit-clause-kept : goal.returns-in_err-commit-clause-kept
 returns-in_err-commit-clause-kept g c = λ clean sound.
     let before : g.K.Keep.clean c.prepare.new.keep = c.commit.ensures.so_far clean in
     let kept : g.K.Keep.sound c.prepare.new.keep = c.prepare.ensures.looks.kept before sound in
-    let some : c.in-Ok-Some.field-0 ≡ Some c.in-Ok-Some.ready = search rules in
-    let ok = subst (λ (o : Option Prepared). IfSome o (λ r. PreparesFor c.args.at (g.K.Keep.rows c.args.keep.now) c.read_message-read.result r)) some (c.in-Ok-Some.ensures.ok before sound) in
-    let a = asks_something c.args.at c.read_message-read.result (g.K.Keep.rows c.args.keep.now) (g.K.Keep.rows c.prepare.new.keep) c.in-Ok-Some.ready (c.prepare.ensures.looks.same before) ok in
+    let some : c.in-Ok-Ok.field-0 ≡ Ok c.in-Ok-Ok.ready = search rules in
+    let ok = subst (λ (o : Result Prepared LogRow). IfOk o (λ r. PreparesFor c.args.at (g.K.Keep.rows c.args.keep.now) c.read_message-read.result r)) some (c.in-Ok-Ok.ensures.ok before sound) in
+    let a = asks_something c.args.at c.read_message-read.result (g.K.Keep.rows c.args.keep.now) (g.K.Keep.rows c.prepare.new.keep) c.in-Ok-Ok.ready (c.prepare.ensures.looks.same before) ok in
     c.commit.ensures.kept clean kept a.0 a.1
 
 pub returns-clause-kept : goal.returns-clause-kept
 returns-clause-kept g c = λ clean sound.
     let before : g.K.Keep.clean c.prepare.new.keep = c.commit.ensures.so_far clean in
     let kept : g.K.Keep.sound c.prepare.new.keep = c.prepare.ensures.looks.kept before sound in
-    let some : c.in-Ok-Some.field-0 ≡ Some c.in-Ok-Some.ready = search rules in
-    let ok = subst (λ (o : Option Prepared). IfSome o (λ r. PreparesFor c.args.at (g.K.Keep.rows c.args.keep.now) c.read_message-read.result r)) some (c.in-Ok-Some.ensures.ok before sound) in
-    let a = asks_something c.args.at c.read_message-read.result (g.K.Keep.rows c.args.keep.now) (g.K.Keep.rows c.prepare.new.keep) c.in-Ok-Some.ready (c.prepare.ensures.looks.same before) ok in
+    let some : c.in-Ok-Ok.field-0 ≡ Ok c.in-Ok-Ok.ready = search rules in
+    let ok = subst (λ (o : Result Prepared LogRow). IfOk o (λ r. PreparesFor c.args.at (g.K.Keep.rows c.args.keep.now) c.read_message-read.result r)) some (c.in-Ok-Ok.ensures.ok before sound) in
+    let a = asks_something c.args.at c.read_message-read.result (g.K.Keep.rows c.args.keep.now) (g.K.Keep.rows c.prepare.new.keep) c.in-Ok-Ok.ready (c.prepare.ensures.looks.same before) ok in
     c.commit.ensures.kept clean kept a.0 a.1
 
 pub returns-clause-ok : goal.returns-clause-ok
 returns-clause-ok g c = λ clean sound.
     let before : g.K.Keep.clean c.prepare.new.keep = c.commit.ensures.so_far clean in
     let kept : g.K.Keep.sound c.prepare.new.keep = c.prepare.ensures.looks.kept before sound in
-    let some : c.in-Ok-Some.field-0 ≡ Some c.in-Ok-Some.ready = search rules in
-    let ok = subst (λ (o : Option Prepared). IfSome o (λ r. PreparesFor c.args.at (g.K.Keep.rows c.args.keep.now) c.read_message-read.result r)) some (c.in-Ok-Some.ensures.ok before sound) in
-    let logs = subst (λ (o : Option Prepared). IfSome o (λ r. LogsFor c.args.at (g.K.Keep.rows c.args.keep.now) c.read_message-read.result r.row)) some (c.in-Ok-Some.ensures.logs before sound) in
+    let some : c.in-Ok-Ok.field-0 ≡ Ok c.in-Ok-Ok.ready = search rules in
+    let ok = subst (λ (o : Result Prepared LogRow). IfOk o (λ r. PreparesFor c.args.at (g.K.Keep.rows c.args.keep.now) c.read_message-read.result r)) some (c.in-Ok-Ok.ensures.ok before sound) in
+    let logs = subst (λ (o : Result Prepared LogRow). IfOk o (λ r. LogsFor c.args.at (g.K.Keep.rows c.args.keep.now) c.read_message-read.result r.row)) some (c.in-Ok-Ok.ensures.logs before sound) in
     let t = c.in-Ok.ensures.text in
     let known = input_read _ _ (Some c.read_message-read.new.outlet.writer.items) c.args.bytes.now c.read_message-read.result c.new-inlet.ensures.left (c.new-outlet.ensures.written ∙ ap Some c.new.ensures.items) c.read_message-read.ensures.known in
-    input_answered c.args.at c.read_message-read.result (g.K.Keep.rows c.args.keep.now) (g.K.Keep.rows c.prepare.new.keep) (g.K.Keep.rows c.commit.new.keep) c.in-Ok-Some.ready c.in-Ok-Some.ready.row c.args.bytes.now
+    input_answered c.args.at c.read_message-read.result (g.K.Keep.rows c.args.keep.now) (g.K.Keep.rows c.prepare.new.keep) (g.K.Keep.rows c.commit.new.keep) c.in-Ok-Ok.ready c.in-Ok-Ok.ready.row c.args.bytes.now
     (Some c.read_message-read.new.outlet.writer.items) t.0 c.new-2.result
     (c.prepare.ensures.looks.same before) ok logs (c.in_ok-commit.ensures.ok clean kept) t.1 known (c.new-2.ensures ∙ bytes_of _ _ c.into_inner.ensures ∙ t.2)

@@ -1,4 +1,4 @@
-use Rattle.std.proofs.Common.{Ok, Err, IsSome, Option, ap, subst, sym, ◌≡◌, ◌∙◌, refl}
+use Rattle.std.proofs.Common.{Ok, Err, IsSome, Option, ap, subst, sym, ◌≡◌, ◌∙◌, refl, inr}
 use Rattle.machine.specs.declared.records.Organization.{Organization}
 use Rattle.serve.specs.Logs.{traced}
 use Rattle.serve.specs.Steps.{carried}
@@ -112,3 +112,10 @@ returns-clause-names g c = λ clean sound apart.
     let r = g.K.Keep.rows c.args.keep.now asked.caller in
     let before : g.K.Keep.clean c.known_caller.new.keep = c.missed.ensures.looks.so_far clean in
     sym (row_names r c.args.at asked c.in-Ok.row (c.in-Ok.ensures.ok before sound))
+
+pub returns-clause-reads : goal.returns-clause-reads
+returns-clause-reads g c = λ clean sound.
+    let asked = c.args.asked.now in
+    let r = g.K.Keep.rows c.args.keep.now asked.caller in
+    let before : g.K.Keep.clean c.known_caller.new.keep = c.missed.ensures.looks.so_far clean in
+    inr (sym (row_names r c.args.at asked c.in-Ok.row (c.in-Ok.ensures.ok before sound)))

@@ -1,11 +1,12 @@
 use Rattle.std.proofs.Common.{Ok, Err, IsSome, Option, subst, sym, ◌≡◌, ap, ◌∙◌}
+use Rattle.std.proofs.lemmas.Result.{IfErr-weaker}
 use Rattle.basis.specs.declared.refusals.Refusal.TheVariants.{Unavailable}
 use Rattle.machine.specs.declared.records.Organization.{Organization}
 use Rattle.serve.specs.Logs.{id_spelt, traced, workspace_named}
 use Rattle.serve.specs.Steps.{carried, request_step}
 use Rattle.serve.specs.Inner.Prepared.{Foresees, workspace_of_task}
 use Rattle.serve.proofs.RecordLemmas.{if_ok, refused_then}
-use Rattle.serve.proofs.LogLemmas.{ok_apart, err_apart, facts_same, with_known}
+use Rattle.serve.proofs.LogLemmas.{ok_apart, err_apart, facts_same, with_known, carried_so_far, refused_so_far}
 use Rattle.serve.proofs.requests.request.Goals as goal
 
 pub returns-in-Ok-clause-ok : goal.returns-in-Ok-clause-ok
@@ -52,3 +53,18 @@ returns-in-Err-clause-facts g c = λ clean sound.
     (λ p is. is ∙ facts_same _ _ _ _ _ _ (c.checked.ensures.names clean sound bad) (sym (ap id_spelt c.in-Err.is) ∙ c.checked.ensures.spells clean sound bad)
     (sym (ap (traced c.args.at r) (c.in-Err.ensures.ok clean sound apart))))
     c.refuse_request.ensures.facts) c.refuse_request.ensures.known
+
+pub returns-in-Ok-clause-down : goal.returns-in-Ok-clause-down
+returns-in-Ok-clause-down g c = λ clean sound.
+    let org = c.args.asked.now.caller in
+    let r = g.K.Keep.rows c.args.keep.now org in
+    let before : g.K.Keep.clean c.checked.new.keep = c.carry.ensures.looks.so_far clean in
+    let good : c.checked.result ≡ Err Unavailable → ⊥ = λ e. ok_apart c.in-Ok.task c.checked.result c.in-Ok.is e in
+    IfErr-weaker c.carry.result _ _ (λ facts h.
+    carried_so_far r c.args.at c.args.asked.now c.args.content_md5.now c.args.body _ _ facts (c.checked.ensures.names before sound good) (sym (ap id_spelt c.in-Ok.is) ∙ c.checked.ensures.spells before sound good) h)
+    c.carry.ensures.down
+
+pub returns-in-Err-clause-down : goal.returns-in-Err-clause-down
+returns-in-Err-clause-down g c = λ clean sound.
+    let r = g.K.Keep.rows c.args.keep.now c.args.asked.now.caller in
+    IfErr-weaker c.refuse_request.result _ _ (λ facts is. refused_so_far r c.args.at c.args.asked.now c.args.content_md5.now c.args.body _ facts (c.checked.ensures.reads clean sound) is) c.refuse_request.ensures.down

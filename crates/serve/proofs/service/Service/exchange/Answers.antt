@@ -1,5 +1,5 @@
 use Rattle.std.proofs.Common.{refl}
-use Rattle.serve.proofs.ExchangeLemmas.{refused_unread, stayed_one, unavailable_of_nobody, stayed_told}
+use Rattle.serve.proofs.ExchangeLemmas.{refused_unread, stayed_one, unavailable_makes_nothing, stayed_told}
 use Rattle.serve.proofs.service.Service.exchange.Goals as goal
 
 pub returns-in-Err-clause-told : goal.returns-in-Err-clause-told
@@ -12,4 +12,4 @@ pub returns-in-Err-clause-others : goal.returns-in-Err-clause-others
 returns-in-Err-clause-others g c = λ clean sound. stayed_one (g.K.Keep.rows c.args.self.now.keep) (g.K.Keep.rows c.args.self.now.keep) (λ org. refl)
 
 pub returns-in-Err-clause-changes : goal.returns-in-Err-clause-changes
-returns-in-Err-clause-changes g c = λ clean sound. stayed_told c.unavailable_row.result (g.K.Keep.rows c.args.self.now.keep) (g.K.Keep.rows c.args.self.now.keep) (unavailable_of_nobody c.unavailable_row.result c.args.now c.unavailable_row.ensures) (λ org. refl)
+returns-in-Err-clause-changes g c = λ clean sound. stayed_told c.unavailable_row.result (g.K.Keep.rows c.args.self.now.keep) (g.K.Keep.rows c.args.self.now.keep) (unavailable_makes_nothing c.unavailable_row.result c.args.now c.unavailable_row.ensures) (λ org. refl)
