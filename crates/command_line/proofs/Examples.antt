@@ -6,8 +6,9 @@ use lib.Utf8.{encode}
 use Rattle.basis.specs.declared.roles.Role.TheVariants.{Write}
 use Rattle.clap.proofs.OnLiterals.{clap_on_literals}
 use Rattle.command_line.specs.Bounds.{bounds, no_bounds}
-use Rattle.command_line.specs.Orders.{carries, adds_token, looks_over, copies, compacts, serves, replays}
-use Rattle.command_line.specs.Words.{asked_in}
+use Rattle.command_line.specs.Orders.{carries, adds_token, looks_over, copies, compacts, serves, replays, tells_version, unlimited}
+use Rattle.command_line.specs.Words.{asked_in, misfit_in}
+use Rattle.command_line.specs.declared.arguments.Argument.TheVariants.{Org, Limit, Counting, Count}
 use Rattle.serve.specs.declared.steps.Admin.TheVariants.{OrgAdd, OrgRemove, TokenList}
 
 organization_asked : asked_in (codes "org-add" ∷ codes "--db" ∷ codes "t.db" ∷ codes "acme" ∷ []) ≡ Some (carries (codes "t.db") (OrgAdd (codes "acme") 200))
@@ -127,3 +128,43 @@ frames_asked = refl
 nothing_asked : asked_in [] ≡ None
 unfolding clap_on_literals chars is_utf8 encode
 nothing_asked = refl
+
+no_limit_asked : asked_in (codes "serve" ∷ codes "--db" ∷ codes "t.db" ∷ codes "--port" ∷ codes "8090" ∷ codes "--unlimited" ∷ []) ≡ Some (serves (codes "t.db") 8090 unlimited (record { idle = 10; most = 120 }) false false)
+unfolding clap_on_literals chars is_utf8 encode
+no_limit_asked = refl
+
+no_count : misfit_in (codes "serve" ∷ codes "--db" ∷ codes "t.db" ∷ codes "--port" ∷ codes "8090" ∷ []) ≡ Some Counting
+unfolding clap_on_literals chars is_utf8 encode
+no_count = refl
+
+count_and_no_limit : misfit_in (codes "serve" ∷ codes "--db" ∷ codes "t.db" ∷ codes "--port" ∷ codes "8090" ∷ codes "--count" ∷ codes "3" ∷ codes "--unlimited" ∷ []) ≡ Some Counting
+unfolding clap_on_literals chars is_utf8 encode
+count_and_no_limit = refl
+
+no_such_count : misfit_in (codes "serve" ∷ codes "--db" ∷ codes "t.db" ∷ codes "--port" ∷ codes "8090" ∷ codes "--count" ∷ codes "1000001" ∷ []) ≡ Some Count
+unfolding clap_on_literals chars is_utf8 encode
+no_such_count = refl
+
+name_at_fault : misfit_in (codes "org-add" ∷ codes "--db" ∷ codes "t.db" ∷ codes "Acme" ∷ []) ≡ Some Org
+unfolding clap_on_literals chars is_utf8 encode
+name_at_fault = refl
+
+limit_at_fault : misfit_in (codes "org-add" ∷ codes "--db" ∷ codes "t.db" ∷ codes "--limit" ∷ codes "07" ∷ codes "acme" ∷ []) ≡ Some Limit
+unfolding clap_on_literals chars is_utf8 encode
+limit_at_fault = refl
+
+none_at_fault : misfit_in (codes "org-add" ∷ codes "--db" ∷ codes "t.db" ∷ codes "--limit" ∷ codes "7" ∷ codes "acme" ∷ []) ≡ None
+unfolding clap_on_literals chars is_utf8 encode
+none_at_fault = refl
+
+version_asked : asked_in (codes "--version" ∷ []) ≡ Some tells_version
+unfolding clap_on_literals chars is_utf8 encode
+version_asked = refl
+
+version_asked_shortly : asked_in (codes "-V" ∷ []) ≡ Some tells_version
+unfolding clap_on_literals chars is_utf8 encode
+version_asked_shortly = refl
+
+no_version_of_a_command : asked_in (codes "check" ∷ codes "--db" ∷ codes "t.db" ∷ codes "--version" ∷ []) ≡ None
+unfolding clap_on_literals chars is_utf8 encode
+no_version_of_a_command = refl

@@ -1,4 +1,6 @@
+pub mod Arguments
 pub mod Bounds
 pub mod Commands
+pub mod Inner
 pub mod Orders
 pub mod Words

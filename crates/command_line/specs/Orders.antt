@@ -1,5 +1,5 @@
 -- What the words of the program ask for, once `clap` has parted them.
-use Rattle.std.specs.Prelude.{ℕ, List, Bool, false, Option, Some, None, ◌&&◌, cond, option_map, option_and_then, bytes_eq, codes}
+use Rattle.std.specs.Prelude.{ℕ, List, Bool, true, false, Option, Some, None, ◌&&◌, cond, option_map, option_and_then, bytes_eq, codes}
 use Rattle.std.specs.Borrow.{Bor}
 use Rattle.basis.specs.Names.{is_org_name}
 use Rattle.basis.specs.Numbers.{whole_of, within}
@@ -14,7 +14,7 @@ use Rattle.command_line.specs.Commands.{limit_of, role_of, org_command, limit_co
 use Rattle.command_line.specs.declared.orders.NewToken.{NewToken}
 use Rattle.command_line.specs.declared.orders.Values.{Values}
 use Rattle.command_line.specs.declared.orders.Order.{Order}
-use Rattle.command_line.specs.declared.orders.Order.TheVariants.{Carry, AddToken, Check, Copy, Compact, Serve, Replay}
+use Rattle.command_line.specs.declared.orders.Order.TheVariants.{Carry, AddToken, Check, Copy, Compact, Serve, Replay, Version}
 use Rattle.command_line.specs.declared.timeouts.Timeouts.{Timeouts}
 
 -- what is asked for; a database is named by the path of its file
@@ -34,8 +34,11 @@ pub data Asked : Type 0 where
   serves : List ℕ → ℕ → ℕ → Timeouts → Bool → Bool → Asked
   -- to answer frames
   replays : Asked
+  -- to print the version of the program
+  tells_version : Asked
 
--- the values among the words, by the names of their arguments, and whether `--log`, `--check` and `--force` are there
+-- the values among the words, by the names of their arguments, and whether `--unlimited`, `--log`, `--check` and
+-- `--force` are there
 pub record Given : Type 0 where
   pub db : Option (List ℕ)
   pub to : Option (List ℕ)
@@ -49,6 +52,7 @@ pub record Given : Type 0 where
   pub count : Option (List ℕ)
   pub idle : Option (List ℕ)
   pub most : Option (List ℕ)
+  pub unlimited : Bool
   pub logs : Bool
   pub checks : Bool
   pub forces : Bool
@@ -60,6 +64,16 @@ port_of word = option_and_then (within 1 65_535) (whole_of word)
 -- a number of connections: 1 to 1,000,000
 abbrev pub connections_of : List ℕ → Option ℕ
 connections_of word = option_and_then (within 1 1_000_000) (whole_of word)
+
+-- the connections that `--unlimited` asks for: 2 ^ 64 - 1. A million a second use them up in half a million years
+abbrev pub unlimited : ℕ
+unlimited = 18_446_744_073_709_551_615
+
+-- how many connections are asked for: by `--count`, or by `--unlimited`, and never by both
+abbrev pub count_asked : Option (List ℕ) → Bool → Option ℕ
+count_asked (Some word) false = connections_of word
+count_asked None true = Some unlimited
+count_asked _ _ = None
 
 -- a time to wait: 1 to 3,600 seconds
 abbrev pub seconds_of : List ℕ → Option ℕ
@@ -105,7 +119,7 @@ timeouts_asked given =
 
 abbrev pub serving_asked : List ℕ → Given → Option Asked
 serving_asked db given =
-    option_and_then (λ port. option_and_then (λ count. option_map (λ timeouts. serves db port count timeouts given.logs given.checks) (timeouts_asked given)) (option_and_then connections_of given.count)) (option_and_then port_of given.port)
+    option_and_then (λ port. option_and_then (λ count. option_map (λ timeouts. serves db port count timeouts given.logs given.checks) (timeouts_asked given)) (count_asked given.count given.unlimited)) (option_and_then port_of given.port)
 
 -- a copy of one organization, where its name reads
 abbrev pub copy_in : List ℕ → List ℕ → List ℕ → Option Asked
@@ -152,6 +166,7 @@ given_in rows = record {
   count = first_of (codes "count") rows;
   idle = first_of (codes "idle") rows;
   most = first_of (codes "most") rows;
+  unlimited = flag_of (first_of (codes "unlimited") rows);
   logs = flag_of (first_of (codes "log") rows);
   checks = flag_of (first_of (codes "check") rows);
   forces = flag_of (first_of (codes "force") rows);
@@ -172,6 +187,7 @@ given_found found = record {
   count = first_value found (codes "count");
   idle = first_value found (codes "idle");
   most = first_value found (codes "most");
+  unlimited = flag_of (first_value found (codes "unlimited"));
   logs = flag_of (first_value found (codes "log"));
   checks = flag_of (first_value found (codes "check"));
   forces = flag_of (first_value found (codes "force"));
@@ -194,6 +210,7 @@ given_of values = record {
   count = text_in values.count;
   idle = text_in values.idle;
   most = text_in values.most;
+  unlimited = values.unlimited;
   logs = values.logs;
   checks = values.checks;
   forces = values.forces;
@@ -208,6 +225,7 @@ said_by (Copy from to org) = copies from.now to.now org
 said_by (Compact from to) = compacts from.now to.now
 said_by (Serve db port count timeouts logs checks) = serves db.now port count timeouts logs checks
 said_by Replay = replays
+said_by Version = tells_version
 
 -- the command that adds a token with a secret
 abbrev pub with_secret : NewToken → List ℕ → Operator.Admin

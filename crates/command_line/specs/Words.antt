@@ -1,5 +1,6 @@
 -- The words of the program: its commands, in `clap`'s terms, and what words ask for.
 use Rattle.std.specs.Prelude.{ℕ, List, [], Bool, true, false, Option, Some, None, String, cond, map, option_and_then, string_bytes, codes, length, ◌≡◌, ◌<◌, ⊤}
+use Rattle.std.specs.List.{list_any}
 use Rattle.std.specs.declared.alloc.Global.{Global}
 use Rattle.clap.specs.Walk.{is_empty}
 use Rattle.clap.specs.declared.builder.action.ArgAction.TheVariants.{SetTrue}
@@ -11,7 +12,10 @@ use Rattle.clap.specs.declared.error.kind.ErrorKind.{ErrorKind}
 use Rattle.clap.specs.declared.error.kind.ErrorKind.TheVariants as kind
 use Rattle.command_line.specs.declared.words.Unasked.{Unasked}
 use Rattle.command_line.specs.declared.words.Unasked.TheVariants.{Help, Words, Value, Down}
-use Rattle.command_line.specs.Orders.{Asked, asked_with, given_in}
+use Rattle.command_line.specs.declared.arguments.Argument.{Argument}
+use Rattle.command_line.specs.declared.arguments.Argument.TheVariants as argument
+use Rattle.command_line.specs.Arguments.{first_misfit}
+use Rattle.command_line.specs.Orders.{Asked, tells_version, asked_with, given_in}
 
 -- the bytes of each word
 abbrev pub words_bytes : List (String Global) → List (List ℕ)
@@ -76,6 +80,10 @@ token_list = with_rule (with_rule (new_app (codes "token-list")) database) organ
 abbrev pub token_revoke : App
 token_revoke = with_rule (with_rule (with_rule (new_app (codes "token-revoke")) database) organization) (value_rule (codes "name"))
 
+-- `[--count N] [--unlimited]` behind the rest
+abbrev pub with_counts : App → App
+with_counts app = with_rule (with_rule app (option_rule (codes "count") false)) (flag_rule (codes "unlimited"))
+
 -- `[--idle SECONDS] [--most SECONDS]` behind the rest
 abbrev pub with_timeouts : App → App
 with_timeouts app = with_rule (with_rule app (option_rule (codes "idle") false)) (option_rule (codes "most") false)
@@ -84,9 +92,9 @@ with_timeouts app = with_rule (with_rule app (option_rule (codes "idle") false))
 abbrev pub with_flags : App → App
 with_flags app = with_rule (with_rule app (flag_rule (codes "log"))) (flag_rule (codes "check"))
 
--- `serve --db PATH --port P --count N [--idle SECONDS] [--most SECONDS] [--log] [--check]`
+-- `serve --db PATH --port P [--count N] [--unlimited] [--idle SECONDS] [--most SECONDS] [--log] [--check]`
 abbrev pub serve : App
-serve = with_flags (with_timeouts (with_rule (with_rule (with_rule (new_app (codes "serve")) database) (option_rule (codes "port") true)) (option_rule (codes "count") true)))
+serve = with_flags (with_timeouts (with_counts (with_rule (with_rule (new_app (codes "serve")) database) (option_rule (codes "port") true))))
 
 -- `check --db PATH`
 abbrev pub check : App
@@ -100,13 +108,14 @@ compact = with_rule (with_rule (new_app (codes "compact")) database) target
 abbrev pub replay : App
 replay = new_app (codes "replay")
 
--- the program without its commands: a command has to be there, and the words begin with it
+-- the program without its commands: a command has to be there, and the words begin with it; `--version` and `-V` ask for the version
 abbrev pub bare : App
 bare = record (new_app (codes "custody")) {
   top = record (new_app (codes "custody")).top {
     no_binary_name = true;
     subcommand_required = true;
     arg_required_else_help = true;
+    has_version = true;
   };
 }
 
@@ -139,25 +148,44 @@ faults words = fault_of custody words
 abbrev pub asked_by_command : Option (Text × List Row) → Option Asked
 asked_by_command found = option_and_then (λ f. asked_with f.0 (given_in f.1)) found
 
+-- a kind is that of words that ask for the version
+abbrev pub is_version : ErrorKind → Bool
+is_version kind.DisplayVersion = true
+is_version _ = false
+
+-- the version is asked for
+abbrev pub ask_for_version : List (List ℕ) → Bool
+ask_for_version words = list_any is_version (faults words)
+
 -- what the words ask for; nothing where they aren't those of a command, or a value isn't of its form
 abbrev pub asked_in : List (List ℕ) → Option Asked
-asked_in words = cond (is_empty (faults words)) (asked_by_command (subcommand_of custody words)) None
+asked_in words = cond (ask_for_version words) (Some tells_version) (cond (is_empty (faults words)) (asked_by_command (subcommand_of custody words)) None)
+
+-- the first argument that the values which `clap` finds don't fit
+abbrev pub misfit_by_command : Option (Text × List Row) → Option Argument
+misfit_by_command (Some found) = first_misfit found.0 (given_in found.1)
+misfit_by_command None = Some argument.Command
+
+-- the first argument whose value among the words isn't of its form
+abbrev pub misfit_in : List (List ℕ) → Option Argument
+misfit_in words = misfit_by_command (subcommand_of custody words)
 
 -- help is asked for
 abbrev pub AskForHelp : List (List ℕ) → Type 0
 AskForHelp words = IsAmong kind.DisplayHelp (faults words)
 
--- the words aren't those of a command, and don't ask for help either
+-- the words aren't those of a command, and don't ask for help or the version either
 abbrev pub AreNoCommand : List (List ℕ) → Type 0
-AreNoCommand words = (k : ErrorKind) × IsAmong k (faults words) × (k ≡ kind.DisplayHelp → ⊥)
+AreNoCommand words = (k : ErrorKind) × IsAmong k (faults words) × (k ≡ kind.DisplayHelp → ⊥) × (k ≡ kind.DisplayVersion → ⊥)
 
 -- there is some text
 abbrev pub HasText : String Global → Type 0
 HasText text = 0 < length (string_bytes text)
 
--- why words ask for nothing that is carried out, with a text that says so; for want of memory there needn't be a reason
+-- why words ask for nothing that is carried out, with a text that says so, or the argument whose value isn't of its form; for want
+-- of memory there needn't be a reason
 abbrev pub IsWhy : List (List ℕ) → Unasked → Type 0
 IsWhy words (Help text) = AskForHelp words × HasText text
 IsWhy words (Words text) = AreNoCommand words × HasText text
-IsWhy words Value = (faults words ≡ []) × (asked_in words ≡ None)
+IsWhy words (Value argument) = (faults words ≡ []) × (asked_in words ≡ None) × (misfit_in words ≡ Some argument)
 IsWhy words Down = ⊤

@@ -1,11 +1,14 @@
 //! The command line of `custody`: its commands, in `clap`'s terms, and what words ask for.
 #![tactic(auto)]
 
+mod arguments;
 pub mod bounds;
 pub mod commands;
+mod misfits;
 mod orders;
 pub mod timeouts;
 mod words;
 
-pub use orders::{NewToken, Order};
-pub use words::{Unasked, read_words};
+pub use arguments::Argument;
+pub use orders::{NewToken, Order, UNLIMITED};
+pub use words::{Unasked, VERSION, read_words};

@@ -2,7 +2,7 @@
 ghost use Rattle.std.specs.Prelude.{◌≡◌, ◌≤◌, Option, Some, None, IfOk, IsErrOf, option_map, option_and_then, IfSome};
 ghost use Rattle.basis.specs.Numbers.{whole_of, within};
 ghost use Rattle.clap.specs.Words.{found_of};
-ghost use Rattle.command_line.specs.Orders.{limit_or_first, command_on, command_in, token_in, token_asked, seconds_or, timeouts_asked, serving_asked, copy_in, copying_asked, compacting_asked, adds_token, file_asked, asked_with, flag_of, given_found, given_of, text_in, said_by, with_secret, port_of, connections_of, carries};
+ghost use Rattle.command_line.specs.Orders.{limit_or_first, command_on, command_in, token_in, token_asked, seconds_or, timeouts_asked, serving_asked, copy_in, copying_asked, compacting_asked, adds_token, file_asked, asked_with, flag_of, given_found, given_of, text_in, said_by, with_secret, port_of, count_asked, carries};
 ghost use Rattle.command_line.specs.Bounds.{bounds_given};
 ghost use Rattle.command_line.specs.Commands.{limit_of, limit_command, revoke_command};
 
@@ -18,8 +18,11 @@ use std::alloc::Global;
 /// The greatest TCP port.
 pub const MAX_PORT: u64 = 65_535;
 
-/// The most connections that one `serve` answers.
+/// The most connections that `--count` may ask for.
 pub const MAX_COUNT: u64 = 1_000_000;
+
+/// The connections that `--unlimited` asks for. A million a second use them up in half a million years.
+pub const UNLIMITED: u64 = u64::MAX;
 
 /// A token whose secret is to be read.
 #[derive(Drop)]
@@ -104,40 +107,45 @@ pub enum Order<'a> {
         from: &'a str,
         to: &'a str,
     },
-    /// To answer so many connections from a file, at a port of the loopback address.
+    /// To answer so many connections from a file, at a port of the loopback address; `UNLIMITED` where
+    /// no number is asked for.
     /// Where `logs` is true, a line is printed for each exchange. Where `checks` is true, faults in
     /// the file's tables are looked for first.
     Serve {
         db: &'a str,
         port: u16,
-        count: u32,
+        count: u64,
         timeouts: Timeouts,
         logs: bool,
         checks: bool,
     },
     /// To answer frames over a database in memory.
     Replay,
+    /// To print the version of the program.
+    Version,
 }
 
 /// The values that stand among the words, by the names of their arguments; none where there is none.
-/// `logs`, `checks` and `forces` are whether `--log`, `--check` and `--force` are there.
+/// `unlimited`, `logs`, `checks` and `forces` are whether `--unlimited`, `--log`, `--check` and `--force`
+/// are there.
 #[derive(Drop)]
 pub struct Values<'a> {
-    db: Option<&'a str>,
-    to: Option<&'a str>,
-    org: Option<&'a str>,
-    limit: Option<&'a str>,
-    name: Option<&'a str>,
-    role: Option<&'a str>,
-    until: Option<&'a str>,
-    prefix: Option<&'a str>,
-    port: Option<&'a str>,
-    count: Option<&'a str>,
-    idle: Option<&'a str>,
-    most: Option<&'a str>,
-    logs: bool,
-    checks: bool,
-    forces: bool,
+    pub db: Option<&'a str>,
+    pub to: Option<&'a str>,
+    pub org: Option<&'a str>,
+    pub limit: Option<&'a str>,
+    pub name: Option<&'a str>,
+    pub role: Option<&'a str>,
+    pub until: Option<&'a str>,
+    pub prefix: Option<&'a str>,
+    pub port: Option<&'a str>,
+    pub count: Option<&'a str>,
+    pub idle: Option<&'a str>,
+    pub most: Option<&'a str>,
+    pub unlimited: bool,
+    pub logs: bool,
+    pub checks: bool,
+    pub forces: bool,
 }
 
 impl<'a> Values<'a> {
@@ -157,6 +165,7 @@ impl<'a> Values<'a> {
             count: matches.get_str("count"),
             idle: matches.get_str("idle"),
             most: matches.get_str("most"),
+            unlimited: flag_of(matches.get_str("unlimited")),
             logs: flag_of(matches.get_str("log")),
             checks: flag_of(matches.get_str("check")),
             forces: flag_of(matches.get_str("force")),
@@ -174,7 +183,8 @@ fn flag_of(value: Option<&str>) -> bool
     }
 }
 
-fn number_up_to(value: &str, most: u64) -> Option<u64>
+/// The number that a word writes, where it is 1 to the most.
+pub fn number_up_to(value: &str, most: u64) -> Option<u64>
     ensures number { result ≡ option_and_then (within 1 most) (whole_of value.now) }
     ensures most { IfSome result (λ n. n ≤ most) }
 {
@@ -260,11 +270,14 @@ fn port_of(value: Option<&str>) -> Option<u16>
     Some(number as u16)
 }
 
-fn count_of(value: Option<&str>) -> Option<u32>
-    ensures { result ≡ option_and_then connections_of (text_in value.entry) }
+fn count_of(value: Option<&str>, unlimited: bool) -> Option<u64>
+    ensures { result ≡ count_asked (text_in value.entry) unlimited }
 {
-    let number = number_up_to(value?, MAX_COUNT)?;
-    Some(number as u32)
+    match (value, unlimited) {
+        (Some(word), false) => number_up_to(word, MAX_COUNT),
+        (None, true) => Some(UNLIMITED),
+        _ => None,
+    }
 }
 
 fn seconds_or(value: Option<&str>, usual: Seconds) -> Option<Seconds>
@@ -288,7 +301,7 @@ fn serving<'a>(db: &'a str, values: &Values<'a>) -> Option<Order<'a>>
     ensures { option_map said_by result ≡ serving_asked db.entry.now (given_of values.now) }
 {
     let port = port_of(values.port)?;
-    let count = count_of(values.count)?;
+    let count = count_of(values.count, values.unlimited)?;
     let timeouts = timeouts_of(values)?;
     Some(Order::Serve {
         db,

@@ -1,15 +1,21 @@
 //! The words of the program, by `clap`. Its types stay here.
 
-ghost use Rattle.std.specs.Prelude.{◌≡◌, ◌<◌, ◌⊎◌, IfOk, IfErr, IsErrOf, None, Some, codes, length, string_bytes, ℕ, List};
-ghost use Rattle.clap.specs.Words.{app_of, subcommand_of, subcommand_rows_of, HasKind, FailsBy, IsAmong, App, Rule, new_app, with_rule, with_subcommand};
+ghost use Rattle.std.specs.Prelude.{◌≡◌, ◌<◌, ◌⊎◌, IfOk, IfErr, Some, codes, length, string_bytes, ℕ, List};
+ghost use Rattle.clap.specs.Words.{app_of, subcommand_of, subcommand_rows_of, HasKind, FailsBy, IsAmong, kind_of, App, Rule, new_app, with_rule, with_subcommand};
 ghost use Rattle.command_line.specs.Orders.{said_by};
-ghost use Rattle.command_line.specs.Words.{words_bytes, database, target, organization, option_rule, value_rule, flag_rule, org_add, org_limit, org_copy, org_remove, org_list, token_add, token_list, token_revoke, serve, check, compact, replay, bare, custody, faults, asked_by_command, asked_in, with_organizations, with_tokens, with_running, with_bounds, with_timeouts, with_flags, IsWhy, IsArg, IsCommand};
+ghost use Rattle.command_line.specs.Words.{words_bytes, database, target, organization, option_rule, value_rule, flag_rule, org_add, org_limit, org_copy, org_remove, org_list, token_add, token_list, token_revoke, serve, check, compact, replay, bare, custody, faults, asked_by_command, asked_in, with_organizations, with_tokens, with_running, with_bounds, with_counts, with_timeouts, with_flags, IsWhy, IsArg, IsCommand};
+ghost use Rattle.command_line.specs.Inner.Misfits.{IsUnreadOf};
 
+use crate::arguments::Argument;
+use crate::misfits::{Unread, read_order};
 use crate::orders::{Order, Values};
-use basis::{Down, Unfit};
+use basis::Down;
 use clap::error::ErrorKind;
 use clap::{Arg, ArgAction, ArgMatches, Command, Error};
 use std::alloc::{AllocError, Global};
+
+/// The version of the program.
+pub const VERSION: &str = "1.0.0";
 
 /// Why the words ask for nothing that is carried out.
 #[derive(Drop)]
@@ -18,8 +24,8 @@ pub enum Unasked {
     Help(String),
     /// The words aren't those of a command: this text says which.
     Words(String),
-    /// A value among them isn't of its form.
-    Value,
+    /// The value of this argument isn't of its form.
+    Value(Argument),
     Down,
 }
 
@@ -51,17 +57,19 @@ fn flag<'a>(alloc: Global, id: &'a str, help: &'a str) -> Arg<'a>
         .help(help)
 }
 
-fn database<'a>(alloc: Global) -> Arg<'a>
+/// The help of `--db` for a command that creates no file.
+const OLD_FILE: &str = "The database file. It must exist";
+
+fn database<'a>(alloc: Global, help: &'a str) -> Arg<'a>
     ensures { IsArg result database }
 {
-    let help = "The file of the database. It is made where there is none";
     option(alloc, "db", true, "PATH", help)
 }
 
 fn target<'a>(alloc: Global) -> Arg<'a>
     ensures { IsArg result target }
 {
-    let help = "The file that it is copied to. It is made where there is none";
+    let help = "The target file. It is created if it doesn't exist";
     option(alloc, "to", true, "PATH", help)
 }
 
@@ -107,9 +115,10 @@ fn with_command<'a>(
 fn org_add<'a>(alloc: Global) -> Result<Command<'a>, AllocError>
     ensures { IfOk result (λ command. IsCommand command org_add) }
 {
+    let file_help = "The database file. It is created if it doesn't exist";
     let help = "How many workspaces it may have: 0 to 100000; 200 without";
     let bare = command(alloc, "org-add", "Adds an organization");
-    let on_file = with_arg(bare, database(alloc));
+    let on_file = with_arg(bare, database(alloc, file_help));
     let limited = with_arg(on_file, option(alloc, "limit", false, "N", help));
     with_arg(limited, organization(alloc))
 }
@@ -120,7 +129,7 @@ fn org_limit<'a>(alloc: Global) -> Result<Command<'a>, AllocError>
     let about = "Sets how many workspaces an organization may have";
     let help = "How many workspaces it may have: 0 to 100000; what there is stays";
     let bare = command(alloc, "org-limit", about);
-    let on_file = with_arg(bare, database(alloc));
+    let on_file = with_arg(bare, database(alloc, OLD_FILE));
     let of_one = with_arg(on_file, organization(alloc));
     with_arg(of_one, value(alloc, "limit", "N", help))
 }
@@ -128,9 +137,10 @@ fn org_limit<'a>(alloc: Global) -> Result<Command<'a>, AllocError>
 fn org_copy<'a>(alloc: Global) -> Result<Command<'a>, AllocError>
     ensures { IfOk result (λ command. IsCommand command org_copy) }
 {
-    let about = "Copies an organization, with all that it has, to another file";
+    let about =
+        "Checks the file's tables, then copies an organization, with all that it has, to another file";
     let bare = command(alloc, "org-copy", about);
-    let on_file = with_arg(bare, database(alloc));
+    let on_file = with_arg(bare, database(alloc, OLD_FILE));
     let to_another = with_arg(on_file, target(alloc));
     with_arg(to_another, organization(alloc))
 }
@@ -141,7 +151,7 @@ fn org_remove<'a>(alloc: Global) -> Result<Command<'a>, AllocError>
     let about = "Removes an organization, with all that it has";
     let help = "Also where a lock holds or a run is open";
     let bare = command(alloc, "org-remove", about);
-    let on_file = with_arg(bare, database(alloc));
+    let on_file = with_arg(bare, database(alloc, OLD_FILE));
     let forcing = with_arg(on_file, flag(alloc, "force", help));
     with_arg(forcing, organization(alloc))
 }
@@ -151,7 +161,7 @@ fn org_list<'a>(alloc: Global) -> Result<Command<'a>, AllocError>
 {
     let about = "Lists all organizations: a line `ORG WORKSPACES LIMIT` each";
     let bare = command(alloc, "org-list", about);
-    with_arg(bare, database(alloc))
+    with_arg(bare, database(alloc, OLD_FILE))
 }
 
 fn token_add<'a>(alloc: Global) -> Result<Command<'a>, AllocError>
@@ -161,7 +171,7 @@ fn token_add<'a>(alloc: Global) -> Result<Command<'a>, AllocError>
         "Adds a token; its secret, 16 to 64 ASCII letters or digits, is the line of standard input";
     let help = "What the token may do: read, write or admin";
     let bare = command(alloc, "token-add", about);
-    let on_file = with_arg(bare, database(alloc));
+    let on_file = with_arg(bare, database(alloc, OLD_FILE));
     let bounded = with_bounds(alloc, on_file);
     let of_one = with_arg(bounded, organization(alloc));
     let named = with_arg(of_one, token_name(alloc));
@@ -188,7 +198,7 @@ fn token_list<'a>(alloc: Global) -> Result<Command<'a>, AllocError>
     let about =
         "Lists an organization's tokens: a line `NAME ROLE UNTIL PREFIX` each, '-' for no end and for every workspace";
     let bare = command(alloc, "token-list", about);
-    let on_file = with_arg(bare, database(alloc));
+    let on_file = with_arg(bare, database(alloc, OLD_FILE));
     with_arg(on_file, organization(alloc))
 }
 
@@ -196,7 +206,7 @@ fn token_revoke<'a>(alloc: Global) -> Result<Command<'a>, AllocError>
     ensures { IfOk result (λ command. IsCommand command token_revoke) }
 {
     let bare = command(alloc, "token-revoke", "Takes a token away");
-    let on_file = with_arg(bare, database(alloc));
+    let on_file = with_arg(bare, database(alloc, OLD_FILE));
     let of_one = with_arg(on_file, organization(alloc));
     with_arg(of_one, token_name(alloc))
 }
@@ -205,14 +215,29 @@ fn serve<'a>(alloc: Global) -> Result<Command<'a>, AllocError>
     ensures { IfOk result (λ command. IsCommand command serve) }
 {
     let about = "Answers Terraform and runners on the loopback address";
+    let file_help =
+        "The database file. It is created if it doesn't exist; with --check it must exist";
     let port_help = "The TCP port of 127.0.0.1: 1 to 65535";
-    let count_help = "How many connections are answered, one after the other: 1 to 1000000";
     let bare = command(alloc, "serve", about);
-    let on_file = with_arg(bare, database(alloc));
+    let on_file = with_arg(bare, database(alloc, file_help));
     let at_port = with_arg(on_file, option(alloc, "port", true, "P", port_help));
-    let counted = with_arg(at_port, option(alloc, "count", true, "N", count_help));
+    let counted = with_counts(alloc, at_port);
     let timed = with_timeouts(alloc, counted);
     with_flags(alloc, timed)
+}
+
+// `clap` accepts neither and both here: its contracts don't cover arguments that exclude each other. `count_of` refuses them.
+fn with_counts<'a>(
+    alloc: Global,
+    bare: Result<Command<'a>, AllocError>,
+) -> Result<Command<'a>, AllocError>
+    ensures { (app : App) → IfOk bare.entry (λ it. IsCommand it app) → IfOk result (λ whole. IsCommand whole (with_counts app)) }
+{
+    let count_help =
+        "Answers this many connections, one after the other: 1 to 1000000. Give this or --unlimited";
+    let unlimited_help = "Answers connections without a limit. Give this or --count";
+    let counted = with_arg(bare, option(alloc, "count", false, "N", count_help));
+    with_arg(counted, flag(alloc, "unlimited", unlimited_help))
 }
 
 fn with_flags<'a>(
@@ -223,7 +248,7 @@ fn with_flags<'a>(
 {
     let log_help = "Prints a line of JSON for each exchange on standard output";
     let check_help =
-        "Looks for faults in the file's tables first, and answers nothing where there are some";
+        "Looks for faults in the file's tables first, and refuses to start if there are some";
     let logging = with_arg(bare, flag(alloc, "log", log_help));
     with_arg(logging, flag(alloc, "check", check_help))
 }
@@ -245,18 +270,18 @@ fn check<'a>(alloc: Global) -> Result<Command<'a>, AllocError>
     ensures { IfOk result (λ command. IsCommand command check) }
 {
     let about =
-        "Looks for faults in the file's tables: prints a line for each, 50 at most, or `ok` where there is none";
+        "Looks for faults in the file's tables: prints a line for each, 50 at most, or `ok` and the numbers of organizations, workspaces, versions and runs";
     let bare = command(alloc, "check", about);
-    with_arg(bare, database(alloc))
+    with_arg(bare, database(alloc, OLD_FILE))
 }
 
 fn compact<'a>(alloc: Global) -> Result<Command<'a>, AllocError>
     ensures { IfOk result (λ command. IsCommand command compact) }
 {
     let about =
-        "Copies every organization to another file; one that is there already stays as it is";
+        "Checks the file's tables, then copies every organization to a new file; a target that has organizations is refused";
     let bare = command(alloc, "compact", about);
-    let on_file = with_arg(bare, database(alloc));
+    let on_file = with_arg(bare, database(alloc, OLD_FILE));
     with_arg(on_file, target(alloc))
 }
 
@@ -275,6 +300,7 @@ fn bare<'a>(alloc: Global) -> Result<Command<'a>, AllocError>
         .no_binary_name(true)
         .subcommand_required(true)
         .arg_required_else_help(true)
+        .version(VERSION)
         .bin_name("custody")
 }
 
@@ -342,7 +368,7 @@ fn text_of(alloc: Global, error: &Error) -> Result<String, Down>
 }
 
 fn why(kind: ErrorKind, text: String) -> Unasked
-    ensures { (words : List (List ℕ)) → (kind ≡ ErrorKind.OutOfMemory) ⊎ IsAmong kind (faults words) → 0 < length (string_bytes text) → IsWhy words result }
+    ensures { (words : List (List ℕ)) → (kind ≡ ErrorKind.OutOfMemory) ⊎ IsAmong kind (faults words) → (kind ≡ ErrorKind.DisplayVersion → ⊥) → 0 < length (string_bytes text) → IsWhy words result }
 {
     match kind {
         ErrorKind::DisplayHelp => Unasked::Help(text),
@@ -351,22 +377,32 @@ fn why(kind: ErrorKind, text: String) -> Unasked
     }
 }
 
-fn unmatched(alloc: Global, error: Error) -> Unasked
-    ensures { (words : List (List ℕ)) → HasKind (faults words) error → IsWhy words result }
+fn told(alloc: Global, error: &Error) -> Unasked
+    ensures { (words : List (List ℕ)) → HasKind (faults words) error.now → (kind_of error.now ≡ ErrorKind.DisplayVersion → ⊥) → IsWhy words result }
 {
-    match text_of(alloc, &error) {
+    match text_of(alloc, error) {
         Ok(text) => why(error.kind(), text),
         Err(_) => Unasked::Down,
     }
 }
 
-fn ordered<'a>(alloc: Global, matches: &ArgMatches<'a>) -> Result<Order<'a>, Unfit>
+fn unmatched<'a>(alloc: Global, error: &Error) -> Result<Order<'a>, Unasked>
+    ensures asked { (words : List (List ℕ)) → HasKind (faults words) error.now → IfOk result (λ order. asked_in words ≡ Some (said_by order)) }
+    ensures why { (words : List (List ℕ)) → HasKind (faults words) error.now → IfErr result (IsWhy words) }
+{
+    match error.kind() {
+        ErrorKind::DisplayVersion => Ok(Order::Version),
+        _ => Err(told(alloc, error)),
+    }
+}
+
+fn ordered<'a>(alloc: Global, matches: &ArgMatches<'a>) -> Result<Order<'a>, Unread>
     ensures ok { IfOk result (λ order. asked_by_command (subcommand_rows_of matches.now) ≡ Some (said_by order)) }
-    ensures syntax { IsErrOf result Unfit.Syntax → asked_by_command (subcommand_rows_of matches.now) ≡ None }
+    ensures why { IfErr result (IsUnreadOf (subcommand_rows_of matches.now)) }
 {
     match matches.subcommand() {
-        Some((name, inner)) => Order::read(alloc, name, &Values::of(inner)),
-        None => Err(Unfit::Syntax),
+        Some((name, inner)) => read_order(alloc, name, &Values::of(inner)),
+        None => Err(Unread::Value(Argument::Command)),
     }
 }
 
@@ -377,11 +413,11 @@ pub fn read_words<'a>(alloc: Global, words: &'a [String]) -> Result<Order<'a>, U
 {
     let found = match matched(alloc, words) {
         Ok(matches) => ordered(alloc, &matches),
-        Err(error) => return Err(unmatched(alloc, error)),
+        Err(error) => return unmatched(alloc, &error),
     };
     match found {
         Ok(order) => Ok(order),
-        Err(Unfit::Syntax) => Err(Unasked::Value),
-        Err(Unfit::Down) => Err(Unasked::Down),
+        Err(Unread::Value(argument)) => Err(Unasked::Value(argument)),
+        Err(Unread::Down) => Err(Unasked::Down),
     }
 }

@@ -4,6 +4,6 @@ pub returns : goal.returns
 returns c =
     let first = c.with_arg-on_file.ensures _ _ c.command-bare.ensures c.database.ensures in
     let second = c.with_arg-at_port.ensures _ _ first c.option.ensures in
-    let third = c.with_arg-counted.ensures _ _ second c.option-2.ensures in
+    let third = c.with_counts-counted.ensures _ second in
     let fourth = c.with_timeouts-timed.ensures _ third in
     c.with_flags.ensures _ fourth

@@ -11,5 +11,5 @@ among kind kinds other (inl is) = absurd (other is)
 among kind kinds other (inr one) = one
 
 pub returns-in_default : goal.returns-in_default
-returns-in_default c words is_one some =
-    ((c.args.kind, among c.args.kind (faults words) c.in_default.not-OutOfMemory is_one, c.in_default.not-DisplayHelp), some)
+returns-in_default c words is_one other some =
+    ((c.args.kind, among c.args.kind (faults words) c.in_default.not-OutOfMemory is_one, c.in_default.not-DisplayHelp, other), some)

@@ -1,0 +1,77 @@
+-- The arguments of the commands, and what their values have to be.
+use Rattle.std.specs.Prelude.{ℕ, List, [], ◌∷◌, Bool, true, false, not, Option, is_some, cond, find, bytes_eq, codes}
+use Rattle.std.specs.Option.{option_map_or}
+use Rattle.basis.specs.Names.{is_org_name, is_prefix}
+use Rattle.command_line.specs.Bounds.{moment_of}
+use Rattle.command_line.specs.Commands.{limit_of, role_of}
+use Rattle.command_line.specs.Orders.{Given, port_of, connections_of, seconds_of}
+use Rattle.command_line.specs.declared.arguments.Argument.{Argument}
+use Rattle.command_line.specs.declared.arguments.Argument.TheVariants as argument
+
+-- what the error stream is told where the value of an argument isn't of its form
+abbrev pub form_line : Argument → List ℕ
+form_line argument.Command = codes "custody: the command isn't one of those that --help lists\n"
+form_line argument.Db = codes "custody: the value of --db is missing: the path of a file\n"
+form_line argument.To = codes "custody: the value of --to is missing: the path of a file\n"
+form_line argument.Org = codes "custody: the value of ORG isn't of its form: 1 to 40 of a-z, 0-9 and '-', the first a letter\n"
+form_line argument.Name = codes "custody: the value of NAME isn't of its form: 1 to 40 of a-z, 0-9 and '-', the first a letter\n"
+form_line argument.Role = codes "custody: the value of ROLE isn't of its form: read, write or admin\n"
+form_line argument.Limit = codes "custody: the value of --limit isn't of its form: 0 to 100000, without a leading zero\n"
+form_line argument.NewLimit = codes "custody: the value of N isn't of its form: 0 to 100000, without a leading zero\n"
+form_line argument.Until = codes "custody: the value of --until isn't of its form: 0 to 253402300799, without a leading zero\n"
+form_line argument.Prefix = codes "custody: the value of --prefix isn't of its form: 0 to 90 ASCII letters, digits, '-' and '_'\n"
+form_line argument.Port = codes "custody: the value of --port isn't of its form: 1 to 65535, without a leading zero\n"
+form_line argument.Counting = codes "custody: serve takes one of --count N and --unlimited\n"
+form_line argument.Count = codes "custody: the value of --count isn't of its form: 1 to 1000000, without a leading zero\n"
+form_line argument.Idle = codes "custody: the value of --idle isn't of its form: 1 to 3600, without a leading zero\n"
+form_line argument.Most = codes "custody: the value of --most isn't of its form: 1 to 3600, without a leading zero\n"
+
+-- one of two, and not both
+abbrev pub is_one_of : Bool → Bool → Bool
+is_one_of first second = cond first (not second) second
+
+-- the values fit an argument: its value is there, if it has to be, and is of its form; nothing fits a command that isn't known
+abbrev pub fits : Given → Argument → Bool
+fits given argument.Command = false
+fits given argument.Db = is_some given.db
+fits given argument.To = is_some given.to
+fits given argument.Org = option_map_or is_org_name given.org false
+fits given argument.Name = option_map_or is_org_name given.name false
+fits given argument.Role = option_map_or (λ word. is_some (role_of word)) given.role false
+fits given argument.Limit = option_map_or (λ word. is_some (limit_of word)) given.limit true
+fits given argument.NewLimit = option_map_or (λ word. is_some (limit_of word)) given.limit false
+fits given argument.Until = option_map_or (λ word. is_some (moment_of word)) given.until true
+fits given argument.Prefix = option_map_or is_prefix given.prefix true
+fits given argument.Port = option_map_or (λ word. is_some (port_of word)) given.port false
+fits given argument.Counting = is_one_of (is_some given.count) given.unlimited
+fits given argument.Count = option_map_or (λ word. is_some (connections_of word)) given.count true
+fits given argument.Idle = option_map_or (λ word. is_some (seconds_of word)) given.idle true
+fits given argument.Most = option_map_or (λ word. is_some (seconds_of word)) given.most true
+
+-- the arguments of a command on one organization, in the order in which their values are judged; a command of another name is
+-- itself at fault
+abbrev pub arguments_on : List ℕ → List Argument
+arguments_on command =
+    cond (bytes_eq command (codes "org-add")) (argument.Db ∷ argument.Org ∷ argument.Limit ∷ [])
+    (cond (bytes_eq command (codes "org-limit")) (argument.Db ∷ argument.Org ∷ argument.NewLimit ∷ [])
+    (cond (bytes_eq command (codes "org-remove")) (argument.Db ∷ argument.Org ∷ [])
+    (cond (bytes_eq command (codes "token-list")) (argument.Db ∷ argument.Org ∷ [])
+    (cond (bytes_eq command (codes "token-revoke")) (argument.Db ∷ argument.Org ∷ argument.Name ∷ []) (argument.Command ∷ [])))))
+
+-- the arguments of a command on a file, in the order in which their values are judged
+abbrev pub arguments_at : List ℕ → List Argument
+arguments_at command =
+    cond (bytes_eq command (codes "serve")) (argument.Db ∷ argument.Port ∷ argument.Counting ∷ argument.Count ∷ argument.Idle ∷ argument.Most ∷ [])
+    (cond (bytes_eq command (codes "check")) (argument.Db ∷ [])
+    (cond (bytes_eq command (codes "org-copy")) (argument.Db ∷ argument.To ∷ argument.Org ∷ [])
+    (cond (bytes_eq command (codes "compact")) (argument.Db ∷ argument.To ∷ [])
+    (cond (bytes_eq command (codes "token-add")) (argument.Db ∷ argument.Org ∷ argument.Name ∷ argument.Role ∷ argument.Until ∷ argument.Prefix ∷ [])
+    (cond (bytes_eq command (codes "org-list")) (argument.Db ∷ []) (arguments_on command))))))
+
+-- the arguments of a command
+abbrev pub arguments_of : List ℕ → List Argument
+arguments_of command = cond (bytes_eq command (codes "replay")) [] (arguments_at command)
+
+-- the first argument of a command that the values don't fit
+abbrev pub first_misfit : List ℕ → Given → Option Argument
+first_misfit command given = find (λ argument. not (fits given argument)) (arguments_of command)
