@@ -3,7 +3,8 @@
 
 use program::endings::{Ending, unread};
 use program::reasons::Cause;
-use program::replies::{refuse, say};
+use program::replies::{refuse, refuse_usage};
+use std::fs::{File, OpenOptions};
 use std::io::BufWriter;
 use std::process::ExitCode;
 use std::{env, io};
@@ -14,14 +15,14 @@ fn read_arguments(rt: &HostRuntime) -> io::Result<Vec<String>> {
     Ok(words)
 }
 
-fn refuse_memory(rt: &HostRuntime) -> u8 {
-    refuse(&mut rt.stdout(), &mut rt.stderr(), Cause::NoMemory).status()
+fn refuse_for(rt: &HostRuntime, cause: Cause) -> u8 {
+    refuse(&mut rt.stdout(), &mut rt.stderr(), cause).status()
 }
 
 fn run_buffered(rt: &HostRuntime, words: &[String]) -> u8 {
     match BufWriter::new(rt.alloc(), rt.stdout()) {
         Ok(mut output) => run_here(rt, words, &mut rt.stdin(), &mut output, &mut rt.stderr()),
-        Err(_) => refuse_memory(rt),
+        Err(_) => refuse_for(rt, Cause::NoMemory),
     }
 }
 
@@ -29,12 +30,33 @@ fn run(rt: &HostRuntime) -> u8 {
     match read_arguments(rt) {
         Ok(words) => run_buffered(rt, words.as_slice()),
         Err(error) => match unread(error.kind()) {
-            Ending::Down => refuse_memory(rt),
-            ending => say(&mut rt.stdout(), ending).status(),
+            Ending::Down => refuse_for(rt, Cause::NoMemory),
+            _ => refuse_usage(&mut rt.stdout(), &mut rt.stderr(), Cause::Encoding).status(),
         },
     }
 }
 
+fn open_null(rt: &HostRuntime) -> io::Result<File> {
+    OpenOptions::new()
+        .read(true)
+        .write(true)
+        .open(rt, "/dev/null")
+}
+
+// A file is opened at the least descriptor that is free. So where standard input, output or error is closed, one of three that are
+// opened first stands there, and no database or peer.
+fn hold_streams(rt: &HostRuntime) -> io::Result<(File, File, File)> {
+    Ok((open_null(rt)?, open_null(rt)?, open_null(rt)?))
+}
+
 fn main(rt: HostRuntime) -> ExitCode {
-    ExitCode::from(run(&rt))
+    let status = match hold_streams(&rt) {
+        Ok(held) => {
+            let status = run(&rt);
+            drop(held);
+            status
+        }
+        Err(_) => refuse_for(&rt, Cause::NoNull),
+    };
+    ExitCode::from(status)
 }

@@ -1,16 +1,30 @@
 //! A database in memory, in the place of one in a file.
-ghost use Rattle.std.specs.Prelude.{◌≡◌, ◌≢◌, Some, Ok, IfOk, false, not, is_some, map};
+ghost use Rattle.std.specs.Prelude.{◌≡◌, ◌≢◌, ◌⊎◌, Some, None, Ok, IfOk, false, not, is_some, map};
+ghost use Rattle.fakes.specs.declared.files.TheConstants.{NEWEST};
 ghost use Rattle.fakes.specs.Files.{IsKeptStore};
 ghost use Rattle.program.specs.declared.reasons.Cause.TheVariants as cause;
 ghost use Rattle.program.specs.declared.reasons.OpenFault.TheVariants as fault;
 
 use basis::{Bytes, Down, Items, OrgName, Text};
 use machine::{AdminAnswer, Keep, PlainKeep};
-use program::outside::Files;
+use program::outside::{Files, Opening};
 use program::reasons::{Cause, OpenFault};
 use program::replays::replay_over;
+use program::totals::{Looked, Totals};
 use serve::Step;
 use std::alloc::Global;
+
+/// The newest version of the schema of which a file would be.
+pub const NEWEST: u64 = 3;
+
+/// There are no tables, so there are no rows.
+const NO_ROWS: Totals = Totals {
+    organizations: 0,
+    workspaces: 0,
+    versions: 0,
+    runs: 0,
+    newest: None,
+};
 
 /// A database at one path, in memory; nothing is opened or kept at another.
 #[derive(Drop)]
@@ -57,8 +71,12 @@ impl Files<PlainKeep> for MemoryFile<'_> {
 
     ghost copied = { λ files path store. (path ≡ files.path.now) × (files.store ≡ Some store) };
 
-    // None but another path is refused.
-    ghost refuses = { λ files path why. (path ≢ files.path.now) × (why ≡ fault.Down cause.NoFile) };
+    // Another path is refused, and one at which nothing is kept yet where nothing is to be made.
+    ghost refuses = { λ files path why. ((path ≢ files.path.now) × (why ≡ fault.Down cause.NoFile)) ⊎ ((files.store ≡ None) × (why ≡ fault.Down cause.Missing)) };
+
+    ghost vacant = { λ files path. (path ≡ files.path.now) × (files.store ≡ None) };
+
+    ghost bare = { λ files path. (path ≡ files.path.now) × (files.store ≡ None) };
 
     // Of other paths nothing is said.
     ghost lacks = { λ files path answer. path ≡ files.path.now → is_some files.store ≡ not answer };
@@ -75,6 +93,8 @@ impl Files<PlainKeep> for MemoryFile<'_> {
     // It has no tables: which faults are found is told to it.
     ghost finds = { λ store _ after. after ≡ store };
 
+    ghost newest = { NEWEST };
+
     ghost is_ours = { λ store. ⟦<PlainKeep as Keep>⟧.sound store };
 
     fn is_absent(&self, _path: &str) -> bool {
@@ -85,13 +105,20 @@ impl Files<PlainKeep> for MemoryFile<'_> {
         self.is_readable
     }
 
-    fn open(&mut self, path: &str) -> Result<PlainKeep, OpenFault> {
+    fn newest_schema(&self) -> u64 {
+        NEWEST
+    }
+
+    fn open(&mut self, path: &str, opening: Opening) -> Result<PlainKeep, OpenFault> {
         if path != self.path {
             return Err(OpenFault::Down(Cause::NoFile));
         }
         match self.store.take() {
             Some(store) => Ok(store),
-            None => Ok(PlainKeep::new(self.alloc)),
+            None => match opening {
+                Opening::Existing => Err(OpenFault::Down(Cause::Missing)),
+                Opening::Created | Opening::Target => Ok(PlainKeep::new(self.alloc)),
+            },
         }
     }
 
@@ -103,8 +130,14 @@ impl Files<PlainKeep> for MemoryFile<'_> {
         Ok(())
     }
 
-    fn check(&self, alloc: Global, _store: &mut PlainKeep) -> Result<Items<Text>, Down> {
-        lines_of(alloc, self.faults.as_slice())
+    fn check(&self, alloc: Global, _store: &mut PlainKeep) -> Result<Looked, Down> {
+        match lines_of(alloc, self.faults.as_slice()) {
+            Ok(faults) => Ok(Looked {
+                faults,
+                totals: NO_ROWS,
+            }),
+            Err(down) => Err(down),
+        }
     }
 
     // There is one path alone, so there is nothing to copy to.

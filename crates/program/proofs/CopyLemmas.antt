@@ -1,26 +1,28 @@
 -- Copies from one store to another, one after the other, and the two files that they lie in.
-use Rattle.std.proofs.Common.{◌≡◌, ◌≢◌, ◌⊎◌, ◌∙◌, ◌||◌, ℕ, Bool, true, false, List, [], ◌∷◌, Option, Some, None, Result, Ok, Err, IfOk, OnOk, refl, sym, ap, subst, inl, inr}
+use Rattle.std.proofs.Common.{◌≡◌, ◌≢◌, ◌⊎◌, ◌∙◌, ◌||◌, ℕ, Bool, true, false, List, [], ◌∷◌, Option, Some, None, Result, Ok, Err, IfOk, OnOk, IsSomeAnd, refl, sym, ap, subst, inl, inr}
 use Rattle.std.specs.Prelude.{OnErr}
 use Rattle.std.specs.List.{AllByRecursion, list_any}
 use Rattle.std.specs.Str.{bytes_eq}
 use Rattle.std.proofs.lemmas.Slice.Eq.{bytes_eq-Decides}
 use Rattle.basis.specs.declared.memory.Down.{Down}
 use Rattle.machine.specs.Effects.{Effect, effect}
+use Rattle.machine.specs.Keeping.{Looks}
 use Rattle.machine.specs.Tokens.{AreOrganizations, ListsOrganizations, is_row_of}
 use Rattle.machine.specs.declared.keeps.AdminAnswer.{AdminAnswer}
-use Rattle.machine.specs.declared.keeps.AdminAnswer.TheVariants.{Organizations}
+use Rattle.machine.specs.declared.keeps.AdminAnswer.TheVariants.{Done, Exists, Absent, InUse, Organizations, Tokens}
 use Rattle.machine.specs.declared.keeps.Keep as keep
 use Rattle.machine.specs.declared.keeps.OrgRow.{OrgRow}
 use Rattle.machine.specs.declared.records.Organization.{Organization}
 use Rattle.serve.specs.Service.{Stays}
 use Rattle.program.specs.declared.endings.Ending.{Ending}
-use Rattle.program.specs.declared.endings.Ending.TheVariants.{Done}
 use Rattle.program.specs.declared.outside.Files as files
 use Rattle.program.specs.declared.reasons.Cause.{Cause}
-use Rattle.program.specs.declared.reasons.Cause.TheVariants.{Store, Unfinished}
-use Rattle.program.specs.Moves.{org_copied, copied_into, Arrives, AllAreCopied, SomeAreCopied, CopiesBetween}
-use Rattle.program.specs.Outcomes.{Stream, stream, IsSaid, TellsCause, TellsWord, Refuses, RefusesToOpen, RefusesSecond, Opens, OpensBoth, Closes, ClosesBoth, CopiesOver, IsCopied, IsCompacted}
-use Rattle.program.proofs.MoveLemmas.{copied_none, copied_left}
+use Rattle.program.specs.declared.reasons.Cause.TheVariants.{Unfinished}
+use Rattle.program.specs.Moves.{org_copied, copied_into, Arrives, AllAreCopied, SomeAreCopied, IsFilled, lists_none, CopiesBetween}
+use Rattle.program.specs.declared.outside.Opening.TheVariants.{Target}
+use Rattle.program.specs.Outcomes.{Stream, stream, TellsCause, TellsWord, Refuses, RefusesToOpen, RefusesSecond, OpensSound, OpensBoth, Closes, ClosesBoth, CopiesOver, IsCopied, IsCompacted}
+use Rattle.program.proofs.MoveLemmas.{copied_none, copied_left, to_none}
+use Rattle.program.proofs.OutsideLemmas.{same_records}
 
 -- ---- records
 
@@ -85,26 +87,108 @@ module _ {K : Type 0} (k : keep.Ghosts K) where
     model = λ clean sound clean_source sound_source. means (k.rows a) (k.rows x) (k.rows y) (copies.model clean sound clean_source sound_source);
   }
 
+  -- the target is looked at first, and more is known of its records then
+  pub copies_behind : (Q R : Records → Records → Records → Type 0) (a b x y z : K) → Looks k.rows k.clean k.sound k.shielded x y
+      → (k.clean y → k.sound x → (from new : Records) → Q from (k.rows x) new → R from (k.rows x) new) → CopiesBetween k Q a b y z → CopiesBetween k R a b x z
+  copies_behind Q R a b x y z looks means copies = record {
+    look = copies.look;
+    so_far = λ clean. looks.so_far (copies.so_far clean);
+    shield = λ shielded. copies.shield (looks.shield shielded);
+    kept = λ clean sound clean_source sound_source. copies.kept clean (looks.kept (copies.so_far clean) sound) clean_source sound_source;
+    model = λ clean sound clean_source sound_source. means (copies.so_far clean) sound (k.rows a) (k.rows z)
+        (subst (λ (rows : Records). Q (k.rows a) rows (k.rows z)) (same_records (k.rows y) (k.rows x) (looks.same (copies.so_far clean)))
+        (copies.model clean (looks.kept (copies.so_far clean) sound) clean_source sound_source));
+  }
+
+  -- the target is looked at behind the copies
+  pub copies_looked : (Q : Records → Records → Records → Type 0) (a b x y z : K) → CopiesBetween k Q a b x y → Looks k.rows k.clean k.sound k.shielded y z → CopiesBetween k Q a b x z
+  copies_looked Q a b x y z copies looks = record {
+    look = copies.look;
+    so_far = λ clean. copies.so_far (looks.so_far clean);
+    shield = λ shielded. looks.shield (copies.shield shielded);
+    kept = λ clean sound clean_source sound_source. looks.kept clean (copies.kept (looks.so_far clean) sound clean_source sound_source);
+    model = λ clean sound clean_source sound_source. subst (λ (rows : Records). Q (k.rows a) (k.rows x) rows) (sym (same_records (k.rows z) (k.rows y) (looks.same clean)))
+        (copies.model (looks.so_far clean) sound clean_source sound_source);
+  }
+
+  -- the target is looked at, and nothing is copied
+  pub copies_none : (R : Records → Records → Records → Type 0) (a x y : K) → Looks k.rows k.clean k.sound k.shielded x y
+      → (k.clean y → k.sound x → ((org : List ℕ) → k.rows y org ≡ k.rows x org) → (from : Records) → R from (k.rows x) (k.rows y)) → CopiesBetween k R a a x y
+  copies_none R a x y looks means = record {
+    look = record { so_far = λ clean. clean; kept = λ clean sound. sound; shield = λ shielded. shielded; same = λ clean org. refl };
+    so_far = looks.so_far;
+    shield = looks.shield;
+    kept = λ clean sound clean_source sound_source. looks.kept clean sound;
+    model = λ clean sound clean_source sound_source. means clean sound (looks.same clean) (k.rows a);
+  }
+
+-- ---- a target that has to be without organizations
+
+-- a list without an organization
+none_listed : (records : Records) (told : AdminAnswer) → ListsOrganizations records told → lists_none told ≡ true → (org : List ℕ) → records org ≡ None
+none_listed records Done are e org = absurd are
+none_listed records Exists are e org = absurd are
+none_listed records Absent are e org = absurd are
+none_listed records InUse are e org = absurd are
+none_listed records (Tokens rows) are e org = absurd are
+none_listed records (Organizations (row ∷ rows)) are e org = absurd (let no : ⊥ = cc in no)
+none_listed records (Organizations []) are e org = by_record (records org) refl
+  where
+    by_record : (r : Option Organization) → records org ≡ r → records org ≡ None
+    by_record None is = is
+    by_record (Some o) is = absurd (let found = are.whole org o is in let no : ⊥ = cc in no)
+
+there_by : (records : Records) (org : List ℕ) (P : Organization → Type 0) (r : Option Organization) → records org ≡ r → IsSomeAnd r P → (there : Organization) × (records org ≡ Some there)
+there_by records org P None is so = absurd so
+there_by records org P (Some o) is so = (o, is)
+
+-- a list with one
+some_listed : (records : Records) (told : AdminAnswer) → ListsOrganizations records told → lists_none told ≡ false → (org : List ℕ) × (there : Organization) × (records org ≡ Some there)
+some_listed records Done are e = absurd are
+some_listed records Exists are e = absurd are
+some_listed records Absent are e = absurd are
+some_listed records InUse are e = absurd are
+some_listed records (Tokens rows) are e = absurd are
+some_listed records (Organizations []) are e = absurd (let no : ⊥ = cc in no)
+some_listed records (Organizations (row ∷ rows)) are e =
+    let found = there_by records row.name _ (records row.name) refl are.told.0 in (row.name, found.0, found.1)
+
+-- where none was listed, and all were copied, each is there as it was
+pub is_filled : (from old new : Records) (told : AdminAnswer) → ListsOrganizations old told → lists_none told ≡ true → AllAreCopied from old new → IsFilled from old new Done
+is_filled from old new told are e all = (none_listed old told are e, to_none from old new all (none_listed old told are e))
+
+-- where some were listed nothing was copied
+pub is_left : (from old new : Records) (told : AdminAnswer) → ListsOrganizations old told → lists_none told ≡ false → ((org : List ℕ) → new org ≡ old org) → IsFilled from old new Exists
+is_left from old new told are e same = (same, some_listed old told are e)
+
+pub some_stay : (from old new : Records) → ((org : List ℕ) → new org ≡ old org) → SomeAreCopied from old new
+some_stay from old new same org = inl (same org)
+
 -- ---- answers
 
 -- an answer is told as it is, and where there is none `refused down`, with its cause
-pub copied : (org : List ℕ) (from old new : Records) (e : Ending) (output errors : Stream) (result : Result AdminAnswer Down)
+pub copied : (Fails : Cause → Type 0) (org : List ℕ) (from old new : Records) (e : Ending) (output errors : Stream) (result : Result AdminAnswer Down)
     → IfOk result (λ answer. effect answer (new org) ≡ org_copied (from org) (old org)) → ((other : List ℕ) → other ≢ org → new other ≡ old other) → OnErr result (Stays old new)
-    → IfOk result (λ answer. TellsWord answer e output × (errors.new ≡ errors.old)) → OnErr result (Refuses Store e output errors) → IsCopied org from old new e output errors
-copied org from old new e output errors (Ok answer) own others stays tells down = inl (answer, own, others, tells.0, tells.1)
-copied org from old new e output errors (Err d) own others stays tells down = inr (stays, down)
+    → IfOk result (λ answer. TellsWord answer e output × (errors.new ≡ errors.old)) → OnErr result ((why : Cause) × Fails why × Refuses why e output errors) → IsCopied Fails org from old new e output errors
+copied Fails org from old new e output errors (Ok answer) own others stays tells down = inl (answer, own, others, tells.0, tells.1)
+copied Fails org from old new e output errors (Err d) own others stays tells down = inr (stays, down)
 
-pub compacted : {T : Type 0} (from old new : Records) (e : Ending) (output errors : Stream) (result : Result T Down) → SomeAreCopied from old new → OnOk result (AllAreCopied from old new)
-    → OnOk result (IsSaid Done e output.old output.new × (errors.new ≡ errors.old)) → OnErr result (Refuses Unfinished e output errors) → IsCompacted from old new e output errors
-compacted from old new e output errors (Ok done) some all tells down = inl (all, tells.0, tells.1)
-compacted from old new e output errors (Err d) some all tells down = inr (some, down)
+pub compacted : (from old new : Records) (e : Ending) (output errors : Stream) (result : Result AdminAnswer Down) → SomeAreCopied from old new → IfOk result (IsFilled from old new)
+    → IfOk result (λ answer. TellsWord answer e output × (errors.new ≡ errors.old)) → OnErr result (Refuses Unfinished e output errors) → IsCompacted from old new e output errors
+compacted from old new e output errors (Ok answer) some filled tells down = inl (answer, filled, tells.0, tells.1)
+compacted from old new e output errors (Err d) some filled tells down = inr (some, down)
+
+-- the only cause of a copy that isn't finished
+pub unfinished : (P : Type 0) (errors : Stream) → P ⊎ TellsCause Unfinished errors → P ⊎ ((why : Cause) × (why ≡ Unfinished) × TellsCause why errors)
+unfinished P errors (inl p) = inl p
+unfinished P errors (inr h) = inr (Unfinished, refl, h)
 
 -- ---- files
 
 module _ {K F : Type 0} (k : keep.Ghosts K) (f : files.Ghosts F K) where
   -- the second of two paths isn't opened, and the first is closed again
   pub refuses_second : (from to : List ℕ) (old opened unopened new : F) (source : K) (e : Ending) (out said before noted told after : Option (List ℕ)) → from ≢ to
-      → Opens k f from old opened source (stream before noted) → RefusesToOpen k f to opened unopened e (stream out said) (stream noted told) → Closes k f from unopened new source (stream told after)
+      → OpensSound k f from old opened source (stream before noted) → RefusesToOpen k f to Target opened unopened e (stream out said) (stream noted told) → Closes k f from unopened new source (stream told after)
       → RefusesSecond k f from to old new e (stream out said) (stream before after)
   refuses_second from to old opened unopened new source e out said before noted told after differ first second closes = record {
     differ = differ;
@@ -116,17 +200,17 @@ module _ {K F : Type 0} (k : keep.Ghosts K) (f : files.Ghosts F K) where
     first = first;
     second = second;
     closes = closes;
-    others = λ other store apart held. closes.others other store apart (second.0 other store (first.others other store apart held));
+    others = λ other store apart held. closes.others other store apart (second.0 other store (first.opens.others other store apart held));
   }
 
   -- stores are opened at two paths, it is copied from one to the other, and they are closed
-  pub copies_over : (from to : List ℕ) (Becomes : Records → Records → Records → Stream → Type 0) (refused : Cause) (old worked new : F) (source source' target target' : K) (before noted told after : Option (List ℕ))
+  pub copies_over : (from to : List ℕ) (Becomes : K → Records → Records → Records → Stream → Type 0) (Fails : K → Cause → Type 0) (old worked new : F) (source source' target target' : K) (before noted told after : Option (List ℕ))
       → OpensBoth k f from to old worked source target (stream before noted)
-      → CopiesBetween k (λ s o n. Becomes s o n (stream noted told)) source source' target target'
-      → (told ≡ noted) ⊎ TellsCause refused (stream noted told)
+      → CopiesBetween k (λ s o n. Becomes target' s o n (stream noted told)) source source' target target'
+      → (told ≡ noted) ⊎ ((why : Cause) × Fails target' why × TellsCause why (stream noted told))
       → ClosesBoth k f from to worked new source' target' (stream told after)
-      → CopiesOver k f from to Becomes refused old new (stream before after)
-  copies_over from to Becomes refused old worked new source source' target target' before noted told after opens copies why closes = record {
+      → CopiesOver k f from to Becomes Fails old new (stream before after)
+  copies_over from to Becomes Fails old worked new source source' target target' before noted told after opens copies why closes = record {
     source_before = source;
     source_after = source';
     target_before = target;
@@ -136,10 +220,13 @@ module _ {K F : Type 0} (k : keep.Ghosts K) (f : files.Ghosts F K) where
     told = told;
     opens = opens;
     copies = copies;
+    ours = λ clean sound clean_source ours. subst (λ (rows : Records). Becomes target' rows (k.rows target) (k.rows target') (stream noted told))
+        (same_records (k.rows source) (k.rows opens.first.opened) (opens.first.look.same (copies.look.so_far clean_source)))
+        (copies.model clean sound clean_source (opens.first.sound_ours (copies.look.so_far clean_source) ours).1);
     why = why;
     closes = closes;
     left_source = closes.first.left;
     left_target = closes.first.others to target' (λ e. opens.differ (sym e)) closes.second.left;
     others = λ other store apart_from apart_to held.
-        closes.first.others other store apart_from (closes.second.others other store apart_to (opens.second.others other store apart_to (opens.first.others other store apart_from held)));
+        closes.first.others other store apart_from (closes.second.others other store apart_to (opens.second.others other store apart_to (opens.first.opens.others other store apart_from held)));
   }

@@ -12,7 +12,7 @@ use Rattle.wire.specs.declared.devices.Outlet as outlet
 use Rattle.wire.proofs.LinkLemmas.{Appends-none, Appends-then}
 use Rattle.serve.specs.Asks.{Ask, silent, refused, requests, commands, owner_of}
 use Rattle.serve.specs.Exchanges.{Exchanges, IsAnswered, ChangesAsTold}
-use Rattle.serve.specs.Logs.{silent_row, with_answer, request_row, row_of_ask, unavailable_row}
+use Rattle.serve.specs.Logs.{silent_row, with_answer, request_row, row_of_ask}
 use Rattle.serve.specs.Service.{record_for}
 use Rattle.serve.specs.Steps.{replies, refusing, command_said, step}
 use Rattle.serve.specs.declared.exchanges.LinkFault.{LinkFault}
@@ -72,7 +72,7 @@ served_row r (commands when command) awaited at answer row said is = absurd (uns
 answered_row : (now : ℕ) (received : List ℕ) (old new : List ℕ → Option Organization) (awaited : Bool) (text : List ℕ) (row : Option LogRow) (is_down : Bool)
     → IsAnswered now received old new awaited text row is_down → (told : LogRow) × (row ≡ Some told)
 answered_row now received old new awaited text row false served = served_row (record_for old (owner_of served.ask)) served.ask awaited now served.answer row served.said served.logged
-answered_row now received old new awaited text row true down = (unavailable_row now, down.1.logged)
+answered_row now received old new awaited text row true down = (down.1.told, down.1.tells)
 
 exchange_row : {T : Type 0} (now : ℕ) (received : List ℕ) (left : Option (List ℕ)) (old new : List ℕ → Option Organization) (before after : Option (List ℕ)) (is_down : Bool) (row : Option LogRow) (res : Result T LinkFault)
     → Exchanges now received left old new before after is_down row res → (told : LogRow) × (row ≡ Some told)

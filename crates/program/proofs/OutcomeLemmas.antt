@@ -5,6 +5,7 @@ use Rattle.basis.specs.declared.memory.Down.{Down as BasisDown}
 use Rattle.machine.specs.declared.keeps.AdminAnswer.{AdminAnswer}
 use Rattle.machine.specs.declared.records.Organization.{Organization}
 use Rattle.serve.specs.declared.steps.Admin.{Admin}
+use Rattle.serve.specs.declared.steps.Admin.TheVariants.{OrgAdd, OrgLimit, OrgRemove, OrgList, TokenAdd, TokenList, TokenRevoke}
 use Rattle.serve.specs.Asks.{commands}
 use Rattle.serve.specs.Service.{Carries as CarriesOut, IsAdminAnswer, Stays}
 use Rattle.wire.proofs.LinkLemmas.{Appends-then}
@@ -12,9 +13,12 @@ use Rattle.std.specs.Io.KnownBytes.{Appends}
 use Rattle.program.specs.declared.endings.Ending.{Ending}
 use Rattle.program.specs.declared.endings.Ending.TheVariants.{Done, Exists, Absent, InUse, Faults, Usage, BadFrame, Schema, Down, Unprinted}
 use Rattle.program.specs.Endings.{ending_line}
-use Rattle.program.specs.declared.reasons.Cause.TheVariants as cause
 use Rattle.program.specs.Logs.{with_log}
-use Rattle.program.specs.Outcomes.{Stream, stream, Gets, Says, IsSaid, ReplaysFrames, Refuses, ServesAt, TellsAnswer, IsOperated}
+use Rattle.program.specs.declared.reasons.Cause.{Cause}
+use Rattle.program.specs.declared.outside.Files as files
+use Rattle.program.specs.declared.outside.Opening.{Opening}
+use Rattle.machine.specs.declared.keeps.Keep as keep
+use Rattle.program.specs.Outcomes.{Stream, stream, Gets, Says, IsSaid, ReplaysFrames, Refuses, RefusesToOpen, ServesAt, AnswersCommand, AnswersFaults, AnswersLine, TellsAnswer, IsOperated}
 use Rattle.program.specs.Replies.{AnswersFrames, printed, bad_frame_text, answer_line}
 use Rattle.program.specs.Serving.{Listens, listening_line}
 
@@ -22,6 +26,10 @@ use Rattle.program.specs.Serving.{Listens, listening_line}
 pub said : (P : Ending → Type 0) (e result : Ending) (old new : Option (List ℕ)) → (Says e (stream old new) → P e) → P Unprinted → IsSaid e result old new → P result
 said P e result old new right wrong (inl h) = subst P (sym h.0) (right h.1)
 said P e result old new right wrong (inr h) = subst P (sym h) wrong
+
+-- what is said behind an output that is as before is said behind that
+pub said_behind : (e result : Ending) (old mid new : Option (List ℕ)) → mid ≡ old → IsSaid e result mid new → IsSaid e result old new
+said_behind e result old mid new same is = subst (λ (o : Option (List ℕ)). IsSaid e result o new) same is
 
 pub replayed : (input : Option (List ℕ)) (replies : List (List ℕ)) (bad : Option ℕ) (result : Ending) (output errors : Stream) → IfSome input (λ bytes. AnswersFrames bytes replies bad) → Gets output (printed replies)
     → (bad ≡ None → result ≡ Done) → IfSome bad (λ frame. ((result ≡ BadFrame) × Gets errors (bad_frame_text frame)) ⊎ (result ≡ Unprinted)) → ReplaysFrames input result output errors
@@ -62,8 +70,54 @@ served logs Down result old mid new listens down other = go listens (down refl)
         (inr (told.0, told.1, Appends-then old mid new (with_log logs (listening_line told.0) told.1) (answer_line (ending_line Down)) told.2 h.1))
 
 -- an answer is told as it is, and where there is none `refused down`, with its cause
-pub operated : (at : ℕ) (command : Admin) (old new : List ℕ → Option Organization) (e : Ending) (output errors : Stream) (res : Result AdminAnswer BasisDown)
+pub operated : (Fails : Cause → Type 0) (at : ℕ) (command : Admin) (old new : List ℕ → Option Organization) (e : Ending) (output errors : Stream) (res : Result AdminAnswer BasisDown)
     → IfOk res (λ answer. CarriesOut (commands at command) old new × IsAdminAnswer old command answer) → OnErr res (Stays old new)
-    → IfOk res (λ answer. TellsAnswer command answer e output × (errors.new ≡ errors.old)) → OnErr res (Refuses cause.Store e output errors) → IsOperated command old new e output errors
-operated at command old new e output errors (Ok answer) done stays tells down = inl (answer, at, done.0, done.1, tells.0, tells.1)
-operated at command old new e output errors (Err d) done stays tells down = inr (stays, down)
+    → IfOk res (λ answer. TellsAnswer command answer e output × (errors.new ≡ errors.old)) → OnErr res ((why : Cause) × Fails why × Refuses why e output errors) → IsOperated Fails command old new e output errors
+operated Fails at command old new e output errors (Ok answer) done stays tells down = inl (answer, at, done.0, done.1, tells.0, tells.1)
+operated Fails at command old new e output errors (Err d) done stays tells down = inr (stays, down)
+
+-- `refused down` and `refused schema` answer each command
+pub command_refused : (command : Admin) (e result : Ending) (old new : Option (List ℕ)) → (e ≡ Down) ⊎ (e ≡ Schema) → IsSaid e result old new → AnswersCommand command result (stream old new)
+command_refused command e result old new (inl h) is = by_down command (subst (λ (x : Ending). IsSaid x result old new) h is)
+  where
+    by_down : (command : Admin) → IsSaid Down result old new → AnswersCommand command result (stream old new)
+    by_down OrgList is = said (λ (x : Ending). AnswersCommand OrgList x (stream old new)) Down result old new (λ h. h) tt is
+    by_down (OrgAdd org limit) is = said (λ (x : Ending). AnswersCommand (OrgAdd org limit) x (stream old new)) Down result old new (λ h. h) tt is
+    by_down (OrgLimit org limit) is = said (λ (x : Ending). AnswersCommand (OrgLimit org limit) x (stream old new)) Down result old new (λ h. h) tt is
+    by_down (OrgRemove org is_forced) is = said (λ (x : Ending). AnswersCommand (OrgRemove org is_forced) x (stream old new)) Down result old new (λ h. h) tt is
+    by_down (TokenAdd org name role secret bounds) is = said (λ (x : Ending). AnswersCommand (TokenAdd org name role secret bounds) x (stream old new)) Down result old new (λ h. h) tt is
+    by_down (TokenList org) is = said (λ (x : Ending). AnswersCommand (TokenList org) x (stream old new)) Down result old new (λ h. h) tt is
+    by_down (TokenRevoke org name) is = said (λ (x : Ending). AnswersCommand (TokenRevoke org name) x (stream old new)) Down result old new (λ h. h) tt is
+command_refused command e result old new (inr h) is = by_schema command (subst (λ (x : Ending). IsSaid x result old new) h is)
+  where
+    by_schema : (command : Admin) → IsSaid Schema result old new → AnswersCommand command result (stream old new)
+    by_schema OrgList is = said (λ (x : Ending). AnswersCommand OrgList x (stream old new)) Schema result old new (λ h. h) tt is
+    by_schema (OrgAdd org limit) is = said (λ (x : Ending). AnswersCommand (OrgAdd org limit) x (stream old new)) Schema result old new (λ h. h) tt is
+    by_schema (OrgLimit org limit) is = said (λ (x : Ending). AnswersCommand (OrgLimit org limit) x (stream old new)) Schema result old new (λ h. h) tt is
+    by_schema (OrgRemove org is_forced) is = said (λ (x : Ending). AnswersCommand (OrgRemove org is_forced) x (stream old new)) Schema result old new (λ h. h) tt is
+    by_schema (TokenAdd org name role secret bounds) is = said (λ (x : Ending). AnswersCommand (TokenAdd org name role secret bounds) x (stream old new)) Schema result old new (λ h. h) tt is
+    by_schema (TokenList org) is = said (λ (x : Ending). AnswersCommand (TokenList org) x (stream old new)) Schema result old new (λ h. h) tt is
+    by_schema (TokenRevoke org name) is = said (λ (x : Ending). AnswersCommand (TokenRevoke org name) x (stream old new)) Schema result old new (λ h. h) tt is
+
+-- which of the two a refusal to open is
+pub refused_by : {K F : Type 0} (k : keep.Ghosts K) (f : files.Ghosts F K) (path : List ℕ) (opening : Opening) (was is : F) (e : Ending) (old new before after : Option (List ℕ))
+    → RefusesToOpen k f path opening was is e (stream old new) (stream before after) → IsSaid Down e old new ⊎ IsSaid Schema e old new
+refused_by k f path opening was is e old new before after (stays, left, inl h) = inl h.2.0
+refused_by k f path opening was is e old new before after (stays, left, inr (inl h)) = inl h.2
+refused_by k f path opening was is e old new before after (stays, left, inr (inr h)) = inr h.2
+
+pub refused_command : (command : Admin) (result : Ending) (old new : Option (List ℕ)) → IsSaid Down result old new ⊎ IsSaid Schema result old new → AnswersCommand command result (stream old new)
+refused_command command result old new (inl h) = command_refused command Down result old new (inl refl) h
+refused_command command result old new (inr h) = command_refused command Schema result old new (inr refl) h
+
+pub refused_faults : (result : Ending) (old new : Option (List ℕ)) → IsSaid Down result old new ⊎ IsSaid Schema result old new → AnswersFaults result (stream old new)
+refused_faults result old new (inl h) = said (λ (x : Ending). AnswersFaults x (stream old new)) Down result old new (λ h. h) tt h
+refused_faults result old new (inr h) = said (λ (x : Ending). AnswersFaults x (stream old new)) Schema result old new (λ h. h) tt h
+
+pub refused_line : (result : Ending) (old new : Option (List ℕ)) → IsSaid Down result old new ⊎ IsSaid Schema result old new → AnswersLine result (stream old new)
+refused_line result old new (inl h) = said (λ (x : Ending). AnswersLine x (stream old new)) Down result old new (λ h. h) tt h
+refused_line result old new (inr h) = said (λ (x : Ending). AnswersLine x (stream old new)) Schema result old new (λ h. h) tt h
+
+pub refused_serving : (logs : Bool) (result : Ending) (old new : Option (List ℕ)) → IsSaid Down result old new ⊎ IsSaid Schema result old new → ServesAt logs result (stream old new)
+refused_serving logs result old new (inl h) = said (λ (x : Ending). ServesAt logs x (stream old new)) Down result old new (λ h. inl h) tt h
+refused_serving logs result old new (inr h) = said (λ (x : Ending). ServesAt logs x (stream old new)) Schema result old new (λ h. h) tt h

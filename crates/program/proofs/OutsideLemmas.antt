@@ -1,5 +1,5 @@
 -- What lies at paths, from an open to a close.
-use Rattle.std.proofs.Common.{◌≡◌, ℕ, Bool, true, false, List, [], Option, Result, Ok, IfOk, refl, subst}
+use Rattle.std.proofs.Common.{◌≡◌, ◌⊎◌, ℕ, Bool, true, false, List, [], Option, Result, Ok, IfOk, refl, sym, subst}
 use Rattle.basis.specs.declared.memory.Down.{Down}
 use Rattle.machine.specs.declared.keeps.Keep as keep
 use Rattle.machine.specs.declared.records.Organization.{Organization}
@@ -9,11 +9,107 @@ use Rattle.program.specs.declared.endings.Ending.{Ending}
 use Rattle.program.specs.declared.outside.Clock as clock
 use Rattle.program.specs.declared.outside.Connections as connections
 use Rattle.program.specs.declared.outside.Files as files
+use Rattle.program.specs.declared.outside.Opening.TheVariants.{Existing, Created}
+use Rattle.program.specs.declared.reasons.Cause.{Cause}
+use Rattle.program.specs.declared.totals.Looked.{Looked}
 use Rattle.command_line.specs.declared.timeouts.Timeouts.{Timeouts}
 use Rattle.program.specs.Inner.Outcomes.{LooksFirst, ServesOpened}
-use Rattle.program.specs.Outcomes.{stream, outside, ServesFrom, ServesChecked, LooksOver, SaysServed, TellsOfLog, TellsOfFile, TellsUnsound}
-use Rattle.program.specs.Paths.{OthersStay}
+use Rattle.serve.specs.declared.steps.Admin.{Admin}
+use Rattle.machine.specs.Keeping.{Looks}
+use Rattle.program.specs.Outcomes.{stream, outside, TellsFound, opening_of, HasFailed, IsOperated, Operates, TellsCause, Opens, OpensSound, Closes, ServesFrom, ServesChecked, LooksOver, SaysServed, TellsUnsound}
 use Rattle.program.specs.Serving.{Serves, state, AnswersAtPort}
+
+-- records that are the same at each organization
+pub same_records : (a b : List ℕ → Option Organization) → ((org : List ℕ) → a org ≡ b org) → a ≡ b
+same_records a b same = λ i org. same org i
+
+module _ {K F : Type 0} (k : keep.Ghosts K) (f : files.Ghosts F K) where
+  none_found : (opened store : K) (found : Result Looked Down) (looked : Looked) → found ≡ Ok looked → looked.faults ≡ []
+      → IfOk found (λ looked. looked.faults ≡ [] → k.clean store → f.is_ours opened → k.sound opened) → k.clean store → f.is_ours opened → k.sound opened
+  none_found opened store found looked is none sound = subst (λ (r : Result Looked Down). IfOk r (λ looked. looked.faults ≡ [] → k.clean store → f.is_ours opened → k.sound opened)) is sound none
+
+  -- a store is opened at a path, and a look finds no fault in its tables
+  pub opens_sound : (path : List ℕ) (why : Cause) (old mid : F) (opened store : K) (before noted known : Option (List ℕ))
+      → Opens k f path Existing old mid opened (stream before noted) → LooksFirst k f why opened true store (stream noted known)
+      → OpensSound k f path old mid store (stream before known)
+  opens_sound path why old mid opened store before noted known opens look =
+      let sound : k.clean store → f.is_ours opened → k.sound opened = none_found opened store look.result look.says.0.0 look.says.0.1 look.says.0.2 look.sound in
+      record {
+        opened = opened;
+        opens = subst (λ (e : Option (List ℕ)). Opens k f path Existing old mid opened (stream before e)) (sym look.says.1) opens;
+        look = look.look;
+        looked = look.says.0.0;
+        finds = subst (λ (r : Result Looked Down). f.finds opened r store) look.says.0.1 look.finds;
+        none = look.says.0.2;
+        sound_ours = λ clean ours. (sound clean ours, look.look.kept clean (sound clean ours));
+      }
+
+  -- a store is opened at a path, its tables are looked over, what is found is told, and it is closed there
+  pub looks_at : (path : List ℕ) (old mid new : F) (opened store : K) (found : Result Looked Down) (e : Ending) (out heard said before noted told after : Option (List ℕ))
+      → Opens k f path Existing old mid opened (stream before noted) → heard ≡ out
+      → Looks k.rows k.clean k.sound k.shielded opened store → f.finds opened found store
+      → IfOk found (λ looked. looked.faults ≡ [] → k.clean store → f.is_ours opened → k.sound opened)
+      → TellsFound found e (stream heard said) (stream noted told) → Closes k f path mid new store (stream told after)
+      → LooksOver k f path (λ found told. TellsFound found e (stream out said) told) old new (stream before after)
+  looks_at path old mid new opened store found e out heard said before noted told after opens same look finds sound tells closes = record {
+    before = opened;
+    after = store;
+    worked = mid;
+    noted = noted;
+    told = told;
+    opens = opens;
+    looks = record {
+      look = look;
+      result = found;
+      finds = finds;
+      sound = sound;
+      says = subst (λ (o : Option (List ℕ)). TellsFound found e (stream o said) (stream noted told)) same tells;
+    };
+    closes = closes;
+    others = λ other store differs held. closes.others other store differs (opens.others other store differs held);
+  }
+
+  -- a store is opened at a path, a look finds faults in its tables or is refused, and it is closed there
+  pub looks_over : (path : List ℕ) (why : Cause) (old mid new : F) (opened store : K) (before noted known after : Option (List ℕ))
+      → Opens k f path Existing old mid opened (stream before noted) → LooksFirst k f why opened false store (stream noted known)
+      → Closes k f path mid new store (stream known after)
+      → LooksOver k f path (TellsUnsound why) old new (stream before after)
+  looks_over path why old mid new opened store before noted known after opens look closes = record {
+    before = opened;
+    after = store;
+    worked = mid;
+    noted = noted;
+    told = known;
+    opens = opens;
+    looks = record { look = look.look; result = look.result; finds = look.finds; sound = look.sound; says = look.says };
+    closes = closes;
+    others = λ other store differs held. closes.others other store differs (opens.others other store differs held);
+  }
+
+module _ {K F : Type 0} (k : keep.Ghosts K) (f : files.Ghosts F K) where
+  -- a store is opened at a path, a command is carried out on it, and it is closed there
+  pub operates : (path : List ℕ) (command : Admin) (old mid new : F) (before after : K) (e : Ending) (out heard said first noted told last : Option (List ℕ))
+      → Opens k f path (opening_of command) old mid before (stream first noted) → heard ≡ out
+      → (k.clean after → k.clean before) → (k.shielded before → k.shielded after) → (k.clean after → k.sound before → k.sound after)
+      → (k.clean after → k.sound before → IsOperated (HasFailed k f after) command (k.rows before) (k.rows after) e (stream heard said) (stream noted told))
+      → (told ≡ noted) ⊎ ((why : Cause) × HasFailed k f after why × TellsCause why (stream noted told))
+      → Closes k f path mid new after (stream told last)
+      → Operates k f path command old new e (stream out said) (stream first last)
+  operates path command old mid new before after e out heard said first noted told last opens same so_far shield kept model why closes = record {
+    before = before;
+    after = after;
+    worked = mid;
+    noted = noted;
+    told = told;
+    opens = opens;
+    so_far = so_far;
+    shield = shield;
+    kept = kept;
+    model = λ clean sound. subst (λ (o : Option (List ℕ)). IsOperated (HasFailed k f after) command (k.rows before) (k.rows after) e (stream o said) (stream noted told)) same (model clean sound);
+    why = why;
+    closes = closes;
+    others = λ other store differs held. closes.others other store differs (opens.others other store differs held);
+  }
 
 module _ {K F N C R W : Type 0} (k : keep.Ghosts K) (f : files.Ghosts F K) (n : connections.Ghosts N R W) (c : clock.Ghosts C) (i : inlet.Ghosts R) (o : outlet.Ghosts W) where
   -- connections are answered from an opened store, and it is closed
@@ -22,15 +118,12 @@ module _ {K F N C R W : Type 0} (k : keep.Ghosts K) (f : files.Ghosts F K) (n : 
       → (k.clean to → k.clean from) → (k.shielded from → k.shielded to) → (k.clean to → k.sound from → k.sound to)
       → (k.clean to → k.sound from → Serves count (k.rows from) (k.rows to))
       → AnswersAtPort k f n c i o port timeouts logs count (state network time from before out) (state network' time' to lines told) served
-      → f.holds new path closed → OthersStay f.holds path old new → SaysServed served e told last
-      → TellsOfLog (f.copied new path closed) (stream lines after)
+      → Closes k f path old new closed (stream lines after) → SaysServed served e told last
       → ServesOpened k f n c i o path port timeouts logs count opened (outside old network time) (outside new network' time') e (stream out last) (stream before after)
-  serves_opened path port timeouts logs count old new network network' time time' opened from to closed served e out told last before lines after begins closes so_far shield kept rows answers left others says log =
+  serves_opened path port timeouts logs count old new network network' time time' opened from to closed served e out told last before lines after begins ends so_far shield kept rows answers closes says =
       subst (λ (s : K). ServesOpened k f n c i o path port timeouts logs count s (outside old network time) (outside new network' time') e (stream out last) (stream before after)) begins
       (record {
         after = to;
-        left = subst (λ (s : K). f.holds new path s) closes left;
-        others = others;
         so_far = so_far;
         shield = shield;
         kept = kept;
@@ -40,109 +133,56 @@ module _ {K F N C R W : Type 0} (k : keep.Ghosts K) (f : files.Ghosts F K) (n : 
         lines = lines;
         answers = answers;
         says = says;
-        log = subst (λ (s : K). TellsOfLog (f.copied new path s) (stream lines after)) closes log;
+        closes = subst (λ (s : K). Closes k f path old new s (stream lines after)) ends closes;
       })
 
   -- a store is opened at a path, and connections are answered from it
-  pub serves_from : (path : List ℕ) (port : ℕ) (timeouts : Timeouts) (logs : Bool) (count : ℕ) (old mid new : F) (network network' : N) (time time' : C) (opened : K) (e : Ending) (out last before noted after : Option (List ℕ)) (is_new others_may_read : Bool)
-      → f.holds old path opened → OthersStay f.holds path old mid
-      → f.lacks old path is_new → f.reads old path others_may_read → TellsOfFile is_new others_may_read (stream before noted)
-      → ServesOpened k f n c i o path port timeouts logs count opened (outside mid network time) (outside new network' time') e (stream out last) (stream noted after)
+  pub serves_from : (path : List ℕ) (port : ℕ) (timeouts : Timeouts) (logs : Bool) (count : ℕ) (old mid new : F) (network network' : N) (time time' : C) (opened : K) (e : Ending) (out heard last before noted after : Option (List ℕ))
+      → Opens k f path Created old mid opened (stream before noted) → heard ≡ out
+      → ServesOpened k f n c i o path port timeouts logs count opened (outside mid network time) (outside new network' time') e (stream heard last) (stream noted after)
       → ServesFrom k f n c i o path port timeouts logs count (outside old network time) (outside new network' time') e (stream out last) (stream before after)
-  serves_from path port timeouts logs count old mid new network network' time time' opened e out last before noted after is_new others_may_read found first sought looked tells from = record {
+  serves_from path port timeouts logs count old mid new network network' time time' opened e out heard last before noted after opens same from = record {
     before = opened;
     after = from.after;
-    found = found;
-    left = from.left;
-    others = λ other store differs held. from.others other store differs (first other store differs held);
+    worked = mid;
+    noted = noted;
+    opens = opens;
     so_far = from.so_far;
     shield = from.shield;
     kept = from.kept;
     serves = from.serves;
     served = from.served;
     told = from.told;
-    is_new = is_new;
-    sought = sought;
-    others_may_read = others_may_read;
-    looked = looked;
-    noted = noted;
-    tells = tells;
     lines = from.lines;
-    answers = from.answers;
+    answers = subst (λ (o' : Option (List ℕ)). AnswersAtPort k f n c i o port timeouts logs count (state network time opened noted o') (state network' time' from.after from.lines from.told) from.served) same from.answers;
     says = from.says;
-    log = from.log;
+    closes = from.closes;
+    others = λ other store differs held. from.closes.others other store differs (opens.others other store differs held);
   }
 
   -- a store is opened at a path, a look finds no fault in its tables, and connections are answered from it
-  pub serves_checked : (path : List ℕ) (port : ℕ) (timeouts : Timeouts) (logs : Bool) (count : ℕ) (old mid new : F) (network network' : N) (time time' : C) (opened looked_at : K) (e : Ending) (out last before noted known after : Option (List ℕ)) (is_new others_may_read : Bool)
-      → f.holds old path opened → OthersStay f.holds path old mid
-      → f.lacks old path is_new → f.reads old path others_may_read → TellsOfFile is_new others_may_read (stream before noted)
-      → LooksFirst k f opened true looked_at (stream noted known)
-      → ServesOpened k f n c i o path port timeouts logs count looked_at (outside mid network time) (outside new network' time') e (stream out last) (stream known after)
+  pub serves_checked : (path : List ℕ) (port : ℕ) (timeouts : Timeouts) (logs : Bool) (count : ℕ) (old mid new : F) (network network' : N) (time time' : C) (store : K) (e : Ending) (out heard last before known after : Option (List ℕ))
+      → OpensSound k f path old mid store (stream before known) → heard ≡ out
+      → ServesOpened k f n c i o path port timeouts logs count store (outside mid network time) (outside new network' time') e (stream heard last) (stream known after)
       → ServesChecked k f n c i o path port timeouts logs count (outside old network time) (outside new network' time') e (stream out last) (stream before after)
-  serves_checked path port timeouts logs count old mid new network network' time time' opened looked_at e out last before noted known after is_new others_may_read found first sought looked tells look from =
-      let sound : k.clean looked_at → f.is_ours opened → k.sound opened = none_found look.faults look.says.0 look.sound in
-      record {
-        opened = opened;
-        before = looked_at;
-        after = from.after;
-        found = found;
-        finds = subst (λ (r : Result (List (List ℕ)) Down). f.finds opened r looked_at) look.says.0 look.finds;
-        look = look.look;
-        left = from.left;
-        others = λ other store differs held. from.others other store differs (first other store differs held);
-        so_far = from.so_far;
-        shield = from.shield;
-        kept = from.kept;
-        serves = from.serves;
-        sound_ours = λ clean ours. (sound (from.so_far clean) ours, from.kept clean (look.look.kept (from.so_far clean) (sound (from.so_far clean) ours)));
-        serves_ours = λ clean ours. subst (λ (rows : List ℕ → Option Organization). Serves count rows (k.rows from.after)) (same_rows (look.look.same (from.so_far clean)))
-            (from.serves clean (look.look.kept (from.so_far clean) (sound (from.so_far clean) ours)));
-        served = from.served;
-        told = from.told;
-        is_new = is_new;
-        sought = sought;
-        others_may_read = others_may_read;
-        looked = looked;
-        noted = noted;
-        tells = tells;
-        lines = from.lines;
-        answers = subst (λ (known : Option (List ℕ)). AnswersAtPort k f n c i o port timeouts logs count (state network time looked_at known out) (state network' time' from.after from.lines from.told) from.served) look.says.1 from.answers;
-        says = from.says;
-        log = from.log;
-      }
-    where
-      none_found : (faults : Result (List (List ℕ)) Down) → faults ≡ Ok [] → IfOk faults (λ lines. lines ≡ [] → k.clean looked_at → f.is_ours opened → k.sound opened) → k.clean looked_at → f.is_ours opened → k.sound opened
-      none_found faults none sound = subst (λ (r : Result (List (List ℕ)) Down). IfOk r (λ lines. lines ≡ [] → k.clean looked_at → f.is_ours opened → k.sound opened)) none sound refl
-
-      same_rows : ((org : List ℕ) → k.rows looked_at org ≡ k.rows opened org) → k.rows looked_at ≡ k.rows opened
-      same_rows same = λ i org. same org i
-
-module _ {K F : Type 0} (k : keep.Ghosts K) (f : files.Ghosts F K) where
-  -- a store is opened at a path, a look finds faults in its tables or is refused, and it is closed there
-  pub looks_over : (path : List ℕ) (old mid new : F) (opened looked_at : K) (before noted known after : Option (List ℕ)) (is_new others_may_read : Bool)
-      → f.holds old path opened → OthersStay f.holds path old mid
-      → f.lacks old path is_new → f.reads old path others_may_read → TellsOfFile is_new others_may_read (stream before noted)
-      → LooksFirst k f opened false looked_at (stream noted known)
-      → f.holds new path looked_at → OthersStay f.holds path mid new → TellsOfLog (f.copied new path looked_at) (stream known after)
-      → LooksOver k f path TellsUnsound old new (stream before after)
-  looks_over path old mid new opened looked_at before noted known after is_new others_may_read found first sought looked tells look left second log = record {
-    before = opened;
-    after = looked_at;
-    found = found;
-    left = left;
-    others = λ other store differs held. second other store differs (first other store differs held);
-    look = look.look;
-    faults = look.faults;
-    finds = look.finds;
-    sound = look.sound;
-    is_new = is_new;
-    sought = sought;
-    others_may_read = others_may_read;
-    looked = looked;
-    noted = noted;
-    tells = tells;
-    told = known;
-    says = look.says;
-    log = log;
+  serves_checked path port timeouts logs count old mid new network network' time time' store e out heard last before known after opens same from = record {
+    before = store;
+    after = from.after;
+    worked = mid;
+    noted = known;
+    opens = opens;
+    so_far = from.so_far;
+    shield = from.shield;
+    kept = from.kept;
+    serves = from.serves;
+    sound_ours = λ clean ours. ((opens.sound_ours (from.so_far clean) ours).0, from.kept clean (opens.sound_ours (from.so_far clean) ours).1);
+    serves_ours = λ clean ours. subst (λ (rows : List ℕ → Option Organization). Serves count rows (k.rows from.after)) (same_records (k.rows store) (k.rows opens.opened) (opens.look.same (from.so_far clean)))
+        (from.serves clean (opens.sound_ours (from.so_far clean) ours).1);
+    served = from.served;
+    told = from.told;
+    lines = from.lines;
+    answers = subst (λ (o' : Option (List ℕ)). AnswersAtPort k f n c i o port timeouts logs count (state network time store known o') (state network' time' from.after from.lines from.told) from.served) same from.answers;
+    says = from.says;
+    closes = from.closes;
+    others = λ other kept differs held. from.closes.others other kept differs (opens.opens.others other kept differs held);
   }

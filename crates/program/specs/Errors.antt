@@ -4,7 +4,7 @@ use Rattle.std.specs.Io.KnownBytes.{Appends}
 use Rattle.serve.specs.declared.exchanges.LinkFault.{LinkFault}
 use Rattle.serve.specs.declared.exchanges.LinkFault.TheVariants.{Ended, Read, Continue, Write}
 use Rattle.program.specs.declared.reasons.Cause.{Cause}
-use Rattle.program.specs.declared.reasons.Cause.TheVariants.{InUse, NotPermitted, NoFile, NoFolder, Journal, Corrupt, Unsound, NoRoom, NoMemory, Disk, Store, Unfinished, Shut, Input, PortTaken, PortNotPermitted, Port, Accept, Clock, Log, Faults}
+use Rattle.program.specs.declared.reasons.Cause.TheVariants.{InUse, NotPermitted, NoFile, NoFolder, NoTargetFolder, Missing, LogAlone, NoTables, Journal, Corrupt, Unsound, NoRoom, NoMemory, Disk, Store, Unfinished, Shut, Halted, Unknown, Input, PortTaken, PortNotPermitted, Port, Accept, Clock, Log, Faults, SourceFaults, Encoding, NoNull}
 use Rattle.program.specs.declared.reasons.OtherSchema.{OtherSchema}
 use Rattle.program.specs.declared.reasons.OtherSchema.TheVariants.{Version, Untold}
 
@@ -59,7 +59,11 @@ abbrev pub cause_line : Cause → List ℕ
 cause_line InUse = codes "custody: another program has the file open\n"
 cause_line NotPermitted = codes "custody: the file or its folder may not be read and written\n"
 cause_line NoFile = codes "custody: the path leads to no file, or to one with more than one hard link\n"
-cause_line NoFolder = codes "custody: the folder of the file isn't there\n"
+cause_line NoFolder = codes "custody: the folder of --db's file isn't there\n"
+cause_line NoTargetFolder = codes "custody: the folder of --to's file isn't there\n"
+cause_line Missing = codes "custody: there is no file at the path, or an empty one: only org-add, serve without --check, and --to make one\n"
+cause_line LogAlone = codes "custody: the file is missing or empty, and the log beside it may hold changes: put the file back\n"
+cause_line NoTables = codes "custody: the file is a database without custody's tables\n"
 cause_line Journal = codes "custody: a rollback journal lies beside the file: open it with sqlite3 first\n"
 cause_line Corrupt = codes "custody: the file is damaged: a page's sum or form is wrong\n"
 cause_line Unsound = codes "custody: the file is damaged or no database: its rows break its schema\n"
@@ -67,8 +71,10 @@ cause_line NoRoom = codes "custody: there is no room on the disk\n"
 cause_line NoMemory = codes "custody: memory was refused\n"
 cause_line Disk = codes "custody: the disk or the system refused\n"
 cause_line Store = codes "custody: memory or the store refused, and no record changed\n"
-cause_line Unfinished = codes "custody: memory or a store refused before all was copied: the same command goes on from there\n"
+cause_line Unfinished = codes "custody: memory or a store refused before all was copied: delete the new file, and start again\n"
 cause_line Shut = codes "custody: a fault of the disk has shut the store: see to the disk\n"
+cause_line Halted = codes "custody: a fault of the disk has shut the store: see to the disk. It may have been done: look\n"
+cause_line Unknown = codes "custody: memory or the store refused. It may have been done: look\n"
 cause_line Input = codes "custody: the input can't be read, or memory was refused\n"
 cause_line PortTaken = codes "custody: the port is taken\n"
 cause_line PortNotPermitted = codes "custody: the port isn't permitted\n"
@@ -77,6 +83,17 @@ cause_line Accept = codes "custody: a connection could not be accepted\n"
 cause_line Clock = codes "custody: the clock can't be read, or is out of range\n"
 cause_line Log = codes "custody: the exchange log could not be written, so nothing more is answered\n"
 cause_line Faults = codes "custody: the file's tables are not sound, so nothing is answered:\n"
+cause_line SourceFaults = codes "custody: the file's tables are not sound, so nothing is copied:\n"
+cause_line Encoding = codes "custody: an argument isn't UTF-8\n"
+cause_line NoNull = codes "custody: a standard stream is closed, and /dev/null can't be opened\n"
+
+-- what is told where memory was refused to open a file of so many bytes
+abbrev pub memory_line : ℕ → List ℕ
+memory_line bytes = codes "custody: memory was refused to open the file of " ++ (decimal bytes ++ codes " bytes\n")
+
+-- what is told where standard output or error took not all that was to be printed
+abbrev pub unprinted_line : List ℕ
+unprinted_line = codes "custody: standard output or error did not take all that was to be printed\n"
 
 -- how the line on a version ends
 abbrev pub version_end : List ℕ

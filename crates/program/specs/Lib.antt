@@ -12,4 +12,5 @@ pub mod Paths
 pub mod Replies
 pub mod Secrets
 pub mod Serving
+pub mod Totals
 pub mod Upkeep

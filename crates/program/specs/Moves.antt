@@ -1,10 +1,12 @@
 -- What becomes of organizations that are copied from one store to another.
-use Rattle.std.specs.Prelude.{◌≡◌, ◌⊎◌, ◌++◌, ℕ, List, Option, Some, None}
+use Rattle.std.specs.Prelude.{◌≡◌, ◌⊎◌, ◌++◌, ℕ, List, [], ◌∷◌, Bool, true, false, Option, Some, None}
 use Rattle.machine.specs.Effects.{effect}
 use Rattle.machine.specs.Keeping.{Looks}
 use Rattle.machine.specs.declared.keeps.Keep as keep
 use Rattle.machine.specs.Tokens.{Managed}
-use Rattle.machine.specs.declared.keeps.AdminAnswer.TheVariants.{Done, Exists, Absent}
+use Rattle.machine.specs.declared.keeps.AdminAnswer.{AdminAnswer}
+use Rattle.machine.specs.declared.keeps.AdminAnswer.TheVariants.{Done, Exists, Absent, InUse, Organizations, Tokens}
+use Rattle.machine.specs.declared.keeps.OrgRow.{OrgRow}
 use Rattle.machine.specs.declared.records.Organization.{Organization}
 use Rattle.serve.specs.Asks.{Ask, organization}
 use Rattle.serve.specs.Steps.{own_said, own_record}
@@ -33,6 +35,29 @@ AllAreCopied from old new = (org : List ℕ) → Arrives from old new org
 -- some are, and each other record stays
 abbrev pub SomeAreCopied : (from old new : List ℕ → Option Organization) → Type 0
 SomeAreCopied from old new = (org : List ℕ) → (new org ≡ old org) ⊎ Arrives from old new org
+
+-- every organization is there as it was where it was copied from, and nothing else, where none was before; or some were, and each
+-- record is as before
+abbrev pub IsFilled : (from old new : List ℕ → Option Organization) → AdminAnswer → Type 0
+IsFilled from old new Done = ((org : List ℕ) → old org ≡ None) × ((org : List ℕ) → new org ≡ from org)
+IsFilled from old new Exists = ((org : List ℕ) → new org ≡ old org) × ((org : List ℕ) × (there : Organization) × (old org ≡ Some there))
+IsFilled from old new Absent = ⊥
+IsFilled from old new InUse = ⊥
+IsFilled from old new (Organizations rows) = ⊥
+IsFilled from old new (Tokens rows) = ⊥
+
+-- whether a list of all organizations has none
+abbrev pub has_none : List OrgRow → Bool
+has_none [] = true
+has_none (row ∷ rows) = false
+
+abbrev pub lists_none : AdminAnswer → Bool
+lists_none (Organizations rows) = has_none rows
+lists_none Done = false
+lists_none Exists = false
+lists_none Absent = false
+lists_none InUse = false
+lists_none (Tokens rows) = false
 
 module _ {K : Type 0} (k : keep.Ghosts K) where
   -- it was copied from one store to another, and this became of the records: where it was copied from each is as before

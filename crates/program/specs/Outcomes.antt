@@ -19,7 +19,7 @@ use Rattle.serve.specs.Service.{Carries as CarriesOut, IsAdminAnswer, Stays, org
 use Rattle.program.specs.declared.endings.Ending.{Ending}
 use Rattle.program.specs.declared.endings.Ending.TheVariants as ending
 use Rattle.program.specs.Endings.{ending_line}
-use Rattle.program.specs.Errors.{GetsFront, log_line, readers_line, secret_line, new_line, cause_line, other_line}
+use Rattle.program.specs.Errors.{GetsFront, log_line, readers_line, secret_line, new_line, cause_line, memory_line, other_line, unprinted_line}
 use Rattle.program.specs.declared.reasons.Cause.{Cause}
 use Rattle.program.specs.declared.reasons.Cause.TheVariants as cause
 use Rattle.program.specs.declared.reasons.OtherSchema.{OtherSchema}
@@ -27,9 +27,14 @@ use Rattle.program.specs.declared.reasons.OpenFault.TheVariants as fault
 use Rattle.program.specs.Frames.{AreFrames}
 use Rattle.program.specs.Logs.{with_log}
 use Rattle.program.specs.declared.outside.Files as files
-use Rattle.command_line.specs.Orders.{Asked, carries, adds_token, looks_over, copies, compacts, serves, replays}
-use Rattle.program.specs.Moves.{org_copied, AllAreCopied, SomeAreCopied, CopiesBetween}
-use Rattle.program.specs.Paths.{AllStay, OthersStay, OthersStayBut}
+use Rattle.program.specs.declared.outside.Opening.{Opening}
+use Rattle.program.specs.declared.outside.Opening.TheVariants as opening
+use Rattle.program.specs.declared.totals.Looked.{Looked}
+use Rattle.program.specs.declared.totals.Totals.{Totals}
+use Rattle.program.specs.Totals.{sound_text, version_text}
+use Rattle.command_line.specs.Orders.{Asked, carries, adds_token, looks_over, copies, compacts, serves, replays, tells_version}
+use Rattle.program.specs.Moves.{org_copied, IsFilled, SomeAreCopied, CopiesBetween}
+use Rattle.program.specs.Paths.{AllStay, OthersStay, OthersStayBut, LeavesVacant, makes}
 use Rattle.program.specs.Replies.{printed, bad_frame_text, answer_line, fault_lines, AreReplies, Replays}
 use Rattle.program.specs.Secrets.{secret_in}
 use Rattle.program.specs.Serving.{listening_line, Serves, state, AnswersAtPort}
@@ -75,14 +80,6 @@ AnswersLine ending.Faults output = ⊥
 AnswersLine ending.Usage output = ⊥
 AnswersLine ending.BadFrame output = ⊥
 AnswersLine ending.Unprinted output = ⊤
-
--- `ok`, or why it isn't
-abbrev pub AnswersDone : Ending → Stream → Type 0
-AnswersDone ending.Done output = Says ending.Done output
-AnswersDone ending.Schema output = Says ending.Schema output
-AnswersDone ending.Down output = Says ending.Down output
-AnswersDone ending.Unprinted output = ⊤
-AnswersDone e output = ⊥
 
 -- the list of all organizations, a line each, or why there is none
 abbrev pub AnswersList : Ending → Stream → Type 0
@@ -150,24 +147,25 @@ abbrev pub Refuses : Cause → Ending → Stream → Stream → Type 0
 Refuses why e output errors = IsSaid ending.Down e output.old output.new × TellsCause why errors
 
 -- an operator's command was carried out, each record as the machine leaves it, and its answer by the records before was
--- told; or memory or the store refused, which is told, and no record changed
-abbrev pub IsOperated : Admin → (List ℕ → Option Organization) → (List ℕ → Option Organization) → Ending → Stream → Stream → Type 0
-IsOperated command old new e output errors =
+-- told; or memory or the store refused, which is told by such a cause, and no record is seen to have changed
+abbrev pub IsOperated : (Cause → Type 0) → Admin → (List ℕ → Option Organization) → (List ℕ → Option Organization) → Ending → Stream → Stream → Type 0
+IsOperated Fails command old new e output errors =
     ((answer : AdminAnswer) × (at : ℕ) × CarriesOut (commands at command) old new × IsAdminAnswer old command answer × TellsAnswer command answer e output × (errors.new ≡ errors.old))
-    ⊎ (Stays old new × Refuses cause.Store e output errors)
+    ⊎ (Stays old new × ((why : Cause) × Fails why × Refuses why e output errors))
 
 -- an organization was copied, its record as the rule says by the records before, and the answer was told; or memory or a store
--- refused, which is told, and no record changed
-abbrev pub IsCopied : List ℕ → (from old new : List ℕ → Option Organization) → Ending → Stream → Stream → Type 0
-IsCopied org from old new e output errors =
+-- refused, which is told by such a cause, and no record is seen to have changed
+abbrev pub IsCopied : (Cause → Type 0) → List ℕ → (from old new : List ℕ → Option Organization) → Ending → Stream → Stream → Type 0
+IsCopied Fails org from old new e output errors =
     ((answer : AdminAnswer) × (effect answer (new org) ≡ org_copied (from org) (old org)) × ((other : List ℕ) → other ≢ org → new other ≡ old other)
     × TellsWord answer e output × (errors.new ≡ errors.old))
-    ⊎ (Stays old new × Refuses cause.Store e output errors)
+    ⊎ (Stays old new × ((why : Cause) × Fails why × Refuses why e output errors))
 
--- every organization was copied, and `ok` was told; or memory or a store refused before, which is told, and only some were
+-- every organization was copied to where none was, and `ok` was told; or some were there, none was copied, and that was told; or memory
+-- or a store refused before, which is told, and only some were copied
 abbrev pub IsCompacted : (from old new : List ℕ → Option Organization) → Ending → Stream → Stream → Type 0
 IsCompacted from old new e output errors =
-    (AllAreCopied from old new × IsSaid ending.Done e output.old output.new × (errors.new ≡ errors.old))
+    ((answer : AdminAnswer) × IsFilled from old new answer × TellsWord answer e output × (errors.new ≡ errors.old))
     ⊎ (SomeAreCopied from old new × Refuses cause.Unfinished e output errors)
 
 -- `refused usage` on the standard output, and why on the error stream
@@ -194,30 +192,35 @@ abbrev pub AddsToken : Option (List ℕ) → Ending → Stream → Stream → Ty
 AddsToken input e output errors =
     (HasSecret input × AnswersLine e output) ⊎ ((HasNoSecret input × RefusesUsage e output errors) ⊎ RefusesDown e output)
 
--- faults in the tables of a file: `ok` where there is none, and else a line for each; or why they aren't known
+-- faults in the tables of a file: where there is none `ok`, and how many rows there are, and else a line for each; or why they
+-- aren't known
 abbrev pub AnswersFaults : Ending → Stream → Type 0
-AnswersFaults ending.Done output = Says ending.Done output
+AnswersFaults ending.Done output = (totals : Totals) × Gets output (sound_text totals)
 AnswersFaults ending.Faults output = (faults : List (List ℕ)) × (0 < length faults) × Gets output (fault_lines faults)
 AnswersFaults ending.Schema output = Says ending.Schema output
 AnswersFaults ending.Down output = Says ending.Down output
 AnswersFaults ending.Unprinted output = ⊤
 AnswersFaults e output = ⊥
 
--- these faults are told: `ok` where there is none, and else a line for each
-abbrev pub TellsFaults : List (List ℕ) → Ending → Stream → Type 0
-TellsFaults [] e output = IsSaid ending.Done e output.old output.new
-TellsFaults (fault ∷ faults) e output = ((e ≡ ending.Faults) × Gets output (fault_lines (fault ∷ faults))) ⊎ (e ≡ ending.Unprinted)
+-- these faults are told, a line for each; where there is none `ok`, and these numbers
+abbrev pub TellsFaults : List (List ℕ) → Totals → Ending → Stream → Type 0
+TellsFaults [] totals e output = ((e ≡ ending.Done) × Gets output (sound_text totals)) ⊎ (e ≡ ending.Unprinted)
+TellsFaults (fault ∷ faults) totals e output = ((e ≡ ending.Faults) × Gets output (fault_lines (fault ∷ faults))) ⊎ (e ≡ ending.Unprinted)
 
--- what a look for faults found is told; or that memory or the store refused
-abbrev pub TellsFound : Result (List (List ℕ)) Down → Ending → Stream → Stream → Type 0
-TellsFound (Ok faults) e output errors = TellsFaults faults e output × (errors.new ≡ errors.old)
+-- what a look over the tables found is told; or that memory or the store refused
+abbrev pub TellsFound : Result Looked Down → Ending → Stream → Stream → Type 0
+TellsFound (Ok looked) e output errors = TellsFaults looked.faults looked.totals e output × (errors.new ≡ errors.old)
 TellsFound (Err refused) e output errors = Refuses cause.Store e output errors
 
--- a look found faults, or memory or the store refused: the error stream is told why nothing is answered, and each fault
-abbrev pub TellsUnsound : Result (List (List ℕ)) Down → Stream → Type 0
-TellsUnsound (Ok []) errors = ⊥
-TellsUnsound (Ok (fault ∷ faults)) errors = GetsFront errors.old errors.new (cause_line cause.Faults ++ fault_lines (fault ∷ faults))
-TellsUnsound (Err refused) errors = TellsCause cause.Store errors
+-- these faults: the error stream is told by the cause what isn't done, and each fault
+abbrev pub TellsEach : Cause → List (List ℕ) → Stream → Type 0
+TellsEach why [] errors = ⊥
+TellsEach why (fault ∷ faults) errors = GetsFront errors.old errors.new (cause_line why ++ fault_lines (fault ∷ faults))
+
+-- a look found faults, or memory or the store refused: the error stream is told so
+abbrev pub TellsUnsound : Cause → Result Looked Down → Stream → Type 0
+TellsUnsound why (Ok looked) errors = TellsEach why looked.faults errors
+TellsUnsound why (Err refused) errors = TellsCause cause.Store errors
 
 -- connections are served, at the port that is told, and the log stands behind it where it is asked for (`true`)
 abbrev pub ServesAt : Bool → Ending → Stream → Type 0
@@ -241,15 +244,22 @@ ReplaysFrames input ending.Down output errors = Says ending.Down output × Tells
 ReplaysFrames input ending.Unprinted output errors = ⊤
 ReplaysFrames input e output errors = ⊥
 
--- what is asked for is done, or it is said why not
-abbrev pub Does : Asked → Option (List ℕ) → Ending → Stream → Stream → Type 0
-Does (carries db command) input e output errors = AnswersCommand command e output
-Does (adds_token db org name role bounds) input e output errors = AddsToken input e output errors
-Does (looks_over db) input e output errors = AnswersFaults e output
-Does (copies from to org) input e output errors = AnswersLine e output
-Does (compacts from to) input e output errors = AnswersDone e output
-Does (serves db port count timeouts logs checks) input e output errors = ServesAt logs e output
-Does replays input e output errors = ReplaysFrames input e output errors
+-- the version of the program is told, and the newest version of the schema
+abbrev pub TellsVersion : ℕ → Ending → Stream → Type 0
+TellsVersion schema ending.Done output = Gets output (version_text schema)
+TellsVersion schema ending.Unprinted output = ⊤
+TellsVersion schema e output = ⊥
+
+-- what is asked for is done, or it is said why not; this is the newest version of the schema
+abbrev pub Does : ℕ → Asked → Option (List ℕ) → Ending → Stream → Stream → Type 0
+Does schema (carries db command) input e output errors = AnswersCommand command e output
+Does schema (adds_token db org name role bounds) input e output errors = AddsToken input e output errors
+Does schema (looks_over db) input e output errors = AnswersFaults e output
+Does schema (copies from to org) input e output errors = AnswersLine e output
+Does schema (compacts from to) input e output errors = AnswersLine e output
+Does schema (serves db port count timeouts logs checks) input e output errors = ServesAt logs e output
+Does schema replays input e output errors = ReplaysFrames input e output errors
+Does schema tells_version input e output errors = TellsVersion schema e output
 
 -- words that ask for nothing that is carried out: for help, whose text goes to the error stream; or for
 -- nothing at all; or memory was refused
@@ -261,9 +271,19 @@ RefusesWords words ending.Unprinted output errors = ⊤
 RefusesWords words e output errors = ⊥
 
 -- what is printed, by the words
-abbrev pub Prints : List (List ℕ) → Option (List ℕ) → Ending → Stream → Stream → Type 0
-Prints words input e output errors =
-    ((asked : Asked) × (asked_in words ≡ Some asked) × Does asked input e output errors) ⊎ RefusesWords words e output errors
+abbrev pub PrintsFor : ℕ → List (List ℕ) → Option (List ℕ) → Ending → Stream → Stream → Type 0
+PrintsFor schema words input e output errors =
+    ((asked : Asked) × (asked_in words ≡ Some asked) × Does schema asked input e output errors) ⊎ RefusesWords words e output errors
+
+-- where a stream took not all the error stream is told so, and else nothing
+abbrev pub TellsEnd : Ending → Stream → Type 0
+TellsEnd ending.Unprinted errors = GetsFront errors.old errors.new unprinted_line
+TellsEnd e errors = errors.new ≡ errors.old
+
+-- and behind it on the error stream that a stream took not all, where one didn't
+abbrev pub Prints : ℕ → List (List ℕ) → Option (List ℕ) → Ending → Stream → Stream → Type 0
+Prints schema words input e output errors =
+    (told : Option (List ℕ)) × PrintsFor schema words input e output (stream errors.old told) × TellsEnd e (stream told errors.new)
 
 -- the input is known, and this is its secret
 abbrev pub IsSecretOf : Option (List ℕ) → List ℕ → Type 0
@@ -287,80 +307,52 @@ TellsOfFile is_new others_may_read errors = (mid : Option (List ℕ)) × TellsOf
 abbrev pub TellsOfLog : Type 0 → Stream → Type 0
 TellsOfLog IsCopied errors = (IsCopied × (errors.new ≡ errors.old)) ⊎ GetsFront errors.old errors.new log_line
 
+-- the same cause, where the path stands behind `--to` as one that says so
+abbrev pub seen_at : Opening → Cause → Cause
+seen_at opening.Target cause.NoFolder = cause.NoTargetFolder
+seen_at opening why = why
+
+-- only a command that adds an organization makes a database
+abbrev pub opening_of : Admin → Opening
+opening_of (OrgAdd org limit) = opening.Created
+opening_of (OrgLimit org limit) = opening.Existing
+opening_of (OrgRemove org is_forced) = opening.Existing
+opening_of OrgList = opening.Existing
+opening_of (TokenAdd org name role secret bounds) = opening.Existing
+opening_of (TokenList org) = opening.Existing
+opening_of (TokenRevoke org name) = opening.Existing
+
+-- why a store refused, by what it says of a fault of the disk: where one has shut it, a change that was under way may have been made
+abbrev pub failure_of : Result Bool Down → Cause
+failure_of (Ok true) = cause.Halted
+failure_of (Ok false) = cause.Store
+failure_of (Err refused) = cause.Unknown
+
 module _ {K F : Type 0} (k : keep.Ghosts K) (f : files.Ghosts F K) where
-  -- what lies at a path isn't opened, and at each path all stays: memory or the store refuses, or it is of another schema;
-  -- and the error stream is told why
-  abbrev pub RefusesToOpen : List ℕ → F → F → Ending → Stream → Stream → Type 0
-  RefusesToOpen path old new e output errors =
-      AllStay f.holds old new × (((why : Cause) × f.refuses old path (fault.Down why) × Refuses why e output errors)
-      ⊎ ((other : OtherSchema) × f.refuses old path (fault.Schema other) × IsSaid ending.Schema e output.old output.new × GetsFront errors.old errors.new (other_line other)))
+  -- a store refused, and this is why, by what is said of a fault of the disk
+  abbrev pub FailsAs : K → K → Cause → Type 0
+  FailsAs asked after why = (said : Result Bool Down) × f.shuts asked said after × (why ≡ failure_of said)
 
-  -- an operator's command was carried out on what lay at a path; what that left lies there now, and nothing else changed
-  pub record Operates (path : List ℕ) (command : Admin) (old new : F) (e : Ending) (output errors : Stream) : Type 0 where
-    pub before : K
-    pub after : K
-    pub found : f.holds old path before
-    pub left : f.holds new path after
-    pub others : OthersStay f.holds path old new
-    pub so_far : k.clean after → k.clean before
-    pub shield : k.shielded before → k.shielded after
-    pub kept : k.clean after → k.sound before → k.sound after
-    pub is_new : Bool
-    pub sought : f.lacks old path is_new
-    pub others_may_read : Bool
-    pub looked : f.reads old path others_may_read
-    pub noted : Option (List ℕ)
-    pub tells : TellsOfFile is_new others_may_read (stream errors.old noted)
-    pub told : Option (List ℕ)
-    pub model : k.clean after → k.sound before → IsOperated command (k.rows before) (k.rows after) e output (stream noted told)
-    pub why : (told ≡ noted) ⊎ TellsCause cause.Store (stream noted told)
-    pub log : TellsOfLog (f.copied new path after) (stream told errors.new)
+  -- the same, whatever the store was when it was asked
+  abbrev pub HasFailed : K → Cause → Type 0
+  HasFailed after why = (asked : K) × FailsAs asked after why
 
-  abbrev pub OperatesAt : List ℕ → Admin → F → F → Ending → Stream → Stream → Type 0
-  OperatesAt path command old new e output errors = Operates path command old new e output errors ⊎ RefusesToOpen path old new e output errors
+  -- what lies at a path isn't opened, and at each path all stays, where no database is to be made also that no file lies there:
+  -- memory or the store refuses, or it is of another schema; and the error stream is told why
+  abbrev pub RefusesToOpen : List ℕ → Opening → F → F → Ending → Stream → Stream → Type 0
+  RefusesToOpen path opening old new e output errors =
+      AllStay f.holds old new × LeavesVacant f.vacant (makes opening) path old new
+      × (((why : Cause) × f.refuses old path (fault.Down why) × Refuses (seen_at opening why) e output errors)
+      ⊎ (((bytes : ℕ) × f.refuses old path (fault.Memory bytes) × IsSaid ending.Down e output.old output.new × GetsFront errors.old errors.new (memory_line bytes))
+      ⊎ ((other : OtherSchema) × f.refuses old path (fault.Schema other) × IsSaid ending.Schema e output.old output.new × GetsFront errors.old errors.new (other_line other))))
 
-  -- a token is added at a path with the secret of the input; or there is none, or it isn't read, and nothing changes
-  abbrev pub AddsTokenAt : List ℕ → (List ℕ → Admin) → Option (List ℕ) → F → F → Ending → Stream → Stream → Type 0
-  AddsTokenAt path adding input old new e output errors =
-      ((secret : List ℕ) × IsSecretOf input secret × OperatesAt path (adding secret) old new e output errors)
-      ⊎ (AllStay f.holds old new × ((HasNoSecret input × RefusesUsage e output errors × GetsFront errors.old errors.new secret_line)
-      ⊎ (RefusesDown e output × TellsCause cause.Input errors)))
-
-  -- faults were looked for in the tables of what lay at a path, and of what was found this is told. Where nothing was found,
-  -- what lay there is sound, if its tables are defined as ours. What the look left lies there now, each record as before, and
-  -- nothing else changed
-  pub record LooksOver (path : List ℕ) (Tells : Result (List (List ℕ)) Down → Stream → Type 0) (old new : F) (errors : Stream) : Type 0 where
-    pub before : K
-    pub after : K
-    pub found : f.holds old path before
-    pub left : f.holds new path after
-    pub others : OthersStay f.holds path old new
-    pub look : Looks k.rows k.clean k.sound k.shielded before after
-    pub faults : Result (List (List ℕ)) Down
-    pub finds : f.finds before faults after
-    pub sound : IfOk faults (λ lines. lines ≡ [] → k.clean after → f.is_ours before → k.sound before)
-    pub is_new : Bool
-    pub sought : f.lacks old path is_new
-    pub others_may_read : Bool
-    pub looked : f.reads old path others_may_read
-    pub noted : Option (List ℕ)
-    pub tells : TellsOfFile is_new others_may_read (stream errors.old noted)
-    pub told : Option (List ℕ)
-    pub says : Tells faults (stream noted told)
-    pub log : TellsOfLog (f.copied new path after) (stream told errors.new)
-
-  -- faults are looked for at a path, and what is found is printed
-  abbrev pub LooksAt : List ℕ → F → F → Ending → Stream → Stream → Type 0
-  LooksAt path old new e output errors =
-      LooksOver path (λ faults told. TellsFound faults e output told) old new errors ⊎ RefusesToOpen path old new e output errors
-
-  -- faults are found at a path, or the look for them is refused, and so nothing is answered
-  abbrev pub RefusesUnsound : List ℕ → F → F → Ending → Stream → Stream → Type 0
-  RefusesUnsound path old new e output errors = LooksOver path TellsUnsound old new errors × IsSaid ending.Down e output.old output.new
-
-  -- a store was opened at a path, and its file told of; what lies at other paths stays
-  pub record Opens (path : List ℕ) (old new : F) (store : K) (errors : Stream) : Type 0 where
+  -- a store was opened at a path, and its file told of; what lies at other paths stays. Where no database is to be made, one with our
+  -- tables lay there
+  pub record Opens (path : List ℕ) (opening : Opening) (old new : F) (store : K) (errors : Stream) : Type 0 where
     pub found : f.holds old path store
+    pub existing : makes opening ≡ false → k.clean store → ¬ f.bare old path
+    pub there : makes opening ≡ false → ¬ f.vacant old path
+    pub vacancies : LeavesVacant f.vacant (makes opening) path old new
     pub others : OthersStay f.holds path old new
     pub is_new : Bool
     pub sought : f.lacks old path is_new
@@ -372,15 +364,90 @@ module _ {K F : Type 0} (k : keep.Ghosts K) (f : files.Ghosts F K) where
   pub record Closes (path : List ℕ) (old new : F) (store : K) (errors : Stream) : Type 0 where
     pub left : f.holds new path store
     pub others : OthersStay f.holds path old new
+    pub vacancies : LeavesVacant f.vacant true path old new
     pub log : TellsOfLog (f.copied new path store) errors
 
-  -- stores were opened at two paths, one after the other
+  -- an operator's command was carried out on what lay at a path; what that left lies there now, and nothing else changed
+  pub record Operates (path : List ℕ) (command : Admin) (old new : F) (e : Ending) (output errors : Stream) : Type 0 where
+    pub before : K
+    pub after : K
+    pub worked : F
+    pub noted : Option (List ℕ)
+    pub told : Option (List ℕ)
+    pub opens : Opens path (opening_of command) old worked before (stream errors.old noted)
+    pub so_far : k.clean after → k.clean before
+    pub shield : k.shielded before → k.shielded after
+    pub kept : k.clean after → k.sound before → k.sound after
+    pub model : k.clean after → k.sound before
+        → IsOperated (HasFailed after) command (k.rows before) (k.rows after) e output (stream noted told)
+    pub why : (told ≡ noted) ⊎ ((why : Cause) × HasFailed after why × TellsCause why (stream noted told))
+    pub closes : Closes path worked new after (stream told errors.new)
+    pub others : OthersStay f.holds path old new
+
+  abbrev pub OperatesAt : List ℕ → Admin → F → F → Ending → Stream → Stream → Type 0
+  OperatesAt path command old new e output errors = Operates path command old new e output errors ⊎ RefusesToOpen path (opening_of command) old new e output errors
+
+  -- a token is added at a path with the secret of the input; or there is none, or it isn't read, and nothing changes
+  abbrev pub AddsTokenAt : List ℕ → (List ℕ → Admin) → Option (List ℕ) → F → F → Ending → Stream → Stream → Type 0
+  AddsTokenAt path adding input old new e output errors =
+      ((secret : List ℕ) × IsSecretOf input secret × OperatesAt path (adding secret) old new e output errors)
+      ⊎ ((new ≡ old) × ((HasNoSecret input × RefusesUsage e output errors × GetsFront errors.old errors.new secret_line)
+      ⊎ (RefusesDown e output × TellsCause cause.Input errors)))
+
+  -- the tables of a store were looked over: of what was found this is told. Where no fault was found the store is sound, if its tables are
+  -- defined as ours. Each record is as before
+  pub record LooksFor (Tells : Result Looked Down → Stream → Type 0) (before after : K) (errors : Stream) : Type 0 where
+    pub look : Looks k.rows k.clean k.sound k.shielded before after
+    pub result : Result Looked Down
+    pub finds : f.finds before result after
+    pub sound : IfOk result (λ looked. looked.faults ≡ [] → k.clean after → f.is_ours before → k.sound before)
+    pub says : Tells result errors
+
+  -- what lay at a path was looked over, which made no file. What the look left lies there now, each record as before, and nothing else
+  -- changed
+  pub record LooksOver (path : List ℕ) (Tells : Result Looked Down → Stream → Type 0) (old new : F) (errors : Stream) : Type 0 where
+    pub before : K
+    pub after : K
+    pub worked : F
+    pub noted : Option (List ℕ)
+    pub told : Option (List ℕ)
+    pub opens : Opens path opening.Existing old worked before (stream errors.old noted)
+    pub looks : LooksFor Tells before after (stream noted told)
+    pub closes : Closes path worked new after (stream told errors.new)
+    pub others : OthersStay f.holds path old new
+
+  -- faults are looked for at a path, and what is found is printed
+  abbrev pub LooksAt : List ℕ → F → F → Ending → Stream → Stream → Type 0
+  LooksAt path old new e output errors =
+      LooksOver path (λ found told. TellsFound found e output told) old new errors ⊎ RefusesToOpen path opening.Existing old new e output errors
+
+  -- faults are found at a path, or the look for them is refused, and so nothing more is done: by this cause
+  abbrev pub RefusesUnsound : List ℕ → Cause → F → F → Ending → Stream → Stream → Type 0
+  RefusesUnsound path why old new e output errors = LooksOver path (TellsUnsound why) old new errors × IsSaid ending.Down e output.old output.new
+
+  -- a store was opened at a path, which made no file, and a look over its tables found no fault: so it is sound, if its tables are
+  -- defined as ours
+  pub record OpensSound (path : List ℕ) (old new : F) (store : K) (errors : Stream) : Type 0 where
+    pub opened : K
+    pub opens : Opens path opening.Existing old new opened errors
+    pub look : Looks k.rows k.clean k.sound k.shielded opened store
+    pub looked : Looked
+    pub finds : f.finds opened (Ok looked) store
+    pub none : looked.faults ≡ []
+    pub sound_ours : k.clean store → f.is_ours opened → k.sound opened × k.sound store
+
+  -- what is copied isn't opened, or faults are found in its tables
+  abbrev pub RefusesSource : List ℕ → F → F → Ending → Stream → Stream → Type 0
+  RefusesSource path old new e output errors =
+      RefusesToOpen path opening.Existing old new e output errors ⊎ RefusesUnsound path cause.SourceFaults old new e output errors
+
+  -- stores were opened at two paths, one after the other, the first without a fault
   pub record OpensBoth (from to : List ℕ) (old new : F) (source target : K) (errors : Stream) : Type 0 where
     pub differ : from ≢ to
     pub mid : F
     pub noted : Option (List ℕ)
-    pub first : Opens from old mid source (stream errors.old noted)
-    pub second : Opens to mid new target (stream noted errors.new)
+    pub first : OpensSound from old mid source (stream errors.old noted)
+    pub second : Opens to opening.Target mid new target (stream noted errors.new)
 
   -- they were closed there, the second first
   pub record ClosesBoth (from to : List ℕ) (old new : F) (source target : K) (errors : Stream) : Type 0 where
@@ -398,8 +465,8 @@ module _ {K F : Type 0} (k : keep.Ghosts K) (f : files.Ghosts F K) where
     pub unopened : F
     pub noted : Option (List ℕ)
     pub told : Option (List ℕ)
-    pub first : Opens from old opened source (stream errors.old noted)
-    pub second : RefusesToOpen to opened unopened e output (stream noted told)
+    pub first : OpensSound from old opened source (stream errors.old noted)
+    pub second : RefusesToOpen to opening.Target opened unopened e output (stream noted told)
     pub closes : Closes from unopened new source (stream told errors.new)
     pub others : OthersStay f.holds from old new
 
@@ -407,11 +474,11 @@ module _ {K F : Type 0} (k : keep.Ghosts K) (f : files.Ghosts F K) where
   abbrev pub RefusesBoth : List ℕ → List ℕ → F → F → Ending → Stream → Stream → Type 0
   RefusesBoth from to old new e output errors =
       ((from ≡ to) × (new ≡ old) × Refuses cause.InUse e output errors)
-      ⊎ (((from ≢ to) × RefusesToOpen from old new e output errors) ⊎ RefusesSecond from to old new e output errors)
+      ⊎ (((from ≢ to) × RefusesSource from old new e output errors) ⊎ RefusesSecond from to old new e output errors)
 
-  -- it was copied from what lay at one path to what lay at another, and this became of the records. What that left lies there now,
-  -- and nothing else changed
-  pub record CopiesOver (from to : List ℕ) (Becomes : (from old new : List ℕ → Option Organization) → Stream → Type 0) (refused : Cause) (old new : F) (errors : Stream) : Type 0 where
+  -- it was copied from what lay at one path, without a fault, to what lay at another, and this became of the records, where the first's
+  -- tables are defined as ours. What that left lies there now, and nothing else changed
+  pub record CopiesOver (from to : List ℕ) (Becomes : K → (from old new : List ℕ → Option Organization) → Stream → Type 0) (Fails : K → Cause → Type 0) (old new : F) (errors : Stream) : Type 0 where
     pub source_before : K
     pub source_after : K
     pub target_before : K
@@ -420,8 +487,10 @@ module _ {K F : Type 0} (k : keep.Ghosts K) (f : files.Ghosts F K) where
     pub noted : Option (List ℕ)
     pub told : Option (List ℕ)
     pub opens : OpensBoth from to old worked source_before target_before (stream errors.old noted)
-    pub copies : CopiesBetween k (λ source before after. Becomes source before after (stream noted told)) source_before source_after target_before target_after
-    pub why : (told ≡ noted) ⊎ TellsCause refused (stream noted told)
+    pub copies : CopiesBetween k (λ source before after. Becomes target_after source before after (stream noted told)) source_before source_after target_before target_after
+    pub ours : k.clean target_after → k.sound target_before → k.clean source_after → f.is_ours opens.first.opened
+        → Becomes target_after (k.rows opens.first.opened) (k.rows target_before) (k.rows target_after) (stream noted told)
+    pub why : (told ≡ noted) ⊎ ((why : Cause) × Fails target_after why × TellsCause why (stream noted told))
     pub closes : ClosesBoth from to worked new source_after target_after (stream told errors.new)
     pub left_source : f.holds new from source_after
     pub left_target : f.holds new to target_after
@@ -430,13 +499,13 @@ module _ {K F : Type 0} (k : keep.Ghosts K) (f : files.Ghosts F K) where
   -- an organization is copied from what lies at one path to what lies at another
   abbrev pub CopiesAt : List ℕ → List ℕ → List ℕ → F → F → Ending → Stream → Stream → Type 0
   CopiesAt from to org old new e output errors =
-      CopiesOver from to (λ source before after told. IsCopied org source before after e output told) cause.Store old new errors
+      CopiesOver from to (λ left source before after told. IsCopied (HasFailed left) org source before after e output told) HasFailed old new errors
       ⊎ RefusesBoth from to old new e output errors
 
   -- every organization is copied so
   abbrev pub CompactsAt : List ℕ → List ℕ → F → F → Ending → Stream → Stream → Type 0
   CompactsAt from to old new e output errors =
-      CopiesOver from to (λ source before after told. IsCompacted source before after e output told) cause.Unfinished old new errors
+      CopiesOver from to (λ left source before after told. IsCompacted source before after e output told) (λ left why. why ≡ cause.Unfinished) old new errors
       ⊎ RefusesBoth from to old new e output errors
 
 -- what the program stands on besides its streams
@@ -463,61 +532,51 @@ module _ {K F N C R W : Type 0} (k : keep.Ghosts K) (f : files.Ghosts F K) (n : 
   pub record ServesFrom (path : List ℕ) (port : ℕ) (timeouts : Timeouts) (logs : Bool) (count : ℕ) (old new : Outside F N C) (e : Ending) (output errors : Stream) : Type 0 where
     pub before : K
     pub after : K
-    pub found : f.holds old.files path before
-    pub left : f.holds new.files path after
-    pub others : OthersStay f.holds path old.files new.files
+    pub worked : F
+    pub noted : Option (List ℕ)
+    pub opens : Opens k f path opening.Created old.files worked before (stream errors.old noted)
     pub so_far : k.clean after → k.clean before
     pub shield : k.shielded before → k.shielded after
     pub kept : k.clean after → k.sound before → k.sound after
     pub serves : k.clean after → k.sound before → Serves count (k.rows before) (k.rows after)
     pub served : Ending
     pub told : Option (List ℕ)
-    pub is_new : Bool
-    pub sought : f.lacks old.files path is_new
-    pub others_may_read : Bool
-    pub looked : f.reads old.files path others_may_read
-    pub noted : Option (List ℕ)
-    pub tells : TellsOfFile is_new others_may_read (stream errors.old noted)
     pub lines : Option (List ℕ)
     pub answers : AnswersAtPort k f n c i o port timeouts logs count (state old.network old.clock before noted output.old) (state new.network new.clock after lines told) served
     pub says : SaysServed served e told output.new
-    pub log : TellsOfLog (f.copied new.files path after) (stream lines errors.new)
+    pub closes : Closes k f path worked new.files after (stream lines errors.new)
+    pub others : OthersStay f.holds path old.files new.files
 
-  -- the same behind a look for faults in the tables of what was opened, which found none. So what is served is sound, if its
+  -- the same of a file that was there, behind a look for faults in its tables, which found none. So what is served is sound, if its
   -- tables are defined as ours
   pub record ServesChecked (path : List ℕ) (port : ℕ) (timeouts : Timeouts) (logs : Bool) (count : ℕ) (old new : Outside F N C) (e : Ending) (output errors : Stream) : Type 0 where
-    pub opened : K
     pub before : K
     pub after : K
-    pub found : f.holds old.files path opened
-    pub finds : f.finds opened (Ok []) before
-    pub look : Looks k.rows k.clean k.sound k.shielded opened before
-    pub left : f.holds new.files path after
-    pub others : OthersStay f.holds path old.files new.files
+    pub worked : F
+    pub noted : Option (List ℕ)
+    pub opens : OpensSound k f path old.files worked before (stream errors.old noted)
     pub so_far : k.clean after → k.clean before
     pub shield : k.shielded before → k.shielded after
     pub kept : k.clean after → k.sound before → k.sound after
     pub serves : k.clean after → k.sound before → Serves count (k.rows before) (k.rows after)
-    pub sound_ours : k.clean after → f.is_ours opened → k.sound opened × k.sound after
-    pub serves_ours : k.clean after → f.is_ours opened → Serves count (k.rows opened) (k.rows after)
+    pub sound_ours : k.clean after → f.is_ours opens.opened → k.sound opens.opened × k.sound after
+    pub serves_ours : k.clean after → f.is_ours opens.opened → Serves count (k.rows opens.opened) (k.rows after)
     pub served : Ending
     pub told : Option (List ℕ)
-    pub is_new : Bool
-    pub sought : f.lacks old.files path is_new
-    pub others_may_read : Bool
-    pub looked : f.reads old.files path others_may_read
-    pub noted : Option (List ℕ)
-    pub tells : TellsOfFile is_new others_may_read (stream errors.old noted)
     pub lines : Option (List ℕ)
     pub answers : AnswersAtPort k f n c i o port timeouts logs count (state old.network old.clock before noted output.old) (state new.network new.clock after lines told) served
     pub says : SaysServed served e told output.new
-    pub log : TellsOfLog (f.copied new.files path after) (stream lines errors.new)
+    pub closes : Closes k f path worked new.files after (stream lines errors.new)
+    pub others : OthersStay f.holds path old.files new.files
 
-  -- connections are answered; where a look for faults is asked for (`true`), behind one, and only where it found none
+  -- connections are answered; where a look for faults is asked for (`true`), behind one, and only where it found none, and then no file is
+  -- made; or what lies at the path isn't opened
   abbrev pub ServesAsAsked : Bool → List ℕ → ℕ → Timeouts → Bool → ℕ → Outside F N C → Outside F N C → Ending → Stream → Stream → Type 0
-  ServesAsAsked false path port timeouts logs count old new e output errors = ServesFrom path port timeouts logs count old new e output errors
+  ServesAsAsked false path port timeouts logs count old new e output errors =
+      ServesFrom path port timeouts logs count old new e output errors ⊎ (RefusesToOpen k f path opening.Created old.files new.files e output errors × IsAlone old new)
   ServesAsAsked true path port timeouts logs count old new e output errors =
-      ServesChecked path port timeouts logs count old new e output errors ⊎ (RefusesUnsound k f path old.files new.files e output errors × IsAlone old new)
+      (ServesChecked path port timeouts logs count old new e output errors ⊎ (RefusesUnsound k f path cause.Faults old.files new.files e output errors × IsAlone old new))
+      ⊎ (RefusesToOpen k f path opening.Existing old.files new.files e output errors × IsAlone old new)
 
   -- what is asked for is done to what lies at its path, and to nothing else
   abbrev pub Leaves : Asked → Option (List ℕ) → Outside F N C → Outside F N C → Ending → Stream → Stream → Type 0
@@ -527,12 +586,18 @@ module _ {K F N C R W : Type 0} (k : keep.Ghosts K) (f : files.Ghosts F K) (n : 
   Leaves (looks_over db) input old new e output errors = LooksAt k f db old.files new.files e output errors × IsAlone old new
   Leaves (copies from to org) input old new e output errors = CopiesAt k f from to org old.files new.files e output errors × IsAlone old new
   Leaves (compacts from to) input old new e output errors = CompactsAt k f from to old.files new.files e output errors × IsAlone old new
-  Leaves (serves db port count timeouts logs checks) input old new e output errors =
-      ServesAsAsked checks db port timeouts logs count old new e output errors ⊎ (RefusesToOpen k f db old.files new.files e output errors × IsAlone old new)
+  Leaves (serves db port count timeouts logs checks) input old new e output errors = ServesAsAsked checks db port timeouts logs count old new e output errors
   Leaves replays input old new e output errors = new ≡ old
+  Leaves tells_version input old new e output errors = new ≡ old
+
+  -- the program by its words, up to what is told where a stream took not all
+  pub record RunsOver (words : List (List ℕ)) (input : Option (List ℕ)) (old new : Outside F N C) (e : Ending) (output errors : Stream) : Type 0 where
+    pub prints : PrintsFor f.newest words input e output errors
+    pub leaves : ((asked : Asked) × (asked_in words ≡ Some asked) × Leaves asked input old new e output errors)
+        ⊎ (RefusesWords words e output errors × (new ≡ old))
 
   -- the program by its words: how it ends, what is printed, and what the program stands on before and after
   pub record Runs (words : List (List ℕ)) (input : Option (List ℕ)) (old new : Outside F N C) (e : Ending) (output errors : Stream) : Type 0 where
-    pub prints : Prints words input e output errors
-    pub leaves : ((asked : Asked) × (asked_in words ≡ Some asked) × Leaves asked input old new e output errors)
-        ⊎ (RefusesWords words e output errors × (new ≡ old))
+    pub told : Option (List ℕ)
+    pub runs : RunsOver words input old new e output (stream errors.old told)
+    pub ends : TellsEnd e (stream told errors.new)

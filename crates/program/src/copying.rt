@@ -1,13 +1,17 @@
 //! Copies of organizations from one file to another.
-ghost use Rattle.std.specs.Prelude.{◌≡◌, ◌⊎◌, IfOk, OnOk, OnErr};
+ghost use Rattle.std.specs.Prelude.{◌≡◌, ◌⊎◌, IfOk, IfErr, OnOk, OnErr, true};
 ghost use Rattle.std.specs.List.{AllByRecursion};
 ghost use Rattle.machine.specs.Tokens.{ListsOrganizations};
-ghost use Rattle.program.specs.Moves.{Arrives, AllAreCopied, SomeAreCopied, CopiesBetween};
-ghost use Rattle.program.specs.Outcomes.{stream, AnswersLine, AnswersDone, CopiesAt, CompactsAt, TellsWord, TellsCause, Refuses, IsSaid};
+ghost use Rattle.machine.specs.Keeping.{Looks};
+ghost use Rattle.program.specs.Moves.{Arrives, AllAreCopied, SomeAreCopied, IsFilled, lists_none, CopiesBetween};
+ghost use Rattle.program.specs.Outcomes.{stream, AnswersLine, CopiesAt, CompactsAt, TellsWord, TellsCause, Refuses, IsSaid, HasFailed, OpensSound, RefusesSource, OpensBoth, RefusesBoth};
+ghost use Rattle.program.specs.declared.reasons.Cause.{Cause as AnyCause};
 
+use crate::checking::look_first;
 use crate::endings::Ending;
-use crate::openings::{close_both, open_both};
-use crate::outside::Files;
+use crate::openings::{close_after, close_both, open_one};
+use crate::operating::failure;
+use crate::outside::{Files, Opening};
 use crate::reasons::Cause;
 use crate::replies::{refuse, say, say_word};
 use basis::{Down, OrgName};
@@ -15,19 +19,76 @@ use machine::{AdminAnswer, Keep, OrgRow};
 use std::alloc::Global;
 use std::io::Write;
 
-fn say_copied<O: Write, E: Write>(
+/// Opens the store of a path, in whose tables there may be no fault; or says why it isn't opened, and closes it again.
+fn open_sound<K: Keep, F: Files<K>, O: Write, E: Write>(
+    alloc: Global,
+    files: &mut F,
+    path: &str,
+    output: &mut O,
+    errors: &mut E,
+) -> Result<K, Ending>
+    ensures opened { IfOk result (λ store. OpensSound K.Keep F.Files path.now files.old files.new store (stream (E.contents errors.old) (E.contents errors.new)) × (O.contents output.new ≡ O.contents output.old)) }
+    ensures refused { IfErr result (λ ending. RefusesSource K.Keep F.Files path.now files.old files.new ending (stream (O.contents output.old) (O.contents output.new)) (stream (E.contents errors.old) (E.contents errors.new))) }
+{
+    let mut store = match open_one(files, path, Opening::Existing, output, errors) {
+        Ok(store) => store,
+        Err(ending) => return Err(ending),
+    };
+    if look_first(alloc, files, &mut store, Cause::SourceFaults, errors) {
+        return Ok(store);
+    }
+    close_after(files, path, store, errors);
+    Err(say(output, Ending::Down))
+}
+
+/// Opens the stores of two paths, the first first; or says why one isn't opened. Where faults are found in the first's tables,
+/// nothing is opened at the second; where the second isn't opened, the first is closed again. Of one path nothing is opened.
+fn open_both<K: Keep, F: Files<K>, O: Write, E: Write>(
+    alloc: Global,
+    files: &mut F,
+    from: &str,
+    to: &str,
+    output: &mut O,
+    errors: &mut E,
+) -> Result<(K, K), Ending>
+    ensures opened { IfOk result (λ stores. OpensBoth K.Keep F.Files from.now to.now files.old files.new stores.0 stores.1 (stream (E.contents errors.old) (E.contents errors.new)) × (O.contents output.new ≡ O.contents output.old)) }
+    ensures refused { IfErr result (λ ending. RefusesBoth K.Keep F.Files from.now to.now files.old files.new ending (stream (O.contents output.old) (O.contents output.new)) (stream (E.contents errors.old) (E.contents errors.new))) }
+{
+    if from == to {
+        return Err(refuse(output, errors, Cause::InUse));
+    }
+    let source = match open_sound(alloc, files, from, output, errors) {
+        Ok(source) => source,
+        Err(ending) => return Err(ending),
+    };
+    match open_one(files, to, Opening::Target, output, errors) {
+        Ok(target) => Ok((source, target)),
+        Err(ending) => {
+            close_after(files, from, source, errors);
+            Err(ending)
+        }
+    }
+}
+
+fn say_copied<K: Keep, F: Files<K>, O: Write, E: Write>(
+    files: &F,
+    target: &mut K,
     output: &mut O,
     errors: &mut E,
     answered: &Result<AdminAnswer, Down>,
 ) -> Ending
     ensures line { AnswersLine result (stream (O.contents output.old) (O.contents output.new)) }
+    ensures looks { Looks K.rows K.clean K.sound K.shielded target.old target.new }
     ensures tells { IfOk answered.now (λ answer. TellsWord answer result (stream (O.contents output.old) (O.contents output.new)) × (E.contents errors.new ≡ E.contents errors.old)) }
-    ensures down { OnErr answered.now (Refuses Cause.Store result (stream (O.contents output.old) (O.contents output.new)) (stream (E.contents errors.old) (E.contents errors.new))) }
-    ensures why { (E.contents errors.new ≡ E.contents errors.old) ⊎ TellsCause Cause.Store (stream (E.contents errors.old) (E.contents errors.new)) }
+    ensures down { OnErr answered.now ((why : AnyCause) × HasFailed K.Keep F.Files target.new why × Refuses why result (stream (O.contents output.old) (O.contents output.new)) (stream (E.contents errors.old) (E.contents errors.new))) }
+    ensures why { (E.contents errors.new ≡ E.contents errors.old) ⊎ ((why : AnyCause) × HasFailed K.Keep F.Files target.new why × TellsCause why (stream (E.contents errors.old) (E.contents errors.new))) }
 {
     match answered {
         Ok(answer) => say_word(output, answer),
-        Err(_) => refuse(output, errors, Cause::Store),
+        Err(_) => {
+            let cause = failure(files, target);
+            refuse(output, errors, cause)
+        }
     }
 }
 
@@ -44,12 +105,12 @@ pub fn copy_one<K: Keep, F: Files<K>, O: Write, E: Write>(
     ensures line { AnswersLine result (stream (O.contents output.old) (O.contents output.new)) }
     ensures copies { CopiesAt K.Keep F.Files from.now to.now org.now files.old files.new result (stream (O.contents output.old) (O.contents output.new)) (stream (E.contents errors.old) (E.contents errors.new)) }
 {
-    let (mut source, mut target) = match open_both(files, from, to, output, errors) {
+    let (mut source, mut target) = match open_both(alloc, files, from, to, output, errors) {
         Ok(stores) => stores,
         Err(ending) => return ending,
     };
     let answered = files.copy(alloc, org, &mut source, &mut target);
-    let ending = say_copied(output, errors, &answered);
+    let ending = say_copied(files, &mut target, output, errors, &answered);
     close_both(files, from, source, to, target, errors);
     ending
 }
@@ -104,8 +165,7 @@ fn copy_listed<K: Keep, F: Files<K>>(
     }
 }
 
-/// Copies every organization from one store to another, each in a transaction of its own; one that is there already is
-/// left as it is.
+/// Copies every organization from one store to another, each in a transaction of its own.
 fn copy_all<K: Keep, F: Files<K>>(
     alloc: Global,
     files: &F,
@@ -118,23 +178,53 @@ fn copy_all<K: Keep, F: Files<K>>(
     copy_listed(alloc, files, &listed, from, to)
 }
 
-fn say_compacted<O: Write, E: Write>(
+/// Whether a list of all organizations has none.
+fn lists_none(listed: &AdminAnswer) -> bool
+    ensures { result ≡ lists_none listed.now }
+{
+    match listed {
+        AdminAnswer::Organizations(rows) => rows.as_slice().is_empty(),
+        AdminAnswer::Done | AdminAnswer::Exists | AdminAnswer::Absent => false,
+        AdminAnswer::InUse | AdminAnswer::Tokens(_) => false,
+    }
+}
+
+/// Copies every organization from one store to another that has none; where it has some nothing is copied.
+fn fill<K: Keep, F: Files<K>>(
+    alloc: Global,
+    files: &F,
+    from: &mut K,
+    to: &mut K,
+) -> Result<AdminAnswer, Down>
+    ensures { CopiesBetween K.Keep (λ source before after. SomeAreCopied source before after × IfOk result (IsFilled source before after)) from.old from.new to.old to.new }
+{
+    let there = to.org_list(alloc)?;
+    if !lists_none(&there) {
+        return Ok(AdminAnswer::Exists);
+    }
+    match copy_all(alloc, files, from, to) {
+        Ok(()) => Ok(AdminAnswer::Done),
+        Err(down) => Err(down),
+    }
+}
+
+fn say_filled<O: Write, E: Write>(
     output: &mut O,
     errors: &mut E,
-    copied: &Result<(), Down>,
+    filled: &Result<AdminAnswer, Down>,
 ) -> Ending
-    ensures line { AnswersDone result (stream (O.contents output.old) (O.contents output.new)) }
-    ensures tells { OnOk copied.now (IsSaid Ending.Done result (O.contents output.old) (O.contents output.new) × (E.contents errors.new ≡ E.contents errors.old)) }
-    ensures down { OnErr copied.now (Refuses Cause.Unfinished result (stream (O.contents output.old) (O.contents output.new)) (stream (E.contents errors.old) (E.contents errors.new))) }
+    ensures line { AnswersLine result (stream (O.contents output.old) (O.contents output.new)) }
+    ensures tells { IfOk filled.now (λ answer. TellsWord answer result (stream (O.contents output.old) (O.contents output.new)) × (E.contents errors.new ≡ E.contents errors.old)) }
+    ensures down { OnErr filled.now (Refuses Cause.Unfinished result (stream (O.contents output.old) (O.contents output.new)) (stream (E.contents errors.old) (E.contents errors.new))) }
     ensures why { (E.contents errors.new ≡ E.contents errors.old) ⊎ TellsCause Cause.Unfinished (stream (E.contents errors.old) (E.contents errors.new)) }
 {
-    match copied {
-        Ok(()) => say(output, Ending::Done),
+    match filled {
+        Ok(answer) => say_word(output, answer),
         Err(_) => refuse(output, errors, Cause::Unfinished),
     }
 }
 
-/// Copies every organization from one file to another; one that is there already is left as it is.
+/// Copies every organization from one file to another, which may have none.
 pub fn compact<K: Keep, F: Files<K>, O: Write, E: Write>(
     alloc: Global,
     files: &mut F,
@@ -143,15 +233,15 @@ pub fn compact<K: Keep, F: Files<K>, O: Write, E: Write>(
     output: &mut O,
     errors: &mut E,
 ) -> Ending
-    ensures line { AnswersDone result (stream (O.contents output.old) (O.contents output.new)) }
+    ensures line { AnswersLine result (stream (O.contents output.old) (O.contents output.new)) }
     ensures copies { CompactsAt K.Keep F.Files from.now to.now files.old files.new result (stream (O.contents output.old) (O.contents output.new)) (stream (E.contents errors.old) (E.contents errors.new)) }
 {
-    let (mut source, mut target) = match open_both(files, from, to, output, errors) {
+    let (mut source, mut target) = match open_both(alloc, files, from, to, output, errors) {
         Ok(stores) => stores,
         Err(ending) => return ending,
     };
-    let copied = copy_all(alloc, files, &mut source, &mut target);
-    let ending = say_compacted(output, errors, &copied);
+    let filled = fill(alloc, files, &mut source, &mut target);
+    let ending = say_filled(output, errors, &filled);
     close_both(files, from, source, to, target, errors);
     ending
 }

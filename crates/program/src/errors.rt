@@ -2,7 +2,7 @@
 ghost use Rattle.std.specs.Prelude.{◌++◌, ◌∷◌, [], OnOk, codes, decimal};
 ghost use Rattle.std.specs.Io.KnownBytes.{Appends};
 ghost use Rattle.wire.specs.Links.{Writes};
-ghost use Rattle.program.specs.Errors.{GetsFront, connection_line, cause_line, other_line, version_line, version_end};
+ghost use Rattle.program.specs.Errors.{GetsFront, connection_line, cause_line, memory_line, other_line, version_line, version_end};
 ghost use Rattle.program.specs.Replies.{fault_lines};
 
 use crate::reasons::{Cause, OtherSchema};
@@ -44,7 +44,7 @@ fn write_told<E: Write>(errors: &mut E, text: &str) -> io::Result<()>
     }
 }
 
-fn write_placed<E: Write>(errors: &mut E, place: u32, text: &str) -> io::Result<()>
+fn write_placed<E: Write>(errors: &mut E, place: u64, text: &str) -> io::Result<()>
     ensures { Writes (E.contents errors.old) (E.contents errors.new) (decimal place ++ codes ": " ++ text.now ++ 10 ∷ []) result }
 {
     let mut buffer = Buffer::new();
@@ -56,7 +56,7 @@ fn write_placed<E: Write>(errors: &mut E, place: u32, text: &str) -> io::Result<
 }
 
 /// Writes a line on the connection of this number.
-pub fn write_line<E: Write>(errors: &mut E, place: u32, text: &str) -> io::Result<()>
+pub fn write_line<E: Write>(errors: &mut E, place: u64, text: &str) -> io::Result<()>
     ensures { Writes (E.contents errors.old) (E.contents errors.new) (connection_line place text.now) result }
 {
     match write_text(errors, b"custody: connection ") {
@@ -103,20 +103,48 @@ fn write_faults<E: Write>(errors: &mut E, faults: &[Text]) -> io::Result<()>
     Ok(())
 }
 
-fn note_faults<E: Write>(errors: &mut E, faults: &[Text]) -> io::Result<()>
-    ensures { Writes (E.contents errors.old) (E.contents errors.new) (cause_line Cause.Faults ++ fault_lines faults.now) result }
+fn note_faults<E: Write>(errors: &mut E, cause: Cause, faults: &[Text]) -> io::Result<()>
+    ensures { Writes (E.contents errors.old) (E.contents errors.new) (cause_line cause ++ fault_lines faults.now) result }
 {
-    match write_text(errors, Cause::Faults.line().as_bytes()) {
+    match write_text(errors, cause.line().as_bytes()) {
         Ok(()) => write_faults(errors, faults),
         Err(error) => Err(error),
     }
 }
 
-/// Says that the tables of a file aren't sound, and each fault on a line, as far as the stream takes it.
-pub fn tell_faults<E: Write>(errors: &mut E, faults: &[Text])
-    ensures { GetsFront (E.contents errors.old) (E.contents errors.new) (cause_line Cause.Faults ++ fault_lines faults.now) }
+/// Says what isn't done since the tables of a file aren't sound, and each fault on a line, as far as the stream takes it.
+pub fn tell_faults<E: Write>(errors: &mut E, cause: Cause, faults: &[Text])
+    ensures { GetsFront (E.contents errors.old) (E.contents errors.new) (cause_line cause ++ fault_lines faults.now) }
 {
-    let _ = note_faults(errors, faults);
+    let _ = note_faults(errors, cause, faults);
+    let _ = errors.flush();
+}
+
+fn note_memory<E: Write>(errors: &mut E, bytes: u64) -> io::Result<()>
+    ensures { Writes (E.contents errors.old) (E.contents errors.new) (memory_line bytes) result }
+{
+    match write_text(errors, b"custody: memory was refused to open the file of ") {
+        Ok(()) => write_bytes(errors, bytes),
+        Err(error) => Err(error),
+    }
+}
+
+fn write_bytes<E: Write>(errors: &mut E, bytes: u64) -> io::Result<()>
+    ensures { Writes (E.contents errors.old) (E.contents errors.new) (decimal bytes ++ codes " bytes\n") result }
+{
+    let mut buffer = Buffer::new();
+    let digits = buffer.format(bytes);
+    match write_text(errors, digits.as_bytes()) {
+        Ok(()) => write_text(errors, b" bytes\n"),
+        Err(error) => Err(error),
+    }
+}
+
+/// Says that memory was refused to open a file of so many bytes, as far as the stream takes it.
+pub fn tell_memory<E: Write>(errors: &mut E, bytes: u64)
+    ensures { GetsFront (E.contents errors.old) (E.contents errors.new) (memory_line bytes) }
+{
+    let _ = note_memory(errors, bytes);
     let _ = errors.flush();
 }
 

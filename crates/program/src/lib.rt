@@ -2,6 +2,7 @@
 #![tactic(auto)]
 
 mod bounds;
+mod checking;
 mod copying;
 pub mod endings;
 mod errors;
@@ -11,6 +12,7 @@ mod laws;
 pub mod lines;
 mod logs;
 mod openings;
+mod operating;
 pub mod outside;
 pub mod reasons;
 pub mod replays;
@@ -18,6 +20,8 @@ pub mod replies;
 pub mod running;
 mod secrets;
 pub mod serving;
+mod starting;
+pub mod totals;
 
 pub use command_line::timeouts;
 pub use laws::{

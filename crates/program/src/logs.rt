@@ -48,7 +48,7 @@ fn send_line<O: Write>(output: &mut O, line: &[u8]) -> Result<(), Down>
 fn write_line<O: Write>(
     alloc: Global,
     output: &mut O,
-    place: u32,
+    place: u64,
     end: &str,
     row: &LogRow,
 ) -> Result<(), Down>
@@ -66,7 +66,7 @@ fn write_line<O: Write>(
 fn write_row<O: Write>(
     alloc: Global,
     output: &mut O,
-    place: u32,
+    place: u64,
     ended: Result<(), LinkFault>,
     row: &Option<LogRow>,
 ) -> Result<(), Down>
@@ -85,7 +85,7 @@ pub fn log_row<O: Write>(
     alloc: Global,
     output: &mut O,
     logs: bool,
-    place: u32,
+    place: u64,
     ended: Result<(), LinkFault>,
     row: &Option<LogRow>,
 ) -> bool

@@ -1,12 +1,11 @@
 //! Files that are opened and closed, and what is told of them.
 ghost use Rattle.std.specs.Prelude.{◌≡◌, IfOk, IfErr};
-ghost use Rattle.program.specs.Errors.{GetsFront, other_line};
-ghost use Rattle.program.specs.Outcomes.{stream, IsSaid, TellsOfLog, TellsOfNew, TellsOfReaders, TellsOfFile, RefusesToOpen, Opens, OpensBoth, RefusesBoth, ClosesBoth};
-ghost use Rattle.program.specs.Paths.{OthersStay};
+ghost use Rattle.program.specs.Errors.{GetsFront, other_line, memory_line};
+ghost use Rattle.program.specs.Outcomes.{stream, IsSaid, TellsOfLog, TellsOfNew, TellsOfReaders, TellsOfFile, RefusesToOpen, Opens, Closes, ClosesBoth, seen_at};
 
 use crate::endings::Ending;
-use crate::errors::{note, tell_other};
-use crate::outside::Files;
+use crate::errors::{note, tell_memory, tell_other};
+use crate::outside::{Files, Opening};
 use crate::reasons::{Cause, OpenFault, OtherSchema};
 use crate::replies::{refuse, say};
 use machine::Keep;
@@ -39,33 +38,24 @@ fn tell_of_new<E: Write>(errors: &mut E, is_new: bool)
     }
 }
 
-pub fn tell_of_file<E: Write>(errors: &mut E, is_new: bool, others_may_read: bool)
+fn tell_of_file<E: Write>(errors: &mut E, is_new: bool, others_may_read: bool)
     ensures { TellsOfFile is_new others_may_read (stream (E.contents errors.old) (E.contents errors.new)) }
 {
     tell_of_new(errors, is_new);
     tell_of_readers(errors, others_may_read);
 }
 
-pub fn close_after<K: Keep, F: Files<K>, E: Write>(
-    files: &mut F,
-    db: &str,
-    store: K,
-    errors: &mut E,
-)
-    ensures closed { F.holds files.new db.now store }
-    ensures others { OthersStay F.holds db.now files.old files.new }
-    ensures log { TellsOfLog (F.copied files.new db.now store) (stream (E.contents errors.old) (E.contents errors.new)) }
+/// The same cause, where the path stands behind `--to` as one that says so.
+fn seen_at(opening: Opening, cause: Cause) -> Cause
+    ensures { result ≡ seen_at opening cause }
 {
-    if files.close(db, store).is_err() {
-        let _ = note(errors, LOG_STAYS);
+    match (opening, cause) {
+        (Opening::Target, Cause::NoFolder) => Cause::NoTargetFolder,
+        _ => cause,
     }
 }
 
-pub fn refuse_other<O: Write, E: Write>(
-    output: &mut O,
-    errors: &mut E,
-    other: OtherSchema,
-) -> Ending
+fn refuse_other<O: Write, E: Write>(output: &mut O, errors: &mut E, other: OtherSchema) -> Ending
     ensures schema { IsSaid Ending.Schema result (O.contents output.old) (O.contents output.new) }
     ensures why { GetsFront (E.contents errors.old) (E.contents errors.new) (other_line other) }
 {
@@ -73,53 +63,49 @@ pub fn refuse_other<O: Write, E: Write>(
     say(output, Ending::Schema)
 }
 
+fn refuse_memory<O: Write, E: Write>(output: &mut O, errors: &mut E, bytes: u64) -> Ending
+    ensures said { IsSaid Ending.Down result (O.contents output.old) (O.contents output.new) }
+    ensures why { GetsFront (E.contents errors.old) (E.contents errors.new) (memory_line bytes) }
+{
+    tell_memory(errors, bytes);
+    say(output, Ending::Down)
+}
+
 /// Opens the store of a path, and tells of its file; or says why it isn't opened.
-fn open_one<K: Keep, F: Files<K>, O: Write, E: Write>(
+pub fn open_one<K: Keep, F: Files<K>, O: Write, E: Write>(
     files: &mut F,
     path: &str,
+    opening: Opening,
     output: &mut O,
     errors: &mut E,
 ) -> Result<K, Ending>
-    ensures opened { IfOk result (λ store. Opens K.Keep F.Files path.now files.old files.new store (stream (E.contents errors.old) (E.contents errors.new)) × (O.contents output.new ≡ O.contents output.old)) }
-    ensures refused { IfErr result (λ ending. RefusesToOpen K.Keep F.Files path.now files.old files.new ending (stream (O.contents output.old) (O.contents output.new)) (stream (E.contents errors.old) (E.contents errors.new))) }
+    ensures opened { IfOk result (λ store. Opens K.Keep F.Files path.now opening files.old files.new store (stream (E.contents errors.old) (E.contents errors.new)) × (O.contents output.new ≡ O.contents output.old)) }
+    ensures refused { IfErr result (λ ending. RefusesToOpen K.Keep F.Files path.now opening files.old files.new ending (stream (O.contents output.old) (O.contents output.new)) (stream (E.contents errors.old) (E.contents errors.new))) }
 {
     let is_new = files.is_absent(path);
     let others_may_read = files.others_may_read(path);
-    match files.open(path) {
+    match files.open(path, opening) {
         Ok(store) => {
             tell_of_file(errors, is_new, others_may_read);
             Ok(store)
         }
         Err(OpenFault::Schema(other)) => Err(refuse_other(output, errors, other)),
-        Err(OpenFault::Down(cause)) => Err(refuse(output, errors, cause)),
+        Err(OpenFault::Down(cause)) => Err(refuse(output, errors, seen_at(opening, cause))),
+        Err(OpenFault::Memory(bytes)) => Err(refuse_memory(output, errors, bytes)),
     }
 }
 
-/// Opens the stores of two paths, the first first; or says why one isn't opened. Where the second isn't, the first is
-/// closed again. Of one path nothing is opened.
-pub fn open_both<K: Keep, F: Files<K>, O: Write, E: Write>(
+/// Closes the store of a path, and says where its log stays.
+pub fn close_after<K: Keep, F: Files<K>, E: Write>(
     files: &mut F,
-    from: &str,
-    to: &str,
-    output: &mut O,
+    path: &str,
+    store: K,
     errors: &mut E,
-) -> Result<(K, K), Ending>
-    ensures opened { IfOk result (λ stores. OpensBoth K.Keep F.Files from.now to.now files.old files.new stores.0 stores.1 (stream (E.contents errors.old) (E.contents errors.new)) × (O.contents output.new ≡ O.contents output.old)) }
-    ensures refused { IfErr result (λ ending. RefusesBoth K.Keep F.Files from.now to.now files.old files.new ending (stream (O.contents output.old) (O.contents output.new)) (stream (E.contents errors.old) (E.contents errors.new))) }
+)
+    ensures { Closes K.Keep F.Files path.now files.old files.new store (stream (E.contents errors.old) (E.contents errors.new)) }
 {
-    if from == to {
-        return Err(refuse(output, errors, Cause::InUse));
-    }
-    let source = match open_one(files, from, output, errors) {
-        Ok(source) => source,
-        Err(ending) => return Err(ending),
-    };
-    match open_one(files, to, output, errors) {
-        Ok(target) => Ok((source, target)),
-        Err(ending) => {
-            close_after(files, from, source, errors);
-            Err(ending)
-        }
+    if files.close(path, store).is_err() {
+        let _ = note(errors, LOG_STAYS);
     }
 }
 

@@ -1,5 +1,5 @@
 //! What the program stands on besides its streams: files of databases, connections and a clock.
-ghost use Rattle.std.specs.Prelude.{◌≡◌, ◌≢◌, ℕ, Bool, List, [], Option, Result, false, IfOk, IfErr, OnOk, OnErr};
+ghost use Rattle.std.specs.Prelude.{◌≡◌, ◌≢◌, ℕ, Bool, List, [], Option, Result, true, false, IfOk, IfErr, OnOk, OnErr};
 ghost use Rattle.std.specs.Net.Addr.{ipv4_octets};
 ghost use Rattle.basis.specs.declared.memory.Down.{Down as AnyDown};
 ghost use Rattle.command_line.specs.declared.timeouts.Timeouts.{Timeouts as AnyTimeouts};
@@ -8,18 +8,31 @@ ghost use Rattle.program.specs.declared.reasons.OpenFault.{OpenFault as AnyFault
 ghost use Rattle.machine.specs.Effects.{effect};
 ghost use Rattle.machine.specs.Keeping.{Looks};
 ghost use Rattle.program.specs.Moves.{org_copied};
-ghost use Rattle.program.specs.Paths.{AllStay, OthersStay};
+ghost use Rattle.program.specs.Paths.{AllStay, OthersStay, LeavesVacant, makes};
+ghost use Rattle.program.specs.declared.totals.Looked.{Looked as AnyLooked};
 ghost use Rattle.program.specs.Replies.{AreReplies};
 ghost use Rattle.program.specs.Upkeep.{Upkeep};
 
 use crate::reasons::{Cause, OpenFault};
-use basis::{Bytes, Down, Items, Moment, OrgName, Text};
+use crate::totals::Looked;
+use basis::{Bytes, Down, Moment, OrgName};
 use command_line::timeouts::Timeouts;
 use machine::{AdminAnswer, Keep};
 use serve::Step;
 use std::alloc::Global;
 use std::net::Ipv4Addr;
 use wire::{Inlet, Outlet};
+
+/// What is opened at a path, and whether a database is made there.
+#[derive(Clone, Copy, PartialEq, Eq)]
+pub enum Opening {
+    /// The database at `--db`, which has to be there, with our tables: nothing is made.
+    Existing,
+    /// The database at `--db`, which is made where there is no file, or an empty one.
+    Created,
+    /// The database at `--to`, which is made so, too.
+    Target,
+}
 
 /// Where databases lie, each by its path; a database that was opened is a `K`.
 pub trait Files<K: Keep> {
@@ -31,6 +44,12 @@ pub trait Files<K: Keep> {
 
     // What refuses to open what lies at a path, and why: so it is told what of another schema lies there.
     ghost refuses: { Self → List ℕ → AnyFault → Type 0 };
+
+    // No file lies at a path, or an empty one.
+    ghost vacant: { Self → List ℕ → Type 0 };
+
+    // No database with our tables lies at a path.
+    ghost bare: { Self → List ℕ → Type 0 };
 
     // What finds out whether nothing lies at a path.
     ghost lacks: { Self → List ℕ → Bool → Type 0 };
@@ -44,8 +63,12 @@ pub trait Files<K: Keep> {
     // What copies the log of a store into its file where it is long: the store before and after.
     ghost checkpoints: { K → K → Type 0 };
 
-    // What a look for faults in the tables of a store finds: the store before, a line for each fault, the store after.
-    ghost finds: { K → Result (List (List ℕ)) AnyDown → K → Type 0 };
+    // What a look over the tables of a store finds: the store before, a line for each fault and how many rows there are, the
+    // store after.
+    ghost finds: { K → Result AnyLooked AnyDown → K → Type 0 };
+
+    // The newest version of the schema, which a database is made of.
+    ghost newest: { ℕ };
 
     // A store as it was opened, its tables defined as ours are: what is premised where one without faults is to be sound.
     ghost is_ours: { K → Type 0 };
@@ -58,10 +81,18 @@ pub trait Files<K: Keep> {
     fn others_may_read(&self, path: &str) -> bool
         ensures { reads self.now path.now result };
 
-    /// Opens the store of a path. A database that isn't there is made, with no organization; one of
+    /// The newest version of the schema.
+    fn newest_schema(&self) -> u64
+        ensures { result ≡ newest };
+
+    /// Opens the store of a path. Where a database is to be there already, one that isn't there, or has none of our tables, is
+    /// refused, and nothing is made. Else one is made, with no organization, where there is no file, or an empty one. One of
     /// another schema stays as it is.
-    fn open(&mut self, path: &str) -> Result<K, OpenFault>
+    fn open(&mut self, path: &str, opening: Opening) -> Result<K, OpenFault>
         ensures opened { IfOk result (λ store. holds self.old path.now store) }
+        ensures existing { makes opening ≡ false → IfOk result (λ store. K.clean store → ¬ bare self.old path.now) }
+        ensures there { makes opening ≡ false → OnOk result (¬ vacant self.old path.now) }
+        ensures vacancies { LeavesVacant vacant (makes opening) path.now self.old self.new }
         ensures others { OthersStay holds path.now self.old self.new }
         ensures refused { OnErr result (AllStay holds self.old self.new) }
         ensures why { IfErr result (refuses self.old path.now) };
@@ -77,12 +108,12 @@ pub trait Files<K: Keep> {
         ensures done { checkpoints store.old store.new }
         ensures upkeep { Upkeep K.rows K.clean K.sound K.shielded store.old store.new };
 
-    /// Looks for faults in the tables of a store: a line for each, without its line feed, and 50 at most. Where
-    /// there is none the store is sound. An error where memory or the store refused.
-    fn check(&self, alloc: Global, store: &mut K) -> Result<Items<Text>, Down>
+    /// Looks over the tables of a store: a line for each fault, without its line feed, and 50 at most, and how many rows there
+    /// are. Where there is no fault the store is sound. An error where memory or the store refused.
+    fn check(&self, alloc: Global, store: &mut K) -> Result<Looked, Down>
         ensures found { finds store.old result store.new }
         ensures looks { Looks K.rows K.clean K.sound K.shielded store.old store.new }
-        ensures sound { IfOk result (λ lines. lines ≡ [] → K.clean store.new → is_ours store.old → K.sound store.old) };
+        ensures sound { IfOk result (λ looked. looked.faults ≡ [] → K.clean store.new → is_ours store.old → K.sound store.old) };
 
     /// Copies an organization from one store to another, in one transaction of the other. What each has of other
     /// organizations stays. An error where memory or a store refused.
@@ -105,6 +136,7 @@ pub trait Files<K: Keep> {
     fn close(&mut self, path: &str, store: K) -> Result<(), Down>
         ensures closed { holds self.new path.now store }
         ensures copied { OnOk result (copied self.new path.now store) }
+        ensures vacancies { LeavesVacant vacant true path.now self.old self.new }
         ensures others { OthersStay holds path.now self.old self.new };
 
     /// The replies to steps over a database in memory, in which no organization is at first.

@@ -11,8 +11,16 @@ pub enum Cause {
     NotPermitted,
     /// The path leads to no file, or to one with more than one hard link.
     NoFile,
-    /// The folder of the file isn't there.
+    /// The folder of `--db`'s file isn't there.
     NoFolder,
+    /// The folder of `--to`'s file isn't there.
+    NoTargetFolder,
+    /// There is no file at the path, or an empty one, and the command makes none.
+    Missing,
+    /// There is no file at the path, or an empty one, and the log beside it may hold what was committed.
+    LogAlone,
+    /// The file is a database that has none of our tables.
+    NoTables,
     /// SQLite's rollback journal lies beside the file.
     Journal,
     /// A page of the file is damaged: where pages have sums, a sum is wrong.
@@ -29,6 +37,10 @@ pub enum Cause {
     Unfinished,
     /// A fault of the disk has shut the store.
     Shut,
+    /// A fault of the disk has shut the store in the midst of a change, which may have been made.
+    Halted,
+    /// Memory or the store refused, and then whether a fault of the disk has shut the store can't be told.
+    Unknown,
     /// Standard input can't be read, or memory was refused behind it.
     Input,
     PortTaken,
@@ -43,6 +55,12 @@ pub enum Cause {
     Log,
     /// Faults were found in the tables of the file.
     Faults,
+    /// Faults were found in the tables of the file that is copied.
+    SourceFaults,
+    /// An argument isn't UTF-8.
+    Encoding,
+    /// `/dev/null` can't be opened in the place of a standard stream that is closed.
+    NoNull,
 }
 
 impl Cause {
@@ -56,7 +74,15 @@ impl Cause {
             Cause::NoFile => {
                 "custody: the path leads to no file, or to one with more than one hard link\n"
             }
-            Cause::NoFolder => "custody: the folder of the file isn't there\n",
+            Cause::NoFolder => "custody: the folder of --db's file isn't there\n",
+            Cause::NoTargetFolder => "custody: the folder of --to's file isn't there\n",
+            Cause::Missing => {
+                "custody: there is no file at the path, or an empty one: only org-add, serve without --check, and --to make one\n"
+            }
+            Cause::LogAlone => {
+                "custody: the file is missing or empty, and the log beside it may hold changes: put the file back\n"
+            }
+            Cause::NoTables => "custody: the file is a database without custody's tables\n",
             Cause::Journal => {
                 "custody: a rollback journal lies beside the file: open it with sqlite3 first\n"
             }
@@ -69,9 +95,13 @@ impl Cause {
             Cause::Disk => "custody: the disk or the system refused\n",
             Cause::Store => "custody: memory or the store refused, and no record changed\n",
             Cause::Unfinished => {
-                "custody: memory or a store refused before all was copied: the same command goes on from there\n"
+                "custody: memory or a store refused before all was copied: delete the new file, and start again\n"
             }
             Cause::Shut => "custody: a fault of the disk has shut the store: see to the disk\n",
+            Cause::Halted => {
+                "custody: a fault of the disk has shut the store: see to the disk. It may have been done: look\n"
+            }
+            Cause::Unknown => "custody: memory or the store refused. It may have been done: look\n",
             Cause::Input => "custody: the input can't be read, or memory was refused\n",
             Cause::PortTaken => "custody: the port is taken\n",
             Cause::PortNotPermitted => "custody: the port isn't permitted\n",
@@ -82,6 +112,12 @@ impl Cause {
                 "custody: the exchange log could not be written, so nothing more is answered\n"
             }
             Cause::Faults => "custody: the file's tables are not sound, so nothing is answered:\n",
+            Cause::SourceFaults => {
+                "custody: the file's tables are not sound, so nothing is copied:\n"
+            }
+            Cause::Encoding => "custody: an argument isn't UTF-8\n",
+            Cause::NoNull =>
+                "custody: a standard stream is closed, and /dev/null can't be opened\n",
         }
     }
 }
@@ -102,4 +138,6 @@ pub enum OpenFault {
     Schema(OtherSchema),
     /// Memory or the store refused.
     Down(Cause),
+    /// Memory was refused to open a file of so many bytes.
+    Memory(u64),
 }

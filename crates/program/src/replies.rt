@@ -3,12 +3,14 @@ ghost use Rattle.std.specs.Prelude.{OnOk};
 ghost use Rattle.std.specs.Io.KnownBytes.{Appends};
 ghost use Rattle.program.specs.Errors.{GetsFront, cause_line};
 ghost use Rattle.program.specs.Replies.{reply_frame, printed, bad_frame_text, answer_line, fault_lines};
+ghost use Rattle.program.specs.Totals.{sound_text, version_text};
 ghost use Rattle.program.specs.Outcomes.{stream, IsSaid, AnswersLine, TellsWord};
 ghost use Rattle.serve.specs.Service.{org_lines, token_lines};
 
 use crate::endings::Ending;
 use crate::errors::tell_cause;
 use crate::reasons::Cause;
+use crate::totals::{Totals, print_totals};
 use basis::{Bytes, Text};
 use machine::{AdminAnswer, OrgRow, TokenRow};
 use serve::{write_org_lines, write_token_lines};
@@ -66,6 +68,29 @@ pub fn print_faults<O: Write>(output: &mut O, faults: &[Text]) -> io::Result<()>
     output.flush()
 }
 
+fn print_lines<O: Write>(output: &mut O, totals: &Totals) -> io::Result<()>
+    ensures { OnOk result (Appends (O.contents output.old) (O.contents output.new) (sound_text totals.now)) }
+{
+    output.write_all(b"ok\n")?;
+    print_totals(output, totals)
+}
+
+/// Prints that no fault was found, and how many rows there are, and sends on what a buffer holds.
+pub fn print_sound<O: Write>(output: &mut O, totals: &Totals) -> io::Result<()>
+    ensures { OnOk result (Appends (O.contents output.old) (O.contents output.new) (sound_text totals.now)) }
+{
+    print_lines(output, totals)?;
+    output.flush()
+}
+
+/// Prints the name and the version of the program, and the newest version of the schema.
+pub fn print_version<O: Write>(output: &mut O, schema: u64) -> io::Result<()>
+    ensures { OnOk result (Appends (O.contents output.old) (O.contents output.new) (version_text schema)) }
+{
+    writeln!(output, "custody 1.0.0 (schema {schema})")?;
+    output.flush()
+}
+
 /// Prints the line of an ending, and says how the program ends then.
 pub fn say<O: Write>(output: &mut O, ending: Ending) -> Ending
     ensures { IsSaid ending result (O.contents output.old) (O.contents output.new) }
@@ -83,6 +108,15 @@ pub fn refuse<O: Write, E: Write>(output: &mut O, errors: &mut E, cause: Cause) 
 {
     tell_cause(errors, cause);
     say(output, Ending::Down)
+}
+
+/// Says why on the error stream, and `refused usage` on standard output.
+pub fn refuse_usage<O: Write, E: Write>(output: &mut O, errors: &mut E, cause: Cause) -> Ending
+    ensures said { IsSaid Ending.Usage result (O.contents output.old) (O.contents output.new) }
+    ensures why { GetsFront (E.contents errors.old) (E.contents errors.new) (cause_line cause) }
+{
+    tell_cause(errors, cause);
+    say(output, Ending::Usage)
 }
 
 /// Prints the list of all organizations: a line `ORG WORKSPACES LIMIT` each.

@@ -36,7 +36,7 @@ fn fault_text(fault: LinkFault) -> &'static str
 
 const DOWN: &str = "memory or the store was refused, answered 503";
 
-fn tell_down<E: Write>(errors: &mut E, place: u32, is_down: bool) -> io::Result<()>
+fn tell_down<E: Write>(errors: &mut E, place: u64, is_down: bool) -> io::Result<()>
     ensures { Writes (E.contents errors.old) (E.contents errors.new) (down_line place is_down) result }
 {
     if is_down {
@@ -46,7 +46,7 @@ fn tell_down<E: Write>(errors: &mut E, place: u32, is_down: bool) -> io::Result<
     }
 }
 
-fn tell_fault<E: Write>(errors: &mut E, place: u32, ended: Result<(), LinkFault>) -> io::Result<()>
+fn tell_fault<E: Write>(errors: &mut E, place: u64, ended: Result<(), LinkFault>) -> io::Result<()>
     ensures { Writes (E.contents errors.old) (E.contents errors.new) (fault_line place ended) result }
 {
     match ended {
@@ -58,7 +58,7 @@ fn tell_fault<E: Write>(errors: &mut E, place: u32, ended: Result<(), LinkFault>
 // What is told of a connection on the error stream, where there is something to tell.
 fn tell<E: Write>(
     errors: &mut E,
-    place: u32,
+    place: u64,
     ended: Result<(), LinkFault>,
     is_down: bool,
 ) -> io::Result<()>
@@ -104,7 +104,7 @@ fn serve_one<K: Keep, N: Connections, O: Write, E: Write>(
     network: &mut N,
     reader: N::Reader,
     writer: N::Writer,
-    place: u32,
+    place: u64,
     logs: bool,
     output: &mut O,
     errors: &mut E,
@@ -160,7 +160,7 @@ fn answer_next<K: Keep, N: Connections, C: Clock, O: Write, E: Write>(
     timeouts: &Timeouts,
     service: &mut Service<K>,
     clock: &mut C,
-    place: u32,
+    place: u64,
     logs: bool,
     output: &mut O,
     errors: &mut E,
@@ -204,7 +204,7 @@ fn serve_next<K: Keep, F: Files<K>, N: Connections, C: Clock, O: Write, E: Write
     timeouts: &Timeouts,
     service: &mut Service<K>,
     clock: &mut C,
-    place: u32,
+    place: u64,
     logs: bool,
     output: &mut O,
     errors: &mut E,
@@ -243,7 +243,7 @@ pub fn serve_loop<K: Keep, F: Files<K>, N: Connections, C: Clock, O: Write, E: W
     network: &mut N,
     port: u16,
     service: &mut Service<K>,
-    count: u32,
+    count: u64,
     timeouts: &Timeouts,
     logs: bool,
     clock: &mut C,

@@ -27,6 +27,10 @@ pub record OpensOn (image : Image) (rows : List ℕ → Option Organization) (Is
   pub climbed : (version : ℕ) → HoldsSchema version found → ((org : List ℕ) → rows org ≡ schema_records version found org) × IsSound
   pub fresh : any_there found.schema ≡ false → ((org : List ℕ) → rows org ≡ None) × IsSound
 
+-- The database that a file and its log hold was found, and it had one of our tables.
+abbrev pub HadTables : Image → Type 0
+HadTables image = (found : Database) × IsDatabase found × ((trees : Trees) → HoldsDatabase image trees → found.trees ≡ trees) × (any_there found.schema ≡ true)
+
 -- A database lies in the file and its log, and in the file with no log, as they read now and as a crash may leave them.
 -- It has the store's records, where the store is sound.
 pub record ClosesOn {D : Type 0} (g : disk.Ghosts D) (files : Files D) (rows : List ℕ → Option Organization) (IsSound : Type 0) : Type 0 where

@@ -2,3 +2,4 @@ pub mod Begun
 pub mod Clock
 pub mod Files
 pub mod Shields
+pub mod Totals

@@ -1,41 +1,47 @@
 //! Databases in files.
 ghost use Rattle.std.specs.Prelude.{◌≡◌, true, false, not, ⊤, is_some, [], IfOk};
-ghost use Rattle.sha2.specs.Sha256.{sha256};
+ghost use Rattle.sqlite.specs.Held.{state};
+ghost use Rattle.tables.specs.Opening.{any_there};
 ghost use Rattle.sqlite_store.specs.FileStore.{view};
 ghost use Rattle.sqlite_wal.specs.Files.{image_at};
 ghost use Rattle.sqlite.specs.Files.{file_state, IsOpened, IsBlankAs};
 ghost use Rattle.sqlite.specs.Start.{FindsIn};
 ghost use Rattle.sqlite.specs.State.{HasCleanDisk};
 ghost use Rattle.sqlite_disk.specs.Modelled.{calls_of, start_of};
-ghost use Rattle.statements.specs.Tables.{Tables, Holds, tables_of};
+ghost use Rattle.statements.specs.Tables.{tables_of};
+ghost use Rattle.statements.specs.declared.making.TheConstants.{NEWEST};
 ghost use Rattle.tables.specs.Logs.{CopiesLog};
 ghost use Rattle.tables.specs.Opening.{IsFresh};
-ghost use Rattle.tables.specs.Scans.{ArePagesKeyed};
-ghost use Rattle.tables.specs.Sound.{IsSound};
-ghost use Rattle.system.specs.Files.{OpensOn, IsClosedOn};
+ghost use Rattle.checks.specs.Standing.{HaveRows};
+ghost use Rattle.program.specs.Paths.{makes};
+ghost use Rattle.system.specs.Files.{OpensOn, HadTables, IsClosedOn};
 ghost use Rattle.system.specs.Shields.{AreCleanOrCollided};
+ghost use Rattle.system.specs.Totals.{TellsOf, found_totals};
 
 use crate::causes::{database_cause, pair_cause, system_cause};
 use crate::copies::copy_between;
+use crate::lone_logs::admit;
 use crate::making::make;
 use crate::pairs::Pair;
 use crate::replays::replayed;
-use crate::tuning::options;
-use basis::{Bytes, Down, Items, OrgName, Text};
+use crate::tuning::{file_bytes, options};
+use basis::{Bytes, Down, OrgName};
 use machine::{AdminAnswer, Fault, Keep};
 use pages::ShaKey;
-use program::outside::Files;
+use program::outside::{Files, Opening};
 use program::reasons::{Cause, OpenFault, OtherSchema};
+use program::totals::{Looked, Totals};
 use serve::Step;
 use sqlite::{Alter, Connection, Error, Row};
 use sqlite_disk::{Calls, Disk, Start};
 use sqlite_std_file::{FileFrom, Host};
 use sqlite_store::FileStore;
+use statements::making::NEWEST;
 use std::alloc::Global;
 use std::os::unix::fs::MetadataExt;
 use std::rt::HostRuntime;
 use std::{fs, io};
-use tables::{SqlKeep, Unopened};
+use tables::{SqlKeep, Unopened, has_any_of_ours};
 
 /// The store in a file, its pages named by SHA-256, which `start` stands for as it is opened.
 pub type FileKeep<S> = SqlKeep<FileStore<FileFrom<S>>, ShaKey>;
@@ -114,22 +120,60 @@ fn unopened_fault<S: Alter + Drop>(unopened: Unopened<S>) -> OpenFault {
     }
 }
 
-/// Opens the store in a file. A file that isn't there is made, for its owner alone and with no
+// Why a file wasn't opened; for want of memory its size is told.
+fn opening_fault(cause: Cause, bytes: u64) -> OpenFault {
+    match cause {
+        Cause::NoMemory => OpenFault::Memory(bytes),
+        _ => OpenFault::Down(cause),
+    }
+}
+
+// Makes the file, where one is to be made.
+fn make_for(rt: &HostRuntime, path: &str, opening: Opening) -> Result<(), Cause> {
+    admit(rt, path, opening)?;
+    match opening {
+        Opening::Existing => Ok(()),
+        Opening::Created | Opening::Target => make(rt, path),
+    }
+}
+
+// A database that is to be there already has our tables.
+fn admit_tables<S: Alter>(conn: &Connection<S>, opening: Opening) -> bool
+    ensures { result ≡ true → makes opening ≡ false → any_there (state S.Store conn.now).now.schema ≡ true }
+{
+    match opening {
+        Opening::Existing => has_any_of_ours(conn),
+        Opening::Created | Opening::Target => true,
+    }
+}
+
+/// Opens the store in a file. A file that isn't there is made, if one is to be made there, for its owner alone and with no
 /// organization; one of another schema stays as it is. Nothing ties what is found to the path, but to what `start` stands for.
+/// Where no file is to be made, the database that was found had our tables.
 /// Where the disk answered the open's own reads as it should, the store is shielded from then on.
-pub fn open_file<S: Start>(rt: &HostRuntime, path: &str, start: S) -> Result<FileKeep<S>, OpenFault>
+pub fn open_file<S: Start>(
+    rt: &HostRuntime,
+    path: &str,
+    opening: Opening,
+    start: S,
+) -> Result<FileKeep<S>, OpenFault>
     ensures opens { IfOk result (λ keep. ⟦<FileKeep<S> as Keep>⟧.clean keep → OpensOn (image_at S.Start) (⟦<FileKeep<S> as Keep>⟧.rows keep) (⟦<FileKeep<S> as Keep>⟧.sound keep)) }
+    ensures tabled { makes opening ≡ false → IfOk result (λ keep. ⟦<FileKeep<S> as Keep>⟧.clean keep → HadTables (image_at S.Start)) }
     ensures guarded { IfOk result (λ keep. ⟦<FileKeep<S> as Keep>⟧.clean keep → ⟦<FileKeep<S> as Keep>⟧.shielded keep) }
     ensures as_opened { IfOk result (λ keep. ⟦<FileKeep<S> as Keep>⟧.clean keep → IsFresh (file_state keep.seen.value).committed keep.counted (file_state keep.conn)) }
 {
-    match make(rt, path) {
+    let bytes = file_bytes(rt, path).unwrap_or(0);
+    match make_for(rt, path, opening) {
         Ok(()) => {}
-        Err(cause) => return Err(OpenFault::Down(cause)),
+        Err(cause) => return Err(opening_fault(cause, bytes)),
     }
     let conn = match open_database(rt, path, start) {
         Ok(conn) => conn,
-        Err(cause) => return Err(OpenFault::Down(cause)),
+        Err(cause) => return Err(opening_fault(cause, bytes)),
     };
+    if !admit_tables(&conn, opening) {
+        return Err(OpenFault::Down(Cause::NoTables));
+    }
     match SqlKeep::open(conn) {
         Ok(keep) => Ok(keep),
         Err(unopened) => Err(unopened_fault(unopened)),
@@ -151,6 +195,24 @@ pub fn close_file<S: Start>(keep: FileKeep<S>) -> Result<sqlite_disk::Files<File
     }
 }
 
+// What a look over the tables found, in the program's words.
+fn told(looked: checks::Looked) -> Looked
+    ensures faults { result.faults ≡ looked.faults }
+    ensures totals { found_totals result.totals ≡ looked.totals }
+{
+    let checks::Looked { faults, totals } = looked;
+    Looked {
+        faults,
+        totals: Totals {
+            organizations: totals.organizations,
+            workspaces: totals.workspaces,
+            versions: totals.versions,
+            runs: totals.runs,
+            newest: totals.newest,
+        },
+    }
+}
+
 // Refuses what would open the first file or its log once more.
 fn refuse_first(rt: &HostRuntime, first: &Option<Pair>, path: &str) -> Result<(), Cause> {
     let Some(first) = first else {
@@ -168,10 +230,11 @@ fn open_other<S: Start>(
     rt: &HostRuntime,
     first: &Option<Pair>,
     path: &str,
+    opening: Opening,
     other: S,
 ) -> Result<FileKeep<S>, OpenFault> {
     match refuse_first(rt, first, path) {
-        Ok(()) => open_file(rt, path, other),
+        Ok(()) => open_file(rt, path, opening, other),
         Err(cause) => Err(OpenFault::Down(cause)),
     }
 }
@@ -208,6 +271,12 @@ impl<S: Start> Files<FileKeep<S>> for DiskFiles<'_, S> {
     // Which fault comes when isn't told.
     ghost refuses = { λ _ _ _. ⊤ };
 
+    // Nothing ties a path to what lies there: none is known to be without a file.
+    ghost vacant = { λ _ _. ⊥ };
+
+    // Until a file is opened, it is that of `start`, whatever path it has.
+    ghost bare = { λ files _. (is_some files.start ≡ true) × ¬ HadTables (image_at S.Start) };
+
     // Nothing ties a path to what lies there.
     ghost lacks = { λ _ _ _. ⊤ };
 
@@ -221,12 +290,14 @@ impl<S: Start> Files<FileKeep<S>> for DiskFiles<'_, S> {
     // clause of the kit tells.
     ghost checkpoints = { λ old new. CopiesLog old.logged new.logged old new };
 
-    // No fault is found exactly where the tables are sound and each page's key is the SHA-256 of its bytes, while the disk
-    // kept what it promised, of tables that stand in the database as ours are defined.
-    ghost finds = { λ store said after. ⟦<FileKeep<S> as Keep>⟧.clean after → IfOk said (λ lines. (t : Tables) → Holds (file_state store.conn).committed t → (lines ≡ [] → IsSound t × ArePagesKeyed sha256 t) × (IsSound t → ArePagesKeyed sha256 t → lines ≡ [])) };
+    // No fault is found exactly where the tables are ours and sound and each page's key is the SHA-256 of its bytes, while the disk
+    // kept what it promised; and the numbers are those of their rows.
+    ghost finds = { λ store said after. ⟦<FileKeep<S> as Keep>⟧.clean after → IfOk said (TellsOf (file_state store.conn).committed) };
 
-    // The store is as it was opened, and our tables stand in the database as they are defined.
-    ghost is_ours = { λ store. IsFresh (file_state store.seen.value).committed store.counted (file_state store.conn) × Holds (file_state store.seen.value).committed (tables_of (file_state store.seen.value).committed) };
+    ghost newest = { NEWEST };
+
+    // The store is as it was opened, and the rows of our tables are those of values.
+    ghost is_ours = { λ store. IsFresh (file_state store.seen.value).committed store.counted (file_state store.conn) × HaveRows (file_state store.seen.value).committed (tables_of (file_state store.seen.value).committed) };
 
     // What can't be looked at counts as there: the open behind it tells why.
     fn is_absent(&self, path: &str) -> bool {
@@ -241,15 +312,19 @@ impl<S: Start> Files<FileKeep<S>> for DiskFiles<'_, S> {
         is_any_readable(self.rt, path).unwrap_or(false)
     }
 
-    fn open(&mut self, path: &str) -> Result<FileKeep<S>, OpenFault> {
+    fn newest_schema(&self) -> u64 {
+        NEWEST
+    }
+
+    fn open(&mut self, path: &str, opening: Opening) -> Result<FileKeep<S>, OpenFault> {
         match self.start.take() {
             Some(start) => {
-                let opened = open_file(self.rt, path, start);
+                let opened = open_file(self.rt, path, opening, start);
                 self.first = Pair::at(self.rt, path).ok();
                 opened
             }
             None => match self.other.take() {
-                Some(other) => open_other(self.rt, &self.first, path, other),
+                Some(other) => open_other(self.rt, &self.first, path, opening, other),
                 None => Err(OpenFault::Down(Cause::InUse)),
             },
         }
@@ -263,8 +338,11 @@ impl<S: Start> Files<FileKeep<S>> for DiskFiles<'_, S> {
         store.checkpoint()
     }
 
-    fn check(&self, alloc: Global, store: &mut FileKeep<S>) -> Result<Items<Text>, Down> {
-        checks::check(store, alloc)
+    fn check(&self, alloc: Global, store: &mut FileKeep<S>) -> Result<Looked, Down> {
+        match checks::check(store, alloc) {
+            Ok(looked) => Ok(told(looked)),
+            Err(refused) => Err(refused),
+        }
     }
 
     fn copy(

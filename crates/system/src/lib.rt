@@ -6,6 +6,7 @@ mod clock;
 mod copies;
 mod files;
 mod laws;
+mod lone_logs;
 mod making;
 mod pairs;
 mod replays;

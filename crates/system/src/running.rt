@@ -1,6 +1,7 @@
 //! The program over the files, the sockets and the clock of the system.
 ghost use Rattle.std.specs.Prelude.{◌≡◌};
 ghost use Rattle.program.specs.Endings.{status_of};
+ghost use Rattle.statements.specs.declared.making.TheConstants.{NEWEST};
 ghost use Rattle.program.specs.Outcomes.{stream, Prints};
 ghost use Rattle.command_line.specs.Words.{words_bytes};
 ghost use Rattle.program.specs.declared.endings.Ending.{Ending};
@@ -24,7 +25,7 @@ fn run_over<K: Keep, F: Files<K>, I: Read, O: Write, E: Write>(
     output: &mut O,
     errors: &mut E,
 ) -> u8
-    ensures { (ending : Ending) × (result ≡ status_of ending) × Prints (words_bytes words.now) (I.remaining input.old) ending (stream (O.contents output.old) (O.contents output.new)) (stream (E.contents errors.old) (E.contents errors.new)) }
+    ensures { (ending : Ending) × (result ≡ status_of ending) × Prints F.newest (words_bytes words.now) (I.remaining input.old) ending (stream (O.contents output.old) (O.contents output.new)) (stream (E.contents errors.old) (E.contents errors.new)) }
 {
     let mut network = TcpSockets::new(rt);
     let mut clock = SystemClock::new(rt);
@@ -49,7 +50,7 @@ fn run_from<S: Start, I: Read, O: Write, E: Write>(
     output: &mut O,
     errors: &mut E,
 ) -> u8
-    ensures { (ending : Ending) × (result ≡ status_of ending) × Prints (words_bytes words.now) (I.remaining input.old) ending (stream (O.contents output.old) (O.contents output.new)) (stream (E.contents errors.old) (E.contents errors.new)) }
+    ensures { (ending : Ending) × (result ≡ status_of ending) × Prints NEWEST (words_bytes words.now) (I.remaining input.old) ending (stream (O.contents output.old) (O.contents output.new)) (stream (E.contents errors.old) (E.contents errors.new)) }
 {
     let mut files = DiskFiles::new(rt, start, other);
     run_over(rt, &mut files, words, input, output, errors)
@@ -63,7 +64,7 @@ pub fn run_here<I: Read, O: Write, E: Write>(
     output: &mut O,
     errors: &mut E,
 ) -> u8
-    ensures { (ending : Ending) × (result ≡ status_of ending) × Prints (words_bytes words.now) (I.remaining input.old) ending (stream (O.contents output.old) (O.contents output.new)) (stream (E.contents errors.old) (E.contents errors.new)) }
+    ensures { (ending : Ending) × (result ≡ status_of ending) × Prints NEWEST (words_bytes words.now) (I.remaining input.old) ending (stream (O.contents output.old) (O.contents output.new)) (stream (E.contents errors.old) (E.contents errors.new)) }
 {
     run_from(rt, Unknown, Unknown, words, input, output, errors)
 }

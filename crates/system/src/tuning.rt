@@ -37,7 +37,8 @@ fn page_bytes(rt: &HostRuntime, path: &str) -> io::Result<u64> {
     }
 }
 
-fn file_bytes(rt: &HostRuntime, path: &str) -> io::Result<u64> {
+/// How many bytes a file has.
+pub fn file_bytes(rt: &HostRuntime, path: &str) -> io::Result<u64> {
     Ok(fs::metadata(rt, path)?.len())
 }
 

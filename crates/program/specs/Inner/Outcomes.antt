@@ -2,7 +2,6 @@
 use Rattle.std.specs.Prelude.{◌≡◌, ◌⊎◌, ℕ, List, [], Bool, true, false, Option, Result, Ok, IfOk}
 use Rattle.basis.specs.declared.memory.Down.{Down}
 use Rattle.command_line.specs.declared.timeouts.Timeouts.{Timeouts}
-use Rattle.machine.specs.Keeping.{Looks}
 use Rattle.machine.specs.declared.keeps.Keep as keep
 use Rattle.wire.specs.declared.devices.Inlet as inlet
 use Rattle.wire.specs.declared.devices.Outlet as outlet
@@ -11,8 +10,9 @@ use Rattle.program.specs.declared.endings.Ending.TheVariants.{Unprinted}
 use Rattle.program.specs.declared.outside.Clock as clock
 use Rattle.program.specs.declared.outside.Connections as connections
 use Rattle.program.specs.declared.outside.Files as files
-use Rattle.program.specs.Outcomes.{Stream, Outside, stream, Says, GetsSome, SaysServed, TellsOfLog, TellsUnsound}
-use Rattle.program.specs.Paths.{OthersStay}
+use Rattle.program.specs.declared.reasons.Cause.{Cause}
+use Rattle.program.specs.declared.totals.Looked.{Looked}
+use Rattle.program.specs.Outcomes.{Stream, Outside, stream, Says, GetsSome, SaysServed, LooksFor, Closes, TellsUnsound}
 use Rattle.program.specs.Serving.{Serves, state, AnswersAtPort}
 
 -- the line of an ending on the standard output and why on the error stream, or a stream took not all
@@ -20,25 +20,19 @@ abbrev pub IsSaidWhy : Ending → Ending → Stream → Stream → Type 0
 IsSaidWhy e result output errors = ((result ≡ e) × Says e output × GetsSome errors) ⊎ (result ≡ Unprinted)
 
 -- a look found no fault (`true`); or it found some, or was refused, and the error stream is told so
-abbrev pub FindsNone : Result (List (List ℕ)) Down → Bool → Stream → Type 0
-FindsNone faults true errors = (faults ≡ Ok []) × (errors.new ≡ errors.old)
-FindsNone faults false errors = TellsUnsound faults errors
+abbrev pub FindsNone : Cause → Result Looked Down → Bool → Stream → Type 0
+FindsNone why found true errors = ((looked : Looked) × (found ≡ Ok looked) × (looked.faults ≡ [])) × (errors.new ≡ errors.old)
+FindsNone why found false errors = TellsUnsound why found errors
 
 module _ {K F : Type 0} (k : keep.Ghosts K) (f : files.Ghosts F K) where
   -- faults were looked for in the tables of a store
-  pub record LooksFirst (opened : K) (is_sound : Bool) (before : K) (errors : Stream) : Type 0 where
-    pub look : Looks k.rows k.clean k.sound k.shielded opened before
-    pub faults : Result (List (List ℕ)) Down
-    pub finds : f.finds opened faults before
-    pub sound : IfOk faults (λ lines. lines ≡ [] → k.clean before → f.is_ours opened → k.sound opened)
-    pub says : FindsNone faults is_sound errors
+  abbrev pub LooksFirst : Cause → K → Bool → K → Stream → Type 0
+  LooksFirst why opened is_sound before errors = LooksFor k f (λ found told. FindsNone why found is_sound told) opened before errors
 
 module _ {K F N C R W : Type 0} (k : keep.Ghosts K) (f : files.Ghosts F K) (n : connections.Ghosts N R W) (c : clock.Ghosts C) (i : inlet.Ghosts R) (o : outlet.Ghosts W) where
   -- connections are answered from a store that was opened, which is closed at this path then
   pub record ServesOpened (path : List ℕ) (port : ℕ) (timeouts : Timeouts) (logs : Bool) (count : ℕ) (before : K) (old new : Outside F N C) (e : Ending) (output errors : Stream) : Type 0 where
     pub after : K
-    pub left : f.holds new.files path after
-    pub others : OthersStay f.holds path old.files new.files
     pub so_far : k.clean after → k.clean before
     pub shield : k.shielded before → k.shielded after
     pub kept : k.clean after → k.sound before → k.sound after
@@ -48,4 +42,4 @@ module _ {K F N C R W : Type 0} (k : keep.Ghosts K) (f : files.Ghosts F K) (n : 
     pub lines : Option (List ℕ)
     pub answers : AnswersAtPort k f n c i o port timeouts logs count (state old.network old.clock before errors.old output.old) (state new.network new.clock after lines told) served
     pub says : SaysServed served e told output.new
-    pub log : TellsOfLog (f.copied new.files path after) (stream lines errors.new)
+    pub closes : Closes k f path old.files new.files after (stream lines errors.new)

@@ -1,7 +1,7 @@
-use Rattle.std.proofs.Common.{List, ℕ, Option, inl, inr, subst}
+use Rattle.std.proofs.Common.{◌≡◌, List, ℕ, Option, inl, inr, subst, refl}
 use Rattle.program.specs.declared.reasons.Cause.TheVariants.{Unfinished}
-use Rattle.program.specs.Outcomes.{stream, IsCompacted}
-use Rattle.program.proofs.CopyLemmas.{compacted, copies_as, copies_over}
+use Rattle.program.specs.Outcomes.{stream, TellsCause, IsCompacted}
+use Rattle.program.proofs.CopyLemmas.{compacted, copies_as, copies_over, unfinished}
 use Rattle.program.proofs.copying.compact.Goals as goal
 
 pub returns-in-Err-clause-copies : goal.returns-in-Err-clause-copies
@@ -13,10 +13,10 @@ returns-clause-copies g c =
     let err = g.E.Write.contents in
     let source = c.in-Ok.stores.0 in
     let target = c.in-Ok.stores.1 in
-    let copies = c.copy_all-copied in
-    let said = c.say_compacted-ending in
+    let copies = c.fill-filled in
+    let said = c.say_filled-ending in
     let told = stream (err c.open_both.new.errors) (err said.new.errors) in
-    inl (copies_over g.K.Keep g.F.Files c.args.from.now c.args.to.now (λ from old new errors. IsCompacted from old new said.result (stream (out c.args.output.now) (out said.new.output)) errors) Unfinished
+    inl (copies_over g.K.Keep g.F.Files c.args.from.now c.args.to.now (λ at from old new errors. IsCompacted from old new said.result (stream (out c.args.output.now) (out said.new.output)) errors) (λ at why. why ≡ Unfinished)
     c.args.files.now c.open_both.new.files c.close_both.new.files source copies.new.from target copies.new.to
     (err c.args.errors.now) (err c.open_both.new.errors) (err said.new.errors) (err c.close_both.new.errors) c.in-Ok.ensures.opened.0
     (copies_as g.K.Keep _ _ source copies.new.from target copies.new.to
@@ -24,4 +24,4 @@ returns-clause-copies g c =
     subst (λ (before : Option (List ℕ)). IsCompacted from old new said.result (stream before (out said.new.output)) told) c.in-Ok.ensures.opened.1
     (compacted from old new said.result (stream (out c.open_both.new.output) (out said.new.output)) told copies.result became.0 became.1 said.ensures.tells said.ensures.down))
     copies.ensures)
-    said.ensures.why c.close_both.ensures)
+    (unfinished _ told said.ensures.why) c.close_both.ensures)

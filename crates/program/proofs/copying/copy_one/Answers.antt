@@ -1,7 +1,6 @@
 use Rattle.std.proofs.Common.{List, ℕ, Option, inl, inr, subst}
-use Rattle.program.specs.declared.reasons.Cause.TheVariants.{Store}
-use Rattle.program.specs.Outcomes.{stream, IsCopied}
-use Rattle.program.proofs.CopyLemmas.{copied, copies_over}
+use Rattle.program.specs.Outcomes.{stream, HasFailed, IsCopied}
+use Rattle.program.proofs.CopyLemmas.{copied, copies_looked, copies_over}
 use Rattle.program.proofs.copying.copy_one.Goals as goal
 
 pub returns-in-Err-clause-copies : goal.returns-in-Err-clause-copies
@@ -16,19 +15,23 @@ returns-clause-copies g c =
     let source = c.in-Ok.stores.0 in
     let target = c.in-Ok.stores.1 in
     let copy = c.copy-answered.ensures in
+    let copied_to = c.copy-answered.new.to in
     let said = c.say_copied-ending in
+    let left = said.new.target in
+    let fails = HasFailed g.K.Keep g.F.Files in
     let told = stream (err c.open_both.new.errors) (err said.new.errors) in
-    inl (copies_over g.K.Keep g.F.Files c.args.from.now c.args.to.now (λ from old new errors. IsCopied org from old new said.result (stream (out c.args.output.now) (out said.new.output)) errors) Store
-    c.args.files.now c.open_both.new.files c.close_both.new.files source c.copy-answered.new.from target c.copy-answered.new.to
+    inl (copies_over g.K.Keep g.F.Files c.args.from.now c.args.to.now (λ at from old new errors. IsCopied (fails at) org from old new said.result (stream (out c.args.output.now) (out said.new.output)) errors) fails
+    c.args.files.now c.open_both.new.files c.close_both.new.files source c.copy-answered.new.from target left
     (err c.args.errors.now) (err c.open_both.new.errors) (err said.new.errors) (err c.close_both.new.errors) c.in-Ok.ensures.opened.0
+    (copies_looked g.K.Keep _ source c.copy-answered.new.from target copied_to left
     (record {
       look = copy.source;
       so_far = copy.so_far;
       shield = copy.shield;
       kept = copy.kept;
       model = λ clean sound clean_source sound_source.
-          subst (λ (before : Option (List ℕ)). IsCopied org (rows source) (rows target) (rows c.copy-answered.new.to) said.result (stream before (out said.new.output)) told) c.in-Ok.ensures.opened.1
-          (copied org (rows source) (rows target) (rows c.copy-answered.new.to) said.result (stream (out c.open_both.new.output) (out said.new.output)) told c.copy-answered.result
+          subst (λ (before : Option (List ℕ)). IsCopied (fails left) org (rows source) (rows target) (rows copied_to) said.result (stream before (out said.new.output)) told) c.in-Ok.ensures.opened.1
+          (copied (fails left) org (rows source) (rows target) (rows copied_to) said.result (stream (out c.open_both.new.output) (out said.new.output)) told c.copy-answered.result
           (copy.own clean sound clean_source sound_source) (copy.others clean sound clean_source sound_source) (copy.err clean) said.ensures.tells said.ensures.down);
-    })
+    }) said.ensures.looks)
     said.ensures.why c.close_both.ensures)

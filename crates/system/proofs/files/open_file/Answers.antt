@@ -7,7 +7,7 @@ use Rattle.machine.specs.declared.records.Organization.{Organization}
 use Rattle.tables.specs.Opening.{any_there, all_there, newest_there, tells_edition}
 use Rattle.tables.specs.Stores.{records_of, IsSoundStore}
 use Rattle.tables.specs.Versions.{HoldsSchema, schema_records}
-use Rattle.system.specs.Files.{OpensOn}
+use Rattle.system.specs.Files.{OpensOn, HadTables}
 use Rattle.system.proofs.files.open_file.Goals as goal
 
 -- of two tests not both fail
@@ -30,6 +30,14 @@ opens_on s image rows IsSound finds opens live missing there climbed fresh = rec
   climbed = λ n held. ((climbed n held).1, (climbed n held).0);
   fresh = λ e. ((fresh e).1, (fresh e).0);
 }
+
+had_tables : (s : State) (image : Image) → FindsIn image s → Opens s → IsLive s → any_there s.now.schema ≡ true → HadTables image
+had_tables s image finds opens live there = (s.now, (live opens.is_open).0, (λ trees held. ap (λ (db : Database). db.trees) opens.clean ∙ finds.holds trees held), there)
+
+pub returns-in-Ok-open-clause-tabled : goal.returns-in-Ok-open-clause-tabled
+returns-in-Ok-open-clause-tabled g c makes clean =
+    let disk = c.in-Ok-open.ensures.so_far clean in
+    had_tables _ _ (c.in-Ok-open_database.ensures.found disk) (c.in-Ok-open_database.ensures.opened disk).0 (c.in-Ok-open_database.ensures.opened disk).1 (c.admit_tables.ensures c.if-not-admit_tables.false makes)
 
 pub returns-in-Ok-open-clause-opens : goal.returns-in-Ok-open-clause-opens
 returns-in-Ok-open-clause-opens g c clean =

@@ -1,9 +1,15 @@
-use Rattle.std.proofs.Common.{Result, Ok, Err, IfOk}
+use Rattle.std.proofs.Common.{List, ℕ, sym, subst, ◌∙◌}
+use Rattle.sha2.specs.Sha256.{sha256}
+use Rattle.sqlite.specs.Files.{file_state}
+use Rattle.checks.specs.Standing.{TellsStore}
+use Rattle.checks.specs.Totals.{AreTotalsOf}
 use Rattle.system.proofs.files.DiskFilesFilesFileKeep.check.Goals as goal
 
-turned : {X E : Type 0} (None : X → Type 0) (A B C D : Type 0) (result : Result X E) → (A → IfOk result (λ x. None x → B → C → D)) → IfOk result (λ x. None x → A → B × C → D)
-turned None A B C D (Ok x) told = λ none a both. told a none both.0 both.1
-turned None A B C D (Err e) told = tt
+pub returns-in-Ok-clause-found : goal.returns-in-Ok-clause-found
+returns-in-Ok-clause-found g c clean = record {
+  faults = subst (λ (faults : List (List ℕ)). TellsStore sha256 (file_state c.args.store.now.conn).committed faults) (sym c.told.ensures.faults) (c.in-Ok.ensures.decides clean);
+  totals = λ t held. subst (AreTotalsOf t) (sym c.told.ensures.totals) (c.in-Ok.ensures.totals clean t held);
+}
 
-pub returns-clause-sound : goal.returns-clause-sound
-returns-clause-sound g c = turned _ _ _ _ _ c.check.result c.check.ensures.sound
+pub returns-in-Ok-clause-sound : goal.returns-in-Ok-clause-sound
+returns-in-Ok-clause-sound g c = λ none clean ours. c.in-Ok.ensures.sound clean (sym c.told.ensures.faults ∙ none) ours.0 ours.1

@@ -1,6 +1,6 @@
 use Rattle.program.proofs.OutcomeLemmas.{served}
 use Rattle.program.proofs.OutsideLemmas.{serves_opened}
-use Rattle.program.proofs.running.serve_opened.Goals as goal
+use Rattle.program.proofs.starting.serve_opened.Goals as goal
 
 pub returns-clause-line : goal.returns-clause-line
 returns-clause-line g c = served c.args.logs c.serve_at-ending.result c.say_served.result (g.O.Write.contents c.args.output.now) (g.O.Write.contents c.serve_at-ending.new.output) (g.O.Write.contents c.say_served.new.output) c.serve_at-ending.ensures.listens c.say_served.ensures.down c.say_served.ensures.other
@@ -14,4 +14,4 @@ returns-clause-serves g c = serves_opened g.K.Keep g.F.Files g.N.Connections g.C
     (g.E.Write.contents c.args.errors.now) (g.E.Write.contents c.serve_at-ending.new.errors) (g.E.Write.contents c.close_after.new.errors)
     c.new-service.ensures.keep c.into_keep-keep.ensures
     c.serve_at-ending.ensures.so_far c.serve_at-ending.ensures.shield c.serve_at-ending.ensures.kept c.serve_at-ending.ensures.serves c.serve_at-ending.ensures.answers
-    c.close_after.ensures.closed c.close_after.ensures.others c.say_served.ensures.says c.close_after.ensures.log
+    c.close_after.ensures c.say_served.ensures.says

@@ -1,5 +1,0 @@
-use Rattle.std.proofs.Common.{rules, inl, inr}
-use Rattle.program.proofs.running.read_and_add.Goals as goal
-
-pub returns-in-Err-Syntax-clause-adds : goal.returns-in-Err-Syntax-clause-adds
-returns-in-Err-Syntax-clause-adds g c = inr ((λ path store held. held), inl (search rules, search rules, c.say_why.ensures.front))

@@ -1,0 +1,23 @@
+-- How many rows the tables of a file have, as `check` tells it.
+use Rattle.std.specs.Prelude.{ℕ, List, [], ◌∷◌, ◌++◌, Option, Some, None, codes}
+use Rattle.std.specs.Fmt.{decimal}
+use Rattle.program.specs.declared.totals.Totals.{Totals}
+
+-- when the newest version was made, in seconds since 1970; a hyphen where there is no version
+abbrev pub newest_word : Option ℕ → List ℕ
+newest_word (Some seconds) = codes " newest " ++ decimal seconds ++ 10 ∷ []
+newest_word None = codes " newest -\n"
+
+-- `organizations N workspaces N versions N runs N newest SECONDS`, and a line feed
+abbrev pub totals_line : Totals → List ℕ
+totals_line t =
+    (codes "organizations " ++ decimal t.organizations) ++ (codes " workspaces " ++ decimal t.workspaces) ++ (codes " versions " ++ decimal t.versions)
+    ++ (codes " runs " ++ decimal t.runs) ++ newest_word t.newest
+
+-- what `check` prints where there is no fault: `ok` on a line, and how many rows there are
+abbrev pub sound_text : Totals → List ℕ
+sound_text t = codes "ok\n" ++ totals_line t
+
+-- what `--version` prints
+abbrev pub version_text : ℕ → List ℕ
+version_text schema = codes "custody 1.0.0 (schema " ++ decimal schema ++ codes ")\n"

@@ -1,0 +1,210 @@
+//! Operator's commands on the database of a file.
+ghost use Rattle.std.specs.Prelude.{◌≡◌, ◌⊎◌, ◌<◌, IfOk, OnOk, IsErrOf, length};
+ghost use Rattle.program.specs.declared.reasons.Cause.{Cause as AnyCause};
+ghost use Rattle.command_line.specs.Orders.{with_secret};
+ghost use Rattle.machine.specs.Keeping.{Looks};
+ghost use Rattle.program.specs.Errors.{GetsFront};
+ghost use Rattle.program.specs.Outcomes.{stream, AnswersLine, AnswersList, AnswersTokens, TellsList, TellsTokens, TellsAnswer, IsOperated, AnswersCommand, HasSecret, HasNoSecret, IsSecretOf, AddsToken, OperatesAt, AddsTokenAt, TellsCause, opening_of, FailsAs, HasFailed};
+ghost use Rattle.program.specs.Inner.Outcomes.{IsSaidWhy};
+
+use crate::endings::Ending;
+use crate::errors::note;
+use crate::openings::{close_after, open_one};
+use crate::outside::{Files, Opening};
+use crate::reasons::Cause;
+use crate::replays::read_all;
+use crate::replies::{print_organizations, print_tokens, refuse, say, say_word};
+use crate::secrets::read_secret;
+use basis::{Down, Moment, Secret, Unfit};
+use command_line::NewToken;
+use machine::{AdminAnswer, Keep};
+use serve::{Admin, Service};
+use std::alloc::Global;
+use std::io::{Read, Write};
+
+/// What a secret has to be.
+const SECRET_FORM: &str =
+    "custody: the secret isn't one line of 16 to 64 ASCII letters or digits\n";
+
+/// Says why on the error stream, and the ending on standard output.
+pub fn say_why<O: Write, E: Write>(
+    output: &mut O,
+    errors: &mut E,
+    ending: Ending,
+    why: &str,
+) -> Ending
+    ensures said { 0 < length why.now → IsSaidWhy ending result (stream (O.contents output.old) (O.contents output.new)) (stream (E.contents errors.old) (E.contents errors.new)) }
+    ensures front { GetsFront (E.contents errors.old) (E.contents errors.new) why.now }
+{
+    let noted = note(errors, why);
+    let said = say(output, ending);
+    match noted {
+        Ok(()) => said,
+        Err(_) => Ending::Unprinted,
+    }
+}
+
+fn say_list<O: Write>(output: &mut O, answer: &AdminAnswer) -> Ending
+    ensures line { AnswersList result (stream (O.contents output.old) (O.contents output.new)) }
+    ensures tells { TellsList answer.now result (stream (O.contents output.old) (O.contents output.new)) }
+{
+    match answer {
+        AdminAnswer::Organizations(rows) => match print_organizations(output, rows.as_slice()) {
+            Ok(()) => Ending::Done,
+            Err(_) => Ending::Unprinted,
+        },
+        AdminAnswer::Done | AdminAnswer::Exists | AdminAnswer::Absent => say(output, Ending::Down),
+        AdminAnswer::InUse | AdminAnswer::Tokens(_) => say(output, Ending::Down),
+    }
+}
+
+fn say_tokens<O: Write>(output: &mut O, answer: &AdminAnswer) -> Ending
+    ensures line { AnswersTokens result (stream (O.contents output.old) (O.contents output.new)) }
+    ensures tells { TellsTokens answer.now result (stream (O.contents output.old) (O.contents output.new)) }
+{
+    match answer {
+        AdminAnswer::Tokens(rows) => match print_tokens(output, rows.as_slice()) {
+            Ok(()) => Ending::Done,
+            Err(_) => Ending::Unprinted,
+        },
+        AdminAnswer::Absent => say(output, Ending::Absent),
+        AdminAnswer::Done | AdminAnswer::Exists | AdminAnswer::InUse => say(output, Ending::Down),
+        AdminAnswer::Organizations(_) => say(output, Ending::Down),
+    }
+}
+
+fn say_answer<O: Write>(output: &mut O, command: &Admin, answer: &AdminAnswer) -> Ending
+    ensures line { AnswersCommand command.now result (stream (O.contents output.old) (O.contents output.new)) }
+    ensures tells { TellsAnswer command.now answer.now result (stream (O.contents output.old) (O.contents output.new)) }
+{
+    match command {
+        Admin::OrgList => say_list(output, answer),
+        Admin::OrgAdd { .. } => say_word(output, answer),
+        Admin::OrgLimit { .. } => say_word(output, answer),
+        Admin::OrgRemove { .. } => say_word(output, answer),
+        Admin::TokenAdd { .. } => say_word(output, answer),
+        Admin::TokenList { .. } => say_tokens(output, answer),
+        Admin::TokenRevoke { .. } => say_word(output, answer),
+    }
+}
+
+/// Why a store refused: a fault of the disk has shut it, so that a change that was under way may have been made; or it is open
+/// still, and no record changed; or memory was refused to that question, too.
+pub fn failure<K: Keep, F: Files<K>>(files: &F, store: &mut K) -> Cause
+    ensures looks { Looks K.rows K.clean K.sound K.shielded store.old store.new }
+    ensures fails { FailsAs K.Keep F.Files store.old store.new result }
+{
+    match files.is_shut(store) {
+        Ok(true) => Cause::Halted,
+        Ok(false) => Cause::Store,
+        Err(_) => Cause::Unknown,
+    }
+}
+
+/// Carries out an operator's command over a store, prints its answer, and gives the store back. It looks
+/// at no clock: no answer to an operator's command depends on the moment.
+fn operate<K: Keep, F: Files<K>, O: Write, E: Write>(
+    alloc: Global,
+    files: &F,
+    keep: K,
+    command: &Admin,
+    output: &mut O,
+    errors: &mut E,
+) -> (Ending, K)
+    ensures so_far { K.clean result.1 → K.clean keep }
+    ensures shield { K.shielded keep → K.shielded result.1 }
+    ensures kept { K.clean result.1 → K.sound keep → K.sound result.1 }
+    ensures line { AnswersCommand command.now result.0 (stream (O.contents output.old) (O.contents output.new)) }
+    ensures model { K.clean result.1 → K.sound keep → IsOperated (HasFailed K.Keep F.Files result.1) command.now (K.rows keep) (K.rows result.1) result.0 (stream (O.contents output.old) (O.contents output.new)) (stream (E.contents errors.old) (E.contents errors.new)) }
+    ensures why { (E.contents errors.new ≡ E.contents errors.old) ⊎ ((why : AnyCause) × HasFailed K.Keep F.Files result.1 why × TellsCause why (stream (E.contents errors.old) (E.contents errors.new))) }
+{
+    let mut service = Service::new(keep);
+    let answered = service.admin(alloc, Moment::new(0).unwrap(), command);
+    let mut keep = service.into_keep();
+    match answered {
+        Ok(answer) => (say_answer(output, command, &answer), keep),
+        Err(_) => {
+            let cause = failure(files, &mut keep);
+            (refuse(output, errors, cause), keep)
+        }
+    }
+}
+
+/// Only a command that adds an organization makes a database.
+fn opening_of(command: &Admin) -> Opening
+    ensures { result ≡ opening_of command.now }
+{
+    match command {
+        Admin::OrgAdd { .. } => Opening::Created,
+        Admin::OrgLimit { .. } | Admin::OrgRemove { .. } | Admin::OrgList => Opening::Existing,
+        Admin::TokenAdd { .. } | Admin::TokenList { .. } => Opening::Existing,
+        Admin::TokenRevoke { .. } => Opening::Existing,
+    }
+}
+
+pub fn carry_out<K: Keep, F: Files<K>, O: Write, E: Write>(
+    alloc: Global,
+    files: &mut F,
+    db: &str,
+    command: &Admin,
+    output: &mut O,
+    errors: &mut E,
+) -> Ending
+    ensures line { AnswersCommand command.now result (stream (O.contents output.old) (O.contents output.new)) }
+    ensures operates { OperatesAt K.Keep F.Files db.now command.now files.old files.new result (stream (O.contents output.old) (O.contents output.new)) (stream (E.contents errors.old) (E.contents errors.new)) }
+{
+    let store = match open_one(files, db, opening_of(command), output, errors) {
+        Ok(store) => store,
+        Err(ending) => return ending,
+    };
+    let (ending, store) = operate(alloc, files, store, command, output, errors);
+    close_after(files, db, store, errors);
+    ending
+}
+
+fn add_token<K: Keep, F: Files<K>, O: Write, E: Write>(
+    alloc: Global,
+    files: &mut F,
+    db: &str,
+    token: NewToken,
+    secret: Secret,
+    output: &mut O,
+    errors: &mut E,
+) -> Ending
+    ensures line { AnswersLine result (stream (O.contents output.old) (O.contents output.new)) }
+    ensures operates { OperatesAt K.Keep F.Files db.now (with_secret token secret) files.old files.new result (stream (O.contents output.old) (O.contents output.new)) (stream (E.contents errors.old) (E.contents errors.new)) }
+{
+    let command = token.with_secret(secret);
+    carry_out(alloc, files, db, &command, output, errors)
+}
+
+// The secret that the input holds.
+fn input_secret<I: Read>(alloc: Global, input: &mut I) -> Result<Secret, Unfit>
+    ensures is { IfOk result (λ secret. IsSecretOf (I.remaining input.old) secret) }
+    ensures has { OnOk result (HasSecret (I.remaining input.old)) }
+    ensures syntax { IsErrOf result Unfit.Syntax → HasNoSecret (I.remaining input.old) }
+{
+    match read_all(alloc, input) {
+        Ok(bytes) => read_secret(alloc, bytes.as_slice()),
+        Err(_) => Err(Unfit::Down),
+    }
+}
+
+pub fn read_and_add<K: Keep, F: Files<K>, I: Read, O: Write, E: Write>(
+    alloc: Global,
+    files: &mut F,
+    db: &str,
+    token: NewToken,
+    input: &mut I,
+    output: &mut O,
+    errors: &mut E,
+) -> Ending
+    ensures line { AddsToken (I.remaining input.old) result (stream (O.contents output.old) (O.contents output.new)) (stream (E.contents errors.old) (E.contents errors.new)) }
+    ensures adds { AddsTokenAt K.Keep F.Files db.now (with_secret token) (I.remaining input.old) files.old files.new result (stream (O.contents output.old) (O.contents output.new)) (stream (E.contents errors.old) (E.contents errors.new)) }
+{
+    match input_secret(alloc, input) {
+        Ok(secret) => add_token(alloc, files, db, token, secret, output, errors),
+        Err(Unfit::Syntax) => say_why(output, errors, Ending::Usage, SECRET_FORM),
+        Err(Unfit::Down) => refuse(output, errors, Cause::Input),
+    }
+}

@@ -1,0 +1,185 @@
+//! The command `serve`: a file is opened, connections are answered from it, and it is closed.
+ghost use Rattle.std.specs.Prelude.{◌≡◌, ◌≢◌, ◌⊎◌};
+ghost use Rattle.program.specs.Outcomes.{stream, IsSaid, ServesAt, ServesFrom, ServesChecked, ServesAsAsked, RefusesUnsound, RefusesToOpen, outside, IsAlone, SaysServed};
+ghost use Rattle.program.specs.Inner.Outcomes.{ServesOpened};
+ghost use Rattle.program.specs.Serving.{Listens, Serves, state, AnswersAtPort};
+
+use crate::checking::look_first;
+use crate::endings::Ending;
+use crate::errors::tell_cause;
+use crate::openings::{close_after, open_one};
+use crate::outside::{Clock, Connections, Files, Opening};
+use crate::reasons::Cause;
+use crate::replies::say;
+use crate::serving::serve_loop;
+use command_line::timeouts::Timeouts;
+use machine::Keep;
+use serve::Service;
+use std::alloc::Global;
+use std::io::Write;
+use std::net::Ipv4Addr;
+
+fn serve_at<K: Keep, F: Files<K>, N: Connections, C: Clock, O: Write, E: Write>(
+    alloc: Global,
+    files: &F,
+    network: &mut N,
+    clock: &mut C,
+    service: &mut Service<K>,
+    port: u16,
+    count: u64,
+    timeouts: &Timeouts,
+    logs: bool,
+    output: &mut O,
+    errors: &mut E,
+) -> Ending
+    ensures so_far { K.clean service.new.keep → K.clean service.old.keep }
+    ensures shield { K.shielded service.old.keep → K.shielded service.new.keep }
+    ensures kept { K.clean service.new.keep → K.sound service.old.keep → K.sound service.new.keep }
+    ensures serves { K.clean service.new.keep → K.sound service.old.keep → Serves count (K.rows service.old.keep) (K.rows service.new.keep) }
+    ensures listens { Listens logs result (O.contents output.old) (O.contents output.new) }
+    ensures answers { AnswersAtPort K.Keep F.Files N.Connections C.Clock N.Reader.Inlet N.Writer.Outlet port timeouts.now logs count (state network.old clock.old service.old.keep (E.contents errors.old) (O.contents output.old)) (state network.new clock.new service.new.keep (E.contents errors.new) (O.contents output.new)) result }
+{
+    match network.bind(Ipv4Addr::LOCALHOST, port) {
+        Ok(given) => serve_loop(
+            alloc, files, network, given, service, count, timeouts, logs, clock, output, errors,
+        ),
+        Err(cause) => {
+            tell_cause(errors, cause);
+            Ending::Down
+        }
+    }
+}
+
+fn say_served<O: Write>(output: &mut O, ending: Ending) -> Ending
+    ensures down { ending ≡ Ending.Down → IsSaid Ending.Down result (O.contents output.old) (O.contents output.new) }
+    ensures other { ending ≢ Ending.Down → (result ≡ ending) × (O.contents output.new ≡ O.contents output.old) }
+    ensures says { SaysServed ending result (O.contents output.old) (O.contents output.new) }
+{
+    match ending {
+        Ending::Down => say(output, Ending::Down),
+        _ => ending,
+    }
+}
+
+/// Answers connections from a store that was opened at a path, and closes it there.
+fn serve_opened<K: Keep, F: Files<K>, N: Connections, C: Clock, O: Write, E: Write>(
+    alloc: Global,
+    files: &mut F,
+    network: &mut N,
+    clock: &mut C,
+    db: &str,
+    keep: K,
+    port: u16,
+    count: u64,
+    timeouts: &Timeouts,
+    logs: bool,
+    output: &mut O,
+    errors: &mut E,
+) -> Ending
+    ensures line { ServesAt logs result (stream (O.contents output.old) (O.contents output.new)) }
+    ensures serves { ServesOpened K.Keep F.Files N.Connections C.Clock N.Reader.Inlet N.Writer.Outlet db.now port timeouts.now logs count keep (outside files.old network.old clock.old) (outside files.new network.new clock.new) result (stream (O.contents output.old) (O.contents output.new)) (stream (E.contents errors.old) (E.contents errors.new)) }
+{
+    let mut service = Service::new(keep);
+    let ending = serve_at(
+        alloc,
+        files,
+        network,
+        clock,
+        &mut service,
+        port,
+        count,
+        timeouts,
+        logs,
+        output,
+        errors,
+    );
+    let keep = service.into_keep();
+    close_after(files, db, keep, errors);
+    say_served(output, ending)
+}
+
+fn serve<K: Keep, F: Files<K>, N: Connections, C: Clock, O: Write, E: Write>(
+    alloc: Global,
+    files: &mut F,
+    network: &mut N,
+    clock: &mut C,
+    db: &str,
+    port: u16,
+    count: u64,
+    timeouts: &Timeouts,
+    logs: bool,
+    output: &mut O,
+    errors: &mut E,
+) -> Ending
+    ensures line { ServesAt logs result (stream (O.contents output.old) (O.contents output.new)) }
+    ensures serves { ServesFrom K.Keep F.Files N.Connections C.Clock N.Reader.Inlet N.Writer.Outlet db.now port timeouts.now logs count (outside files.old network.old clock.old) (outside files.new network.new clock.new) result (stream (O.contents output.old) (O.contents output.new)) (stream (E.contents errors.old) (E.contents errors.new))
+        ⊎ (RefusesToOpen K.Keep F.Files db.now Opening.Created files.old files.new result (stream (O.contents output.old) (O.contents output.new)) (stream (E.contents errors.old) (E.contents errors.new)) × IsAlone (outside files.old network.old clock.old) (outside files.new network.new clock.new)) }
+{
+    let keep = match open_one(files, db, Opening::Created, output, errors) {
+        Ok(keep) => keep,
+        Err(ending) => return ending,
+    };
+    serve_opened(
+        alloc, files, network, clock, db, keep, port, count, timeouts, logs, output, errors,
+    )
+}
+
+fn serve_checked<K: Keep, F: Files<K>, N: Connections, C: Clock, O: Write, E: Write>(
+    alloc: Global,
+    files: &mut F,
+    network: &mut N,
+    clock: &mut C,
+    db: &str,
+    port: u16,
+    count: u64,
+    timeouts: &Timeouts,
+    logs: bool,
+    output: &mut O,
+    errors: &mut E,
+) -> Ending
+    ensures line { ServesAt logs result (stream (O.contents output.old) (O.contents output.new)) }
+    ensures serves { (ServesChecked K.Keep F.Files N.Connections C.Clock N.Reader.Inlet N.Writer.Outlet db.now port timeouts.now logs count (outside files.old network.old clock.old) (outside files.new network.new clock.new) result (stream (O.contents output.old) (O.contents output.new)) (stream (E.contents errors.old) (E.contents errors.new))
+        ⊎ (RefusesUnsound K.Keep F.Files db.now Cause.Faults files.old files.new result (stream (O.contents output.old) (O.contents output.new)) (stream (E.contents errors.old) (E.contents errors.new)) × IsAlone (outside files.old network.old clock.old) (outside files.new network.new clock.new)))
+        ⊎ (RefusesToOpen K.Keep F.Files db.now Opening.Existing files.old files.new result (stream (O.contents output.old) (O.contents output.new)) (stream (E.contents errors.old) (E.contents errors.new)) × IsAlone (outside files.old network.old clock.old) (outside files.new network.new clock.new)) }
+{
+    let mut keep = match open_one(files, db, Opening::Existing, output, errors) {
+        Ok(keep) => keep,
+        Err(ending) => return ending,
+    };
+    if look_first(alloc, files, &mut keep, Cause::Faults, errors) {
+        return serve_opened(
+            alloc, files, network, clock, db, keep, port, count, timeouts, logs, output, errors,
+        );
+    }
+    close_after(files, db, keep, errors);
+    say(output, Ending::Down)
+}
+
+/// Answers connections from the file at a path: behind a look for faults where one is asked for (`checks`), which makes no file.
+pub fn serve_as_asked<K: Keep, F: Files<K>, N: Connections, C: Clock, O: Write, E: Write>(
+    alloc: Global,
+    files: &mut F,
+    network: &mut N,
+    clock: &mut C,
+    db: &str,
+    port: u16,
+    count: u64,
+    timeouts: &Timeouts,
+    logs: bool,
+    checks: bool,
+    output: &mut O,
+    errors: &mut E,
+) -> Ending
+    ensures line { ServesAt logs result (stream (O.contents output.old) (O.contents output.new)) }
+    ensures serves { ServesAsAsked K.Keep F.Files N.Connections C.Clock N.Reader.Inlet N.Writer.Outlet checks db.now port timeouts.now logs count (outside files.old network.old clock.old) (outside files.new network.new clock.new) result (stream (O.contents output.old) (O.contents output.new)) (stream (E.contents errors.old) (E.contents errors.new)) }
+{
+    if checks {
+        serve_checked(
+            alloc, files, network, clock, db, port, count, timeouts, logs, output, errors,
+        )
+    } else {
+        serve(
+            alloc, files, network, clock, db, port, count, timeouts, logs, output, errors,
+        )
+    }
+}

@@ -1,0 +1,47 @@
+//! What a look over the tables of a file finds: faults, and how many rows there are.
+ghost use Rattle.program.specs.Totals.{newest_word, totals_line};
+ghost use Rattle.std.specs.Prelude.{OnOk};
+ghost use Rattle.std.specs.Io.KnownBytes.{Appends};
+
+use basis::{Items, Text};
+use std::io;
+use std::io::Write;
+
+/// How many rows the tables of a file have.
+#[derive(Clone, Copy, PartialEq, Eq)]
+pub struct Totals {
+    pub organizations: u64,
+    pub workspaces: u64,
+    pub versions: u64,
+    pub runs: u64,
+    /// When the newest version was made, in seconds since 1970; none where there is no version.
+    pub newest: Option<u64>,
+}
+
+/// What a look over the tables of a file finds.
+#[derive(Drop)]
+pub struct Looked {
+    /// A line for each fault, without its line feed, 50 at most.
+    pub faults: Items<Text>,
+    pub totals: Totals,
+}
+
+fn print_newest<O: Write>(output: &mut O, newest: Option<u64>) -> io::Result<()>
+    ensures { OnOk result (Appends (O.contents output.old) (O.contents output.new) (newest_word newest)) }
+{
+    match newest {
+        Some(seconds) => writeln!(output, " newest {seconds}"),
+        None => output.write_all(b" newest -\n"),
+    }
+}
+
+/// Prints the line that tells them, with its line feed.
+pub fn print_totals<O: Write>(output: &mut O, totals: &Totals) -> io::Result<()>
+    ensures { OnOk result (Appends (O.contents output.old) (O.contents output.new) (totals_line totals.now)) }
+{
+    write!(output, "organizations {}", totals.organizations)?;
+    write!(output, " workspaces {}", totals.workspaces)?;
+    write!(output, " versions {}", totals.versions)?;
+    write!(output, " runs {}", totals.runs)?;
+    print_newest(output, totals.newest)
+}

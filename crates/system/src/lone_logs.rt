@@ -1,0 +1,72 @@
+//! A path at which no file lies, or an empty one, and the log beside it, which what is made there would drop.
+use program::outside::Opening;
+use program::reasons::Cause;
+use std::path::PathBuf;
+use std::rt::HostRuntime;
+use std::{fs, io};
+
+/// The least bytes of a log in which a page may stand: its header has 32, that of a frame 24, and a page 512 or more
+/// (SQLite's file format, section 4).
+const LEAST_LOG: u64 = 32 + 24 + 512;
+
+/// Whether no file lies at a path, or an empty one. What can't be looked at counts as a file: the open behind it tells why.
+fn is_vacant(rt: &HostRuntime, path: &str) -> bool {
+    match fs::metadata(rt, path) {
+        Ok(found) => found.is_file() && found.len() == 0,
+        Err(_) => matches!(fs::exists(rt, path), Ok(false)),
+    }
+}
+
+/// The path with no link in it; where nothing lies, the path. What can't be looked at is an error: beside the link no log would
+/// be found.
+fn real_path(rt: &HostRuntime, path: &str) -> io::Result<PathBuf> {
+    match fs::canonicalize(rt, path) {
+        Ok(real) => Ok(real),
+        Err(error) if error.kind() == io::ErrorKind::NotFound => {
+            Ok(PathBuf::from_str(rt.alloc(), path)?)
+        }
+        Err(error) => Err(error),
+    }
+}
+
+/// Whether the log beside a path may hold what was committed.
+fn has_log(rt: &HostRuntime, path: &str) -> io::Result<bool> {
+    let real = real_path(rt, path)?;
+    let log = format!(in rt.alloc(); "{}-wal", real.as_str())?;
+    match fs::metadata(rt, log.as_str()) {
+        Ok(found) => Ok(found.len() >= LEAST_LOG),
+        Err(error) if error.kind() == io::ErrorKind::NotFound => Ok(false),
+        Err(error) => Err(error),
+    }
+}
+
+/// The folder of a path.
+fn folder_of(path: &str) -> &str {
+    match path.rsplit_once('/') {
+        Some(("", _)) => "/",
+        Some((folder, _)) => folder,
+        None => ".",
+    }
+}
+
+/// Why nothing may be made at a path at which no file lies.
+fn missing(rt: &HostRuntime, path: &str) -> Cause {
+    match fs::exists(rt, folder_of(path)) {
+        Ok(false) => Cause::NoFolder,
+        _ => Cause::Missing,
+    }
+}
+
+/// Refuses a path at which no file lies, or an empty one: where the log beside it may hold what was committed, and where no
+/// database is to be made there. Nothing is changed.
+pub fn admit(rt: &HostRuntime, path: &str, opening: Opening) -> Result<(), Cause> {
+    if !is_vacant(rt, path) {
+        return Ok(());
+    }
+    match has_log(rt, path) {
+        Ok(true) => Err(Cause::LogAlone),
+        Ok(false) if opening == Opening::Existing => Err(missing(rt, path)),
+        Ok(false) => Ok(()),
+        Err(error) => Err(crate::causes::system_cause(error.kind())),
+    }
+}
