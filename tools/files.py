@@ -3,11 +3,13 @@
 
     python3 tools/files.py CUSTODY    the program as `rt ci` or `rt run` leaves it
 
-A file behind a link is told of by its own mode and by that of its log. A file that isn't opened is told why. One program at a
-time has a file, and of two that make one neither spoils it. A new file has pages of 1,024 bytes, each with its sum; one that
+A file behind a link is told of by its own mode and by that of its log. A file that isn't opened is told why. Where there is no
+file, or an empty one, only `org-add`, `serve` without `--check` and the target of a copy make one; and beside a log in which a
+change may stand nothing is made, and no byte changes. `check` tells how many rows there are as SQLite's own library counts them.
+One program at a time has a file, and of two that make one neither spoils it. A new file has pages of 1,024 bytes, each with its sum; one that
 an older program made keeps its own. A file that sqlite3 wrote to, and whose sums (those of SQLite's cksumvfs, which a new file has) it spoiled so,
-comes back by a dump. A write without room shuts no store; a fault of the disk that does ends the service (unsynced.c makes
-one). The log is copied into the file behind the reply to a state that fills it, and a service killed meanwhile has lost
+comes back by a dump. A write without room shuts no store; a fault of the disk that does ends the service, and a command tells
+that its change may have been made (unsynced.c makes one). The log is copied into the file behind the reply to a state that fills it, and a service killed meanwhile has lost
 nothing. What damage does is looked at by flips.py. It prints a line for each thing that holds, and ends with status 1 at the
 first that doesn't.
 """
@@ -18,6 +20,7 @@ import shutil
 import sqlite3
 import struct
 import subprocess
+import tempfile
 import time
 
 from program import ANSWERED_503, DOWN, LOG_STAYS, NEW_FILE, PATIENCE, Wrong, compiled, exchanged, free_port, look_at, reply, request, said
@@ -26,13 +29,20 @@ READABLE = b"custody: others than its owner may read the file or its log: chmod 
 IN_USE = b"custody: another program has the file open\n"
 NOT_PERMITTED = b"custody: the file or its folder may not be read and written\n"
 NO_FILE = b"custody: the path leads to no file, or to one with more than one hard link\n"
-NO_FOLDER = b"custody: the folder of the file isn't there\n"
+NO_FOLDER = b"custody: the folder of --db's file isn't there\n"
+NO_TARGET_FOLDER = b"custody: the folder of --to's file isn't there\n"
+MISSING = b"custody: there is no file at the path, or an empty one: only org-add, serve without --check, and --to make one\n"
+LOG_ALONE = b"custody: the file is missing or empty, and the log beside it may hold changes: put the file back\n"
+NO_TABLES = b"custody: the file is a database without custody's tables\n"
 JOURNAL = b"custody: a rollback journal lies beside the file: open it with sqlite3 first\n"
 CORRUPT = b"custody: the file is damaged: a page's sum or form is wrong\n"
 UNSOUND = b"custody: the file is damaged or no database: its rows break its schema\n"
 DISK = b"custody: the disk or the system refused\n"
 NO_ROOM = b"custody: there is no room on the disk\n"
 SHUT = b"custody: a fault of the disk has shut the store: see to the disk\n"
+HALTED = b"custody: a fault of the disk has shut the store: see to the disk. It may have been done: look\n"
+UNCHANGED = b"custody: memory or the store refused, and no record changed\n"
+UNFINISHED = b"custody: memory or a store refused before all was copied: delete the new file, and start again\n"
 
 
 def small_files(blocks):
@@ -45,6 +55,9 @@ SECRET = b"adminadminadmin1\n"
 
 # The bytes of a page of a new file, those of one that an older program made, and those of a page's sum.
 PAGE, OLDER_PAGE, SUM_BYTES = 1024, 4096, 8
+
+# The bytes of a log without a page, as a close leaves it.
+EMPTY_LOG = 41
 
 TEXTS = [b'{"serial":%d,"x":"%s"}' % (serial, b"%d " % serial * 9000) for serial in (1, 2)]
 
@@ -87,7 +100,9 @@ def look_at_modes(program):
     os.mkdir(program.folder + "/there")
     os.symlink("there/real.db", program.folder + "/link.db")
     path, real = "link.db", program.folder + "/there/real.db"
-    program.is_due("a link to nothing is no file", ["org-list", "--db", path], 3, b"refused down\n", NO_FILE)
+    program.is_due("a link to nothing is no file", ["org-list", "--db", path], 3, b"refused down\n", MISSING)
+    program.is_due("nor is one made there", ["org-add", "--db", path, "acme"], 3, b"refused down\n", NO_FILE)
+    said("where the link leads", os.listdir(program.folder + "/there"), [])
     filled(program, "there/real.db")
     lists = ["org-list", "--db", path]
     program.is_due("a file behind a link opens", lists, 0, b"acme 1 200\n")
@@ -207,8 +222,13 @@ def look_at_reasons(program):
         program.is_due("told: %s" % what, ["org-list", "--db", path], 3, b"refused down\n", why)
 
     refused("a folder that isn't there", NO_FOLDER, "nowhere/bad.db")
+    for words in (["org-add", "--db", "nowhere/bad.db", "acme"], ["serve", "--db", "nowhere/bad.db", "--port", str(free_port()), "--count", "1"], ["compact", "--db", "nowhere/bad.db", "--to", "no/bad.db"]):
+        program.is_due("told: a folder that isn't there, of %s" % words[0], words, 3, b"refused down\n", NO_FOLDER)
+    for words in (["org-copy", "--db", "good.db", "--to", "nowhere/bad.db", "acme"], ["compact", "--db", "good.db", "--to", "nowhere/bad.db"]):
+        program.is_due("told: a folder that isn't there, of the target of %s" % words[0], words, 3, b"refused down\n", NO_TARGET_FOLDER)
     refused("a folder in the place of a file", NO_FILE, ".")
-    refused("a path that is no file's name", NO_FILE, ":memory:")
+    refused("a path at which nothing lies", MISSING, ":memory:")
+    program.is_due("told: a path that is no file's name", ["org-add", "--db", ":memory:", "acme"], 3, b"refused down\n", NO_FILE)
     shutil.copyfile(folder + "/good.db", folder + "/bad.db")
     os.chmod(folder + "/bad.db", 0o600)
     os.link(folder + "/bad.db", folder + "/other.db")
@@ -240,6 +260,196 @@ def look_at_reasons(program):
     if os.getuid():
         os.mkdir(folder + "/closed", 0o500)
         refused("a folder that may not be written", NOT_PERMITTED, "closed/bad.db")
+
+
+def looking(path):
+    """The words of each command that makes no file, on a path, with its standard input; each of them would do something, or print something."""
+    target = ["--to", "target.db"]
+    yield ["org-limit", "--db", path, "acme", "7"], b""
+    yield ["org-list", "--db", path], b""
+    yield ["org-remove", "--db", path, "acme"], b""
+    yield ["org-remove", "--db", path, "--force", "acme"], b""
+    yield ["token-add", "--db", path, "acme", "ci", "write"], b"writewritewrite1\n"
+    yield ["token-list", "--db", path, "acme"], b""
+    yield ["token-revoke", "--db", path, "acme", "root"], b""
+    yield ["check", "--db", path], b""
+    yield ["serve", "--db", path, "--port", str(free_port()), "--count", "1", "--check"], b""
+    yield ["serve", "--db", path, "--port", str(free_port()), "--unlimited", "--check"], b""
+    yield ["org-copy", "--db", path, *target, "acme"], b""
+    yield ["compact", "--db", path, *target], b""
+
+
+def making(path, source):
+    """The words of each command that makes a file at a path where there is none; two of them copy from another."""
+    yield ["org-add", "--db", path, "acme"], b""
+    yield ["serve", "--db", path, "--port", str(free_port()), "--count", "1"], b""
+    yield ["serve", "--db", path, "--port", str(free_port()), "--unlimited"], b""
+    yield ["org-copy", "--db", source, "--to", path, "acme"], b""
+    yield ["compact", "--db", source, "--to", path], b""
+
+
+def all_in(folder):
+    """All that stands in a folder: each path with its bytes, or with where a link leads; of an empty log, which each open marks as its own, the name."""
+    found = {}
+    for where, _, names in os.walk(folder):
+        for name in names:
+            path = os.path.join(where, name)
+            if os.path.islink(path):
+                found[path] = os.readlink(path)
+            else:
+                with open(path, "rb") as file:
+                    content = file.read()
+                found[path] = "an empty log" if name.endswith("-wal") and len(content) <= EMPTY_LOG else content
+    return found
+
+
+def refused_all(program, folder, what, path, commands, why):
+    """Each of these commands on a path is refused for this reason, and nothing in the folder changes."""
+    before, count = all_in(folder), 0
+    for words, given in commands(path):
+        ran = program.run(words, given, under=["env", "-C", folder])
+        said("%s: %s" % (what, " ".join(words)), ran, (3, b"refused down\n", why))
+        said("%s: the files behind %s" % (what, words[0]), all_in(folder) == before, True)
+        count += 1
+    print("right: %s: %d commands are refused, and change nothing" % (what, count))
+
+
+def look_at_absent(program):
+    """Where there is no file, or an empty one, commands that don't begin one refuse it, and make nothing; nor do they make tables in a database of another program."""
+    filled(program, "source.db")
+    for name, content, is_linked in [("missing", None, False), ("empty", b"", False), ("linked", None, True), ("linked-empty", b"", True)]:
+        folder = program.folder + "/" + name
+        os.mkdir(folder)
+        os.mkdir(folder + "/there")
+        path = "there/real.db" if is_linked else "a.db"
+        if content is not None:
+            open(folder + "/" + path, "wb").close()
+            os.chmod(folder + "/" + path, 0o600)
+        if is_linked:
+            os.symlink(path, folder + "/a.db")
+        refused_all(program, folder, "a file that is %s" % name, "a.db", looking, MISSING)
+        for words, given, status, output, line in [
+            (["token-add", "--db", "a.db", "acme", "ci", "write"], b"short\n", 2, b"refused usage\n", b"custody: the secret isn't one line of 16 to 64 ASCII letters or digits\n"),
+            (["org-limit", "--db", "a.db", "acme", "x"], b"", 2, b"refused usage\n", b"custody: the value of N isn't of its form: 0 to 100000, without a leading zero\n"),
+        ]:
+            said("words and secret are judged first", program.run(words, given, under=["env", "-C", folder]), (status, output, line))
+        # (a link to nothing is no place for a file)
+        if name != "linked":
+            told = NEW_FILE if content is None else b""
+            said("a file is made there", program.run(["org-add", "--db", "a.db", "acme"], under=["env", "-C", folder]), (0, b"ok\n", told))
+            said("by a copy, too", program.run(["compact", "--db", "a.db", "--to", "b.db"], under=["env", "-C", folder]), (0, b"ok\n", NEW_FILE))
+    other = program.folder + "/other"
+    os.mkdir(other)
+    with contextlib.closing(sqlite3.connect(other + "/a.db", isolation_level=None)) as database:
+        database.execute("CREATE TABLE other (a)")
+        database.execute("INSERT INTO other VALUES (1)")
+    os.chmod(other + "/a.db", 0o600)
+    # (an open leaves a log)
+    said("a look at another program's database", program.run(["check", "--db", "a.db"], under=["env", "-C", other]), (3, b"refused down\n", NO_TABLES))
+    refused_all(program, other, "a database of another program", "a.db", looking, NO_TABLES)
+    with contextlib.closing(sqlite3.connect("file:%s/a.db?mode=ro&immutable=1" % other, uri=True)) as database:
+        said("its tables", database.execute("SELECT name FROM sqlite_schema").fetchall(), [("other",)])
+    said("tables are made there", program.run(["org-add", "--db", "a.db", "acme"], under=["env", "-C", other]), (0, b"ok\n", b""))
+
+
+def logged_alone(program, name):
+    """The folder of a file whose log has five states: the service was killed; and what they are."""
+    folder = program.folder + "/" + name
+    os.makedirs(folder + "/there")
+    filled(program, name + "/there/real.db")
+    os.symlink("there/real.db", folder + "/link.db")
+    texts = [large_text(serial, 6000) for serial in range(3, 8)]
+    service = Service(program, name + "/there/real.db", 1 + len(texts))
+    try:
+        for text in texts:
+            said("a state is posted", exchanged(service.port, request(b"POST /v1/acme/state/net HTTP/1.1", text)), reply(b"200 OK", b""))
+    finally:
+        service.kill()
+    said("whether they stand in the log", os.path.getsize(folder + "/there/real.db-wal") > sum(map(len, texts)), True)
+    return folder, texts
+
+
+def look_at_lone_logs(program):
+    """A log without its file, or beside an empty one, is left as it is by every command, whatever path leads there; and once the file is back, all is there."""
+    every = lambda path: [*looking(path), *making(path, program.folder + "/source.db")]
+    folder, texts = logged_alone(program, "lone")
+    real, away = folder + "/there/real.db", program.folder + "/away.db"
+    os.rename(real, away)
+    refused_all(program, folder, "a log without its file", "there/real.db", every, LOG_ALONE)
+    refused_all(program, folder + "/there", "a log without its file, from its folder", "real.db", every, LOG_ALONE)
+    # (where a link leads to nothing, nothing is made, and no log is found by its path)
+    before = all_in(folder)
+    for words, given in every("link.db"):
+        status, output, errors = program.run(words, given, under=["env", "-C", folder])
+        said("a link to where the file was: %s" % words[0], (status, output, errors in (MISSING, NO_FILE, LOG_ALONE)), (3, b"refused down\n", True))
+        said("the files behind it", all_in(folder) == before, True)
+    open(real, "wb").close()
+    os.chmod(real, 0o600)
+    for path in ("there/real.db", "link.db", "there/../there/real.db"):
+        refused_all(program, folder, "a log beside an empty file, by %s" % path, path, every, LOG_ALONE)
+    os.rename(away, real)
+    service = Service(program, "lone/link.db", len(texts))
+    try:
+        for number, text in enumerate(texts, 1 + len(TEXTS)):
+            said("a state that stood in the log", exchanged(service.port, request(b"GET /v1/acme/versions/net/%d HTTP/1.1" % number)), reply(b"200 OK", text))
+        service.ends()
+    finally:
+        service.kill()
+    print("right: once the file is back beside its log, the %d states are there" % len(texts))
+    # The least log in which a page may stand, and one of a byte less.
+    for size, due in ((568, (3, b"refused down\n", LOG_ALONE)), (567, (0, b"ok\n", NEW_FILE))):
+        with open(os.open(program.folder + "/least.db-wal", os.O_CREAT | os.O_WRONLY | os.O_TRUNC, 0o600), "wb") as log:
+            log.write(bytes(size))
+        said("a log of %d bytes without its file" % size, program.run(["org-add", "--db", "least.db", "acme"]), due)
+    print("right: a log of 568 bytes or more may have a page, and one of less none")
+
+
+def counted(path):
+    """The line of totals, by SQLite's own library over a copy of a file and its log."""
+    with tempfile.TemporaryDirectory() as room:
+        for end in ("", "-wal"):
+            if os.path.exists(path + end):
+                shutil.copy(path + end, room + "/copy.db" + end)
+        with contextlib.closing(sqlite3.connect(room + "/copy.db")) as database:
+            numbers = [database.execute("SELECT count(*) FROM " + table).fetchone()[0] for table in ("org", "ws", "version", "run")]
+            (newest,) = database.execute("SELECT max(created) FROM version").fetchone()
+    return b"organizations %d workspaces %d versions %d runs %d newest %s\n" % (*numbers, b"-" if newest is None else b"%d" % newest)
+
+
+# How many organizations, workspaces, versions of one workspace and runs there are where they are counted: more than any list has on a page.
+MANY = 130
+
+
+def look_at_totals(program):
+    """What `check` counts is what SQLite counts over a copy, and where the newest version isn't the last one."""
+    path, check = program.folder + "/many.db", ["check", "--db", "many.db"]
+    filled(program, "many.db")
+    program.is_due("of a small file the rows are told", check, 0, b"ok\n" + counted(path))
+    service = Service(program, "many.db", 3 * MANY + 1)
+    try:
+        asked = [b"PUT /v1/acme/workspaces/w-%d HTTP/1.1" % number for number in range(MANY)]
+        asked += [b"POST /v1/acme/runs/w-%d HTTP/1.1" % (number % 3) for number in range(MANY)]
+        for line in asked:
+            said("a request", exchanged(service.port, request(line))[:12], b"HTTP/1.1 200")
+        said("more versions may be", exchanged(service.port, request(b"PUT /v1/acme/workspaces/net HTTP/1.1", b'{"keep_versions":1000}'))[:12], b"HTTP/1.1 200")
+        for number in range(MANY):
+            said("a state", exchanged(service.port, request(b"POST /v1/acme/state/net HTTP/1.1", b'{"serial":%d}' % (number + 3))), reply(b"200 OK", b""))
+        service.ends()
+    finally:
+        service.kill()
+    for number in range(MANY):
+        said("an organization", program.run(["org-add", "--db", "many.db", "o-%d" % number])[:2], (0, b"ok\n"))
+    line = counted(path)
+    said("how many there are", line.rpartition(b" newest ")[0], b"organizations %d workspaces %d versions %d runs %d" % (1 + MANY, 1 + MANY, 2 + MANY, MANY))
+    program.is_due("of a file with many rows all are told", check, 0, b"ok\n" + line)
+    for name, dump in dumps_of(path):
+        with contextlib.closing(sqlite3.connect(program.folder + "/many-" + name, isolation_level=None)) as fresh:
+            fresh.executescript(dump)
+            fresh.execute("UPDATE version SET created = 1700000000 - abs(number - %d)" % (MANY // 2))
+        os.chmod(program.folder + "/many-" + name, 0o600)
+        line = counted(program.folder + "/many-" + name)
+        said("when the newest was made, one in the midst", line.rpartition(b" ")[2], b"1700000000\n")
+        program.is_due("the newest version needn't be the last: %s" % name, ["check", "--db", "many-" + name], 0, b"ok\n" + line)
 
 
 def dumps_of(path):
@@ -312,7 +522,7 @@ def look_at_half(program):
         service.ends(0, b"", ANSWERED_503 % 1)
     finally:
         service.kill()
-    said("no fault in the file", program.run(["check", "--db", "half.db"]), (0, b"ok\n", b""))
+    said("no fault in the file", program.run(["check", "--db", "half.db"]), (0, b"ok\n" + counted(program.folder + "/half.db"), b""))
     print("right: a change for which there is half of the room leaves all as it was")
 
 
@@ -338,6 +548,16 @@ def look_at_memory(program):
     finally:
         service.kill()
     print("right: a service has room for 20 MB of pages, and states of 4 MB take less than 13 MB more")
+
+
+def look_at_want(program):
+    """An open for which there is too little memory tells how many bytes the file has."""
+    program.is_due("a file", ["org-add", "--db", "w.db", "acme"], 0, b"ok\n", NEW_FILE)
+    due = (3, b"refused down\n", b"custody: memory was refused to open the file of %d bytes\n" % os.path.getsize(program.folder + "/w.db"))
+    told = [program.run(["check", "--db", "w.db"], under=["prlimit", "--as=%d" % (mb << 20)]) for mb in range(60, 8, -2)]
+    if due not in told:
+        raise Wrong("where memory is short: %s" % told)
+    print("right: where memory is short the bytes of the file are told")
 
 
 def look_at_log(program):
@@ -385,7 +605,7 @@ def look_at_killed_behind(program):
             time.sleep(milliseconds / 1e3)
         finally:
             service.kill()
-        said("no fault in the file behind it", program.run(["check", "--db", "behind.db"]), (0, b"ok\n", b""))
+        said("no fault in the file behind it", program.run(["check", "--db", "behind.db"]), (0, b"ok\n" + counted(program.folder + "/behind.db"), b""))
         service = Service(program, "behind.db", 1)
         try:
             said("a read behind it", exchanged(service.port, request(b"GET /v1/acme/state/net HTTP/1.1")), reply(b"200 OK", text))
@@ -414,5 +634,79 @@ def look_at_shut(program):
     print("right: what was acknowledged before it is there at the next start")
 
 
+# The commands that change records, over a file with an organization; what each changes is in the lists.
+CHANGES = [
+    (["org-add", "--db", "a.db", "beta"], b""),
+    (["org-limit", "--db", "a.db", "acme", "7"], b""),
+    (["token-add", "--db", "a.db", "acme", "ci", "write"], b"writewritewrite1\n"),
+    (["token-revoke", "--db", "a.db", "acme", "root"], b""),
+    (["org-remove", "--db", "a.db", "--force", "acme"], b""),
+    (["org-copy", "--db", "b.db", "--to", "a.db", "beta"], b""),
+    (["compact", "--db", "a.db", "--to", "new.db"], b""),
+]
+
+
+def lists_in(program, folder):
+    """What a file has, as its lists tell it, and its states; of a copy the same of the new file, where one is whole and has an organization."""
+    found = []
+    for path in ("a.db", "new.db"):
+        lists = [program.run(words, under=["env", "-C", folder])[:2] for words in (["org-list", "--db", path], ["token-list", "--db", path, "acme"], ["check", "--db", path])]
+        found.append(None if path == "new.db" and lists[0] in ((3, b"refused down\n"), (0, b"")) else lists)
+    return found
+
+
+def look_at_unsynced(program):
+    """A command, of whose calls that sync one fails, ends as it is due; or it tells that its change may have been made, where it may; and
+    where it tells that no record changed, none did."""
+    library, folder, fails = compiled("unsynced", program.folder), program.folder + "/unsynced", program.folder + "/fails-once"
+    os.mkdir(folder)
+    filled(program, "unsynced/a.db")
+    said("another organization", program.run(["org-add", "--db", "unsynced/b.db", "beta"]), (0, b"ok\n", NEW_FILE))
+    whole, made = [folder + "/" + name for name in ("a.db", "b.db")], 0
+    for path in whole:
+        shutil.move(path, path + ".whole")
+
+    def put_back():
+        for path in all_in(folder):
+            if not path.endswith(".whole"):
+                os.remove(path)
+        for path in whole:
+            shutil.copy(path + ".whole", path)
+
+    for words, given in CHANGES:
+        put_back()
+        before = lists_in(program, folder)
+        put_back()
+        said(words[0], program.run(words, given, under=["env", "-C", folder])[:2], (0, b"ok\n"))
+        after, seen, number = lists_in(program, folder), [], 0
+        while True:
+            number += 1
+            put_back()
+            open(fails, "wb").close()
+            env = dict(os.environ, LD_PRELOAD=library, FAILS=fails, ONCE=str(number))
+            status, output, errors = program.run(words, given, under=["env", "-C", folder], env=env)
+            if os.path.exists(fails):
+                said("a command none of whose calls failed", (status, output), (0, b"ok\n"))
+                break
+            told = errors.removeprefix(NEW_FILE).removesuffix(LOG_STAYS)
+            came = lists_in(program, folder)
+            if (status, output) == (0, b"ok\n"):
+                said("%s, whose sync %d failed, and which was done" % (words[0], number), (told, came), (b"", after))
+            else:
+                said("%s, whose sync %d failed" % (words[0], number), (status, output), (3, b"refused down\n"))
+                allowed = {HALTED: [before, after], UNCHANGED: [before], DISK: [before], UNFINISHED: None}
+                if told not in allowed or (told == UNFINISHED) and words[0] != "compact":
+                    raise Wrong("%s, whose sync %d failed, tells %s" % (words[0], number, errors))
+                if allowed[told] and came not in allowed[told]:
+                    raise Wrong("%s, whose sync %d failed, tells %s, and left %s" % (words[0], number, told, came))
+                seen.append((told, came == after))
+        os.remove(fails)
+        # (the change of one call that failed is there at the next open)
+        if words[0] != "compact" and (HALTED, True) not in seen:
+            raise Wrong("no sync of %s failed whose change was there at the next open: %s" % (words[0], seen))
+        made += sum(told == HALTED and is_done for told, is_done in seen)
+    print("right: of %d commands each call that syncs failed once; %d times the change was there at the next open, and each time the command told that it may be" % (len(CHANGES), made))
+
+
 if __name__ == "__main__":
-    look_at(__doc__, look_at_modes, look_at_pages, look_at_owners, look_at_makers, look_at_reasons, look_at_spoiled, look_at_full, look_at_half, look_at_memory, look_at_log, look_at_killed_behind, look_at_shut)
+    look_at(__doc__, look_at_modes, look_at_absent, look_at_lone_logs, look_at_totals, look_at_pages, look_at_owners, look_at_makers, look_at_reasons, look_at_spoiled, look_at_full, look_at_half, look_at_memory, look_at_want, look_at_log, look_at_killed_behind, look_at_shut, look_at_unsynced)

@@ -7,14 +7,16 @@ One file has what a service keeps: two organizations, tokens, versions of one pa
 sums of SQLite's cksumvfs, as each new file; a second has the same rows and no sums. Each is closed, and damaged by a fixed
 seed: bits are flipped one at a time, pages are zeroed, swapped or set back to an older form, and the end is cut off. Then the
 log is damaged that lies beside the file of a killed service. Each time `serve` is asked for all that the file has, and of
-damaged pages `serve --check`, too. Rows are changed by SQL, and `check` has to tell each fault. At last pages are swapped beneath
-a service that has the file open, one so large that it doesn't keep all pages in memory.
+damaged pages `serve --check`, too. Rows are changed by SQL, and `check` has to tell each fault, and `compact` to copy nothing. Bits
+of files without sums are flipped, which `org-copy` and `compact` copy to a new file. At last pages are swapped beneath a service
+that has the file open, one so large that it doesn't keep all pages in memory.
 
 Allowed is a file that is refused, a 503, and the right answer. A wrong answer fails where a bit of a file with sums was
 flipped, where the end of a file was cut off, and where what a damaged log gives isn't a state that was once acknowledged. To
 pages of zeros, swapped or older ones, whose sums are right, it is counted and printed, and so is each of a file without sums.
 Of `serve --check` a wrong answer fails, but where a page was set back, and its rows fit; and so does one of a file without sums
-where the bit stands in a state's text. Beneath a running service a wrong answer fails: each page that it reads has to be the
+where the bit stands in a state's text. So does a state of a copy that isn't the one that was posted, wherever the bit stands; and
+a copy where the bit stands in a state's text. Beneath a running service a wrong answer fails: each page that it reads has to be the
 one that it read at the open, or wrote.
 It prints a line for each thing that holds or is counted, and ends with status 1 at the first that doesn't hold.
 """
@@ -26,10 +28,14 @@ import shutil
 import sqlite3
 import subprocess
 
-from program import DOWN, PATIENCE, Wrong, exchanged, free_port, look_at, reply, said
+from files import counted
+from program import DOWN, NEW_FILE, PATIENCE, Wrong, exchanged, free_port, look_at, reply, said
 
 SEED = 49
-FLIPS, PAGES, CUTS = 300, 60, 30
+FLIPS, PAGES, CUTS, COPIES = 300, 60, 30, 40
+
+# What the error stream tells first where nothing is copied.
+UNCOPIED = b"custody: the file's tables are not sound, so nothing is copied:\n"
 
 # The bytes of a page, how many of them at its end are the sum, and where the header says so.
 PAGE = 1024
@@ -358,9 +364,24 @@ def broken(program, name, content, text):
     writer.close()
 
 
+def copies_of(name):
+    """The words that copy a file, or an organization in it, to a new one."""
+    to = ["--db", name, "--to", "copy.db"]
+    return [["compact", *to], *(["org-copy", *to, org] for org in ORGS)]
+
+
+def not_copied(program, what, name, why):
+    """Nothing of a file is copied, and no file is made for it; why is told."""
+    for words in copies_of(name):
+        status, output, errors = program.run(words)
+        if (status, output) != (3, b"refused down\n") or not why(errors):
+            raise Wrong("%s, %s: %d %s %s" % (words[0], what, status, output, errors))
+        said("%s, %s: a file that is made" % (words[0], what), [end for end in ("", "-wal") if os.path.exists(program.folder + "/copy.db" + end)], [])
+
+
 def look_at_rows(program, plain):
     write(program, "sound.db", plain)
-    said("check of sound tables", program.run(["check", "--db", "sound.db"])[:2], (0, b"ok\n"))
+    said("check of sound tables", program.run(["check", "--db", "sound.db"])[:2], (0, b"ok\n" + counted(program.folder + "/sound.db")))
     refused = 0
     for text, line in BREAKS:
         broken(program, "broken.db", plain, text)
@@ -372,8 +393,48 @@ def look_at_rows(program, plain):
             raise Wrong("%s: %d %s %s" % (text, status, output, errors))
         words = ["serve", "--check", "--db", "broken.db", "--port", str(free_port()), "--count", "1"]
         said("serve --check, " + text, program.run(words)[:2], (3, b"refused down\n"))
+        not_copied(program, text, "broken.db", lambda errors: errors == (UNCOPIED + output if line else errors) != b"")
         forget(program, "broken.db")
-    print("right: of %d changes by SQL `check` tells the fault of %d and refuses %d files; `serve --check` refuses each" % (len(BREAKS), len(BREAKS) - refused, refused))
+    print("right: of %d changes by SQL `check` tells the fault of %d and refuses %d files; `serve --check` and copies refuse each" % (len(BREAKS), len(BREAKS) - refused, refused))
+
+
+# What is asked of a copy: the texts, each of which has to be what was posted.
+TEXTS_ASKED = [question for question in QUESTIONS if question[2].startswith((b"/state/", b"/versions/net/"))]
+
+
+def look_at_copies(program, plain, due):
+    """A copy of a file without sums in which a bit was flipped has what was posted, or there is none."""
+    due = [answer for question, answer in zip(QUESTIONS, due) if question in TEXTS_ASKED]
+    chance, texts, copied, refused = random.Random(SEED), texts_in(plain), 0, 0
+    for _ in range(COPIES):
+        damage, content = flipped_in_text(plain, texts, chance)
+        write(program, "damaged.db", content)
+        status, output, _ = program.run(["check", "--db", "damaged.db"])
+        said("check, %s" % damage, (status, output.startswith(b"fault key ")), (1, True))
+        not_copied(program, damage, "damaged.db", lambda errors: errors == UNCOPIED + output)
+        forget(program, "damaged.db")
+    print("right: of files without sums, %d bits of texts flipped one at a time, nothing is copied, and the faults are told" % COPIES)
+    for _ in range(FLIPS // 3):
+        damage, content = flipped(plain, chance)
+        for words in copies_of("damaged.db"):
+            write(program, "damaged.db", content)
+            status, output, errors = program.run(words)
+            if status == 0:
+                said("%s, %s" % (words[0], damage), (output, errors), (b"ok\n", NEW_FILE))
+                asked = [(question, answer) for question, answer in zip(TEXTS_ASKED, due) if words[0] == "compact" or question[0] == words[-1]]
+                came = answers(program, "copy.db", [question for question, _ in asked])
+                said("a copy, %s" % damage, came, [answer for _, answer in asked])
+                copied += 1
+            elif status == 3:
+                said("%s, %s" % (words[0], damage), output in (b"refused down\n", b"refused schema\n"), True)
+                refused += 1
+            else:
+                # (the name of an organization was damaged)
+                said("%s, %s" % (words[0], damage), (status, output), (1, b"refused absent\n"))
+                refused += 1
+            forget(program, "damaged.db")
+            forget(program, "copy.db")
+    print("right: of files without sums, %d bits flipped one at a time, each copy has the states that were posted: %d copies made, %d refused" % (FLIPS // 3, copied, refused))
 
 
 def look_at_files(program):
@@ -388,6 +449,7 @@ def look_at_files(program):
     said("the same rows", answers(program, "plain.db"), due)
     damage_all(program, "a file without sums", plain, plain_older, due, kinds_of(plain, plain_older, False) + checked_kinds(plain, plain_older, False))
     look_at_rows(program, plain)
+    look_at_copies(program, plain, due)
 
 
 # ----------------------------------------------------------------------------------------------------

@@ -1,13 +1,16 @@
 #!/usr/bin/env python3
-"""A TLS front, to try custody over https: one that buffers requests, in python's ssl and sockets. It isn't made for use.
+"""A front to try custody with, in place of nginx: it buffers requests, in python's ssl and sockets. It isn't made for use.
 
-    python3 tools/front.py CERT KEY [PORT [TO]]    answers https at PORT (8443) of 127.0.0.1, asks TO (8090)
+    python3 tools/front.py [CERT KEY] [PORT [TO]]    answers https (without CERT and KEY http) at PORT (8443) of 127.0.0.1,
+                                                     asks TO (8090)
 
-Each request is read whole, a chunked body too, and sent on over a connection of its own with its Content-Length, as
-nginx does by itself. The reply goes back as it comes, and the connection ends. Where nobody answers at TO it is 502. A body
-of more than 16 MiB is answered 413.
+Each request is read first, a chunked body too, and sent on over a connection of its own with its Content-Length. A user name of
+Basic auth that has a token's form becomes `Authorization: Bearer`, as by docs/operating/nginx.conf. The reply goes back as it
+comes, and the connection ends. If nobody answers at TO, the reply is 502. A body of more than 16 MiB is answered 413.
 """
 
+import base64
+import re
 import socket
 import socketserver
 import ssl
@@ -16,8 +19,8 @@ import sys
 # A state has at most 16,777,216 bytes.
 LIMIT = 16_777_216
 LEFT_OUT = {"connection", "content-length", "expect", "transfer-encoding"}
-
-
+# A token, as the user name of Basic auth.
+TOKEN = re.compile(rb"([a-z][a-z0-9-]*\.[A-Za-z0-9]+):")
 # What is still read of a request that is refused, so that its sender reads the reply.
 DRAINED = 4 * LIMIT
 
@@ -52,6 +55,14 @@ def read_chunks(stream):
             raise TooLarge
 
 
+def bearer(name, value):
+    """A field, with the user name of Basic auth as a bearer token."""
+    scheme, _, text = value.partition(" ")
+    if name.lower() == "authorization" and scheme.lower() == "basic" and (token := TOKEN.match(base64.b64decode(text))):
+        return name, "Bearer " + token[1].decode()
+    return name, value
+
+
 def read_request(stream, link):
     """The request, with its length; an empty one where the client leaves."""
     first = stream.readline(65536)
@@ -71,7 +82,7 @@ def read_request(stream, link):
         if length > LIMIT:
             raise TooLarge
         body = stream.read(length)
-    kept = [(name, value) for name, value in fields if name.lower() not in LEFT_OUT]
+    kept = [bearer(name, value) for name, value in fields if name.lower() not in LEFT_OUT]
     kept += [("Content-Length", str(len(body))), ("Connection", "close")]
     head = first.rstrip(b"\r\n") + b"\r\n" + "".join(f"{n}: {v}\r\n" for n, v in kept).encode("latin-1") + b"\r\n"
     return head + body
@@ -80,7 +91,9 @@ def read_request(stream, link):
 class Peer(socketserver.BaseRequestHandler):
     def handle(self):
         try:
-            link = self.server.context.wrap_socket(self.request, server_side=True)
+            link = self.request
+            if self.server.context:
+                link = self.server.context.wrap_socket(link, server_side=True)
         except (ssl.SSLError, OSError):
             return
         try:
@@ -88,7 +101,8 @@ class Peer(socketserver.BaseRequestHandler):
                 request = read_request(stream, link)
             if request:
                 self.send_on(request, link)
-            link.unwrap()
+            if self.server.context:
+                link.unwrap()
         except (Bad, ValueError) as fault:
             self.refuse(link, getattr(fault, "status", Bad.status))
         except OSError:
@@ -122,12 +136,16 @@ class Front(socketserver.ThreadingTCPServer):
 
 
 def main():
-    if len(sys.argv) not in (3, 4, 5):
+    files = [word for word in sys.argv[1:] if not word.isdigit()]
+    ports = [int(word) for word in sys.argv[1 + len(files):] if word.isdigit()]
+    if len(files) not in (0, 2) or len(files) + len(ports) != len(sys.argv) - 1 or len(ports) > 2:
         sys.exit(__doc__)
-    port, to = (int(word) for word in (sys.argv[3:] + ["8443", "8090"][len(sys.argv) - 3:]))
+    port, to = ports + [8443, 8090][len(ports):]
     with Front(("127.0.0.1", port), Peer) as front:
-        front.context = ssl.SSLContext(ssl.PROTOCOL_TLS_SERVER)
-        front.context.load_cert_chain(sys.argv[1], sys.argv[2])
+        front.context = None
+        if files:
+            front.context = ssl.SSLContext(ssl.PROTOCOL_TLS_SERVER)
+            front.context.load_cert_chain(*files)
         front.to = to
         front.serve_forever()
 

@@ -12,11 +12,13 @@ last request acme is copied back.
 
 The words of the three commands are refused as they have to be. A copy and a removal are killed at each call that changes a
 file (ended.c): the organization is there whole or not at all, all else is as it was, and sent again it is done. So is
-`compact`, which goes on. What is compacted has the same rows, sums, and no free pages but those few that the last page of a
-text leaves.
+`compact`: what it left has to be deleted where it has an organization, and then it is done. What is compacted has the same rows,
+sums, and no free pages but those few that the last page of a text leaves. Where its target has an organization `compact` is
+refused, and leaves it as it is: what was changed, revoked or removed since would be missed there.
 
 Each request for memory of `org-copy` and `compact` is refused in turn (of many alike in a row some, refuse.c): it ends as it is due, or with `refused
-down`, when of an organization nothing was copied; and sent again it is done. (Those of `org-remove`: refusals.py.)
+down`, when of an organization nothing was copied; and sent again it is done, of `compact` to a new file. (Those of `org-remove`: refusals.py.) So it is where a link leads to an empty
+file beside a log: no byte of either changes.
 
 It prints a line for each thing that holds, and ends with status 1 at the first that doesn't.
 """
@@ -30,7 +32,7 @@ import tempfile
 
 import refusals
 import stories
-from files import IN_USE, Service
+from files import IN_USE, LOG_ALONE, Service
 from program import NEW_FILE, Program, Wrong, compiled, exchanged, request, said
 
 STORY = "a long history of two organizations that share texts"
@@ -41,7 +43,7 @@ CREATED = re.compile(rb'"created":(\d+)')
 KILLED = -9
 # (a file that memory didn't suffice to look at may be the one that is open: no other is opened then)
 UNSEEN = b"custody: the disk or the system refused\n"
-CAUSES = [*refusals.CAUSES, UNSEEN, b"custody: memory or a store refused before all was copied: the same command goes on from there\n"]
+CAUSES = [*refusals.CAUSES, UNSEEN, b"custody: memory or a store refused before all was copied: delete the new file, and start again\n"]
 # A page of a text whose uses are counted once more leaves the file's pages that its bytes were in; the next one takes them.
 MOST_FREE = 4
 # The tables, each with the column that names the organization; of a text its pages, with their bytes.
@@ -223,6 +225,34 @@ def look_at_words(program, path):
     forget(new)
 
 
+def look_at_targets(program, path):
+    """All are copied only to where there is no organization: what changed since would be missed there. Once the new file is deleted they are."""
+    old, new = program.folder + "/from.db", program.folder + "/to.db"
+    shutil.copy(path, old)
+    compact, first = ["compact", "--db", old, "--to", new], all_rows(path)
+    program.is_due("all are copied to a new file", compact, 0, b"ok\n", NEW_FILE)
+    said("what it has", all_rows(new), first)
+    words, _ = asked()
+    (came,) = ask(program, old, [(b"acme", request(b"PUT /v1/acme/workspaces/late HTTP/1.1").replace(b"adminadminadmin1", secret_of(words)))])
+    said("a change behind it", came[:12], b"HTTP/1.1 200")
+    program.is_due("a token is revoked", ["token-revoke", "--db", old, "acme", "ends"], 0, b"ok\n")
+    program.is_due("an organization is removed", ["org-remove", "--db", old, "--force", "beta"], 0, b"ok\n")
+    second = all_rows(old)
+    said("whether the old file has less and more", (sorted(second), len(second["acme"]["ws"])), (["acme"], len(first["acme"]["ws"]) + 1))
+    program.is_due("all aren't copied to where one is", compact, 1, b"refused exists\n")
+    said("what the new file has then", all_rows(new), first)
+    said("what the old file has then", all_rows(old), second)
+    program.is_due("nor where another is", ["org-remove", "--db", new, "--force", "acme"], 0, b"ok\n")
+    program.is_due("but the one that is left", compact, 1, b"refused exists\n")
+    said("what the new file has", all_rows(new), {"beta": first["beta"]})
+    forget(new)
+    program.is_due("once the new file is deleted they are", compact, 0, b"ok\n", NEW_FILE)
+    said("what it has in the end", all_rows(new), second)
+    look_at_form("it", new)
+    print("right: all organizations are copied to a file without one, and each record there is that of the old file")
+    forget(old, new)
+
+
 def look_at_removals(program, path):
     """An organization goes with all that it has and nothing else, where it isn't in use or by force."""
     file, before = program.folder + "/from.db", all_rows(path)
@@ -295,8 +325,11 @@ def look_at_kills(program, path):
             for org, rows in has.items():
                 said("an organization of a copy that was killed", rows, before[org])
             status, output, _ = program.run(words)
-            again = (1, b"refused exists\n") if words[0] == "org-copy" and has else (0, b"ok\n")
-            said("a copy behind one that was killed", (status, output), again)
+            said("a copy behind one that was killed", (status, output), (1, b"refused exists\n") if has else (0, b"ok\n"))
+            if has and not parts:
+                said("what it leaves", all_rows(new), has)
+                forget(new)
+                said("all once more, to a new file", program.run(words), (0, b"ok\n", NEW_FILE))
             said("what stands there then", all_rows(new), {org: before[org] for org in (parts or before)})
             look_at_form("it", new)
             forget(old, new)
@@ -354,7 +387,7 @@ class Refused:
         if not is_right and (status, out) != refusals.REFUSED:
             raise refusals.Wrong("status %d, %s, %s" % (status, out, errors))
         told = [line for line in errors.splitlines(True) if line not in (NEW_FILE, refusals.LOG_STAYS)]
-        if len(told) != (0 if is_right else 1) or any(line not in CAUSES for line in told):
+        if len(told) != (0 if is_right else 1) or not all(refusals.is_cause(line, CAUSES) for line in told):
             raise refusals.Wrong("after %s the error stream has %s" % (out, errors))
         found = self.files.bytes()
         if (is_right, found) not in self.good:
@@ -369,6 +402,10 @@ class Refused:
             is_due = came == self.whole if is_right else all(self.before[org] == rows for org, rows in came.items())
             if left != self.before or not is_due or not is_right and self.is_one and came:
                 raise refusals.Wrong("the files have %s and %s" % (list(left), list(came)))
+            if not is_right and came and not self.is_one:
+                if self.program.run(self.words, under=["env", "-C", room])[:2] != (1, b"refused exists\n"):
+                    raise refusals.Wrong("it goes on where an organization was copied")
+                forget(room + "/to.db")
             if not is_right and self.program.run(self.words, under=["env", "-C", room])[:2] != (0, b"ok\n"):
                 raise refusals.Wrong("it isn't done again with memory")
 
@@ -390,6 +427,38 @@ def look_at_memory(program, path):
         print("right: %s with each of %d requests for memory refused" % (words[0], many))
 
 
+def look_at_lone_logs(program, path):
+    """A log beside an empty file, to which a link leads, stays as it is, whichever request for memory is refused."""
+    library, counts = compiled("refuse", program.folder), refusals.Counts()
+    for words in (["org-add", "--db", "link.db", "acme"], ["org-copy", "--db", "from.db", "--to", "link.db", "acme"], ["compact", "--db", "from.db", "--to", "link.db"]):
+        with tempfile.TemporaryDirectory(dir=program.folder) as folder:
+            shutil.copy(path, folder + "/from.db")
+            os.mkdir(folder + "/there")
+            os.symlink("there/to.db", folder + "/link.db")
+            due = {"to.db": b"", "to.db-wal": os.urandom(2000)}
+            for name, content in due.items():
+                with open(os.open("%s/there/%s" % (folder, name), os.O_CREAT | os.O_WRONLY, 0o600), "wb") as file:
+                    file.write(content)
+
+            def judge(status, out, errors):
+                found = {}
+                for name in os.listdir(folder + "/there"):
+                    with open("%s/there/%s" % (folder, name), "rb") as file:
+                        found[name] = file.read()
+                if (status, out) != refusals.REFUSED or found != due:
+                    raise refusals.Wrong("status %d, %s, %s, and there are %s" % (status, out, errors, {name: len(content) for name, content in found.items()}))
+                return errors == LOG_ALONE
+
+            source = refusals.File(folder)
+            source.parts = [folder + "/from.db", folder + "/from.db-wal"]
+            try:
+                with refusals.Program(library, "request", [program.path, *words], folder) as run:
+                    many = refusals.refuse_run(run, counts, judge, source)
+            except refusals.Wrong as wrong:
+                raise Wrong("%s: %s" % (words[0], wrong)) from None
+        print("right: %s beside a log behind a link to an empty file, with each of %d requests for memory refused" % (words[0], many))
+
+
 def main():
     if len(sys.argv) != 2:
         sys.exit(__doc__)
@@ -399,10 +468,12 @@ def main():
             path = look_at_history(program)
             look_at_words(program, path)
             some = small(program)
+            look_at_targets(program, some)
             look_at_removals(program, some)
             look_at_kills(program, some)
             look_at_killed_removals(program, some)
             look_at_memory(program, some)
+            look_at_lone_logs(program, some)
         except Wrong as wrong:
             print("WRONG:", wrong)
             sys.exit(1)

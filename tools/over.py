@@ -7,7 +7,8 @@ GATE is the top of a clone in which `rt ci` without names, or `rt check` of CRAT
 text has to be the same (`rt ci NAME` leaves no libraries); CRATE is the crate's name here. It is what `rt check` does but
 for that, and is for working alone: only `rt ci` decides. What it has checked is kept in GATE/crates/CRATE/out/over, and
 taken by the next call. Crates named by `--source` are read as source: of one whose text has changed no library is needed
-then, nor a proof, but each crate between it and CRATE is to be named, too.
+then, nor a proof, but each crate between it and CRATE is to be named, too. OVER_JOBS in the environment says how many processes
+check at once (1).
 Examples, from the top of the repository:
 
     python3 tools/over.py ../gate program --only program::serving --allow-holes
@@ -79,7 +80,7 @@ def command(gate, name, source):
         if one in source:
             words += ["--lib", f"{one}:{','.join(['std', *of[one]])}={TOP}/crates/{one}/src/lib.rt"]
     words += ["--antt-project", f"{kit}/rattle/logic/antt-project.json", "--logic-built", f"{kit}/logic_built", "--links", f"{name}="]
-    return [*words, "--jobs", "1", "--incremental", kept]
+    return [*words, "--jobs", os.environ.get("OVER_JOBS", "1"), "--incremental", kept]
 
 
 def main():

@@ -4,9 +4,9 @@
     python3 tools/program.py CUSTODY    the program as `rt ci` or `rt run` leaves it
 
 What the stories run is `run_here` inside of another program. Here is what only `main` does: the words of the system, which may
-not be UTF-8; the streams of the system, which may be full, or closed at their other end; the exit status; and `serve` up to its
-count, by requests over 127.0.0.1 and exact replies. It prints a line for each thing that holds, and ends with status 1 at the
-first that doesn't.
+not be UTF-8; the streams of the system, which may be full, closed at their other end, or not there at all; the exit status; and
+`serve` up to its count, or without one, by requests over 127.0.0.1 and exact replies. It prints a line for each thing that holds,
+and ends with status 1 at the first that doesn't.
 """
 
 import os
@@ -17,6 +17,10 @@ import sqlite3
 import subprocess
 import sys
 import tempfile
+import time
+
+# How many connections a service without a count answers here.
+UNLIMITED = 1000
 
 # Seconds after which a program or a peer that says nothing is held for hanging.
 PATIENCE = 60
@@ -30,6 +34,9 @@ ANSWERED_503 = b"custody: connection %d: memory or the store was refused, answer
 LOG_STAYS = b"custody: the log could not be copied into the file: keep the file and its log together\n"
 UNREAD = b"custody: the input can't be read, or memory was refused\n"
 PORT_TAKEN = b"custody: the port is taken\n"
+UNPRINTED = b"custody: standard output or error did not take all that was to be printed\n"
+ENCODING = b"custody: an argument isn't UTF-8\n"
+ONE_OF = b"custody: serve takes one of --count N and --unlimited\n"
 MADE = b'{"auto_apply":false,"holder":null,"keep_versions":100,"name":"net","version":null}'
 STATE = b'{"version":4,"serial":1,"lineage":"a1","x":"HTTP/1.1 503 is here"}'
 
@@ -93,7 +100,11 @@ def look_at_words(program):
     program.is_due("frames are answered", ["replay"], 0, b"reply 3\nok\n\n", given=b"at 0 admin org-add acme\n")
     program.is_due("a frame doesn't read", ["replay"], 2, b"", b"custody: bad frame 1\n", given=b"at\n")
     for words in [[b"org-add", b"--db", b"t.db", b"\xff"], [b"\xc3\x28"], [b"org-list", b"--db", b"t\xed\xa0\x80.db"]]:
-        program.is_due("words that aren't UTF-8: %s" % words, words, 2, b"refused usage\n")
+        program.is_due("words that aren't UTF-8: %s" % words, words, 2, b"refused usage\n", ENCODING)
+    program.is_due("the version is printed", ["--version"], 0, b"custody 1.0.0 (schema 3)\n")
+    serves = ["serve", "--db", "t.db", "--port", "8090"]
+    program.is_due("a service without a count", serves, 2, b"refused usage\n", ONE_OF)
+    program.is_due("a service with a count and without one", [*serves, "--count", "1", "--unlimited"], 2, b"refused usage\n", ONE_OF)
     said("the mode of a new file", os.stat(program.folder + "/t.db").st_mode & 0o777, 0o600)
     if sorted(os.listdir(program.folder)) != ["t.db", "t.db-wal"]:
         raise Wrong("it left %s" % os.listdir(program.folder))
@@ -114,13 +125,16 @@ def closed_pipe():
 def look_at_streams(program):
     lists = ["org-list", "--db", "t.db"]
     serves = ["serve", "--db", "t.db", "--port", str(free_port()), "--count", "1"]
-    for what, words in [("a list", lists), ("the line of a service", serves), ("a reply", ["replay"])]:
+    for what, words in [("a list", lists), ("the line of a service", serves), ("a reply", ["replay"]), ("the version", ["--version"])]:
         given = b"at 0 admin org-add acme\n" if words == ["replay"] else b""
         with open(FULL, "wb") as full:
-            said("%s on a full device" % what, program.run(words, given, output=full), (3, None, b""))
+            said("%s on a full device" % what, program.run(words, given, output=full), (3, None, UNPRINTED))
         with closed_pipe() as pipe:
-            said("%s on a pipe that nobody reads" % what, program.run(words, given, output=pipe), (3, None, b""))
-        print("right: %s on an output that takes nothing is status 3" % what)
+            said("%s on a pipe that nobody reads" % what, program.run(words, given, output=pipe), (3, None, UNPRINTED))
+        print("right: %s on an output that takes nothing is status 3, and told" % what)
+    with open(FULL, "wb") as full:
+        refused = program.run(["org-list"], output=full)
+    said("words that aren't those of a command, on a full device", (refused[0], refused[2].endswith(UNPRINTED)), (3, True))
     with open(FULL, "wb") as full:
         said("help on a full device", program.run(["--help"], errors=full), (3, b"", None))
     with closed_pipe() as pipe:
@@ -132,6 +146,53 @@ def look_at_streams(program):
     output, errors = process.communicate(timeout=PATIENCE)
     said("an input that can't be read", (process.returncode, output, errors), (3, b"refused down\n", UNREAD))
     print("right: an input that can't be read is status 3, and told")
+
+
+# The streams that may be closed at the start, and how a shell closes each.
+CLOSES = ["<&-", ">&-", "2>&-"]
+
+
+def without(streams):
+    """Runs the words behind it with these streams closed."""
+    return ["sh", "-c", "exec \"$@\" %s" % " ".join(CLOSES[stream] for stream in streams), "sh"]
+
+
+def look_at_closed(program):
+    """A stream that is closed is none of a database or a peer: what stands there is /dev/null."""
+    every = [[stream for stream in range(3) if number >> stream & 1] for number in range(1, 8)]
+    for streams in every:
+        status, output, errors = program.run(["token-list", "--db", "t.db", "acme"], under=without(streams))
+        said("a list without the streams %s" % streams, (status, output), (0, b"" if 1 in streams else b"root admin - -\n"))
+        status, output, errors = program.run(["org-list", "--db", "none.db"], under=without(streams))
+        said("a reason without the streams %s" % streams, (status, output), (3, b"" if 1 in streams else b"refused down\n"))
+        said("and on the error stream", errors == b"", 2 in streams)
+        # (a secret comes on the standard input)
+        status, output, errors = program.run(["token-add", "--db", "t.db", "acme", "some", "read"], b"somesomesomesome\n", under=without(streams))
+        said("a secret without the streams %s" % streams, status, 2 if 0 in streams else 0)
+        status, output, errors = program.run(["token-revoke", "--db", "t.db", "acme", "some"], under=without(streams))
+        said("its token", status, 1 if 0 in streams else 0)
+    print("right: commands have what is due, whichever of their streams are closed")
+    left, read = b"GET /v1/acme/state/net HTT", request(b"GET /v1/acme/workspaces HTTP/1.1")
+    for streams in every:
+        port = free_port()
+        words = ["serve", "--db", "t.db", "--port", str(port), "--count", "5", "--log"]
+        process = program.start(words, subprocess.DEVNULL, under=without(streams))
+        try:
+            answered = [patient(port, sent) for sent in (left, read, left, read)]
+            said("peers of a service without the streams %s" % streams, answered, [b"", LISTED, b"", LISTED])
+            for stream in range(3):
+                there = os.readlink("/proc/%d/fd/%d" % (process.pid, stream))
+                said("the stream %d of a service without %s" % (stream, streams), there == "/dev/null", stream in streams or stream == 0)
+            patient(port, left)
+            output, told = process.communicate(timeout=PATIENCE)
+        finally:
+            process.kill()
+            process.wait()
+        lines = output.splitlines()
+        said("what it prints", (len(lines), lines[:1]), (0, []) if 1 in streams else (6, [b"listening 127.0.0.1:%d" % port]))
+        said("what it tells", told, b"" if 2 in streams else LEFT_EARLY % 1 + LEFT_EARLY % 3 + LEFT_EARLY % 5)
+    program.is_due("the file is whole behind them", ["check", "--db", "t.db"], 0, b"ok\norganizations 1 workspaces 0 versions 0 runs 0 newest -\n")
+    print("right: a service is the same, whichever of its streams are closed, and its peers get their replies alone")
 
 
 # ----------------------------------------------------------------------------------------------------
@@ -158,6 +219,9 @@ def reply(status, body):
     )
 
 
+# The list of an organization without workspaces.
+LISTED = reply(b"200 OK", b'{"items":[],"more":false}')
+
 # How a request fails where memory or the store refuses.
 DOWN = reply(b"503 Service Unavailable", b'{"error":"down"}')
 
@@ -173,6 +237,18 @@ def exchanged(port, sent):
             if not piece:
                 return re.sub(rb"\r\nDate: [A-Z][a-z]{2}, \d\d [A-Z][a-z]{2} \d{4} \d\d:\d\d:\d\d GMT\r\n", b"\r\nDate: DATE\r\n", came, count=1)
             came += piece
+
+
+def patient(port, sent):
+    """The same of a service that may not listen yet."""
+    end = time.monotonic() + PATIENCE
+    while True:
+        try:
+            return exchanged(port, sent)
+        except ConnectionRefusedError:
+            if time.monotonic() > end:
+                raise Wrong("a service doesn't listen") from None
+            time.sleep(0.01)
 
 
 def served(program, exchanges, errors):
@@ -207,6 +283,24 @@ def look_at_service(program):
         program.is_due("a port that is taken", words, 3, b"refused down\n", PORT_TAKEN)
 
 
+def look_at_unlimited(program):
+    """A service without a count goes on, until it is ended."""
+    port = free_port()
+    process = program.start(["serve", "--db", "t.db", "--port", str(port), "--unlimited"], subprocess.DEVNULL)
+    try:
+        said("the line of a service", process.stdout.readline(), b"listening 127.0.0.1:%d\n" % port)
+        for number in range(UNLIMITED):
+            said("reply %d of a service without a count" % number, exchanged(port, request(b"GET /v1/acme/state/net HTTP/1.1")), reply(b"200 OK", STATE))
+        said("whether it goes on", process.poll(), None)
+    finally:
+        process.kill()
+        output, errors = process.communicate()
+    said("what it printed", (output, errors), (b"", b""))
+    status, output, errors = program.run(["check", "--db", "t.db"])
+    said("the file that it leaves", (status, output.startswith(b"ok\norganizations 1 workspaces 1 versions 1 runs 0 newest "), errors), (0, True, b""))
+    print("right: %d connections were answered by a service without a count, and it went on" % UNLIMITED)
+
+
 def look_at(doc, *looks):
     """Looks at the program that the one word names, in a folder of its own; ends with status 1 at the first thing that is wrong."""
     if len(sys.argv) != 2:
@@ -222,4 +316,4 @@ def look_at(doc, *looks):
 
 
 if __name__ == "__main__":
-    look_at(__doc__, look_at_words, look_at_streams, look_at_service)
+    look_at(__doc__, look_at_words, look_at_streams, look_at_closed, look_at_service, look_at_unlimited)

@@ -1,5 +1,6 @@
 //! A story of a store over tables in a file, which is closed and opened again midway.
 use crate::programs::{forget, is_done};
+use program::outside::Opening;
 use serve::Step;
 use sqlite_disk::{Start, Unknown};
 use std::fs;
@@ -15,10 +16,11 @@ const PATH: &str = "stories.db";
 /// Where copies of them lie.
 const COPY: &str = "copies.db";
 
-/// The words that copy one organization there, then every one, and look for faults.
+/// The words that copy every organization there, then one of them once more, where it was taken away, and look for faults.
 const COPYING: &[&str] = &[
-    "org-copy --db stories.db --to copies.db acme",
     "compact --db stories.db --to copies.db",
+    "org-remove --db copies.db --force acme",
+    "org-copy --db stories.db --to copies.db acme",
     "check --db copies.db",
 ];
 
@@ -32,11 +34,12 @@ const COPIED: &str = "tables that are copied";
 fn take_from<S: Start>(
     rt: &HostRuntime,
     path: &str,
+    opening: Opening,
     start: S,
     steps: &[Step],
     due: &[Due],
 ) -> Result<(), Failure> {
-    let Ok(keep) = open_file(rt, path, start) else {
+    let Ok(keep) = open_file(rt, path, opening, start) else {
         return Err(Failure::refused(0, "the file doesn't open"));
     };
     let (keep, taken) = take_over(rt.alloc(), keep, Way::Exchange(ALL), steps, due);
@@ -46,19 +49,19 @@ fn take_from<S: Start>(
     taken
 }
 
-fn take_halves(rt: &HostRuntime, play: &Play) -> Result<(), Failure> {
+fn take_halves(rt: &HostRuntime, play: &Play, first: Opening) -> Result<(), Failure> {
     let middle = play.steps.len() / 2;
     let (steps, due) = play.between(0, middle);
-    take_from(rt, PATH, Unknown, steps, due)?;
+    take_from(rt, PATH, first, Unknown, steps, due)?;
     let (steps, due) = play.between(middle, play.steps.len());
-    take_from(rt, PATH, Unknown, steps, due)
+    take_from(rt, PATH, Opening::Existing, Unknown, steps, due)
 }
 
 fn take_halves_of(rt: &HostRuntime, play: &Play, bytes: &[u8]) -> Result<(), Failure> {
     if fs::write(rt, PATH, bytes).is_err() {
         return Err(Failure::refused(0, "the file can't be written"));
     }
-    take_halves(rt, play)
+    take_halves(rt, play, Opening::Existing)
 }
 
 fn copy_all(rt: &HostRuntime) -> Result<(), Failure> {
@@ -72,11 +75,11 @@ fn copy_all(rt: &HostRuntime) -> Result<(), Failure> {
 
 fn take_behind(rt: &HostRuntime, play: &Play) -> Result<(), Failure> {
     let (steps, due) = play.between(0, play.own);
-    take_from(rt, PATH, Unknown, steps, due)?;
+    take_from(rt, PATH, Opening::Created, Unknown, steps, due)?;
     copy_all(rt)?;
     let (steps, due) = play.between(play.own, play.steps.len());
-    take_from(rt, COPY, Unknown, steps, due)?;
-    take_from(rt, PATH, Unknown, steps, due)
+    take_from(rt, COPY, Opening::Existing, Unknown, steps, due)?;
+    take_from(rt, PATH, Opening::Existing, Unknown, steps, due)
 }
 
 /// Runs the stories before it over tables in a file, copies each organization to another file by the program's words, and
@@ -107,7 +110,7 @@ pub fn run_in_copy(rt: &HostRuntime, play: &Play, bytes: &[u8]) -> Result<(), Fa
 /// Runs a story over tables in a file that is made for it and taken away afterwards.
 pub fn run_in_file(rt: &HostRuntime, play: &Play) -> Result<(), Failure> {
     forget(rt, PATH)?;
-    let taken = take_halves(rt, play);
+    let taken = take_halves(rt, play, Opening::Created);
     forget(rt, PATH)?;
     match taken {
         Ok(()) => Ok(()),

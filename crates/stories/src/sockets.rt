@@ -237,7 +237,7 @@ impl Bout<'_> {
         alloc: Global,
         network: &mut Slow<'_>,
         service: &mut Service<PlainKeep>,
-        count: u32,
+        count: u64,
         timeouts: &Timeouts,
         told: &[u8],
     ) -> Result<(), Failure> {

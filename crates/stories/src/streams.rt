@@ -13,6 +13,10 @@ const BROKEN: u8 = 3;
 /// What the error stream gets where the standard input can't be read.
 const UNREAD: &[u8] = b"custody: the input can't be read, or memory was refused\n";
 
+/// What the error stream gets last where a stream didn't take all; behind the frames of a replay nothing is told.
+const UNPRINTED: &[u8] =
+    b"custody: standard output or error did not take all that was to be printed\n";
+
 /// Words, and what is due on the streams.
 #[derive(Drop)]
 pub struct Told<'s> {
@@ -55,6 +59,21 @@ impl<'s> Told<'s> {
             leaves_no_mark: reads_frames || answer.text == "2",
         }
     }
+}
+
+// Whether the error stream has this, and behind it the line that a stream didn't take all.
+fn tells_end(told: &Told<'_>, before: &[u8], errors: &[u8]) -> bool {
+    let (front, end) = errors.split_at(before.len().min(errors.len()));
+    let due: &[u8] = if told.reads_frames { b"" } else { UNPRINTED };
+    front == before && end == due
+}
+
+// So where the error stream takes all; of one of which the text says only a part the length isn't known.
+fn tells_all(told: &Told<'_>, errors: &[u8]) -> bool {
+    if told.reads_frames || told.errors.is_empty() {
+        return true;
+    }
+    tells_end(told, told.errors, errors)
 }
 
 fn check(told: &Told<'_>, holds: bool, what: &'static str, place: usize) -> Result<(), Failure> {
@@ -118,13 +137,13 @@ fn stop_output(
         && told.output.starts_with(left.output.as_slice());
     check(
         told,
-        left.status == BROKEN && is_front,
+        left.status == BROKEN && is_front && tells_all(told, left.errors.as_slice()),
         "something else came where the output stops at byte",
         stops_at,
     )
 }
 
-// The error stream takes a front of what is due.
+// The error stream takes a front of what is due, and then the line that says so.
 fn stop_errors(
     alloc: Global,
     memory: &mut Memory<'_>,
@@ -135,11 +154,12 @@ fn stop_errors(
     let input = Giver::new(told.input, ALL);
     let errors = Taker::stopping(alloc, stops_at, stop);
     let left = ran(alloc, memory, told, input, Taker::new(alloc), errors)?;
-    let is_front = left.errors.len().saturating_add(1) == stops_at
-        && told.errors.starts_with(left.errors.as_slice());
+    let (front, _) = told
+        .errors
+        .split_at(stops_at.saturating_sub(1).min(told.errors.len()));
     check(
         told,
-        left.status == BROKEN && is_front,
+        left.status == BROKEN && tells_end(told, front, left.errors.as_slice()),
         "something else came where the error stream stops at byte",
         stops_at,
     )
@@ -158,8 +178,8 @@ fn fail_flush(alloc: Global, memory: &mut Memory<'_>, told: &Told<'_>) -> Result
     )?;
     check(
         told,
-        left.status == BROKEN,
-        "another status where the output can't be flushed, bytes",
+        left.status == BROKEN && tells_all(told, left.errors.as_slice()),
+        "something else came where the output can't be flushed, bytes",
         left.output.len(),
     )
 }
