@@ -1,6 +1,6 @@
 #!/bin/sh
 # Makes an older version of a workspace its newest, under a lock: the text of version N, with a serial above the newest.
-#     CUSTODY=https://state.example.com/v1/acme TOKEN=acme.SECRET rollback.sh WORKSPACE N
+#     export CUSTODY=https://state.example.com/v1/acme TOKEN="acme.$(cat FILE)"; rollback.sh WORKSPACE N
 set -eu
 umask 077
 ws=$1 n=$2 id=rollback-$$-$(date +%s)

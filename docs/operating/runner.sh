@@ -1,8 +1,9 @@
 #!/bin/sh
 # One run of one workspace, from the queue to its end; each step is reported to custody.
-#     CUSTODY=https://state.example.com/v1/acme TOKEN=acme.SECRET runner.sh WORKSPACE KEY [plan_only]
+#     export CUSTODY=https://state.example.com/v1/acme TOKEN="acme.$(cat FILE)"; runner.sh WORKSPACE KEY [plan_only]
 # It starts in the folder of the configuration. KEY, up to 64 letters, digits or '-', is the pipeline's number: no other run has it.
 set -eu
+umask 077                                             # the plan has secrets
 ws=$1 key=$2
 case "${3-}" in '') plan_only=false ;; plan_only) plan_only=true ;; *) echo "not plan_only: $3" >&2; exit 2 ;; esac
 [ ! -e errored.tfstate ] || { echo "errored.tfstate has to be pushed first" >&2; exit 1; }
@@ -18,6 +19,7 @@ await() { # A B: while the status is A. Where another than B follows, the run is
     [ "$s" = "$2" ] || { [ -z "$s" ] || last=; exit 1; }
 }
 finish() { # with errored.tfstate the run goes on holding, until that is pushed (docs/RUNNERS.md)
+    rm -f "run-$n.plan"
     [ -z "$last" ] || [ -e errored.tfstate ] || ask "/$n/actions/$last" -X POST
     echo "run-$n: ${s:-no answer}" >&2
     case "$s" in applied | planned_and_finished) exit 0 ;; *) exit 1 ;; esac
@@ -29,7 +31,8 @@ trap finish EXIT
 trap 'exit 1' HUP INT TERM
 await pending planning; last=fail
 
-export TF_HTTP_ADDRESS="$CUSTODY/state/$ws?ID=run-$n&access_token=$TOKEN" TF_HTTP_RETRY_MAX=6
+export TF_HTTP_ADDRESS="$CUSTODY/state/$ws?ID=run-$n" TF_HTTP_USERNAME="$TOKEN" TF_HTTP_PASSWORD=- TF_HTTP_RETRY_MAX=6
+# by caddy: TF_HTTP_ADDRESS="$CUSTODY/state/$ws?ID=run-$n&access_token=$TOKEN", and neither user name nor password
 unset TF_HTTP_LOCK_ADDRESS TF_HTTP_UNLOCK_ADDRESS     # the run holds the workspace, so a LOCK would be answered 423
 terraform init -input=false
 code=0; terraform plan -input=false -detailed-exitcode -out="run-$n.plan" || code=$?
