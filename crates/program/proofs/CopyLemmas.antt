@@ -21,7 +21,7 @@ use Rattle.program.specs.declared.reasons.Cause.TheVariants.{Unfinished}
 use Rattle.program.specs.Moves.{org_copied, copied_into, Arrives, AllAreCopied, SomeAreCopied, IsFilled, lists_none, CopiesBetween}
 use Rattle.program.specs.declared.outside.Opening.TheVariants.{Target}
 use Rattle.program.specs.Outcomes.{Stream, stream, TellsCause, TellsWord, Refuses, RefusesToOpen, RefusesSecond, OpensSound, OpensBoth, Closes, ClosesBoth, CopiesOver, IsCopied, IsCompacted}
-use Rattle.program.proofs.MoveLemmas.{copied_none, copied_left, to_none}
+use Rattle.program.proofs.MoveLemmas.{copied_none, copied_left}
 use Rattle.program.proofs.OutsideLemmas.{same_records}
 
 -- ---- records
@@ -124,20 +124,6 @@ module _ {K : Type 0} (k : keep.Ghosts K) where
 
 -- ---- a target that has to be without organizations
 
--- a list without an organization
-none_listed : (records : Records) (told : AdminAnswer) → ListsOrganizations records told → lists_none told ≡ true → (org : List ℕ) → records org ≡ None
-none_listed records Done are e org = absurd are
-none_listed records Exists are e org = absurd are
-none_listed records Absent are e org = absurd are
-none_listed records InUse are e org = absurd are
-none_listed records (Tokens rows) are e org = absurd are
-none_listed records (Organizations (row ∷ rows)) are e org = absurd (let no : ⊥ = cc in no)
-none_listed records (Organizations []) are e org = by_record (records org) refl
-  where
-    by_record : (r : Option Organization) → records org ≡ r → records org ≡ None
-    by_record None is = is
-    by_record (Some o) is = absurd (let found = are.whole org o is in let no : ⊥ = cc in no)
-
 there_by : (records : Records) (org : List ℕ) (P : Organization → Type 0) (r : Option Organization) → records org ≡ r → IsSomeAnd r P → (there : Organization) × (records org ≡ Some there)
 there_by records org P None is so = absurd so
 there_by records org P (Some o) is so = (o, is)
@@ -152,10 +138,6 @@ some_listed records (Tokens rows) are e = absurd are
 some_listed records (Organizations []) are e = absurd (let no : ⊥ = cc in no)
 some_listed records (Organizations (row ∷ rows)) are e =
     let found = there_by records row.name _ (records row.name) refl are.told.0 in (row.name, found.0, found.1)
-
--- where none was listed, and all were copied, each is there as it was
-pub is_filled : (from old new : Records) (told : AdminAnswer) → ListsOrganizations old told → lists_none told ≡ true → AllAreCopied from old new → IsFilled from old new Done
-is_filled from old new told are e all = (none_listed old told are e, to_none from old new all (none_listed old told are e))
 
 -- where some were listed nothing was copied
 pub is_left : (from old new : Records) (told : AdminAnswer) → ListsOrganizations old told → lists_none told ≡ false → ((org : List ℕ) → new org ≡ old org) → IsFilled from old new Exists

@@ -1,24 +1,17 @@
 -- What stands on the streams, by how the program ends.
-use Rattle.std.proofs.Common.{◌≡◌, ◌⊎◌, ◌≢◌, ℕ, Bool, List, Option, Some, None, IfSome, IfOk, Result, Ok, Err, refl, sym, subst, inl, inr}
-use Rattle.std.specs.Prelude.{OnErr}
-use Rattle.basis.specs.declared.memory.Down.{Down as BasisDown}
-use Rattle.machine.specs.declared.keeps.AdminAnswer.{AdminAnswer}
-use Rattle.machine.specs.declared.records.Organization.{Organization}
+use Rattle.std.proofs.Common.{◌≡◌, ◌⊎◌, ◌≢◌, ℕ, Bool, List, Option, Some, None, IfSome, refl, sym, subst, inl, inr}
 use Rattle.serve.specs.declared.steps.Admin.{Admin}
 use Rattle.serve.specs.declared.steps.Admin.TheVariants.{OrgAdd, OrgLimit, OrgRemove, OrgList, TokenAdd, TokenList, TokenRevoke}
-use Rattle.serve.specs.Asks.{commands}
-use Rattle.serve.specs.Service.{Carries as CarriesOut, IsAdminAnswer, Stays}
 use Rattle.wire.proofs.LinkLemmas.{Appends-then}
 use Rattle.std.specs.Io.KnownBytes.{Appends}
 use Rattle.program.specs.declared.endings.Ending.{Ending}
 use Rattle.program.specs.declared.endings.Ending.TheVariants.{Done, Exists, Absent, InUse, Faults, Usage, BadFrame, Schema, Down, Unprinted}
 use Rattle.program.specs.Endings.{ending_line}
 use Rattle.program.specs.Logs.{with_log}
-use Rattle.program.specs.declared.reasons.Cause.{Cause}
 use Rattle.program.specs.declared.outside.Files as files
 use Rattle.program.specs.declared.outside.Opening.{Opening}
 use Rattle.machine.specs.declared.keeps.Keep as keep
-use Rattle.program.specs.Outcomes.{Stream, stream, Gets, Says, IsSaid, ReplaysFrames, Refuses, RefusesToOpen, ServesAt, AnswersCommand, AnswersFaults, AnswersLine, TellsAnswer, IsOperated}
+use Rattle.program.specs.Outcomes.{Stream, stream, Gets, Says, IsSaid, ReplaysFrames, RefusesToOpen, ServesAt, AnswersCommand, AnswersFaults}
 use Rattle.program.specs.Replies.{AnswersFrames, printed, bad_frame_text, answer_line}
 use Rattle.program.specs.Serving.{Listens, listening_line}
 
@@ -69,13 +62,6 @@ served logs Down result old mid new listens down other = go listens (down refl)
     go (inr told) (inl h) = subst (λ (e : Ending). ServesAt logs e (stream old new)) (sym h.0)
         (inr (told.0, told.1, Appends-then old mid new (with_log logs (listening_line told.0) told.1) (answer_line (ending_line Down)) told.2 h.1))
 
--- an answer is told as it is, and where there is none `refused down`, with its cause
-pub operated : (Fails : Cause → Type 0) (at : ℕ) (command : Admin) (old new : List ℕ → Option Organization) (e : Ending) (output errors : Stream) (res : Result AdminAnswer BasisDown)
-    → IfOk res (λ answer. CarriesOut (commands at command) old new × IsAdminAnswer old command answer) → OnErr res (Stays old new)
-    → IfOk res (λ answer. TellsAnswer command answer e output × (errors.new ≡ errors.old)) → OnErr res ((why : Cause) × Fails why × Refuses why e output errors) → IsOperated Fails command old new e output errors
-operated Fails at command old new e output errors (Ok answer) done stays tells down = inl (answer, at, done.0, done.1, tells.0, tells.1)
-operated Fails at command old new e output errors (Err d) done stays tells down = inr (stays, down)
-
 -- `refused down` and `refused schema` answer each command
 pub command_refused : (command : Admin) (e result : Ending) (old new : Option (List ℕ)) → (e ≡ Down) ⊎ (e ≡ Schema) → IsSaid e result old new → AnswersCommand command result (stream old new)
 command_refused command e result old new (inl h) is = by_down command (subst (λ (x : Ending). IsSaid x result old new) h is)
@@ -113,10 +99,6 @@ refused_command command result old new (inr h) = command_refused command Schema 
 pub refused_faults : (result : Ending) (old new : Option (List ℕ)) → IsSaid Down result old new ⊎ IsSaid Schema result old new → AnswersFaults result (stream old new)
 refused_faults result old new (inl h) = said (λ (x : Ending). AnswersFaults x (stream old new)) Down result old new (λ h. h) tt h
 refused_faults result old new (inr h) = said (λ (x : Ending). AnswersFaults x (stream old new)) Schema result old new (λ h. h) tt h
-
-pub refused_line : (result : Ending) (old new : Option (List ℕ)) → IsSaid Down result old new ⊎ IsSaid Schema result old new → AnswersLine result (stream old new)
-refused_line result old new (inl h) = said (λ (x : Ending). AnswersLine x (stream old new)) Down result old new (λ h. h) tt h
-refused_line result old new (inr h) = said (λ (x : Ending). AnswersLine x (stream old new)) Schema result old new (λ h. h) tt h
 
 pub refused_serving : (logs : Bool) (result : Ending) (old new : Option (List ℕ)) → IsSaid Down result old new ⊎ IsSaid Schema result old new → ServesAt logs result (stream old new)
 refused_serving logs result old new (inl h) = said (λ (x : Ending). ServesAt logs x (stream old new)) Down result old new (λ h. inl h) tt h

@@ -1,8 +1,7 @@
 //! Looks over the tables of a file.
-ghost use Rattle.std.specs.Prelude.{◌≡◌, [], Ok};
+ghost use Rattle.std.specs.Prelude.{[], Ok};
 ghost use Rattle.program.specs.Outcomes.{stream, AnswersFaults, TellsFaults, TellsFound, LooksAt};
 ghost use Rattle.program.specs.Inner.Outcomes.{FindsNone, LooksFirst};
-ghost use Rattle.program.specs.declared.reasons.Cause.{Cause as AnyCause};
 
 use crate::endings::Ending;
 use crate::errors::{tell_cause, tell_faults};

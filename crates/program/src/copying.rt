@@ -1,10 +1,10 @@
 //! Copies of organizations from one file to another.
-ghost use Rattle.std.specs.Prelude.{◌≡◌, ◌⊎◌, IfOk, IfErr, OnOk, OnErr, true};
+ghost use Rattle.std.specs.Prelude.{◌≡◌, ◌⊎◌, IfOk, IfErr, OnOk, OnErr};
 ghost use Rattle.std.specs.List.{AllByRecursion};
 ghost use Rattle.machine.specs.Tokens.{ListsOrganizations};
 ghost use Rattle.machine.specs.Keeping.{Looks};
 ghost use Rattle.program.specs.Moves.{Arrives, AllAreCopied, SomeAreCopied, IsFilled, lists_none, CopiesBetween};
-ghost use Rattle.program.specs.Outcomes.{stream, AnswersLine, CopiesAt, CompactsAt, TellsWord, TellsCause, Refuses, IsSaid, HasFailed, OpensSound, RefusesSource, OpensBoth, RefusesBoth};
+ghost use Rattle.program.specs.Outcomes.{stream, AnswersLine, CopiesAt, CompactsAt, TellsWord, TellsCause, Refuses, HasFailed, OpensSound, RefusesSource, OpensBoth, RefusesBoth};
 ghost use Rattle.program.specs.declared.reasons.Cause.{Cause as AnyCause};
 
 use crate::checking::look_first;

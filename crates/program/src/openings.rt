@@ -1,7 +1,7 @@
 //! Files that are opened and closed, and what is told of them.
 ghost use Rattle.std.specs.Prelude.{◌≡◌, IfOk, IfErr};
 ghost use Rattle.program.specs.Errors.{GetsFront, other_line, memory_line};
-ghost use Rattle.program.specs.Outcomes.{stream, IsSaid, TellsOfLog, TellsOfNew, TellsOfReaders, TellsOfFile, RefusesToOpen, Opens, Closes, ClosesBoth, seen_at};
+ghost use Rattle.program.specs.Outcomes.{stream, IsSaid, TellsOfNew, TellsOfReaders, TellsOfFile, RefusesToOpen, Opens, Closes, ClosesBoth, seen_at};
 
 use crate::endings::Ending;
 use crate::errors::{note, tell_memory, tell_other};

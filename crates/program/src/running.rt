@@ -3,7 +3,7 @@ ghost use Rattle.std.specs.Prelude.{◌≡◌, ◌<◌, ℕ, List, length, Optio
 ghost use Rattle.program.specs.Endings.{status_of};
 ghost use Rattle.command_line.specs.Orders.{said_by};
 ghost use Rattle.command_line.specs.Words.{words_bytes, IsWhy, AskForHelp, AreNoCommand};
-ghost use Rattle.program.specs.Outcomes.{stream, Does, TellsVersion, RefusesWords, RefusesUsage, outside, Leaves, Runs, RunsOver, TellsEnd};
+ghost use Rattle.program.specs.Outcomes.{stream, Does, TellsVersion, RefusesWords, outside, Leaves, Runs, RunsOver, TellsEnd};
 ghost use Rattle.program.specs.declared.endings.Ending.{Ending};
 
 use crate::checking::check;

@@ -1,5 +1,5 @@
 -- Contracts between functions: what is said on both streams, and what becomes of a store that was opened.
-use Rattle.std.specs.Prelude.{◌≡◌, ◌⊎◌, ℕ, List, [], Bool, true, false, Option, Result, Ok, IfOk}
+use Rattle.std.specs.Prelude.{◌≡◌, ◌⊎◌, ℕ, List, [], Bool, true, false, Option, Result, Ok}
 use Rattle.basis.specs.declared.memory.Down.{Down}
 use Rattle.command_line.specs.declared.timeouts.Timeouts.{Timeouts}
 use Rattle.machine.specs.declared.keeps.Keep as keep

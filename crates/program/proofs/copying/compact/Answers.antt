@@ -1,6 +1,6 @@
-use Rattle.std.proofs.Common.{◌≡◌, List, ℕ, Option, inl, inr, subst, refl}
+use Rattle.std.proofs.Common.{◌≡◌, List, ℕ, Option, inl, inr, subst}
 use Rattle.program.specs.declared.reasons.Cause.TheVariants.{Unfinished}
-use Rattle.program.specs.Outcomes.{stream, TellsCause, IsCompacted}
+use Rattle.program.specs.Outcomes.{stream, IsCompacted}
 use Rattle.program.proofs.CopyLemmas.{compacted, copies_as, copies_over, unfinished}
 use Rattle.program.proofs.copying.compact.Goals as goal
 

@@ -1,4 +1,4 @@
-use Rattle.std.proofs.Common.{Bool, inl, inr, subst, ◌∙◌}
+use Rattle.std.proofs.Common.{Bool, inl, inr, subst}
 use Rattle.program.specs.declared.endings.Ending.TheVariants.{Down}
 use Rattle.program.specs.declared.reasons.Cause.TheVariants.{SourceFaults}
 use Rattle.program.specs.Inner.Outcomes.{LooksFirst}

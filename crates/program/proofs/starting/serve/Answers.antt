@@ -1,4 +1,4 @@
-use Rattle.std.proofs.Common.{inl, inr}
+use Rattle.std.proofs.Common.{inl}
 use Rattle.program.specs.declared.outside.Opening.TheVariants.{Created}
 use Rattle.program.proofs.OutcomeLemmas.{refused_by, refused_serving}
 use Rattle.program.proofs.OutsideLemmas.{serves_from}

@@ -1,4 +1,4 @@
-use Rattle.std.proofs.Common.{◌≡◌, Bool, true, false, ℕ, List, Result, Ok, Err, IfOk, OnOk}
+use Rattle.std.proofs.Common.{Bool, true, false, ℕ, List, Result, Ok, Err, IfOk, OnOk}
 use Rattle.program.specs.Paths.{LeavesVacant}
 use Rattle.system.proofs.files.DiskFilesFilesFileKeep.open.Goals as goal
 
@@ -12,10 +12,6 @@ returns-in-Some-clause-opened g c = all_told _ _ _ _ _ c.open_file-opened.result
 not_bare : {X E : Type 0} (M A H : Type 0) (Clean : X → Type 0) (result : Result X E) → (M → IfOk result (λ x. Clean x → H)) → M → IfOk result (λ x. Clean x → ¬ (A × ¬ H))
 not_bare M A H Clean (Ok x) told m = λ clean both. both.1 (told m clean)
 not_bare M A H Clean (Err e) told m = tt
-
-not_known : {X E : Type 0} (A H : Type 0) (Clean : X → Type 0) (result : Result X E) → ¬ A → IfOk result (λ x. Clean x → ¬ (A × H))
-not_known A H Clean (Ok x) never = λ clean both. never both.0
-not_known A H Clean (Err e) never = tt
 
 none_vacant : {X E : Type 0} (result : Result X E) → OnOk result (¬ ⊥)
 none_vacant (Ok x) = λ never. never
