@@ -550,6 +550,17 @@ def look_at_memory(program):
     print("right: a service has room for 20 MB of pages, and states of 4 MB take less than 13 MB more")
 
 
+def look_at_salts(program):
+    """Two files have logs of different salts, so frames of one never pass for those of another (SQLite's file format, section 4.1)."""
+    salts = []
+    for name in ("salt.db", "salts.db"):
+        program.is_due("a file", ["org-add", "--db", name, "acme"], 0, b"ok\n", NEW_FILE)
+        with open(program.folder + "/" + name + "-wal", "rb") as file:
+            salts.append(file.read(32)[16:24])
+    said("whether two logs have different salts", salts[0] != salts[1], True)
+    print("right: two files have logs of different salts")
+
+
 def look_at_want(program):
     """An open for which there is too little memory tells how many bytes the file has."""
     program.is_due("a file", ["org-add", "--db", "w.db", "acme"], 0, b"ok\n", NEW_FILE)
@@ -709,4 +720,4 @@ def look_at_unsynced(program):
 
 
 if __name__ == "__main__":
-    look_at(__doc__, look_at_modes, look_at_absent, look_at_lone_logs, look_at_totals, look_at_pages, look_at_owners, look_at_makers, look_at_reasons, look_at_spoiled, look_at_full, look_at_half, look_at_memory, look_at_want, look_at_log, look_at_killed_behind, look_at_shut, look_at_unsynced)
+    look_at(__doc__, look_at_modes, look_at_absent, look_at_lone_logs, look_at_totals, look_at_pages, look_at_owners, look_at_makers, look_at_reasons, look_at_spoiled, look_at_full, look_at_half, look_at_memory, look_at_salts, look_at_want, look_at_log, look_at_killed_behind, look_at_shut, look_at_unsynced)

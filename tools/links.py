@@ -9,7 +9,7 @@ taken reads its whole reply, that one that stays holds up nobody, and that a ser
 prints a line for each thing that holds, and ends with status 1 at the first that doesn't.
 
 A look never fails since the machine is slow, but for two bounds: a cut-off comes at most SLACK seconds behind its time, and
-STAYING peers are served within STAYED seconds.
+STAYING peers that stay take at most STAYED seconds more than as many that leave.
 """
 
 import contextlib
@@ -73,6 +73,7 @@ TOO_LARGE = reply(b"413 Payload Too Large", b'{"error":"too-large"}')
 
 GET = request(b"GET /v1/acme/state/net HTTP/1.1")
 PUT = request(b"PUT /v1/acme/workspaces/net HTTP/1.1")
+LONG_HEAD = request(b"POST /v1/acme/state/net HTTP/1.1").replace(b"\r\n\r\n", b"\r\nContent-Length: %d\r\n\r\n" % TOO_MUCH)
 DATE = re.compile(rb"\r\nDate: ([A-Z][a-z]{2}, \d\d [A-Z][a-z]{2} \d{4} \d\d:\d\d:\d\d GMT)\r\n")
 READ_FAILED = b"custody: connection %d: a read failed\n"
 UNWRITTEN = b"custody: connection %d: the reply could not be written whole\n"
@@ -86,8 +87,8 @@ UNWRITTEN = b"custody: connection %d: the reply could not be written whole\n"
 class Service:
     """A service over 127.0.0.1, which ends by its count."""
 
-    def __init__(self, program, count, *words):
-        self.port = free_port()
+    def __init__(self, program, count, *words, port=None):
+        self.port = port or free_port()
         words = ["serve", "--db", "t.db", "--port", str(self.port), "--count", str(count), *words]
         self.process = program.start(words, subprocess.DEVNULL)
         said("the line of a service", self.process.stdout.readline(), b"listening 127.0.0.1:%d\n" % self.port)
@@ -227,9 +228,8 @@ def look_at_clock(program):
 
 def look_at_rude_peers(program):
     """A peer that sends more than is taken, and then reads to the end, gets its whole reply."""
-    too_large = request(b"POST /v1/acme/state/net HTTP/1.1").replace(b"\r\n\r\n", b"\r\nContent-Length: %d\r\n\r\n" % TOO_MUCH)
     with Service(program, 2) as service:
-        for what, sent, due in [("a body that is too large", too_large, TOO_LARGE), ("bytes behind a request", PUT, reply(b"200 OK", HELD))]:
+        for what, sent, due in [("a body that is too large", LONG_HEAD, TOO_LARGE), ("bytes behind a request", PUT, reply(b"200 OK", HELD))]:
             try:
                 came = service.asked(sent + REST)
             except ConnectionError as error:
@@ -239,21 +239,28 @@ def look_at_rude_peers(program):
         service.ends()
 
 
+def peers_last(program, what, sent, due, they_stay):
+    """How many seconds a service takes to answer peers one after the other, which stay to its end, or each of which leaves first."""
+    with Service(program, STAYING) as service, contextlib.ExitStack() as staying:
+        begun = time.monotonic()
+        for _ in range(STAYING):
+            peer = staying.enter_context(service.peer())
+            peer.sendall(sent)
+            said("a peer behind %s" % what, undated(received(peer)) == due, True)
+            if not they_stay:
+                peer.close()
+        service.ends()
+        return time.monotonic() - begun
+
+
 def look_at_staying_peers(program):
-    """A peer whose request was read whole holds up nobody, though it stays."""
+    """A peer whose request was read whole holds up nobody, though it stays: it lasts about as long as where each leaves."""
     post = request(b"POST /v1/acme/state/net HTTP/1.1", STATE)
     for what, sent, due in [("a GET", GET, reply(b"200 OK", STATE)), ("a POST", post, reply(b"200 OK", b""))]:
-        with Service(program, STAYING) as service, contextlib.ExitStack() as staying:
-            begun = time.monotonic()
-            for _ in range(STAYING):
-                peer = staying.enter_context(service.peer())
-                peer.sendall(sent)
-                said("a peer that stays behind %s" % what, undated(received(peer)) == due, True)
-            service.ends()
-            lasted = time.monotonic() - begun
-        if lasted > STAYED:
-            raise Wrong("%d peers that stay behind %s take %.2f seconds, at most %d are due" % (STAYING, what, lasted, STAYED))
-        print("right: %d peers that stay behind %s take %.2f seconds" % (STAYING, what, lasted))
+        left, stayed = (peers_last(program, what, sent, due, they_stay) for they_stay in (False, True))
+        if stayed > left + STAYED:
+            raise Wrong("%d peers that stay behind %s take %.2f seconds, and %.2f where they leave" % (STAYING, what, stayed, left))
+        print("right: %d peers that stay behind %s take %.2f seconds, and %.2f where they leave" % (STAYING, what, stayed, left))
 
 
 def look_at_idle(program):
@@ -301,6 +308,32 @@ def look_at_most(program):
         service.ends(READ_FAILED % 1 + READ_FAILED % 2)
 
 
+def look_at_lingering(program):
+    """A peer that trickles behind the reply to what was too large is cut off then, too, and the next one is served."""
+    with Service(program, 2, "--idle", str(FAR), "--most", str(MOST)) as service:
+        with service.peer() as peer, service.peer() as later:
+            begun = time.monotonic()
+            peer.sendall(LONG_HEAD)
+            later.sendall(PUT)
+            while not select.select([later], [], [], TRICKLE)[0]:
+                with contextlib.suppress(ConnectionError):
+                    peer.sendall(b"x")
+            in_time("a peer that trickles behind its 413", time.monotonic() - begun, MOST)
+            said("the one behind it", undated(received(later)) == reply(b"200 OK", HELD), True)
+        service.ends()
+
+
+def look_at_again(program):
+    """A service that ended is started again at its port at once, though connections that it closed aren't forgotten yet."""
+    with Service(program, 1) as first:
+        said("a service", undated(first.asked(GET)) == reply(b"200 OK", STATE), True)
+        first.ends()
+    with Service(program, 1, port=first.port) as second:
+        said("the next one at its port", undated(second.asked(GET)) == reply(b"200 OK", STATE), True)
+        second.ends()
+    print("right: a service is started again at its port at once")
+
+
 def trickle(peer):
     try:
         peer.sendall(b"x")
@@ -338,6 +371,8 @@ LOOKS = {
     "idle": look_at_idle,
     "unread": look_at_unread,
     "most": look_at_most,
+    "lingering": look_at_lingering,
+    "again": look_at_again,
     "stops": look_at_stops,
 }
 
