@@ -20,7 +20,7 @@ use Rattle.program.specs.declared.reasons.Cause.{Cause}
 use Rattle.program.specs.declared.reasons.Cause.TheVariants.{Unfinished}
 use Rattle.program.specs.Moves.{org_copied, copied_into, Arrives, AllAreCopied, SomeAreCopied, IsFilled, lists_none, CopiesBetween}
 use Rattle.program.specs.declared.outside.Opening.TheVariants.{Target}
-use Rattle.program.specs.Outcomes.{Stream, stream, TellsCause, TellsWord, Refuses, RefusesToOpen, RefusesSecond, OpensSound, OpensBoth, Closes, ClosesBoth, CopiesOver, IsCopied, IsCompacted}
+use Rattle.program.specs.Outcomes.{Stream, stream, IsSaid, filled_ending, TellsCause, TellsWord, Refuses, RefusesToOpen, RefusesSecond, OpensSound, OpensBoth, Closes, ClosesBoth, CopiesOver, IsCopied, IsCompacted}
 use Rattle.program.proofs.MoveLemmas.{copied_none, copied_left}
 use Rattle.program.proofs.OutsideLemmas.{same_records}
 
@@ -140,7 +140,7 @@ some_listed records (Organizations (row ∷ rows)) are e =
     let found = there_by records row.name _ (records row.name) refl are.told.0 in (row.name, found.0, found.1)
 
 -- where some were listed nothing was copied
-pub is_left : (from old new : Records) (told : AdminAnswer) → ListsOrganizations old told → lists_none told ≡ false → ((org : List ℕ) → new org ≡ old org) → IsFilled from old new Exists
+pub is_left : (from old new : Records) (told : AdminAnswer) → ListsOrganizations old told → lists_none told ≡ false → ((org : List ℕ) → new org ≡ old org) → IsFilled from old new false
 is_left from old new told are e same = (same, some_listed old told are e)
 
 pub some_stay : (from old new : Records) → ((org : List ℕ) → new org ≡ old org) → SomeAreCopied from old new
@@ -155,9 +155,9 @@ pub copied : (Fails : Cause → Type 0) (org : List ℕ) (from old new : Records
 copied Fails org from old new e output errors (Ok answer) own others stays tells down = inl (answer, own, others, tells.0, tells.1)
 copied Fails org from old new e output errors (Err d) own others stays tells down = inr (stays, down)
 
-pub compacted : (from old new : Records) (e : Ending) (output errors : Stream) (result : Result AdminAnswer Down) → SomeAreCopied from old new → IfOk result (IsFilled from old new)
-    → IfOk result (λ answer. TellsWord answer e output × (errors.new ≡ errors.old)) → OnErr result (Refuses Unfinished e output errors) → IsCompacted from old new e output errors
-compacted from old new e output errors (Ok answer) some filled tells down = inl (answer, filled, tells.0, tells.1)
+pub compacted : (from old new : Records) (e : Ending) (output errors : Stream) (result : Result Bool Down) → SomeAreCopied from old new → IfOk result (IsFilled from old new)
+    → IfOk result (λ is_filled. IsSaid (filled_ending is_filled) e output.old output.new × (errors.new ≡ errors.old)) → OnErr result (Refuses Unfinished e output errors) → IsCompacted from old new e output errors
+compacted from old new e output errors (Ok is_filled) some filled tells down = inl (is_filled, filled, tells.0, tells.1)
 compacted from old new e output errors (Err d) some filled tells down = inr (some, down)
 
 -- the only cause of a copy that isn't finished

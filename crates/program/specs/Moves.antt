@@ -36,15 +36,11 @@ AllAreCopied from old new = (org : List ℕ) → Arrives from old new org
 abbrev pub SomeAreCopied : (from old new : List ℕ → Option Organization) → Type 0
 SomeAreCopied from old new = (org : List ℕ) → (new org ≡ old org) ⊎ Arrives from old new org
 
--- every organization is there as it was where it was copied from, and nothing else, where none was before; or some were, and each
--- record is as before
-abbrev pub IsFilled : (from old new : List ℕ → Option Organization) → AdminAnswer → Type 0
-IsFilled from old new Done = ((org : List ℕ) → old org ≡ None) × ((org : List ℕ) → new org ≡ from org)
-IsFilled from old new Exists = ((org : List ℕ) → new org ≡ old org) × ((org : List ℕ) × (there : Organization) × (old org ≡ Some there))
-IsFilled from old new Absent = ⊥
-IsFilled from old new InUse = ⊥
-IsFilled from old new (Organizations rows) = ⊥
-IsFilled from old new (Tokens rows) = ⊥
+-- every organization is there as it was where it was copied from, and nothing else, where none was before (`true`); or some were, and
+-- each record is as before
+abbrev pub IsFilled : (from old new : List ℕ → Option Organization) → Bool → Type 0
+IsFilled from old new true = ((org : List ℕ) → old org ≡ None) × ((org : List ℕ) → new org ≡ from org)
+IsFilled from old new false = ((org : List ℕ) → new org ≡ old org) × ((org : List ℕ) × (there : Organization) × (old org ≡ Some there))
 
 -- whether a list of all organizations has none
 abbrev pub has_none : List OrgRow → Bool

@@ -81,6 +81,20 @@ AnswersLine ending.Usage output = ⊥
 AnswersLine ending.BadFrame output = ⊥
 AnswersLine ending.Unprinted output = ⊤
 
+-- `ok`, or that an organization is there already, or why neither
+abbrev pub AnswersFilled : Ending → Stream → Type 0
+AnswersFilled ending.Done output = Says ending.Done output
+AnswersFilled ending.Exists output = Says ending.Exists output
+AnswersFilled ending.Schema output = Says ending.Schema output
+AnswersFilled ending.Down output = Says ending.Down output
+AnswersFilled ending.Unprinted output = ⊤
+AnswersFilled e output = ⊥
+
+-- how it is told whether every organization was copied to where none was (`true`), or some were there
+abbrev pub filled_ending : Bool → Ending
+filled_ending true = ending.Done
+filled_ending false = ending.Exists
+
 -- the list of all organizations, a line each, or why there is none
 abbrev pub AnswersList : Ending → Stream → Type 0
 AnswersList ending.Done output = (rows : List OrgRow) × Gets output (org_lines rows)
@@ -165,7 +179,7 @@ IsCopied Fails org from old new e output errors =
 -- or a store refused before, which is told, and only some were copied
 abbrev pub IsCompacted : (from old new : List ℕ → Option Organization) → Ending → Stream → Stream → Type 0
 IsCompacted from old new e output errors =
-    ((answer : AdminAnswer) × IsFilled from old new answer × TellsWord answer e output × (errors.new ≡ errors.old))
+    ((is_filled : Bool) × IsFilled from old new is_filled × IsSaid (filled_ending is_filled) e output.old output.new × (errors.new ≡ errors.old))
     ⊎ (SomeAreCopied from old new × Refuses cause.Unfinished e output errors)
 
 -- `refused usage` on the standard output, and why on the error stream
@@ -256,7 +270,7 @@ Does schema (carries db command) input e output errors = AnswersCommand command 
 Does schema (adds_token db org name role bounds) input e output errors = AddsToken input e output errors
 Does schema (looks_over db) input e output errors = AnswersFaults e output
 Does schema (copies from to org) input e output errors = AnswersLine e output
-Does schema (compacts from to) input e output errors = AnswersLine e output
+Does schema (compacts from to) input e output errors = AnswersFilled e output
 Does schema (serves db port count timeouts logs checks) input e output errors = ServesAt logs e output
 Does schema replays input e output errors = ReplaysFrames input e output errors
 Does schema tells_version input e output errors = TellsVersion schema e output

@@ -4,7 +4,7 @@ ghost use Rattle.std.specs.List.{AllByRecursion};
 ghost use Rattle.machine.specs.Tokens.{ListsOrganizations};
 ghost use Rattle.machine.specs.Keeping.{Looks};
 ghost use Rattle.program.specs.Moves.{Arrives, AllAreCopied, SomeAreCopied, IsFilled, lists_none, CopiesBetween};
-ghost use Rattle.program.specs.Outcomes.{stream, AnswersLine, CopiesAt, CompactsAt, TellsWord, TellsCause, Refuses, HasFailed, OpensSound, RefusesSource, OpensBoth, RefusesBoth};
+ghost use Rattle.program.specs.Outcomes.{stream, AnswersLine, AnswersFilled, filled_ending, IsSaid, CopiesAt, CompactsAt, TellsWord, TellsCause, Refuses, HasFailed, OpensSound, RefusesSource, OpensBoth, RefusesBoth};
 ghost use Rattle.program.specs.declared.reasons.Cause.{Cause as AnyCause};
 
 use crate::checking::look_first;
@@ -189,21 +189,21 @@ fn lists_none(listed: &AdminAnswer) -> bool
     }
 }
 
-/// Copies every organization from one store to another that has none; where it has some nothing is copied.
+/// Copies every organization from one store to another that has none (true); where it has some (false) nothing is copied.
 fn fill<K: Keep, F: Files<K>>(
     alloc: Global,
     files: &F,
     from: &mut K,
     to: &mut K,
-) -> Result<AdminAnswer, Down>
+) -> Result<bool, Down>
     ensures { CopiesBetween K.Keep (λ source before after. SomeAreCopied source before after × IfOk result (IsFilled source before after)) from.old from.new to.old to.new }
 {
     let there = to.org_list(alloc)?;
     if !lists_none(&there) {
-        return Ok(AdminAnswer::Exists);
+        return Ok(false);
     }
     match copy_all(alloc, files, from, to) {
-        Ok(()) => Ok(AdminAnswer::Done),
+        Ok(()) => Ok(true),
         Err(down) => Err(down),
     }
 }
@@ -211,15 +211,16 @@ fn fill<K: Keep, F: Files<K>>(
 fn say_filled<O: Write, E: Write>(
     output: &mut O,
     errors: &mut E,
-    filled: &Result<AdminAnswer, Down>,
+    filled: &Result<bool, Down>,
 ) -> Ending
-    ensures line { AnswersLine result (stream (O.contents output.old) (O.contents output.new)) }
-    ensures tells { IfOk filled.now (λ answer. TellsWord answer result (stream (O.contents output.old) (O.contents output.new)) × (E.contents errors.new ≡ E.contents errors.old)) }
+    ensures line { AnswersFilled result (stream (O.contents output.old) (O.contents output.new)) }
+    ensures tells { IfOk filled.now (λ is_filled. IsSaid (filled_ending is_filled) result (O.contents output.old) (O.contents output.new) × (E.contents errors.new ≡ E.contents errors.old)) }
     ensures down { OnErr filled.now (Refuses Cause.Unfinished result (stream (O.contents output.old) (O.contents output.new)) (stream (E.contents errors.old) (E.contents errors.new))) }
     ensures why { (E.contents errors.new ≡ E.contents errors.old) ⊎ TellsCause Cause.Unfinished (stream (E.contents errors.old) (E.contents errors.new)) }
 {
     match filled {
-        Ok(answer) => say_word(output, answer),
+        Ok(true) => say(output, Ending::Done),
+        Ok(false) => say(output, Ending::Exists),
         Err(_) => refuse(output, errors, Cause::Unfinished),
     }
 }
@@ -233,7 +234,7 @@ pub fn compact<K: Keep, F: Files<K>, O: Write, E: Write>(
     output: &mut O,
     errors: &mut E,
 ) -> Ending
-    ensures line { AnswersLine result (stream (O.contents output.old) (O.contents output.new)) }
+    ensures line { AnswersFilled result (stream (O.contents output.old) (O.contents output.new)) }
     ensures copies { CompactsAt K.Keep F.Files from.now to.now files.old files.new result (stream (O.contents output.old) (O.contents output.new)) (stream (E.contents errors.old) (E.contents errors.new)) }
 {
     let (mut source, mut target) = match open_both(alloc, files, from, to, output, errors) {
