@@ -6,4 +6,5 @@ pub mod Roles
 pub mod Runs
 pub mod Acts
 pub mod Listings
+pub mod Memory
 pub mod Inner

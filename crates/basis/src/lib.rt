@@ -16,8 +16,8 @@ pub mod texts;
 
 pub use acts::{Look, WsAct};
 pub use memory::{Down, Unfit};
-pub use names::{LockId, OrgName, Prefix, Secret, WsName, is_free_id, is_run_id};
-pub use numbers::{Limit, Moment, Number, Retention, Serial};
+pub use names::{LockId, OrgName, Secret, WsName, WsPrefix, is_free_id, is_run_id};
+pub use numbers::{KeepCount, Limit, Moment, Number, Serial};
 pub use refusals::{Allow, Refusal};
 pub use roles::{Bounds, Caller, Role};
 pub use rows::{

@@ -44,6 +44,11 @@ pub enum Unfit {
 }
 
 impl fmt::Display for Unfit {
+    ghost use Rattle.std.specs.Prelude.{Some};
+    ghost use Rattle.basis.specs.Memory.{unfit_text};
+
+    ghost output = { λ unfit. Some (unfit_text unfit) };
+
     fn fmt<W: fmt::Write>(&self, f: &mut fmt::Formatter<W>) -> fmt::Result {
         f.write_str(match self {
             Self::Syntax => "the text isn't of the syntax",

@@ -115,11 +115,11 @@ impl WsName {
 /// How the names of the workspaces begin that a token counts for: 0 to 90 ASCII letters, digits, `-`
 /// and `_`. The empty prefix is every workspace.
 #[derive(Clone, Drop)]
-pub struct Prefix {
+pub struct WsPrefix {
     text: String,
 }
 
-impl Model for Prefix {
+impl Model for WsPrefix {
     ghost Value = { List ℕ };
 
     ghost view = { λ prefix. string_bytes prefix.text };
@@ -127,17 +127,17 @@ impl Model for Prefix {
     ghost invariant = { λ prefix. IsTrue (is_prefix (string_bytes prefix.text)) };
 }
 
-impl Prefix {
+impl WsPrefix {
     /// The empty prefix.
-    pub fn new(alloc: Global) -> Prefix
+    pub fn new(alloc: Global) -> WsPrefix
         ensures { result ≡ [] }
     {
-        Prefix {
+        WsPrefix {
             text: String::new(alloc),
         }
     }
 
-    pub fn read(alloc: Global, text: &str) -> Result<Prefix, Unfit>
+    pub fn read(alloc: Global, text: &str) -> Result<WsPrefix, Unfit>
         ensures ok { IfOk result (λ prefix. prefix ≡ text.now) }
         ensures syntax { IsErrOf result Unfit.Syntax ↔ (is_prefix text.now ≡ false) }
         ensures fits { IfOk result (λ prefix. IsTrue (is_prefix prefix)) }
@@ -146,15 +146,15 @@ impl Prefix {
             return Err(Unfit::Syntax);
         }
         let text = String::from_str(alloc, text)?;
-        Ok(Prefix { text })
+        Ok(WsPrefix { text })
     }
 
     /// The same of a text that is taken whole: none where it is no prefix.
-    pub fn from_string(text: String) -> Option<Prefix>
+    pub fn from_string(text: String) -> Option<WsPrefix>
         ensures { result ≡ cond (is_prefix (string_bytes text)) (Some (string_bytes text)) None }
     {
         if is_prefix(text.as_bytes()) {
-            Some(Prefix { text })
+            Some(WsPrefix { text })
         } else {
             None
         }

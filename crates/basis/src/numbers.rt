@@ -192,11 +192,11 @@ impl Limit {
 
 /// How many versions a workspace keeps: 1 to 1,000.
 #[derive(Clone, Copy, PartialEq, Eq)]
-pub struct Retention {
+pub struct KeepCount {
     value: u32,
 }
 
-impl Model for Retention {
+impl Model for KeepCount {
     ghost Value = { ℕ };
 
     ghost view = { λ k. k.value };
@@ -206,12 +206,12 @@ impl Model for Retention {
     ghost inverse = { λ n. record { value = n } };
 }
 
-impl Retention {
-    pub fn new(value: u64) -> Option<Retention>
+impl KeepCount {
+    pub fn new(value: u64) -> Option<KeepCount>
         ensures { result ≡ within 1 MAX_KEPT value }
     {
         if 1 <= value && value <= MAX_KEPT as u64 {
-            Some(Retention {
+            Some(KeepCount {
                 value: value as u32,
             })
         } else {
@@ -220,10 +220,10 @@ impl Retention {
     }
 
     /// What a workspace keeps that isn't set to keep another number: 100.
-    pub fn first() -> Retention
+    pub fn first() -> KeepCount
         ensures { result ≡ FIRST_KEPT }
     {
-        Retention { value: FIRST_KEPT }
+        KeepCount { value: FIRST_KEPT }
     }
 
     pub fn get(self) -> u32

@@ -4,7 +4,7 @@ ghost use Rattle.basis.specs.Roles.{includes, role_word, counts_at, is_before};
 ghost use Rattle.basis.specs.declared.numbers.TheConstants.{MAX_MOMENT};
 ghost use Rattle.basis.specs.declared.roles.Role.{Role as AnyRole};
 
-use crate::names::Prefix;
+use crate::names::WsPrefix;
 use crate::numbers::{MAX_MOMENT, Moment};
 use std::alloc::AllocError;
 
@@ -46,7 +46,7 @@ impl Role {
 #[derive(Clone, Drop)]
 pub struct Bounds {
     pub until: Option<Moment>,
-    pub prefix: Prefix,
+    pub prefix: WsPrefix,
 }
 
 /// Who asks, by a token: what it may do, until which moment it counts, if it ends, and for which
@@ -55,7 +55,7 @@ pub struct Bounds {
 pub struct Caller {
     pub role: Role,
     pub until: Option<Moment>,
-    pub prefix: Prefix,
+    pub prefix: WsPrefix,
 }
 
 impl Bounds {

@@ -4,7 +4,7 @@ ghost use Rattle.basis.specs.Listings.{listing_of};
 
 use crate::memory::Down;
 use crate::names::{LockId, WsName};
-use crate::numbers::{Moment, Number, Retention, Serial};
+use crate::numbers::{KeepCount, Moment, Number, Serial};
 use crate::runs::{RunAction, RunStatus};
 use crate::texts::{Bytes, Items, Text};
 use std::alloc::Global;
@@ -32,7 +32,7 @@ pub struct RunSettings {
 pub struct Settings {
     pub runs: RunSettings,
     /// How many versions are kept: as one more comes, the oldest go.
-    pub retention: Retention,
+    pub retention: KeepCount,
 }
 
 /// What the document of a workspace's settings asks.
@@ -41,7 +41,7 @@ pub struct SettingsAsk {
     pub runs: RunSettings,
     /// How many versions are to be kept. Without it a new workspace keeps 100, and one that is there
     /// what it kept.
-    pub retention: Option<Retention>,
+    pub retention: Option<KeepCount>,
 }
 
 /// What the document of a run's creation asks.

@@ -10,7 +10,7 @@ use Rattle.route.specs.declared.routes.Kind.{Kind}
 use Rattle.route.specs.declared.routes.Kind.TheVariants.{IsAction}
 use Rattle.route.specs.Paths.{Resource, Workspace, State, AllVersions, Version, AllRuns, Run, Action, OrgResource, action_of, of_number, of_action, after_workspace, after_org, in_org, resource_at}
 use Rattle.route.specs.Inner.Kinds.{resource_named, org_resource_named}
-use Rattle.route.specs.Inner.Table.{param_names}
+use Rattle.route.specs.Table.{param_names}
 use Rattle.route.proofs.TreeLemmas.{Taken, behind, end_or, at_name, finds}
 use Rattle.route.proofs.TableLemmas.{last_name, words, tree, by_word}
 

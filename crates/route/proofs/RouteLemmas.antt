@@ -16,7 +16,7 @@ use Rattle.matchit.specs.declared.error.InsertError.TheVariants.{Conflict, Inval
 use Rattle.route.specs.declared.routes.Kind.{Kind}
 use Rattle.route.specs.Paths.{path_parts, resource_of}
 use Rattle.route.specs.Inner.Kinds.{Pairs, org_resource_named}
-use Rattle.route.specs.Inner.Table.{table, param_names}
+use Rattle.route.specs.Table.{table, param_names}
 use Rattle.route.proofs.AsciiLemmas.{both_true}
 use Rattle.route.proofs.WalkLemmas.{HasRow}
 use Rattle.route.proofs.TreeLemmas.{Taken, IsStr, Finds, finds, agrees}

@@ -5,7 +5,7 @@ use Rattle.matchit.specs.Router.{RouteOf}
 use Rattle.route.specs.declared.routes.Kind.{Kind}
 use Rattle.route.specs.declared.routes.Kind.TheVariants.{ListsWorkspaces, IsWorkspace, IsState, ListsVersions, IsVersion, ListsRuns, IsRun, IsAction}
 use Rattle.route.specs.Paths.{path_parts}
-use Rattle.route.specs.Inner.Table.{table, route_of}
+use Rattle.route.specs.Table.{table, route_of}
 use Rattle.route.proofs.TreeLemmas.{Tree, nowhere, at_name, at_word, IsTree, Finds, finds, reads, IsStr, agrees}
 
 -- a parameter at the end

@@ -3,6 +3,7 @@ pub mod Asks
 pub mod Paths
 pub mod Acts
 pub mod Queries
+pub mod Table
 pub mod Tokens
 pub mod Inner
 pub mod Methods

@@ -4,7 +4,7 @@ ghost use Rattle.route.specs.Policy.{least_role, role_refused, is_admitted, call
 
 use crate::acts::{Asked, AskedAct};
 use crate::methods::least_role_on;
-use basis::{Caller, Prefix, Refusal, Role};
+use basis::{Caller, Refusal, Role, WsPrefix};
 
 /// Whether a caller's role is enough for what is asked, and its prefix admits the workspace, or how it
 /// is refused: the role comes first, and another workspace is told as what isn't there, where it is to
@@ -35,7 +35,7 @@ fn role_refused(role: Role, act: &AskedAct) -> Option<Refusal>
     }
 }
 
-fn is_admitted(prefix: &Prefix, act: &AskedAct) -> bool
+fn is_admitted(prefix: &WsPrefix, act: &AskedAct) -> bool
     ensures { result ≡ is_admitted prefix.now act.now }
 {
     match act {

@@ -2,7 +2,7 @@
 ghost use Rattle.std.specs.Prelude.{◌≡◌, IfOk, IfErr, option_and_then};
 ghost use Rattle.matchit.specs.Params.{AllText};
 ghost use Rattle.route.specs.Inner.Kinds.{pairs_of, part_of, org_resource_named};
-ghost use Rattle.route.specs.Inner.Table.{table};
+ghost use Rattle.route.specs.Table.{table};
 ghost use Rattle.route.specs.Paths.{resource_of};
 
 use basis::Down;
@@ -18,7 +18,9 @@ pub struct Routes {
 }
 
 impl Routes {
-    pub fn new(alloc: Global) -> Result<Routes, Down> {
+    pub fn new(alloc: Global) -> Result<Routes, Down>
+        ensures { IfOk result (λ routes. routes.router ≡ table) }
+    {
         match make_router(alloc) {
             Ok(router) => Ok(Routes { router }),
             Err(_) => Err(Down),

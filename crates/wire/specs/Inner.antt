@@ -2,4 +2,3 @@
 pub mod Positions
 pub mod Spans
 pub mod Bodies
-pub mod Contents

@@ -8,5 +8,6 @@ pub mod Targets
 pub mod Fields
 pub mod Heads
 pub mod Replies
+pub mod Contents
 pub mod Retargeting
 pub mod Inner

@@ -1,9 +1,12 @@
 -- The message that a string of bytes means: each string has exactly one reading, and bytes that follow change nothing once it is read.
-use Rattle.std.specs.Prelude.{◌≡◌, ◌↔◌, ℕ, List, length, take, drop, Bool, false, nat_le, if◌then◌else◌, IsTrue}
+use Rattle.std.specs.Prelude.{◌≡◌, ◌↔◌, ℕ, List, ◌++◌, length, take, drop, Bool, false, codes, nat_le, if◌then◌else◌, IsTrue}
+use Rattle.basis.specs.Refusals.{line_of}
 use Rattle.basis.specs.declared.refusals.Refusal.{Refusal}
 use Rattle.basis.specs.declared.refusals.Refusal.TheVariants.{HeadTooLarge}
 use Rattle.wire.specs.declared.framing.Frame.{Frame}
 use Rattle.wire.specs.declared.messages.Message.{Message}
+use Rattle.wire.specs.declared.messages.WireFault.{WireFault}
+use Rattle.wire.specs.declared.messages.WireFault.TheVariants.{Ended, Read, Continue, Refused, Down}
 use Rattle.wire.specs.Heads.{HeadEnd, Unfinished, Long, Whole, head_end_of}
 use Rattle.wire.specs.Framing.{Verdict, refuses, accepts, IsJudged}
 
@@ -50,3 +53,11 @@ AwaitsContinue bytes = AwaitsContinueBy (head_end_of bytes) bytes
 -- the flag says whether it does
 abbrev pub IsAwaited : List ℕ → Bool → Type 0
 IsAwaited bytes awaited = IsTrue awaited ↔ AwaitsContinue bytes
+
+-- why no message was read, in words
+abbrev pub fault_text : WireFault → List ℕ
+fault_text Ended = codes "the input ended inside the message"
+fault_text Read = codes "a read failed"
+fault_text Continue = codes "writing the `100 Continue` failed"
+fault_text (Refused refusal is_head) = codes "the head is refused: " ++ (line_of refusal).word
+fault_text Down = codes "memory was refused"

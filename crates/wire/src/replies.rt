@@ -1,7 +1,7 @@
 //! An answer, from which a reply is written.
 ghost use Rattle.std.specs.Prelude.{◌≡◌, false, None};
 ghost use Rattle.wire.specs.Replies.{empty_answer, no_content_answer, document_answer, refused_answer, unavailable_answer};
-ghost use Rattle.wire.specs.Inner.Contents.{content_bytes};
+ghost use Rattle.wire.specs.Contents.{content_bytes};
 
 use basis::{Bytes, Refusal};
 use std::marker::Model;
@@ -21,7 +21,7 @@ impl Model for Reply {
 
     ghost Value = { Answer };
 
-    ghost use Rattle.wire.specs.Inner.Contents.{answer_of};
+    ghost use Rattle.wire.specs.Contents.{answer_of};
 
     ghost view = { answer_of };
 }

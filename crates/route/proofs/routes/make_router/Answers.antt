@@ -2,7 +2,7 @@
 use Rattle.std.proofs.Common.{[], ◌∷◌, ◌++◌, codes, refl}
 use Rattle.matchit.specs.Rows.{param_token}
 use Rattle.matchit.proofs.OnLiterals.{matchit_on_literals}
-use Rattle.route.specs.Inner.Table.{in_any_org}
+use Rattle.route.specs.Table.{in_any_org}
 use Rattle.route.proofs.RouteLemmas.{memory_alone}
 use Rattle.route.proofs.routes.make_router.Goals as goal
 

@@ -1,4 +1,4 @@
--- The bytes of a reply's body, where they are fixed or held.
+-- The answer that a reply stands for: its body is empty, fixed, or held.
 use Rattle.std.specs.Prelude.{ℕ, List, []}
 use Rattle.wire.specs.declared.replies.Content.{Content}
 use Rattle.wire.specs.declared.replies.Content.TheVariants.{Empty, Fixed, Held}
