@@ -1,4 +1,5 @@
 pub mod BodyExamples
+pub mod Escaping
 pub mod Examples
 pub mod FlagLemmas
 pub mod Heading
@@ -8,4 +9,5 @@ pub mod Objects
 pub mod Passing
 pub mod Putting
 pub mod ReadingLemmas
+pub mod Rereading
 pub mod RunSettings

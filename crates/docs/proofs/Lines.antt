@@ -1,4 +1,4 @@
--- A line of the log is one line: compact JSON escapes each control character.
+-- A line of the log is one line: compact JSON escapes each control character of ASCII below 32, and what else acts is escaped behind it.
 use Rattle.std.proofs.Common.{◌≡◌, refl, ap, arith, ℕ, suc, zero, ℤ, pos, negsuc, ◌+◌, ◌/◌, ◌%◌, ◌≤◌, ◌==◌, ◌||◌, List, [], ◌∷◌, ◌++◌, Bool, true, false, cond, nat_lt, decimal}
 use Rattle.std.specs.List.{AllByRecursion}
 use Rattle.std.specs.Char.{digit_char}
@@ -9,15 +9,17 @@ use Rattle.json.specs.Written.{Written}
 use Rattle.serde_json.specs.Data.{Num, unsigned, negative, float, Data, null, boolean, number, string, array, object, Items, no_items, item, Members, no_members, member}
 use Rattle.serde_json.specs.Written.{number_text, comma_if, compact_text, items_text, members_text}
 use Rattle.docs.specs.declared.logs.LogRow.{LogRow}
+use Rattle.docs.specs.Escapes.{escaped}
 use Rattle.docs.specs.Logs.{log_value, log_line, ExchangesAreLines}
+use Rattle.docs.proofs.Escaping.{escaped_printed, escaped_safe}
 use Rattle.docs.proofs.Putting.{object_written}
 use Rattle.docs.specs.Inner.Put.{Puts, IsBegun, text_of}
 use Rattle.docs.specs.Inner.Logs.{asked, named, outcome, made}
 
 -- what a writer has in the end, which began with a brace
-pub line_written : {begun put : Written} {out : List ℕ} (connection : ℕ) (end : List ℕ) (row : LogRow) → IsBegun begun → Puts begun put (λ rest. asked connection end row (named row (outcome row (made row rest)))) → out ≡ text_of put → out ++ 10 ∷ [] ≡ log_line connection end row
+pub line_written : {begun put : Written} {out : List ℕ} (connection : ℕ) (end : List ℕ) (row : LogRow) → IsBegun begun → Puts begun put (λ rest. asked connection end row (named row (outcome row (made row rest)))) → out ≡ text_of put → escaped out ++ 10 ∷ [] ≡ log_line connection end row
 unfolding log_line
-line_written connection end row begun puts is = ap (λ xs. xs ++ 10 ∷ []) (object_written begun puts is)
+line_written connection end row begun puts is = ap (λ xs. escaped xs ++ 10 ∷ []) (object_written begun puts is)
 
 -- ---- no control character
 
@@ -125,4 +127,6 @@ mutual
 -- whatever an exchange has in it, its line is one
 pub exchanges_are_lines : ExchangesAreLines
 unfolding log_line
-exchanges_are_lines connection end row = (compact_text (log_value connection end row), refl, value_printed (log_value connection end row))
+exchanges_are_lines connection end row =
+    let text = compact_text (log_value connection end row) in
+    (escaped text, refl, escaped_printed 0 text (value_printed (log_value connection end row)), escaped_safe text)

@@ -1,6 +1,8 @@
 pub mod Bodies
 pub mod Digests
 pub mod Documents
+pub mod Escapes
+pub mod Faults
 pub mod Flags
 pub mod Inner
 pub mod Logs

@@ -1,11 +1,14 @@
 -- The log: one line of compact JSON for each exchange, keys in the order of their bytes.
-use Rattle.std.specs.Prelude.{◌≡◌, ℕ, ◌≤◌, List, [], ◌∷◌, ◌++◌, codes, option_map}
+use Rattle.std.specs.Prelude.{◌≡◌, ℕ, ◌^◌, ◌<◌, ◌≤◌, List, [], ◌∷◌, ◌++◌, codes, option_map, IfSome}
 use Rattle.std.specs.List.{AllByRecursion}
+use Rattle.json.specs.Lex.{tokens}
+use Rattle.json.specs.Tree.{json_tokens}
 use Rattle.serde_json.specs.Data.{Data, number, unsigned, string, object, member, no_members}
-use Rattle.serde_json.specs.Written.{compact_text}
+use Rattle.serde_json.specs.Written.{compact_text, outline}
 use Rattle.basis.specs.Acts.{act_word}
 use Rattle.basis.specs.Refusals.{line_of}
 use Rattle.docs.specs.Bodies.{number_value, text_value}
+use Rattle.docs.specs.Escapes.{escaped, NothingActs}
 use Rattle.docs.specs.declared.logs.LogAct.{LogAct}
 use Rattle.docs.specs.declared.logs.LogAct.TheVariants.{ListWorkspaces, OfWorkspace}
 use Rattle.docs.specs.declared.logs.LogRow.{LogRow}
@@ -32,14 +35,28 @@ log_value connection end row = object (
     member (codes "version") (number_value row.version) (
     member (codes "workspace") (text_value row.workspace) no_members)))))))))))))
 
--- its line, with the line feed (10) that ends it
+-- its line: compact JSON, in which what acts on a terminal is escaped, and the line feed (10) that ends it
 unfoldable pub log_line : ℕ → List ℕ → LogRow → List ℕ
-log_line connection end row = compact_text (log_value connection end row) ++ 10 ∷ []
+log_line connection end row = escaped (compact_text (log_value connection end row)) ++ 10 ∷ []
 
--- one line: a line feed ends it, and no byte before it is a control character of ASCII (below 32), so none is a line feed
+-- one line, which is safe on a terminal: a line feed ends it, no byte before it is a control character of ASCII (below 32), so none
+-- is a line feed, and nowhere in it stands another character that acts on a terminal
 abbrev pub IsOneLine : List ℕ → Type 0
-IsOneLine line = (text : List ℕ) × (line ≡ text ++ 10 ∷ []) × AllByRecursion (λ b. 32 ≤ b) text
+IsOneLine line = (text : List ℕ) × (line ≡ text ++ 10 ∷ []) × AllByRecursion (λ b. 32 ≤ b) text × NothingActs line
 
 -- each exchange is one line, whatever its texts have in them
 abbrev pub ExchangesAreLines : Type 0
 ExchangesAreLines = (connection : ℕ) (end : List ℕ) (row : LogRow) → IsOneLine (log_line connection end row)
+
+-- each number that a line shows has at most 64 bits, as the types of the program have
+pub record HasWords (connection : ℕ) (row : LogRow) : Type 0 where
+  pub connection_fits : connection < 2 ^ 64
+  pub at_fits : row.at < 2 ^ 64
+  pub number_fits : IfSome row.number (λ n. n < 2 ^ 64)
+  pub run_fits : IfSome row.run (λ n. n < 2 ^ 64)
+  pub status_fits : IfSome row.status (λ n. n < 2 ^ 64)
+  pub version_fits : IfSome row.version (λ n. n < 2 ^ 64)
+
+-- the tokens of each line are those of the exchange's JSON: its texts come back as they were
+abbrev pub LinesReadBack : Type 0
+LinesReadBack = (connection : ℕ) (end : List ℕ) (row : LogRow) → HasWords connection row → tokens (log_line connection end row) ≡ json_tokens (outline (log_value connection end row))

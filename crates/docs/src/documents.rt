@@ -10,7 +10,7 @@ use crate::faults::DocFault;
 use crate::flags::read_flag;
 use crate::heads::read_head;
 use crate::run_settings::read_run_settings;
-use basis::{LockId, Retention, RunAsk, SettingsAsk, StateHead, Text, is_free_id};
+use basis::{KeepCount, LockId, RunAsk, SettingsAsk, StateHead, Text, is_free_id};
 use json::Scratch;
 use serde_json::{Map, Value};
 use std::alloc::Global;
@@ -132,7 +132,7 @@ fn read_small_object(alloc: Global, bytes: &[u8]) -> Result<Value, DocFault>
 }
 
 // How many versions are to be kept, which may be absent.
-fn read_retention(value: &Value) -> Result<Option<Retention>, DocFault>
+fn read_retention(value: &Value) -> Result<Option<KeepCount>, DocFault>
     ensures ok { IfOk result (λ retention. retention_of (get (codes "keep_versions") (view value.now)) ≡ Some retention) }
     ensures bad { OnErr result (retention_of (get (codes "keep_versions") (view value.now)) ≡ None) }
     ensures never_down { result ≢ Err DocFault.Down }
@@ -140,7 +140,7 @@ fn read_retention(value: &Value) -> Result<Option<Retention>, DocFault>
     let Some(found) = value.get("keep_versions") else {
         return Ok(None);
     };
-    match found.as_u64().and_then(Retention::new) {
+    match found.as_u64().and_then(KeepCount::new) {
         Some(count) => Ok(Some(count)),
         None => Err(DocFault::Bad),
     }

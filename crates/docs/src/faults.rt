@@ -18,6 +18,11 @@ pub enum DocFault {
 }
 
 impl fmt::Display for DocFault {
+    ghost use Rattle.std.specs.Prelude.{Some};
+    ghost use Rattle.docs.specs.Faults.{fault_text};
+
+    ghost output = { λ fault. Some (fault_text fault) };
+
     fn fmt<W: fmt::Write>(&self, f: &mut fmt::Formatter<W>) -> fmt::Result {
         f.write_str(match self {
             DocFault::Bad => "the bytes aren't such a document",

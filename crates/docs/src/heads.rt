@@ -19,7 +19,7 @@ use basis::rows::MAX_LINEAGE;
 use fast_float::Numeral;
 use json::{Invalid, Reader, Scratch, Token};
 use serde_json::Number;
-use std::str;
+use simdutf8::basic;
 
 // How deep the values of a state may nest, it being the first.
 const MAX_DEPTH: usize = 127;
@@ -97,7 +97,7 @@ pub(crate) fn read_head<'a>(bytes: &'a [u8], scratch: &'a mut Scratch) -> Result
     ensures bad { IsErrOf result DocFault.Bad → object_of bytes.now ≡ None }
     ensures down { IsErrOf result DocFault.Down → 0 < length bytes.now }
 {
-    match str::from_utf8(bytes) {
+    match basic::from_utf8(bytes) {
         Ok(text) => read_tokens(text, scratch),
         Err(_) => Err(DocFault::Bad),
     }

@@ -8,6 +8,7 @@
 pub mod bodies;
 pub mod digests;
 pub mod documents;
+mod escapes;
 pub mod faults;
 mod flags;
 mod heads;

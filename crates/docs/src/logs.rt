@@ -1,9 +1,10 @@
 //! The lines of the log: one of compact JSON for each exchange.
 ghost use Rattle.std.specs.Prelude.{◌≡◌, IfOk, OnOk, option_map};
-ghost use Rattle.docs.specs.Logs.{log_word, log_line, ExchangesAreLines};
+ghost use Rattle.docs.specs.Logs.{log_word, log_line, ExchangesAreLines, LinesReadBack};
 ghost use Rattle.docs.specs.Inner.Put.{Puts};
 ghost use Rattle.docs.specs.Inner.Logs.{asked, named, outcome, made};
 
+use crate::escapes::escape_acting;
 use crate::put::{begin_text, end_text, put_number, put_text, whole_number};
 use basis::{Down, LockId, Moment, Number, OrgName, Refusal, Text, WsAct, WsName};
 use json::Writer;
@@ -76,14 +77,20 @@ pub fn write_log_line(
     put_named(&mut writer, row)?;
     put_outcome(&mut writer, row)?;
     put_made(&mut writer, row)?;
-    let mut line = end_text(writer)?;
+    let text = end_text(writer)?;
+    let mut line = escape_acting(alloc, text)?;
     line.extend_from_slice(b"\n")?;
     Ok(line)
 }
 
-/// Each exchange is one line: a line feed ends it, and no control character stands in it.
+/// Each exchange is one line, safe on a terminal: a line feed ends it, and no control character stands in it.
 pub fn exchanges_are_lines()
     ensures { ExchangesAreLines }
+{}
+
+/// Each line reads as the JSON of its exchange, so that each text comes back as it was.
+pub fn lines_read_back()
+    ensures { LinesReadBack }
 {}
 
 fn act_word(act: &Option<LogAct>) -> Option<&'static str>
