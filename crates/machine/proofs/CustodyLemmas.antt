@@ -5,7 +5,7 @@ use Rattle.basis.specs.declared.rows.SettingsAsk.{SettingsAsk}
 use Rattle.machine.specs.Workspaces.{holder_status, new_workspace, open_runs}
 use Rattle.machine.proofs.RunRulings.{IsReported}
 use Rattle.machine.specs.Settling.{first_waiting, settled, started_if, to_start}
-use Rattle.machine.specs.Rules.{Outcome, Ruling, done, frees, lock, put, released, rules, rules_missing, settings_for}
+use Rattle.machine.specs.Rules.{Outcome, Ruling, done, frees, lock, put, rules, rules_missing, settings_for}
 use Rattle.machine.proofs.PuttingLemmas.{held_stay}
 use Rattle.machine.proofs.RefusalLemmas.{writes_carry_the_id}
 use Rattle.machine.specs.Laws.{is_nobody}

@@ -2,7 +2,7 @@
 use Rattle.std.proofs.Common.{◌≡◌, ℕ, zero, suc, ◌+◌, ◌-◌, ◌<◌, ◌≤◌, ◌==◌, nat_lt, Bool, true, cond, List, [], ◌∷◌, ◌++◌, length, map, take, drop, slice_get, Option, Some, None, option_map, is_some, refl, sym, ap, ◌∙◌, arith, length-drop}
 use Rattle.std.specs.Option.{option_or}
 use Rattle.std.proofs.lemmas.Bool.{lt-ltb, le-ltb, eq-eqb, ne_eqb}
-use Rattle.machine.specs.Laws.{Rises, HasNoGap}
+use Rattle.machine.specs.Laws.{Rises}
 use Rattle.machine.specs.Changes.{left_above}
 use Rattle.machine.specs.Units.{version_of}
 use Rattle.machine.specs.Workspaces.{newest, last_of, outgoing}
@@ -27,7 +27,7 @@ first_stays n [] v h = absurd (omega arith)
 first_stays zero (u ∷ vs) v h = refl
 first_stays (suc n) (u ∷ vs) v h = first_stays n vs v (omega arith)
 
-there_is : (n : ℕ) (vs : List Version) → n < length vs → (u : Version) × (slice_get vs n ≡ Some u)
+pub there_is : (n : ℕ) (vs : List Version) → n < length vs → (u : Version) × (slice_get vs n ≡ Some u)
 there_is n [] h = absurd (omega arith)
 there_is zero (u ∷ vs) h = (u, refl)
 there_is (suc n) (u ∷ vs) h = there_is n vs (omega arith)
@@ -99,53 +99,13 @@ or_some None x = refl
 or_some (Some y) x = refl
 
 -- what stands in the list is found by its number
-found_by_number : (i : ℕ) (vs : List Version) (u : Version) → slice_get vs i ≡ Some u → is_some (version_of u.number vs) ≡ true
+pub found_by_number : (i : ℕ) (vs : List Version) (u : Version) → slice_get vs i ≡ Some u → is_some (version_of u.number vs) ≡ true
 found_by_number zero [] u e = absurd (let none : ⊥ = cc in none)
 found_by_number (suc i) [] u e = absurd (let none : ⊥ = cc in none)
 found_by_number zero (v ∷ vs) u e =
     let same : v ≡ u = cc in
     ap (λ (b : Bool). is_some (option_or (version_of u.number vs) (cond b (Some v) None))) (eq-eqb v.number u.number (ap (λ (w : Version). w.number) same)) ∙ or_some (version_of u.number vs) v
 found_by_number (suc i) (v ∷ vs) u e = some_or (version_of u.number vs) (cond (v.number == u.number) (Some v) None) (found_by_number i vs u e)
-
--- a number is as far below the next one as its place is from the end
-number_by_place : (i next : ℕ) (vs : List Version) (u : Version) → HasNoGap (map (λ (w : Version). w.number) vs) next → slice_get vs i ≡ Some u → u.number + length vs ≡ next + i
-number_by_place zero next [] u follow e = absurd (let none : ⊥ = cc in none)
-number_by_place (suc i) next [] u follow e = absurd (let none : ⊥ = cc in none)
-number_by_place zero next (v ∷ []) u follow e =
-    let same : v.number ≡ u.number = cc in
-    omega (arith, follow, same)
-number_by_place (suc zero) next (v ∷ []) u follow e = absurd (let none : ⊥ = cc in none)
-number_by_place (suc (suc i)) next (v ∷ []) u follow e = absurd (let none : ⊥ = cc in none)
-number_by_place zero next (v ∷ w ∷ vs) u follow e =
-    let same : v.number ≡ u.number = cc in
-    let later : w.number + length (w ∷ vs) ≡ next + 0 = number_by_place zero next (w ∷ vs) w follow.1 refl in
-    omega (arith, follow.0, same, later)
-number_by_place (suc i) next (v ∷ w ∷ vs) u follow e =
-    let later : u.number + length (w ∷ vs) ≡ next + i = number_by_place i next (w ∷ vs) u follow.1 e in
-    omega (arith, later)
-
--- no version is as far below the next one as there are versions
-none_that_far : (staying next : ℕ) (vs : List Version) → length vs ≤ staying → Rises 0 (map (λ (u : Version). u.number) vs) next → HasNoGap (map (λ (u : Version). u.number) vs) next
-    → version_of (next - 1 - staying) vs ≡ None
-none_that_far staying next [] few rise follow = refl
-none_that_far staying next (v ∷ vs) few rise follow =
-    let far : v.number + length (v ∷ vs) ≡ next + 0 = number_by_place zero next (v ∷ vs) v follow refl in
-    none_up_to (v.number - 1) next (next - 1 - staying) (v ∷ vs) (omega (arith, rise.0), rise.1, rise.2) (omega (arith, rise.0, few, far))
-
--- the greatest number of those that go is as far below the last one as versions stay, if a version has it
-pub outgoing_by_number : (staying next : ℕ) (vs : List Version) → Rises 0 (map (λ (u : Version). u.number) vs) next → HasNoGap (map (λ (u : Version). u.number) vs) next
-    → outgoing staying vs ≡ cond (is_some (version_of (next - 1 - staying) vs)) (Some (next - 1 - staying)) None
-outgoing_by_number staying next vs rise follow = by_count (length vs - staying) refl
-  where
-    by_count : (k : ℕ) → length vs - staying ≡ k → option_map (λ (u : Version). u.number) (newest (take k vs)) ≡ cond (is_some (version_of (next - 1 - staying) vs)) (Some (next - 1 - staying)) None
-    by_count zero e = sym (ap (λ (o : Option Version). cond (is_some o) (Some (next - 1 - staying)) None) (none_that_far staying next vs (omega (arith, e)) rise follow))
-    by_count (suc n) e =
-        let found : (u : Version) × (slice_get vs n ≡ Some u) = there_is n vs (omega (arith, e)) in
-        let far : found.0.number + length vs ≡ next + n = number_by_place n next vs found.0 follow found.1 in
-        let is : found.0.number ≡ next - 1 - staying = omega (arith, e, far) in
-        ap (option_map (λ (u : Version). u.number)) (last_taken n vs (omega (arith, e)) ∙ found.1)
-        ∙ sym (ap (λ (b : Bool). cond b (Some found.0.number) None) (found_by_number n vs found.0 found.1))
-        ∙ ap (λ (m : ℕ). cond (is_some (version_of m vs)) (Some m) None) is
 
 -- the newest stays
 newest_left : (k : ℕ) (vs : List Version) → k < length vs → newest (drop k vs) ≡ newest vs

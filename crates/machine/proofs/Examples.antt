@@ -22,7 +22,7 @@ use Rattle.machine.specs.Rules.{refused, held, done, no_state, state, workspace,
 use Rattle.machine.specs.Showing.{shown_of, row_of, comes_after, workspaces_listed}
 use Rattle.basis.specs.Listings.{listing_of}
 use Rattle.machine.specs.Ranges.{IsRetention}
-use Rattle.machine.specs.Laws.{Rises, HasNoGap, AreVersions, IsRun, IsHolder, KeysDiffer, IsLawful}
+use Rattle.machine.specs.Laws.{Rises, AreVersions, IsRun, IsHolder, KeysDiffer, IsLawful}
 use Rattle.machine.specs.Settling.{is_waiting}
 use Rattle.machine.specs.Queue.{is_active_run, GoesOn}
 use Rattle.machine.specs.declared.acts.Act.TheVariants.{Look, PutWorkspace, DeleteWorkspace, UpdateState, PurgeState, Lock as LockAct, Unlock, ForceUnlock, MakeRun, ReportRun}
@@ -278,7 +278,7 @@ each_kind = record empty {
 
 each_kind_is_lawful : IsLawful each_kind
 each_kind_is_lawful = record {
-  versions = record { keep = (omega arith, omega arith); next = (omega arith, omega arith); rise = tt; gapless = tt; each = tt; kept = omega arith };
+  versions = record { keep = (omega arith, omega arith); next = (omega arith, omega arith); rise = tt; each = tt; kept = omega arith };
   runs = record {
     next = (omega arith, omega arith);
     rise = (omega arith, omega arith, (omega arith, omega arith, (omega arith, omega arith, (omega arith, omega arith, (omega arith, omega arith, tt)))));
@@ -423,13 +423,6 @@ newest_alone = refl
 -- three are too many where two are kept, and none or 1,001 is no such number
 too_many : AreVersions 2 4 (version 1 1 a1 s1 ∷ last_two) → ⊥
 too_many are = omega (arith, are.kept)
-
--- a version between two that are kept is gone, or the newest is
-gap_between : HasNoGap (1 ∷ 3 ∷ []) 4 → ⊥
-gap_between h = omega (arith, h.0)
-
-newest_gone : HasNoGap (1 ∷ 2 ∷ []) 4 → ⊥
-newest_gone h = omega (arith, h.1)
 
 no_such_number : (IsRetention 0 → ⊥) × (IsRetention 1_001 → ⊥)
 no_such_number = ((λ is. omega (arith, is.0)), (λ is. omega (arith, is.1)))

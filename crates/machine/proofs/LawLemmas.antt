@@ -5,7 +5,7 @@ use Rattle.std.specs.List.{AllByRecursion}
 use Rattle.std.proofs.lemmas.Bool.{leb-true, le-leb}
 use Rattle.basis.specs.declared.rows.Settings.{Settings}
 use Rattle.basis.specs.declared.rows.StateHead.{StateHead}
-use Rattle.machine.specs.Laws.{IsLawful, IsVersion, Rises, HasNoGap, IsRun, is_pending, is_nobody}
+use Rattle.machine.specs.Laws.{IsLawful, IsVersion, Rises, IsRun, is_pending, is_nobody}
 use Rattle.machine.specs.Ranges.{IsHeadInRange, IsRetention}
 use Rattle.machine.specs.Workspaces.{last_of}
 use Rattle.machine.specs.Rules.{number_left, with_version, max_number, with_settings, purged, locked}
@@ -33,18 +33,6 @@ Rises-drop : (k low : ℕ) (vs : List Version) (top : ℕ) → Rises low (map (�
 Rises-drop zero low vs top r = r
 Rises-drop (suc k) low [] top r = tt
 Rises-drop (suc k) low (v ∷ vs) top r = Rises-drop k low vs top (Rises-below v.number low (map (λ (v : Version). v.number) vs) top (omega arith) r.2)
-
--- without a gap: a number more at the end, and the first ones gone
-no_gap-push : (vs : List Version) (v : Version) → HasNoGap (map (λ (v : Version). v.number) vs) v.number → HasNoGap (map (λ (v : Version). v.number) (vs ++ v ∷ [])) (v.number + 1)
-no_gap-push [] v h = refl
-no_gap-push (u ∷ []) v h = (h, refl)
-no_gap-push (u ∷ w ∷ vs) v h = (h.0, no_gap-push (w ∷ vs) v h.1)
-
-no_gap-drop : (k : ℕ) (vs : List Version) (next : ℕ) → HasNoGap (map (λ (v : Version). v.number) vs) next → HasNoGap (map (λ (v : Version). v.number) (drop k vs)) next
-no_gap-drop zero vs next h = h
-no_gap-drop (suc k) [] next h = tt
-no_gap-drop (suc k) (v ∷ []) next h = no_gap-drop k [] next tt
-no_gap-drop (suc k) (v ∷ w ∷ vs) next h = no_gap-drop k (w ∷ vs) next h.1
 
 All-push : (vs : List Version) (v : Version) → AllByRecursion IsVersion vs → IsVersion v → AllByRecursion IsVersion (vs ++ v ∷ [])
 All-push [] v all h = (h, tt)
@@ -76,7 +64,6 @@ version_is_lawful w n head text now e range moment lawful =
     let below : 0 < n = omega (arith, left.1) in
     let most : n + 1 ≤ 1_000_000_001 = omega (arith, left.2) in
     let rose : Rises 0 (map (λ (u : Version). u.number) w.versions) n = subst (λ (t : ℕ). Rises 0 (map (λ (u : Version). u.number) w.versions) t) (sym left.0) lawful.versions.rise in
-    let follow : HasNoGap (map (λ (u : Version). u.number) w.versions) n = subst (λ (t : ℕ). HasNoGap (map (λ (u : Version). u.number) w.versions) t) (sym left.0) lawful.versions.gapless in
     let staying : ℕ = w.settings.retention - 1 in
     let k : ℕ = length w.versions - staying in
     let kept : length (last_of staying w.versions ++ v ∷ []) ≤ w.settings.retention = rw length-append (omega (arith, last_length staying w.versions, lawful.versions.keep.0)) in
@@ -85,7 +72,6 @@ version_is_lawful w n head text now e range moment lawful =
         keep = lawful.versions.keep;
         next = (omega arith, most);
         rise = Rises-push 0 (last_of staying w.versions) v below (Rises-drop k 0 w.versions n rose);
-        gapless = no_gap-push (last_of staying w.versions) v (no_gap-drop k w.versions n follow);
         each = All-push (last_of staying w.versions) v (All-drop k w.versions lawful.versions.each) (record { serial = range.0; lineage = range.1; created = moment });
         kept = kept;
       };
@@ -113,7 +99,7 @@ still_is_lawful w lawful = subst (λ (start : Option ℕ). IsLawful (started_if 
 
 pub purged_is_lawful : (w : Workspace) → IsLawful w → IsLawful (purged w)
 purged_is_lawful w lawful = record {
-  versions = record { keep = lawful.versions.keep; next = lawful.versions.next; rise = tt; gapless = tt; each = tt; kept = omega arith };
+  versions = record { keep = lawful.versions.keep; next = lawful.versions.next; rise = tt; each = tt; kept = omega arith };
   runs = lawful.runs;
   released = lawful.released;
 }
@@ -127,7 +113,6 @@ set_is_lawful settings w range lawful =
         keep = range;
         next = lawful.versions.next;
         rise = Rises-drop k 0 w.versions w.next_version lawful.versions.rise;
-        gapless = no_gap-drop k w.versions w.next_version lawful.versions.gapless;
         each = All-drop k w.versions lawful.versions.each;
         kept = last_length settings.retention w.versions;
       };

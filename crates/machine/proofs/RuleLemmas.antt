@@ -21,7 +21,7 @@ rules_are_lawful act now (missing room) range moment lawful = by_act (put_or_mis
   where
     made : (room : Bool) (ask : SettingsAsk) → IsSettingsAsk ask → IsLawfulIfThere (rules_missing (PutWorkspace ask) room).left
     made true ask asked = record {
-      versions = record { keep = kept_in_range ask.retention 100 asked (omega arith, omega arith); next = (omega arith, omega arith); rise = tt; gapless = tt; each = tt; kept = omega arith };
+      versions = record { keep = kept_in_range ask.retention 100 asked (omega arith, omega arith); next = (omega arith, omega arith); rise = tt; each = tt; kept = omega arith };
       runs = record { next = (omega arith, omega arith); rise = tt; each = tt; open_runs = omega arith; keys = tt; held = tt };
       released = tt;
     }

@@ -24,12 +24,6 @@ abbrev pub Rises : ℕ → List ℕ → ℕ → Type 0
 Rises low [] next = ⊤
 Rises low (n ∷ ns) next = (low < n) × (n < next) × Rises n ns next
 
--- each number is followed by the one after it, and the last one by `next`
-abbrev pub HasNoGap : List ℕ → ℕ → Type 0
-HasNoGap [] next = ⊤
-HasNoGap (n ∷ []) next = n + 1 ≡ next
-HasNoGap (n ∷ m ∷ ns) next = (n + 1 ≡ m) × HasNoGap (m ∷ ns) next
-
 -- the range of the next number of a version or a run
 abbrev pub IsNext : ℕ → Type 0
 IsNext next = (1 ≤ next) × (next ≤ MAX_NUMBER + 1)
@@ -120,7 +114,6 @@ pub record AreVersions (most next_version : ℕ) (versions : List Version) : Typ
   pub keep : IsRetention most
   pub next : IsNext next_version
   pub rise : Rises 0 (map (λ (v : Version). v.number) versions) next_version
-  pub gapless : HasNoGap (map (λ (v : Version). v.number) versions) next_version
   pub each : AllByRecursion IsVersion versions
   pub kept : length versions ≤ most
 

@@ -3,7 +3,7 @@
 use crate::records::Version;
 use crate::texts::StateText;
 use basis::{
-    Bytes, Holder, HolderId, Limit, LockId, Look, Moment, Number, Refusal, Retention, RunAction,
+    Bytes, Holder, HolderId, KeepCount, Limit, LockId, Look, Moment, Number, Refusal, RunAction,
     RunAsk, RunRow, RunStatus, Serial, Settings, SettingsAsk, StateHead, Text,
 };
 
@@ -49,7 +49,7 @@ pub enum Staying {
     /// One more comes: the last that stay beside it, of as many as the workspace keeps.
     MakeRoom,
     /// The last so many.
-    StayAtMost(Retention),
+    StayAtMost(KeepCount),
 }
 
 /// What a decision on an act needs of its workspace besides the workspace's own row: a store is asked

@@ -30,7 +30,7 @@ use crate::run_steps::next_status;
 use crate::texts::StateText;
 use basis::numbers::MAX_KEPT;
 use basis::{
-    Bytes, Down, Holder, HolderId, LockId, Look, Moment, Number, Refusal, Retention, RunAction,
+    Bytes, Down, Holder, HolderId, KeepCount, LockId, Look, Moment, Number, Refusal, RunAction,
     RunAsk, RunRow, RunStatus, Settings, SettingsAsk, StateHead, Text, is_run_id,
 };
 use std::alloc::Global;
@@ -92,7 +92,7 @@ fn key_of(ask: &RunAsk) -> Option<&Text>
 }
 
 // A PUT that asks for no number of versions lets none go.
-fn staying_for(retention: Option<Retention>) -> Staying
+fn staying_for(retention: Option<KeepCount>) -> Staying
     ensures { result ≡ staying_for retention }
 {
     match retention {
@@ -345,16 +345,16 @@ fn settings_for(ask: SettingsAsk, before: Option<Settings>) -> Settings
     }
 }
 
-fn kept_before(before: Option<Settings>) -> Retention
+fn kept_before(before: Option<Settings>) -> KeepCount
     ensures { result ≡ kept_before before }
 {
     match before {
         Some(settings) => settings.retention,
-        None => Retention::first(),
+        None => KeepCount::first(),
     }
 }
 
-fn kept_for(asked: Option<Retention>, before: Retention) -> Retention
+fn kept_for(asked: Option<KeepCount>, before: KeepCount) -> KeepCount
     ensures is { result ≡ kept_for asked before }
     ensures range { IfSome asked IsRetention }
 {

@@ -14,8 +14,8 @@ ghost use Rattle.machine.specs.declared.records.Organization.{Organization as An
 
 use crate::acts::{Act, Change, Unit};
 use basis::{
-    Bounds, Bytes, Caller, Down, Items, Limit, Listing, Number, OrgName, Prefix, Role, RunRow,
-    Text, VersionRow, WsName, WsRow,
+    Bounds, Bytes, Caller, Down, Items, Limit, Listing, Number, OrgName, Role, RunRow, Text,
+    VersionRow, WsName, WsPrefix, WsRow,
 };
 use std::alloc::Global;
 
@@ -78,6 +78,9 @@ pub trait Keep {
     /// Whether what the store holds obeys its laws. Each call keeps it.
     ghost sound: { Self → Type 0 };
 
+    /// Whether a store that keeps texts in pages has each page under the key of its bytes. Each call keeps it.
+    ghost keyed: { Self → Type 0 };
+
     /// In a clean and sound store every record is lawful.
     fn records_are_lawful(&self)
         ensures { clean self.now → sound self.now → AreLawful (rows self.now) };
@@ -115,7 +118,7 @@ pub trait Keep {
         alloc: Global,
         org: &OrgName,
         after: Option<&WsName>,
-        prefix: &Prefix,
+        prefix: &WsPrefix,
     ) -> Result<Listing<WsRow>, Down>
         ensures looks { Looks rows clean sound shielded self.old self.new }
         ensures ok { clean self.new → sound self.old → IfOk result (λ list. list ≡ workspaces_after (option_copied after.entry) prefix.now (rows self.old org.now)) };
@@ -154,6 +157,7 @@ pub trait Keep {
         ensures shield { shielded self.old → shielded self.new }
         ensures kept { clean self.new → sound self.old → (o : AnyOrganization) → rows self.old org.now ≡ Some o
             → IsDue (seen_in o ws.now) change.now → sound self.new }
+        ensures keyed { clean self.new → sound self.old → keyed self.old → keyed self.new }
         ensures own { clean self.new → sound self.old → OnOk result ((o : AnyOrganization) → rows self.old org.now ≡ Some o
             → IsDue (seen_in o ws.now) change.now
             → rows self.new org.now ≡ Some (placed o ws.now (changed_by change.now (get o.workspaces ws.now)))) }
@@ -165,6 +169,7 @@ pub trait Keep {
         ensures so_far { clean self.new → clean self.old }
         ensures shield { shielded self.old → shielded self.new }
         ensures kept { clean self.new → sound self.old → sound self.new }
+        ensures keyed { clean self.new → sound self.old → keyed self.old → keyed self.new }
         ensures own { clean self.new → sound self.old → IfOk result (λ answer. effect answer (rows self.new org.now) ≡ org_added limit (rows self.old org.now)) }
         ensures others { clean self.new → sound self.old → (o : List ℕ) → o ≢ org.now → rows self.new o ≡ rows self.old o }
         ensures err { clean self.new → OnErr result ((o : List ℕ) → rows self.new o ≡ rows self.old o) };
@@ -174,6 +179,7 @@ pub trait Keep {
         ensures so_far { clean self.new → clean self.old }
         ensures shield { shielded self.old → shielded self.new }
         ensures kept { clean self.new → sound self.old → sound self.new }
+        ensures keyed { clean self.new → sound self.old → keyed self.old → keyed self.new }
         ensures own { clean self.new → sound self.old → IfOk result (λ answer. effect answer (rows self.new org.now) ≡ org_limited limit (rows self.old org.now)) }
         ensures others { clean self.new → sound self.old → (o : List ℕ) → o ≢ org.now → rows self.new o ≡ rows self.old o }
         ensures err { clean self.new → OnErr result ((o : List ℕ) → rows self.new o ≡ rows self.old o) };
@@ -189,6 +195,7 @@ pub trait Keep {
         ensures so_far { clean self.new → clean self.old }
         ensures shield { shielded self.old → shielded self.new }
         ensures kept { clean self.new → sound self.old → sound self.new }
+        ensures keyed { clean self.new → sound self.old → keyed self.old → keyed self.new }
         ensures own { clean self.new → sound self.old → IfOk result (λ answer. effect answer (rows self.new org.now) ≡ org_removed is_forced (rows self.old org.now)) }
         ensures others { clean self.new → sound self.old → (o : List ℕ) → o ≢ org.now → rows self.new o ≡ rows self.old o }
         ensures err { clean self.new → OnErr result ((o : List ℕ) → rows self.new o ≡ rows self.old o) };
@@ -211,6 +218,7 @@ pub trait Keep {
         ensures so_far { clean self.new → clean self.old }
         ensures shield { shielded self.old → shielded self.new }
         ensures kept { clean self.new → sound self.old → sound self.new }
+        ensures keyed { clean self.new → sound self.old → keyed self.old → keyed self.new }
         ensures own { clean self.new → sound self.old → IfOk result (λ answer. effect answer (rows self.new org.now) ≡ token_added name.now (token_of digest.now role bounds.now) (rows self.old org.now)) }
         ensures others { clean self.new → sound self.old → (o : List ℕ) → o ≢ org.now → rows self.new o ≡ rows self.old o }
         ensures err { clean self.new → OnErr result ((o : List ℕ) → rows self.new o ≡ rows self.old o) };
@@ -225,6 +233,7 @@ pub trait Keep {
         ensures so_far { clean self.new → clean self.old }
         ensures shield { shielded self.old → shielded self.new }
         ensures kept { clean self.new → sound self.old → sound self.new }
+        ensures keyed { clean self.new → sound self.old → keyed self.old → keyed self.new }
         ensures own { clean self.new → sound self.old → IfOk result (λ answer. effect answer (rows self.new org.now) ≡ token_revoked name.now (rows self.old org.now)) }
         ensures others { clean self.new → sound self.old → (o : List ℕ) → o ≢ org.now → rows self.new o ≡ rows self.old o }
         ensures err { clean self.new → OnErr result ((o : List ℕ) → rows self.new o ≡ rows self.old o) };

@@ -29,9 +29,9 @@ use crate::records::{Organization, Token, Version, Workspace, is_waiting};
 use crate::texts::StateText;
 use basis::numbers::MAX_LIMIT;
 use basis::{
-    Bounds, Bytes, Caller, Down, Holder, Items, Limit, Listing, LockId, Moment, Number, OrgName,
-    Prefix, Retention, Role, RunAction, RunAsk, RunRow, RunStatus, Settings, Text, VersionRow,
-    WsName, WsRow,
+    Bounds, Bytes, Caller, Down, Holder, Items, KeepCount, Limit, Listing, LockId, Moment, Number,
+    OrgName, Role, RunAction, RunAsk, RunRow, RunStatus, Settings, Text, VersionRow, WsName,
+    WsPrefix, WsRow,
 };
 use std::alloc::Global;
 use std::cmp::Ordering;
@@ -53,9 +53,11 @@ impl PlainKeep {
         }
     }
 
-    /// What is promised of a store in memory always holds.
+    /// What is promised of a store in memory always holds, and it finds out what isn't as it was written.
     pub fn is_always_clean(&self)
-        ensures { ⟦<PlainKeep as Keep>⟧.clean self.now }
+        ensures clean { ⟦<PlainKeep as Keep>⟧.clean self.now }
+        ensures shielded { ⟦<PlainKeep as Keep>⟧.shielded self.now }
+        ensures keyed { ⟦<PlainKeep as Keep>⟧.keyed self.now }
     {}
 }
 
@@ -67,6 +69,8 @@ impl Keep for PlainKeep {
     ghost shielded = { λ _. ⊤ };
 
     ghost sound = { λ keep. AreLawful (λ o. map.get keep.organizations o) };
+
+    ghost keyed = { λ _. ⊤ };
 
     fn records_are_lawful(&self) {}
 
@@ -119,7 +123,7 @@ impl Keep for PlainKeep {
         alloc: Global,
         org: &OrgName,
         after: Option<&WsName>,
-        prefix: &Prefix,
+        prefix: &WsPrefix,
     ) -> Result<Listing<WsRow>, Down> {
         match self.organizations.get(org.as_str()) {
             Some(organization) => {
@@ -748,7 +752,7 @@ fn settings_unit(needed: bool, settings: &Settings) -> Settings
         retention: if needed {
             settings.retention
         } else {
-            Retention::first()
+            KeepCount::first()
         },
     }
 }
@@ -762,7 +766,7 @@ fn outgoing(staying: usize, versions: &[Version]) -> Option<Number>
 }
 
 // The greatest number of the versions that go, of a workspace that keeps so many.
-fn outgoing_by(staying: Staying, retention: Retention, versions: &[Version]) -> Option<Number>
+fn outgoing_by(staying: Staying, retention: KeepCount, versions: &[Version]) -> Option<Number>
     ensures { result ≡ outgoing_by staying retention versions.now }
 {
     match staying {
@@ -908,7 +912,7 @@ fn comes_after(after: Option<&WsName>, name: &str) -> bool
 }
 
 // Whether a workspace of this name is to be listed.
-fn is_listed(after: Option<&WsName>, prefix: &Prefix, name: &str) -> bool
+fn is_listed(after: Option<&WsName>, prefix: &WsPrefix, name: &str) -> bool
     ensures { result ≡ is_listed (option_copied after.entry) prefix.now name.now }
 {
     prefix.admits(name) && comes_after(after, name)
@@ -917,7 +921,7 @@ fn is_listed(after: Option<&WsName>, prefix: &Prefix, name: &str) -> bool
 fn list_workspaces(
     alloc: Global,
     after: Option<&WsName>,
-    prefix: &Prefix,
+    prefix: &WsPrefix,
     entries: &[Entry<Workspace>],
 ) -> Result<Listing<WsRow>, Down>
     ensures { IfOk result (λ list. list ≡ workspaces_listed (option_copied after.entry) prefix.now (map_list (λ e. (e.name, e.value)) entries.now)) }

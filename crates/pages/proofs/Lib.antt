@@ -3,6 +3,7 @@ pub mod Behind
 pub mod Examples
 pub mod FirstPages
 pub mod FreeTwins
+pub mod KeyedPages
 pub mod Looking
 pub mod PageLaws
 pub mod PageReads

@@ -19,7 +19,7 @@ ghost use Rattle.serve.specs.Inner.Units.{if_named, sees_named, is_present};
 
 use crate::prepared::Task;
 use basis::{
-    Bytes, Down, LockId, Look, Moment, Number, OrgName, Prefix, Refusal, StateHead, WsAct, WsName,
+    Bytes, Down, LockId, Look, Moment, Number, OrgName, Refusal, StateHead, WsAct, WsName, WsPrefix,
 };
 use docs::{DocFault, digest_fits, read_lock, read_run, read_settings, read_state};
 use machine::{Act, Keep, Needs, StateText, TokenRow, Unit, WorkspaceUnit};
@@ -350,7 +350,7 @@ pub fn spelt_id(task: &Task) -> Result<Option<LockId>, AllocError>
     }
 }
 
-fn list_after(after: &Option<WsName>, prefix: &Prefix) -> Result<Task, Refusal>
+fn list_after(after: &Option<WsName>, prefix: &WsPrefix) -> Result<Task, Refusal>
     ensures { Follows result (Ok (ListAll after.now prefix.now)) }
 {
     let Ok(prefix) = prefix.clone() else {
@@ -384,7 +384,7 @@ fn task_at(
 /// workspaces that the prefix admits.
 pub fn judged(
     alloc: Global,
-    prefix: &Prefix,
+    prefix: &WsPrefix,
     asked: &AskedAct,
     content_md5: &Option<Bytes>,
     lock_id: &Option<LockId>,

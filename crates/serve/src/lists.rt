@@ -4,7 +4,7 @@ ghost use Rattle.std.specs.Io.KnownBytes.{Appends};
 ghost use Rattle.basis.specs.Roles.{role_word};
 ghost use Rattle.serve.specs.Service.{org_line, org_lines, until_text, prefix_text, token_line, token_lines};
 
-use basis::{Caller, Moment, Prefix, Role};
+use basis::{Caller, Moment, Role, WsPrefix};
 use machine::{OrgRow, TokenRow};
 use std::io;
 use std::io::Write;
@@ -51,7 +51,7 @@ fn write_until<O: Write>(output: &mut O, until: Option<Moment>) -> io::Result<()
     }
 }
 
-fn prefix_text(prefix: &Prefix) -> &[u8]
+fn prefix_text(prefix: &WsPrefix) -> &[u8]
     ensures { result.now ≡ prefix_text prefix.now }
 {
     let text = prefix.as_str().as_bytes();
@@ -61,7 +61,7 @@ fn prefix_text(prefix: &Prefix) -> &[u8]
     }
 }
 
-fn write_prefix<O: Write>(output: &mut O, prefix: &Prefix) -> io::Result<()>
+fn write_prefix<O: Write>(output: &mut O, prefix: &WsPrefix) -> io::Result<()>
     ensures { OnOk result (Appends (O.contents output.old) (O.contents output.new) (prefix_text prefix.now ++ codes "\n")) }
 {
     output.write_all(prefix_text(prefix))?;

@@ -1,6 +1,6 @@
 //! What is asked of a workspace, and an answer that is made in full before anything changes.
 
-use basis::{Prefix, WsName};
+use basis::{WsName, WsPrefix};
 use docs::LogRow;
 use machine::{Act, Change};
 use wire::Reply;
@@ -11,7 +11,7 @@ use wire::Reply;
 pub enum Task {
     ListAll {
         after: Option<WsName>,
-        prefix: Prefix,
+        prefix: WsPrefix,
     },
     Carry {
         ws: WsName,

@@ -23,7 +23,7 @@ use crate::checks::{in_reach, judged, known_caller, missed, spelt_id};
 use crate::logs::{RowFacts, Trace, trace_by};
 use crate::prepared::Task;
 use basis::numbers::MAX_MOMENT;
-use basis::{Bytes, Down, Holder, Moment, OrgName, Prefix, Refusal, RunRow, Text, WsName, WsRow};
+use basis::{Bytes, Down, Holder, Moment, OrgName, Refusal, RunRow, Text, WsName, WsPrefix, WsRow};
 use docs::{
     write_error, write_run, write_run_holder, write_run_list, write_version_list, write_ws,
     write_ws_list,
@@ -282,7 +282,7 @@ fn list_workspaces<K: Keep>(
     keep: &mut K,
     org: &OrgName,
     after: &Option<WsName>,
-    prefix: &Prefix,
+    prefix: &WsPrefix,
 ) -> Result<Reply, Down>
     ensures looks { Looks K.rows K.clean K.sound K.shielded keep.old keep.new }
     ensures ok { K.clean keep.new → K.sound keep.old → IfOk result (λ reply. (at : ℕ)

@@ -157,7 +157,10 @@ pub struct Service<K: Keep> {
     row: Option<LogRow>,
 }
 
-fn take_routes(alloc: Global, routes: &mut Option<Routes>) -> Result<Routes, Down> {
+// The routes that are there, or new ones: memory is refused only where there are none.
+fn take_routes(alloc: Global, routes: &mut Option<Routes>) -> Result<Routes, Down>
+    ensures { IfSome routes.old (λ there. result ≡ Ok there) }
+{
     match routes.take() {
         Some(routes) => Ok(routes),
         None => match Routes::new(alloc) {

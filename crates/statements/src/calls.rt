@@ -13,8 +13,8 @@ ghost use Rattle.statements.specs.Calls.{Wrote, WroteAny, IsQuery, FirstRow, Fir
 
 use crate::rows::{BoundedRole, NamedRole, NamedToken, Organization, Token};
 use basis::{
-    Bounds, Bytes, Items, Limit, LockId, Moment, Number, Prefix, Retention, Role, RunAction,
-    RunRow, RunStatus, Serial, Text, VersionRow, WsName,
+    Bounds, Bytes, Items, KeepCount, Limit, LockId, Moment, Number, Role, RunAction, RunRow,
+    RunStatus, Serial, Text, VersionRow, WsName, WsPrefix,
 };
 use sqlite::types::{Type, ValueRef};
 use sqlite::{Alter, Connection, Error, Row, Transaction};
@@ -247,10 +247,10 @@ pub(crate) fn moment_of(seconds: u64, at: usize) -> Result<Moment, Error>
 }
 
 /// How many versions a workspace keeps.
-pub(crate) fn retention_of(count: u64, at: usize) -> Result<Retention, Error>
+pub(crate) fn retention_of(count: u64, at: usize) -> Result<KeepCount, Error>
     ensures { IfOk result (λ x. x ≡ count) }
 {
-    match Retention::new(count) {
+    match KeepCount::new(count) {
         Some(count) => Ok(count),
         None => Err(Error::IntegralValueOutOfRange(at)),
     }
@@ -277,10 +277,10 @@ pub(crate) fn lock_id_of(id: String, at: usize) -> Result<LockId, Error>
 }
 
 /// How the names of a token's workspaces begin.
-fn prefix_of(prefix: String, at: usize) -> Result<Prefix, Error>
+fn prefix_of(prefix: String, at: usize) -> Result<WsPrefix, Error>
     ensures { IfOk result (λ x. x ≡ string_bytes prefix) }
 {
-    match Prefix::from_string(prefix) {
+    match WsPrefix::from_string(prefix) {
         Some(prefix) => Ok(prefix),
         None => Err(Error::InvalidColumnType(at, Type::Text)),
     }
@@ -314,7 +314,7 @@ pub(crate) fn optional_moment(row: &Row, at: usize) -> Result<Option<Moment>, Er
     }
 }
 
-pub(crate) fn optional_retention(row: &Row, at: usize) -> Result<Option<Retention>, Error>
+pub(crate) fn optional_retention(row: &Row, at: usize) -> Result<Option<KeepCount>, Error>
     ensures { IfOk result (IsNumberOrNull (column row.now at)) }
 {
     match row.get::<Option<u64>>(at)? {
@@ -566,10 +566,10 @@ impl Read for Role {
     }
 }
 
-impl Read for Retention {
+impl Read for KeepCount {
     ghost is_in = { IsNumber };
 
-    fn of_row(row: &Row) -> Result<Retention, Error> {
+    fn of_row(row: &Row) -> Result<KeepCount, Error> {
         retention_of(row.get(0)?, 0)
     }
 }

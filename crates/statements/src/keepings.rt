@@ -6,7 +6,7 @@ ghost use Rattle.statements.specs.Making.{MakesBy};
 ghost use Rattle.statements.specs.Inner.Making.{Moved};
 
 use crate::calls::{first_row, read_one, write};
-use basis::Retention;
+use basis::KeepCount;
 use sqlite::{Alter, Connection, Error, Transaction, params};
 
 const FIND_KEEPING: &str = "SELECT keep FROM keeping WHERE org = ?1 AND ws = ?2 ORDER BY rowid";
@@ -16,7 +16,7 @@ pub fn find<S: Alter>(
     conn: &mut Connection<S>,
     org: &str,
     ws: &str,
-) -> Result<Option<Retention>, Error>
+) -> Result<Option<KeepCount>, Error>
     ensures { Queries S.Store (Equals (retention_of org.now ws.now)) conn.old conn.new result }
 {
     let row = first_row(conn, FIND_KEEPING, params![org, ws]);
@@ -30,7 +30,7 @@ pub fn add<S: Alter>(
     tx: &mut Transaction<'_, S>,
     org: &str,
     ws: &str,
-    retention: Retention,
+    retention: KeepCount,
 ) -> Result<(), Error>
     ensures { Writes S.Store AnyRows (keeping_row_added org.now ws.now retention) tx.old tx.new result }
 {
@@ -45,7 +45,7 @@ pub fn set<S: Alter>(
     tx: &mut Transaction<'_, S>,
     org: &str,
     ws: &str,
-    retention: Retention,
+    retention: KeepCount,
 ) -> Result<(), Error>
     ensures { Writes S.Store AnyRows (keeping_changed retention org.now ws.now) tx.old tx.new result }
 {

@@ -1,6 +1,6 @@
 //! What rows hold that nothing above has a type for, as values.
 use basis::{
-    Bounds, Bytes, Holder, Items, Limit, LockId, Moment, Number, Retention, Role, RunSettings,
+    Bounds, Bytes, Holder, Items, KeepCount, Limit, LockId, Moment, Number, Role, RunSettings,
     Text, WsName,
 };
 
@@ -75,7 +75,7 @@ pub struct BoundRow {
 pub struct KeepingRow {
     pub org: Text,
     pub ws: Text,
-    pub keep: Retention,
+    pub keep: KeepCount,
 }
 
 /// What a row of page says of its page, without the bytes.
@@ -125,7 +125,7 @@ pub struct Workspace {
 pub struct NamedWorkspace {
     pub name: WsName,
     pub it: Workspace,
-    pub keep: Option<Retention>,
+    pub keep: Option<KeepCount>,
     /// The number before the next version's, if there is a version of it.
     pub last: Option<Number>,
 }

@@ -15,7 +15,7 @@ use crate::rows::{
     BoundRow, KeepingRow, OrgRow, RunRow, Token, TokenRow, VersionRow, VpageRow, WsRow,
 };
 use crate::workspaces::{BEHIND_RUN_SETTINGS, workspace_in};
-use basis::{Items, Limit, Moment, Retention, Role, Text};
+use basis::{Items, KeepCount, Limit, Moment, Role, Text};
 use sqlite::{Alter, Connection, Error, Row};
 use std::alloc::Global;
 
@@ -34,7 +34,7 @@ fn limit_in(row: &Row, at: usize) -> Result<Limit, Error>
     limit_of(row.get(at)?, at)
 }
 
-fn retention_in(row: &Row, at: usize) -> Result<Retention, Error>
+fn retention_in(row: &Row, at: usize) -> Result<KeepCount, Error>
     ensures is { IfOk result (λ x. x ≡ number_at row.now at) }
     ensures cell { IfOk result (λ x. column row.now at ≡ number x) }
 {

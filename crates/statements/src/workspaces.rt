@@ -19,7 +19,7 @@ use crate::calls::{
 };
 use crate::keepings;
 use crate::rows::{NamedWorkspace, Workspace};
-use basis::{Holder, Items, LockId, Number, Prefix, Retention, RunSettings, WsName};
+use basis::{Holder, Items, KeepCount, LockId, Number, RunSettings, WsName, WsPrefix};
 use sqlite::types::{ToSql, ValueRef};
 use sqlite::{Alter, Connection, Error, Row, Transaction, params};
 use std::alloc::Global;
@@ -167,7 +167,7 @@ fn beginning<'v>(after: &'v str, prefix: &'v str) -> &'v str
 }
 
 /// The least text behind all that begin with a prefix, which isn't empty: its last byte is the next one.
-fn end_of(alloc: Global, prefix: &Prefix) -> Result<String, Error>
+fn end_of(alloc: Global, prefix: &WsPrefix) -> Result<String, Error>
     requires some { prefix.now ≢ [] }
     ensures { IfOk result (λ end. string_bytes end ≡ end_of prefix.now) }
 {
@@ -183,7 +183,7 @@ fn list_within<'v, S: Alter>(
     conn: &mut Connection<S>,
     org: &'v str,
     after: &'v str,
-    prefix: &'v Prefix,
+    prefix: &'v WsPrefix,
     most: usize,
 ) -> Result<Items<NamedWorkspace>, Error>
     requires some { prefix.now ≢ [] }
@@ -217,7 +217,7 @@ pub fn list<'v, S: Alter>(
     conn: &mut Connection<S>,
     org: &'v str,
     after: &'v str,
-    prefix: &'v Prefix,
+    prefix: &'v WsPrefix,
     most: usize,
 ) -> Result<Items<NamedWorkspace>, Error>
     ensures { Queries S.Store (EqualsWhere WorkspacesApart (workspace_rows_after org.now after.now prefix.now most)) conn.old conn.new result }
@@ -275,7 +275,7 @@ pub fn add<S: Alter>(
     org: &str,
     name: &str,
     runs: RunSettings,
-    retention: Retention,
+    retention: KeepCount,
 ) -> Result<(), Error>
     ensures writes { Writes S.Store AnyRows (ws_added org.now name.now runs retention) tx.old tx.new result }
     ensures fresh { Tells (λ _ t. workspace_of org.now name.now t ≡ None) (state S.Store tx.old.conn.now) (state S.Store tx.new.conn.now) result }

@@ -13,7 +13,7 @@ use Rattle.sqlite.specs.Held.{Held}
 use Rattle.sqlite.specs.declared.transaction.Transaction.{Transaction}
 use Rattle.basis.specs.Names.{is_org_name}
 use Rattle.basis.specs.declared.roles.Bounds.{Bounds}
-use Rattle.machine.specs.Laws.{IsToken, IsNamedWorkspace, IsLawfulOrganization}
+use Rattle.machine.specs.Laws.{IsToken, IsLawfulOrganization}
 use Rattle.machine.specs.Order.{name_cmp}
 use Rattle.machine.specs.Records.{count_of, placed}
 use Rattle.machine.specs.Tokens.{new_organization, with_token}
@@ -31,7 +31,7 @@ use Rattle.statements.specs.Steps.{AnyRows, EqualsWhere, Writes, Sees}
 use Rattle.statements.specs.Listings.{TokensApart, NamesApart, tokens_by_name, token_row_whole, whole_tokens_of, workspaces_by_name, workspace_names_of}
 use Rattle.statements.proofs.Found.{found_passes, found_holds, apart_one}
 use Rattle.tables.specs.Records.{token_of_cells, bounds_at, token_at, is_token_of, tokens_at, workspace_at, workspace_by, workspaces_at, organization_at, record_of}
-use Rattle.tables.specs.Sound.{IsOrgRow, IsSound}
+use Rattle.tables.specs.Sound.{IsOrgRow, IsSoundWorkspace, IsSound}
 use Rattle.tables.specs.Inner.Arrivals.{TakesFrom, token_entry, token_come, tokens_come, TokensCome, WorkspacesCome, Brings}
 use Rattle.tables.specs.Inner.Standing.{StandsSoFar}
 use Rattle.tables.specs.Inner.Copies.{RelatedSteps, Begins}
@@ -189,16 +189,16 @@ module _ (org : List ℕ) (first : Tables) where
       go true was = omega (arith, few, was)
       go false was = omega (arith, few, was)
 
-  workspace_leads : (o : Organization) (t u : Tables) (name : List ℕ) (w : Workspace) → Leads org first o t → IsNamedWorkspace name w → count_of (placed o name (Some w)) ≤ 100_000 → Begins org name w t u → Leads org first (placed o name (Some w)) u
+  workspace_leads : (o : Organization) (t u : Tables) (name : List ℕ) (w : Workspace) → Leads org first o t → IsSoundWorkspace name w → count_of (placed o name (Some w)) ≤ 100_000 → Begins org name w t u → Leads org first (placed o name (Some w)) u
   workspace_leads o t u name w so is few begins =
       let stands : StandsSoFar org name w t u = begins so.sound (org_there t org o.limit (there o t so)) in
       record {
-        sound = stands_sound org name w t u so.sound is.named is.lawful o so.own few stands;
+        sound = stands_sound org name w t u so.sound is.named is.lawful is.gapless o so.own few stands;
         own = stands_own org name w t u is.lawful stands o so.own;
         others = λ q apart. stands_others org name w t u is.lawful stands q apart ∙ so.others q apart;
       }
 
-  workspaces_lead : (f : Tables) (es : List (List ℕ × Workspace)) → AllByRecursion (λ (e : List ℕ × Workspace). (workspace_by f org e.0 ≡ Some e.1) × IsNamedWorkspace e.0 e.1) es → (o : Organization) → count_of o + length es ≤ 100_000
+  workspaces_lead : (f : Tables) (es : List (List ℕ × Workspace)) → AllByRecursion (λ (e : List ℕ × Workspace). (workspace_by f org e.0 ≡ Some e.1) × IsSoundWorkspace e.0 e.1) es → (o : Organization) → count_of o + length es ≤ 100_000
       → (t u : Tables) → Leads org first o t → WorkspacesCome org (map (λ (e : List ℕ × Workspace). e.0) es) f t u → Leads org first (record o { workspaces = put_all o.workspaces es }) u
   workspaces_lead f [] are o few t u so come = subst (λ (z : Tables). Leads org first o z) (sym come) so
   workspaces_lead f (e ∷ es) are o few t u so come =
@@ -270,9 +270,9 @@ module _ (f : Tables) (org : List ℕ) where
     tokens_are = all_weaker (λ (e : List ℕ × Token). find_entry name_cmp e.0 (entries (tokens_at f org)) ≡ Some e.1) (λ (e : List ℕ × Token). get (tokens_at f org) e.0 ≡ Some e.1) (λ e is. get-entries (tokens_at f org) e.0 ∙ is)
         (entries (tokens_at f org)) (all_found (entries (tokens_at f org)) (entries_sorted (tokens_at f org)))
 
-    pub workspaces_are : AllByRecursion (λ (e : List ℕ × Workspace). (workspace_by f org e.0 ≡ Some e.1) × IsNamedWorkspace e.0 e.1) (entries (workspaces_at f org))
-    workspaces_are = all_weaker (λ (e : List ℕ × Workspace). find_entry name_cmp e.0 (entries (workspaces_at f org)) ≡ Some e.1) (λ (e : List ℕ × Workspace). (workspace_by f org e.0 ≡ Some e.1) × IsNamedWorkspace e.0 e.1)
-        (λ e is. let got : get (workspaces_at f org) e.0 ≡ Some e.1 = get-entries (workspaces_at f org) e.0 ∙ is in (sym (got_workspace f org e.0) ∙ got, lawful.workspaces e.0 e.1 got))
+    pub workspaces_are : AllByRecursion (λ (e : List ℕ × Workspace). (workspace_by f org e.0 ≡ Some e.1) × IsSoundWorkspace e.0 e.1) (entries (workspaces_at f org))
+    workspaces_are = all_weaker (λ (e : List ℕ × Workspace). find_entry name_cmp e.0 (entries (workspaces_at f org)) ≡ Some e.1) (λ (e : List ℕ × Workspace). (workspace_by f org e.0 ≡ Some e.1) × IsSoundWorkspace e.0 e.1)
+        (λ e is. let got : get (workspaces_at f org) e.0 ≡ Some e.1 = get-entries (workspaces_at f org) e.0 ∙ is in let here : workspace_by f org e.0 ≡ Some e.1 = sym (got_workspace f org e.0) ∙ got in (here, sound.workspaces org e.0 e.1 here))
         (entries (workspaces_at f org)) (all_found (entries (workspaces_at f org)) (entries_sorted (workspaces_at f org)))
 
     none_yet : (es : List (List ℕ × Token)) → AllByRecursion (λ (e : List ℕ × Token). get (empty {X = Token} {R = name_cmp}) e.0 ≡ None) es

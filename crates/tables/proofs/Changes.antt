@@ -13,8 +13,9 @@ use Rattle.machine.proofs.KeepLemmas.{standing_is}
 use Rattle.statements.specs.Tables.{Tables}
 use Rattle.tables.specs.Records.{workspace_by, record_of}
 use Rattle.tables.specs.Inner.Edits.{changed_rows, TakesEdit}
-use Rattle.tables.specs.Sound.{IsSound}
+use Rattle.tables.specs.Sound.{IsGapless, IsSound}
 use Rattle.tables.proofs.Edits.{changed_leaves, changed_puts}
+use Rattle.tables.proofs.NoGaps.{rules_leave_no_gap}
 use Rattle.tables.proofs.Sets.{put_own, put_other, workspace_there}
 
 there_if : (P : Workspace → Type 0) (o : Option Workspace) → ((w : Workspace) → o ≡ Some w → P w) → IfSome o P
@@ -32,6 +33,11 @@ module _ (org ws : List ℕ) (t : Tables) (sound : IsSound t) (change : Change) 
   pub lawful_after : IsLawfulIfThere (changed_by change (workspace_by t org ws))
   lawful_after = subst IsLawfulIfThere (sym ruled) (rules_are_lawful due.act due.now (seen_in o ws) due.range due.moment
       (subst IsLawfulIfThere (sym seen) (there_if IsLawful (workspace_by t org ws) (λ w e. (sound.workspaces org ws w e).lawful))))
+
+  -- and none of its versions is missing
+  pub gapless_after : IfSome (changed_by change (workspace_by t org ws)) IsGapless
+  gapless_after = subst (λ (w : Option Workspace). IfSome w IsGapless) (sym ruled) (rules_leave_no_gap due.act due.now (seen_in o ws)
+      (subst (λ (w : Option Workspace). IfSome w IsGapless) (sym seen) (there_if IsGapless (workspace_by t org ws) (λ w e. (sound.workspaces org ws w e).gapless))))
 
 module _ (keys : ℕ → List ℕ) (org ws : List ℕ) (t : Tables) (sound : IsSound t) (change : Change) (takes : TakesEdit keys org ws change.edit t) where
   -- the record of the organization has the changed workspace in its place

@@ -13,7 +13,7 @@ use Rattle.statements.proofs.MetaTexts.{has_meta}
 use Rattle.statements.specs.Making.{HasMeta, HasEdition, told_schema_version, KeepsForeign}
 use Rattle.statements.specs.Rows.{Kept}
 use Rattle.statements.specs.Schema.{meta_table, edition_table}
-use Rattle.statements.specs.Tables.{Tables, HoldsIn, schema_tables}
+use Rattle.statements.specs.Tables.{Tables, HoldsIn, schema_tables, tables_at}
 use Rattle.statements.specs.declared.making.TheConstants.{NEWEST}
 use Rattle.tables.specs.declared.opening.Found.{Found}
 use Rattle.tables.specs.declared.opening.Found.TheVariants.{Nothing, Version, Other}
@@ -38,7 +38,7 @@ version_is_told m n old new told h = one_there n m old.now.schema (version_is_th
 
 module _ (i j k : ℕ) (a b c : Database) where
   becomes_then : Becomes i j a b → Becomes j k b c → Becomes i k a c
-  becomes_then one two = record { holds = λ h. two.holds (one.holds h); records = λ h org. two.records (one.holds h) org ∙ one.records h org }
+  becomes_then one two = record { holds = λ h. two.holds (one.holds h); records = λ h org. two.records (one.holds h) org ∙ one.records h org; pages = λ h. two.pages (one.holds h) ∙ one.pages h }
 
   foreign_then : KeepsForeign (schema_tables i) (schema_tables j) a b → KeepsForeign (schema_tables j) (schema_tables k) b c → KeepsForeign (schema_tables i) (schema_tables k) a c
   foreign_then one two = record {
@@ -66,12 +66,13 @@ module _ (m : ℕ) (old mid new : State) (told : IsTold m old mid) (climbed : Is
   climbs : Climbs m NEWEST mid new
   climbs = climbed.climbs (known_within m (known_there m old.now.schema told.there)).1
 
-  pub climbed_by : (n : ℕ) → HoldsSchema n old.now → HoldsSchema NEWEST new.committed × ((o : List ℕ) → schema_records NEWEST new.committed o ≡ schema_records n old.now o)
+  pub climbed_by : (n : ℕ) → HoldsSchema n old.now
+      → HoldsSchema NEWEST new.committed × ((o : List ℕ) → schema_records NEWEST new.committed o ≡ schema_records n old.now o) × ((tables_at NEWEST new.committed).pages ≡ (tables_at n old.now).pages)
   climbed_by n h =
       let is : n ≡ m = version_is_told m n old mid told h in
       let becomes : Becomes m NEWEST old.now new.committed = subst (λ (db : Database). Becomes m NEWEST db new.committed) told.same (climbs.becomes (climbed.is_open told.is_open)) in
       let held : HoldsSchema m old.now = subst (λ (k : ℕ). HoldsSchema k old.now) is h in
-      (becomes.holds held, λ o. becomes.records held o ∙ ap (λ (k : ℕ). schema_records k old.now o) (sym is))
+      (becomes.holds held, λ o. becomes.records held o ∙ ap (λ (k : ℕ). schema_records k old.now o) (sym is), becomes.pages held ∙ ap (λ (k : ℕ). (tables_at k old.now).pages) (sym is))
 
   -- and tables of others are kept
   pub kept_beside : (n : ℕ) → all_there n old.now.schema ≡ true → KeepsBeside n NEWEST old.now new.committed

@@ -9,7 +9,7 @@ use Rattle.sqlite_keyed.proofs.RuleLemmas.{apart_delete}
 use Rattle.sqlite_keyed.proofs.SliceLemmas.{any_is_found}
 use Rattle.basis.specs.Names.{is_ws_name}
 use Rattle.machine.specs.Effects.{effect}
-use Rattle.machine.specs.Laws.{IsLawful, IsNamedWorkspace}
+use Rattle.machine.specs.Laws.{IsLawful}
 use Rattle.machine.specs.Order.{name_cmp}
 use Rattle.machine.specs.Records.{count_of, with_workspace, placed}
 use Rattle.machine.specs.Removal.{is_locked, is_in_use, has_use, org_removed}
@@ -30,7 +30,7 @@ use Rattle.statements.specs.Changes.{is_org, is_token, is_ws, is_ws_of, org_row_
 use Rattle.statements.specs.Finds.{cap_of, workspace_of, open_runs_of}
 use Rattle.statements.proofs.Found.{find_deleted, find_left}
 use Rattle.tables.specs.Records.{is_token_of, token_at, tokens_at, workspace_at, workspace_by, workspaces_at, organization_at, record_of}
-use Rattle.tables.specs.Sound.{IsOrgRow, IsSound}
+use Rattle.tables.specs.Sound.{IsOrgRow, IsSoundWorkspace, IsSound}
 use Rattle.tables.specs.Inner.Arrivals.{token_entry}
 use Rattle.tables.specs.Inner.Departures.{is_used_by, is_used_in, is_kept_back, workspaces_gone, tokens_gone, all_gone_of, AreAllOf, Departs}
 use Rattle.tables.specs.Inner.Edits.{removed_rows}
@@ -42,6 +42,7 @@ use Rattle.tables.proofs.Counting.{len_with}
 use Rattle.tables.proofs.Edits.{changed_puts}
 use Rattle.tables.proofs.Finding.{open_runs_found}
 use Rattle.tables.proofs.Kept.{org_there, placed_keeps}
+use Rattle.tables.proofs.KeyedRows.{organization_keyed}
 use Rattle.tables.proofs.KeptTexts.{changed_texts}
 use Rattle.tables.proofs.Lawful.{limit_there, token_there}
 use Rattle.tables.proofs.Managed.{record_there, record_missing}
@@ -95,7 +96,7 @@ module _ (org ws : List ℕ) (t : Tables) (sound : IsSound t) where
         (len_with o.workspaces ws None 100_000 (subst (λ (n : ℕ). n ≤ 100_000) (sym (len-entries o.workspaces)) (sound.counts org o there)) (λ none some. absurd (let no_one : ⊥ = cc in no_one)))
 
     removal_keeps : IsTrue (is_ws_name ws) → IsSound (removed_rows org ws t)
-    removal_keeps named = placed_keeps org ws None t (removed_rows org ws t) sound named tt o there fewer (told_changed no_keys org ws t sound removal tt) (changed_texts no_keys org ws t sound removal tt)
+    removal_keeps named = placed_keeps org ws None t (removed_rows org ws t) sound named tt tt o there fewer (told_changed no_keys org ws t sound removal tt) (changed_texts no_keys org ws t sound removal tt)
         (changed_are_owned org ws no_keys t sound (org_there t org o.limit (limit_there t org o there)) removal tt) removal_puts
 
 module _ (org : List ℕ) (first : Tables) where
@@ -212,6 +213,7 @@ module _ (org : List ℕ) (is_forced : Bool) (t : Tables) where
     sound = sound;
     own = subst (λ (r : Option Organization). effect Absent r ≡ org_removed is_forced r) (sym (record_missing t org none)) refl;
     others = λ q apart. refl;
+    keyed = λ key_of keyed. keyed;
   }
 
   module _ (sound : IsSound t) (names : List (List ℕ)) (list : List NamedToken) (are : AreAllOf org names list t) (cap : ℕ) (found : cap_of org t ≡ Some cap) where
@@ -243,7 +245,7 @@ module _ (org : List ℕ) (is_forced : Bool) (t : Tables) where
             ∙ ap (λ (n : ℕ). is_locked c.holder || nat_lt 0 n) (open_runs_found t org ws (subst (λ (v : Workspace). open_runs v.runs ≤ 100) (sym same) lawful.runs.open_runs))
             ∙ ap is_in_use same
 
-    any_used : (es : List (List ℕ × Workspace)) → AllByRecursion (λ (e : List ℕ × Workspace). (workspace_by t org e.0 ≡ Some e.1) × IsNamedWorkspace e.0 e.1) es
+    any_used : (es : List (List ℕ × Workspace)) → AllByRecursion (λ (e : List ℕ × Workspace). (workspace_by t org e.0 ≡ Some e.1) × IsSoundWorkspace e.0 e.1) es
         → list_any (λ ws. is_used_in org ws t) (map (λ (e : List ℕ × Workspace). e.0) es) ≡ list_any (λ (e : List ℕ × Workspace). is_in_use e.1) es
     any_used [] all = refl
     any_used (e ∷ es) all = (λ i. used_is e.0 e.1 all.0.0 all.0.1.lawful i || any_used es all.1 i)
@@ -256,13 +258,13 @@ module _ (org : List ℕ) (is_forced : Bool) (t : Tables) where
 
     -- it is in use
     pub departs_kept : true ≡ is_kept_back org is_forced names t → Departs InUse is_forced org t t
-    departs_kept is = record { sound = sound; own = ap (effect InUse) here ∙ sym (ruled true is); others = λ q apart. refl }
+    departs_kept is = record { sound = sound; own = ap (effect InUse) here ∙ sym (ruled true is); others = λ q apart. refl; keyed = λ key_of keyed. keyed }
 
     -- ---- it goes
 
     emptied : HasNoWorkspaces org t source (workspaces_gone org (map (λ (e : List ℕ × Workspace). e.0) (entries (workspaces_at t org))) t)
     emptied = workspaces_go org t (entries (workspaces_at t org)) (entries_sorted (workspaces_at t org))
-        (all_weaker (λ (e : List ℕ × Workspace). (workspace_by t org e.0 ≡ Some e.1) × IsNamedWorkspace e.0 e.1) (λ (e : List ℕ × Workspace). IsTrue (is_ws_name e.0)) (λ e is. is.1.named) (entries (workspaces_at t org)) (workspaces_are t org sound cap found))
+        (all_weaker (λ (e : List ℕ × Workspace). (workspace_by t org e.0 ≡ Some e.1) × IsSoundWorkspace e.0 e.1) (λ (e : List ℕ × Workspace). IsTrue (is_ws_name e.0)) (λ e is. is.1.named) (entries (workspaces_at t org)) (workspaces_are t org sound cap found))
         source (get-entries (workspaces_at t org)) t (record { sound = sound; own = here; others = λ q apart. refl })
 
     bare : HasNothing org t (tokens_gone org list (workspaces_gone org (map (λ (e : List ℕ × Workspace). e.0) (entries (workspaces_at t org))) t))
@@ -280,4 +282,5 @@ module _ (org : List ℕ) (is_forced : Bool) (t : Tables) where
           sound = row_keeps org before bare.leads.sound bare.left bare.leads.own bare.none bare.no_token;
           own = ap (effect Done) (row_own org before) ∙ sym (ruled false is);
           others = λ q apart. row_other org before q apart ∙ bare.leads.others q apart;
+          keyed = λ key_of. organization_keyed key_of org (map (λ (e : List ℕ × Workspace). e.0) (entries (workspaces_at t org))) list t;
         })

@@ -13,7 +13,6 @@ use Rattle.basis.specs.declared.rows.Settings.{Settings}
 use Rattle.basis.specs.declared.runs.RunStatus.TheVariants.{Pending, Planning, Canceled}
 use Rattle.basis.specs.declared.runs.RunAction.TheVariants.{Cancel}
 use Rattle.basis.specs.declared.numbers.TheConstants.{MAX_LIMIT}
-use Rattle.machine.specs.Laws.{IsNamedWorkspace}
 use Rattle.machine.specs.Records.{count_of}
 use Rattle.machine.specs.declared.acts.Edit.TheVariants.{Make, Configure, Remove, AddVersion, Purge, Release, AddRun, Report}
 use Rattle.basis.specs.declared.rows.Holder.TheVariants.{Nobody, Lock, Run as HoldingRun}
@@ -33,7 +32,7 @@ use Rattle.statements.proofs.NameLists.{same_text}
 use Rattle.tables.proofs.Finding.{entries_counted}
 use Rattle.tables.specs.Records.{record_of, organization_at, workspace_at, workspace_by}
 use Rattle.tables.specs.Opening.{has_versions_in}
-use Rattle.tables.specs.Sound.{IsPlaced, HasText, IsSound}
+use Rattle.tables.specs.Sound.{IsPlaced, HasText, HasNoGap, IsSoundWorkspace, IsSound}
 use Rattle.tables.specs.Inner.Edits.{so_many_gone, gone_below, edited_rows, changed_rows}
 use Rattle.tables.specs.Inner.Lists.{versions_listed_in, runs_listed_in, tokens_told_in}
 
@@ -358,7 +357,7 @@ one_has = record { limit = 10; tokens = from_entries ((codes "ci", ci) ∷ []); 
 one_record : record_of one acme ≡ Some one_has
 one_record = refl
 
-of_one_is_lawful : IsNamedWorkspace prod of_one
+of_one_is_lawful : IsSoundWorkspace prod of_one
 of_one_is_lawful = record {
   named = refl;
   lawful = record {
@@ -366,7 +365,6 @@ of_one_is_lawful = record {
       keep = (omega arith, omega arith);
       next = (omega arith, omega arith);
       rise = (omega arith, omega arith, tt);
-      gapless = refl;
       each = (record { serial = omega arith; lineage = omega arith; created = omega arith }, tt);
       kept = omega arith;
     };
@@ -380,6 +378,7 @@ of_one_is_lawful = record {
     };
     released = tt;
   };
+  gapless = refl;
 }
 
 -- what is found of an organization and of a workspace, by whether the name is theirs
@@ -399,15 +398,15 @@ one_counts org o is = go (bytes_eq acme org) refl
         subst (λ (x : Organization). count_of x ≤ MAX_LIMIT) (some_same told) (omega (arith, counted))
     go false e = let none : None ≡ Some o = subst (λ (b : Bool). record_if b org ≡ Some o) e is in absurd (cc)
 
-one_workspaces : (org name : List ℕ) (w : Workspace) → workspace_by one org name ≡ Some w → IsNamedWorkspace name w
+one_workspaces : (org name : List ℕ) (w : Workspace) → workspace_by one org name ≡ Some w → IsSoundWorkspace name w
 one_workspaces org name w is = go (bytes_eq acme org && bytes_eq prod name) refl
   where
-    go : (b : Bool) → (bytes_eq acme org && bytes_eq prod name) ≡ b → IsNamedWorkspace name w
+    go : (b : Bool) → (bytes_eq acme org && bytes_eq prod name) ≡ b → IsSoundWorkspace name w
     go true e =
         let parts = and_parts (bytes_eq acme org) (bytes_eq prod name) e in
         let there : workspace_by one org prod ≡ Some w = subst (λ (n : List ℕ). workspace_by one org n ≡ Some w) (sym (same_text prod name parts.1)) is in
         let told : Some of_one ≡ Some w = subst (λ (o : List ℕ). workspace_by one o prod ≡ Some w) (sym (same_text acme org parts.0)) there in
-        subst (λ (n : List ℕ). IsNamedWorkspace n w) (same_text prod name parts.1) (subst (IsNamedWorkspace prod) (some_same told) of_one_is_lawful)
+        subst (λ (n : List ℕ). IsSoundWorkspace n w) (same_text prod name parts.1) (subst (IsSoundWorkspace prod) (some_same told) of_one_is_lawful)
     go false e = let none : None ≡ Some w = subst (λ (b : Bool). workspace_if b org name ≡ Some w) e is in absurd (cc)
 
 one_use : (b : Bool) → unwrap_or (option_map (λ (x : Kept PageRow). x.1.uses) (find (λ (x : Kept PageRow). b) one.pages)) 0 ≡ length (filter (λ (x : Kept VpageRow). b) one.vpages)
@@ -464,7 +463,7 @@ of_rows rows = record one {
 abbrev of_both : Workspace
 of_both = record of_acme { versions = version 1 s1 ∷ version 2 s1 ∷ [] }
 
-of_both_is_lawful : IsNamedWorkspace prod of_both
+of_both_is_lawful : IsSoundWorkspace prod of_both
 of_both_is_lawful = record {
   named = refl;
   lawful = record {
@@ -472,13 +471,13 @@ of_both_is_lawful = record {
       keep = (omega arith, omega arith);
       next = (omega arith, omega arith);
       rise = (omega arith, omega arith, (omega arith, omega arith, tt));
-      gapless = (refl, refl);
       each = (record { serial = omega arith; lineage = omega arith; created = omega arith }, (record { serial = omega arith; lineage = omega arith; created = omega arith }, tt));
       kept = omega arith;
     };
     runs = of_one_is_lawful.lawful.runs;
     released = tt;
   };
+  gapless = (refl, refl);
 }
 
 module _ (rows : List (Kept VersionRow)) where
@@ -501,15 +500,15 @@ module _ (rows : List (Kept VersionRow)) where
           subst (λ (x : Organization). count_of x ≤ MAX_LIMIT) (some_same told) (omega (arith, counted))
       go false e = let none : None ≡ Some o = subst (λ (b : Bool). organization_if b org ≡ Some o) e is in absurd (cc)
 
-  both_workspaces : workspace_by (of_rows rows) acme prod ≡ Some of_both → (org name : List ℕ) (w : Workspace) → workspace_by (of_rows rows) org name ≡ Some w → IsNamedWorkspace name w
+  both_workspaces : workspace_by (of_rows rows) acme prod ≡ Some of_both → (org name : List ℕ) (w : Workspace) → workspace_by (of_rows rows) org name ≡ Some w → IsSoundWorkspace name w
   both_workspaces denoted org name w is = go (bytes_eq acme org && bytes_eq prod name) refl
     where
-      go : (b : Bool) → (bytes_eq acme org && bytes_eq prod name) ≡ b → IsNamedWorkspace name w
+      go : (b : Bool) → (bytes_eq acme org && bytes_eq prod name) ≡ b → IsSoundWorkspace name w
       go true e =
           let parts = and_parts (bytes_eq acme org) (bytes_eq prod name) e in
           let there : workspace_by (of_rows rows) org prod ≡ Some w = subst (λ (n : List ℕ). workspace_by (of_rows rows) org n ≡ Some w) (sym (same_text prod name parts.1)) is in
           let told : Some of_both ≡ Some w = sym denoted ∙ subst (λ (o : List ℕ). workspace_by (of_rows rows) o prod ≡ Some w) (sym (same_text acme org parts.0)) there in
-          subst (λ (n : List ℕ). IsNamedWorkspace n w) (same_text prod name parts.1) (subst (IsNamedWorkspace prod) (some_same told) of_both_is_lawful)
+          subst (λ (n : List ℕ). IsSoundWorkspace n w) (same_text prod name parts.1) (subst (IsSoundWorkspace prod) (some_same told) of_both_is_lawful)
       go false e = let none : None ≡ Some w = subst (λ (b : Bool). own_if b org name ≡ Some w) e is in absurd (cc)
 
   both_uses : (b : Bool) → unwrap_or (option_map (λ (x : Kept PageRow). x.1.uses) (find (λ (x : Kept PageRow). b) (of_rows rows).pages)) 0 ≡ length (filter (λ (x : Kept VpageRow). b) (of_rows rows).vpages)
@@ -579,6 +578,16 @@ numbered_twice = of_rows ((pos 1, first_row) ∷ (pos 2, first_row) ∷ [])
 
 numbered_twice_is_not : IsSound numbered_twice → ⊥
 numbered_twice_is_not sound = absurd (let rise = (sound.workspaces acme prod (record of_acme { versions = version 1 s1 ∷ version 1 s1 ∷ [] }) refl).lawful.versions.rise in omega (arith, rise.2.0))
+
+-- a version between two that are kept is gone, or the newest is
+gap_between : HasNoGap (1 ∷ 3 ∷ []) 4 → ⊥
+gap_between h = omega (arith, h.0)
+
+abbrev without_newest : Tables
+without_newest = of_rows ((pos 1, first_row) ∷ [])
+
+without_newest_is_not : IsSound without_newest → ⊥
+without_newest_is_not sound = absurd (let follow = (sound.workspaces acme prod (record of_acme { versions = version 1 s1 ∷ [] }) refl).gapless in omega (arith, follow))
 
 -- a version without its workspace
 abbrev orphaned : Tables

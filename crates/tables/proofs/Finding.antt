@@ -13,7 +13,7 @@ use Rattle.sqlite_trees.specs.Tree.{IsAscending}
 use Rattle.sqlite_keyed.specs.Lists.{sort_by}
 use Rattle.statements.proofs.Sorting.{filter_both, filter-sort_by, all_sorted, turned_round}
 use Rattle.std.proofs.lemmas.Option.{slice_get-map, slice_get-get_or}
-use Rattle.machine.proofs.CutLemmas.{last_taken, none_up_to, outgoing_by_number}
+use Rattle.machine.proofs.CutLemmas.{last_taken, none_up_to}
 use Rattle.sqlite_keyed.specs.Rules.{AreApart}
 use Rattle.sqlite_keyed.proofs.ListLemmas.{filter_same, filter_none, all_weaker, all_both, all-filter, slice_get-filter}
 use Rattle.sqlite_keyed.proofs.SliceLemmas.{find-slice, filter-slice, any_is_found}
@@ -21,7 +21,7 @@ use Rattle.basis.specs.Runs.{is_open}
 use Rattle.basis.specs.declared.runs.RunStatus.{RunStatus}
 use Rattle.basis.specs.declared.runs.RunStatus.TheVariants.{Pending, Planning, Planned, Applying, Applied, PlannedAndFinished, Errored, Discarded, Canceled}
 use Rattle.machine.specs.Order.{name_cmp}
-use Rattle.machine.specs.Laws.{Rises, HasNoGap, KeysDiffer, is_pending}
+use Rattle.machine.specs.Laws.{Rises, KeysDiffer, is_pending}
 use Rattle.machine.specs.Settling.{first_waiting, is_waiting}
 use Rattle.machine.specs.Workspaces.{newest, outgoing, is_numbered, run_of, has_key, is_keyed, keyed_run, holder_status, open_runs}
 use Rattle.machine.specs.Records.{count_of, workspace_in as seen_workspace}
@@ -47,13 +47,14 @@ use Rattle.statements.specs.Finds.{version_cmp, run_cmp, back_by_number, newest_
 use Rattle.statements.specs.Finds as finds
 use Rattle.statements.proofs.Found.{found_passes, found_holds}
 use Rattle.tables.specs.Records.{version_at, settings_of_cells, versions_at, runs_at, workspace_at, workspace_by, workspaces_at, organization_at, record_of}
-use Rattle.tables.specs.Sound.{HasText, IsSound}
+use Rattle.tables.specs.Sound.{HasNoGap, HasText, IsSound}
 use Rattle.texts.specs.Texts.{pages_for, text_of, are_pieces, IsWhole}
 use Rattle.texts.proofs.PieceLaws.{whole_size, same_is}
 use Rattle.tables.proofs.TextLists.{all_passing}
 use Rattle.tables.proofs.Sorted.{greater_is, sorted_anew, put_in_turn, found_sorted, count_sorted}
 use Rattle.tables.proofs.Ordered.{by_version, by_run, by_version_total, by_run_total, runs_total, versions_in, runs_in, versions_sorted, runs_sorted}
 use Rattle.tables.proofs.TextRows.{AreTexts, sound_texts, version_row_parts}
+use Rattle.tables.proofs.NoGaps.{outgoing_by_number}
 use Rattle.tables.proofs.Names.{same_name, apart_name, names_apart, pair_first, pair_second}
 use Rattle.tables.proofs.Parts.{none_mapped}
 use Rattle.tables.proofs.Sets.{entry_found, got_workspace, workspace_there, one_of}
@@ -455,7 +456,7 @@ module _ (t : Tables) (sound : IsSound t) (org : List ℕ) where
             next_version = w.next_version;
             next_run = w.next_run;
             newest = if_needed (needs act).newest (newest_unit_found t org ws w.next_version lawful.versions.rise (sound_texts t sound) (needs act).text i);
-            outgoing = outgoing_found t org ws w.next_version lawful.versions.rise lawful.versions.gapless lawful.versions.next.1 (needs act).outgoing (retention_in (needs act).retention org ws t) i;
+            outgoing = outgoing_found t org ws w.next_version lawful.versions.rise (sound.workspaces org ws _ stands).gapless lawful.versions.next.1 (needs act).outgoing (retention_in (needs act).retention org ws t) i;
             first_waiting = if_needed (needs act).waiting (first_waiting_found t org ws i);
             has_version = has_version_found t org ws w.next_version lawful.versions.rise (needs act).version i;
             asked_run = asked_run_found t org ws lawful.runs.keys (needs act).run (needs act).key i;

@@ -13,6 +13,7 @@ use Rattle.statements.specs.Finds.{cap_of}
 use Rattle.statements.specs.Steps.{Equals, Queries, Sees, LeavesAsIs}
 use Rattle.statements.specs.Tables.{Tables, Holds, tables_of}
 use Rattle.tables.specs.Opening.{IsSoundKeep}
+use Rattle.tables.specs.Scans.{ArePagesKeyed}
 use Rattle.tables.specs.Sound.{IsSound}
 use Rattle.tables.specs.Stores.{records_of}
 use Rattle.texts.proofs.Many.{sees_by}
@@ -24,6 +25,7 @@ use Rattle.tables.specs.Inner.Departures.{is_kept_back, all_gone_of, AreAllOf, D
 use Rattle.tables.specs.Inner.Steps.{IsSettled}
 use Rattle.tables.proofs.Databases.{store_by, records_by}
 use Rattle.tables.proofs.KeepFound.{seen_both}
+use Rattle.tables.proofs.KeepKeyed.{keyed_held}
 use Rattle.tables.proofs.Departing.{departs_absent, departs_kept, departs_done}
 
 -- ---- what was looked at, and one transaction
@@ -99,3 +101,6 @@ module _ {counted : Option Counted} (db : Database) (a b : State) (s : IsSoundKe
 
   pub removed_others : (o : List ℕ) → o ≢ org → records_of b.committed o ≡ records_of db o
   removed_others o apart = records_by b.committed rows.0 rows.1 o ∙ departs.others o apart
+
+  pub removed_keyed : (key_of : List ℕ → List ℕ) → ArePagesKeyed key_of (tables_of db) → ArePagesKeyed key_of (tables_of b.committed)
+  removed_keyed key_of keyed = keyed_held key_of b.committed rows.0 rows.1 (departs.keyed key_of keyed)

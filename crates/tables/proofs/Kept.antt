@@ -12,7 +12,7 @@ use Rattle.basis.specs.declared.roles.Role.{Role}
 use Rattle.basis.specs.declared.roles.Bounds.{Bounds}
 use Rattle.machine.specs.Ranges.{IsMoment}
 use Rattle.machine.specs.Order.{name_cmp}
-use Rattle.machine.specs.Laws.{IsLawful, IsLawfulIfThere, IsNamedWorkspace}
+use Rattle.machine.specs.Laws.{IsLawful, IsLawfulIfThere}
 use Rattle.machine.specs.Records.{seen_in, count_of, placed}
 use Rattle.machine.specs.Changes.{changed_by, IsDue}
 use Rattle.machine.specs.Tokens.{new_organization}
@@ -26,7 +26,7 @@ use Rattle.statements.specs.Changes.{is_org, is_token, is_digest_of, is_bound, o
 use Rattle.statements.specs.Finds.{cap_of, role_of_name, role_of_digest}
 use Rattle.statements.proofs.Found.{apart_pushed}
 use Rattle.tables.specs.Records.{workspace_by, tokens_at, organization_at, record_of}
-use Rattle.tables.specs.Sound.{TellsVersion, IsOrgRow, IsTokenRow, IsBoundRow, IsSound}
+use Rattle.tables.specs.Sound.{TellsVersion, IsOrgRow, IsTokenRow, IsBoundRow, IsGapless, IsSoundWorkspace, IsSound}
 use Rattle.tables.specs.Inner.Edits.{changed_rows, TakesEdit}
 use Rattle.texts.proofs.TextLaws.{carried_sound, no_rows_sound}
 use Rattle.tables.proofs.TextRows.{AreTexts, sound_texts, texts_carried, KeepsWorkspaces, workspace_carried, workspaces_carried}
@@ -36,7 +36,7 @@ use Rattle.tables.proofs.Telling.{told_changed}
 use Rattle.tables.proofs.Parts.{none_mapped}
 use Rattle.tables.proofs.Sets.{Puts, workspace_there, one_of, put_own, put_other}
 use Rattle.tables.proofs.Edits.{changed_puts}
-use Rattle.tables.proofs.Changes.{lawful_after}
+use Rattle.tables.proofs.Changes.{lawful_after, gapless_after}
 use Rattle.tables.proofs.Lawful.{limit_there, limit_is}
 use Rattle.tables.proofs.Counting.{count_within}
 use Rattle.tables.proofs.Owned.{AreOwned, changed_are_owned, any_pushed, last_found, pair_turned}
@@ -86,7 +86,7 @@ org_there t org cap e = any_is_found (is_org org) t.orgs ∙ sym (some_mapped (f
 -- ---- a change of a workspace
 
 -- a lawful workspace that is put in its place, or goes from it, leaves sound tables sound, where what they say of texts and of owners holds
-module _ (org ws : List ℕ) (after : Option Workspace) (t u : Tables) (sound : IsSound t) (named : IsTrue (is_ws_name ws)) (lawful : IsLawfulIfThere after) (o : Organization) (there : record_of t org ≡ Some o)
+module _ (org ws : List ℕ) (after : Option Workspace) (t u : Tables) (sound : IsSound t) (named : IsTrue (is_ws_name ws)) (lawful : IsLawfulIfThere after) (gapless : IfSome after IsGapless) (o : Organization) (there : record_of t org ≡ Some o)
     (few : count_of (placed o ws after) ≤ 100_000) (told : TellsVersion NEWEST u) (texts : AreTexts u) (owned : AreOwned u) (puts : Puts org ws after t u) where
   put_in_order : AreInOrder u.orgs u.tokens u.bounds
   put_in_order = subst (λ os. AreInOrder os u.tokens u.bounds) (sym puts.orgs) (subst (λ ts. AreInOrder t.orgs ts u.bounds) (sym puts.tokens) (subst (λ bs. AreInOrder t.orgs t.tokens bs) (sym puts.bounds) (sound_in_order t sound)))
@@ -94,10 +94,11 @@ module _ (org ws : List ℕ) (after : Option Workspace) (t u : Tables) (sound : 
   put_is : (a b : List ℕ) (w : Workspace) → workspace_by u a b ≡ Some w → is_pair org ws a b ≡ true → after ≡ Some w
   put_is a b w e same = sym puts.own ∙ subst (λ (x : List ℕ). workspace_by u x ws ≡ Some w) (pair_first org ws a b same) (subst (λ (y : List ℕ). workspace_by u a y ≡ Some w) (pair_second org ws a b same) e)
 
-  named_there : (a b : List ℕ) (w : Workspace) → workspace_by u a b ≡ Some w → (c : Bool) → is_pair org ws a b ≡ c → IsNamedWorkspace b w
+  named_there : (a b : List ℕ) (w : Workspace) → workspace_by u a b ≡ Some w → (c : Bool) → is_pair org ws a b ≡ c → IsSoundWorkspace b w
   named_there a b w e true same = record {
     named = subst (λ (n : List ℕ). IsTrue (is_ws_name n)) (sym (pair_second org ws a b same)) named;
     lawful = if_there IsLawful after w lawful (put_is a b w e same);
+    gapless = if_there IsGapless after w gapless (put_is a b w e same);
   }
   named_there a b w e false other = sound.workspaces a b w (sym (puts.others a b other) ∙ e)
 
@@ -140,7 +141,7 @@ pub changed_keeps : (keys : ℕ → List ℕ) (org ws : List ℕ) (t : Tables) �
 changed_keeps keys org ws t sound change takes o named there due =
     let lawful : IsLawfulIfThere (changed_by change (workspace_by t org ws)) = lawful_after org ws t sound change o there due in
     let counted : count_of (placed o ws (changed_by change (get o.workspaces ws))) ≤ 100_000 = count_within o ws change due 100_000 (limit_is t sound org o there) (sound.counts org o there) in
-    placed_keeps org ws (changed_by change (workspace_by t org ws)) t (changed_rows keys org ws change t) sound named lawful o there
+    placed_keeps org ws (changed_by change (workspace_by t org ws)) t (changed_rows keys org ws change t) sound named lawful (gapless_after org ws t sound change o there due) o there
     (subst (λ (w : Option Workspace). count_of (placed o ws (changed_by change w)) ≤ 100_000) (workspace_there t org ws o there) counted) (told_changed keys org ws t sound change takes)
     (changed_texts keys org ws t sound change takes) (changed_are_owned org ws keys t sound (org_there t org o.limit (limit_there t org o there)) change takes) (changed_puts keys org ws t sound change takes lawful)
 

@@ -92,5 +92,7 @@ sound_is_lawful t sound org o e = record {
       (and_from _ _ (subst (λ (n : List ℕ). bytes_eq n x.row.1.org ≡ true) (sym orgs) (name_is x.row.1.org)) (subst (λ (n : List ℕ). bytes_eq n x.row.1.it.digest ≡ true) (sym digests) (name_is x.row.1.it.digest)))
       (and_from _ _ (subst (λ (n : List ℕ). bytes_eq x.row.1.org n ≡ true) (sym orgs) (name_is x.row.1.org)) (subst (λ (n : List ℕ). bytes_eq x.row.1.it.digest n ≡ true) (sym digests) (name_is x.row.1.it.digest))) in
       sym (pair_second org name x.row.1.org x.row.1.name p) ∙ ap (λ (r : Kept TokenRow). r.1.name) rows ∙ pair_second org other y.row.1.org y.row.1.name q;
-  workspaces = λ name w f. sound.workspaces org name w (sym (workspace_there t org name o e) ∙ f);
+  workspaces = λ name w f.
+      let is = sound.workspaces org name w (sym (workspace_there t org name o e) ∙ f) in
+      record { named = is.named; lawful = is.lawful };
 }

@@ -15,7 +15,7 @@ use Rattle.sqlite_keyed.proofs.SortLemmas.{sort_by-map}
 use Rattle.sqlite_keyed.proofs.SliceLemmas.{find-slice}
 use Rattle.basis.specs.Names.{is_ws_name, admits}
 use Rattle.basis.specs.Listings.{listing_of}
-use Rattle.machine.specs.Laws.{Rises, IsNamedWorkspace}
+use Rattle.machine.specs.Laws.{Rises}
 use Rattle.machine.specs.Order.{name_cmp}
 use Rattle.machine.specs.Records.{workspace_in as seen_workspace}
 use Rattle.machine.specs.Showing as showing
@@ -34,7 +34,7 @@ use Rattle.statements.specs.Listings.{is_behind, workspaces_by_name, named_row a
 use Rattle.statements.proofs.Conditions.{one_less_is}
 use Rattle.statements.proofs.Sorting.{all_sorted}
 use Rattle.tables.specs.Records.{settings_of_cells, retention_at, version_at, versions_at, runs_at, workspace_at, workspaces_at, organization_at, record_of}
-use Rattle.tables.specs.Sound.{IsSound}
+use Rattle.tables.specs.Sound.{IsSoundWorkspace, IsSound}
 use Rattle.texts.specs.Texts.{IsWhole}
 use Rattle.texts.proofs.PieceLaws.{whole_size}
 use Rattle.tables.proofs.TextRows.{AreTexts, sound_texts}
@@ -228,13 +228,13 @@ module _ (t : Tables) (org : List ℕ) where
 
   module _ (sound : IsSound t) where
     -- each is lawful, and its name is one
-    are_lawful : AllByRecursion (λ (e : List ℕ × WorkspaceCells). IsNamedWorkspace e.0 (workspace_at t org e.0 e.1)) (entries (workspaces_by_name org t))
-    are_lawful = all_weaker (λ (e : List ℕ × WorkspaceCells). find_entry name_cmp e.0 (entries (workspaces_by_name org t)) ≡ Some e.1) (λ (e : List ℕ × WorkspaceCells). IsNamedWorkspace e.0 (workspace_at t org e.0 e.1))
+    are_lawful : AllByRecursion (λ (e : List ℕ × WorkspaceCells). IsSoundWorkspace e.0 (workspace_at t org e.0 e.1)) (entries (workspaces_by_name org t))
+    are_lawful = all_weaker (λ (e : List ℕ × WorkspaceCells). find_entry name_cmp e.0 (entries (workspaces_by_name org t)) ≡ Some e.1) (λ (e : List ℕ × WorkspaceCells). IsSoundWorkspace e.0 (workspace_at t org e.0 e.1))
         (λ e found. sound.workspaces org e.0 (workspace_at t org e.0 e.1) (ap (option_map (workspace_at t org e.0)) (sym (row_of_name e.0) ∙ get-entries (workspaces_by_name org t) e.0 ∙ found)))
         (entries (workspaces_by_name org t)) (all_found (entries (workspaces_by_name org t)) (entries_sorted (workspaces_by_name org t)))
 
     -- a row as it is shown is the workspace as it is shown
-    row_shown : (e : List ℕ × WorkspaceCells) → IsNamedWorkspace e.0 (workspace_at t org e.0 e.1) → ws_row_in org t (named_at org t e) ≡ showing.row_of e.0 (showing.shown_of (workspace_at t org e.0 e.1))
+    row_shown : (e : List ℕ × WorkspaceCells) → IsSoundWorkspace e.0 (workspace_at t org e.0 e.1) → ws_row_in org t (named_at org t e) ≡ showing.row_of e.0 (showing.shown_of (workspace_at t org e.0 e.1))
     row_shown e named =
         ap (λ (version : Option ℕ). record { settings = settings_of_cells (retention_at t org e.0) e.1; holder = showing.holder_id e.1.holder; name = e.0; version = version })
         (newest_is_shown t org e.0 e.1.next_version named.lawful.versions.next.1 named.lawful.versions.rise ∙ newest_number_found t org e.0 e.1.next_version named.lawful.versions.rise)
@@ -256,7 +256,7 @@ module _ (t : Tables) (org : List ℕ) where
         ∙ ap (map (λ (e : List ℕ × WorkspaceCells). ws_row_in org t (named_at org t e))) (ap (filter (λ (e : List ℕ × WorkspaceCells). is_behind (unwrap_or after []) e.0 && admits prefix e.0)) (sym (itself (entries (workspaces_by_name org t)))))
         ∙ shown_rows (λ (e : List ℕ × WorkspaceCells). e) (λ (e : List ℕ × WorkspaceCells). ws_row_in org t (named_at org t e)) (λ (e : List ℕ × WorkspaceCells). (e.0, workspace_at t org e.0 e.1))
         (λ (e : List ℕ × Workspace). showing.row_of e.0 (showing.shown_of e.1)) (λ (e : List ℕ × WorkspaceCells). is_behind (unwrap_or after []) e.0 && admits prefix e.0) (λ (e : List ℕ × Workspace). showing.is_listed after prefix e.0)
-        (entries (workspaces_by_name org t)) (all_weaker (λ (e : List ℕ × WorkspaceCells). IsNamedWorkspace e.0 (workspace_at t org e.0 e.1)) _ (λ e lawful. (row_shown e lawful, passes after prefix e lawful.named)) (entries (workspaces_by_name org t)) are_lawful))
+        (entries (workspaces_by_name org t)) (all_weaker (λ (e : List ℕ × WorkspaceCells). IsSoundWorkspace e.0 (workspace_at t org e.0 e.1)) _ (λ e lawful. (row_shown e lawful, passes after prefix e lawful.named)) (entries (workspaces_by_name org t)) are_lawful))
         ∙ ap (showing.workspaces_listed after prefix) (sym record_entries)
       where
         mapped : (es : List (List ℕ × WorkspaceCells)) → map (ws_row_in org t) (map (named_at org t) es) ≡ map (λ (e : List ℕ × WorkspaceCells). ws_row_in org t (named_at org t e)) es

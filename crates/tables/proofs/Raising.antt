@@ -268,14 +268,15 @@ record Step (n : ℕ) : Type 0 where
   sound : (t : Tables) → IsSoundIn n (up_to n t) → IsSoundIn (suc n) (raised n (up_to n t))
   still : (t : Tables) → up_to (suc n) (raised n (up_to n t)) ≡ raised n (up_to n t)
   apart : list_all (is_apart (added_by (suc n))) (later_tables (suc n)) ≡ true
+  pages : (t : Tables) → (raised n (up_to n t)).pages ≡ (up_to n t).pages
 
 first_step : Step 1
 unfolding same_name
-first_step = record { same = λ t. record_raised (up_to 1 t) refl; sound = λ t. raised_sound (up_to 1 t) refl; still = λ t. refl; apart = refl }
+first_step = record { same = λ t. record_raised (up_to 1 t) refl; sound = λ t. raised_sound (up_to 1 t) refl; still = λ t. refl; apart = refl; pages = λ t. refl }
 
 second_step : Step 2
 unfolding same_name
-second_step = record { same = λ t. third_record (up_to 2 t) refl; sound = λ t. third_sound (up_to 2 t) refl; still = λ t. refl; apart = refl }
+second_step = record { same = λ t. third_record (up_to 2 t) refl; sound = λ t. third_sound (up_to 2 t) refl; still = λ t. refl; apart = refl; pages = λ t. refl }
 
 step_of : (n : ℕ) → is_known n ≡ true → n < NEWEST → Step n
 step_of zero known low = absurd (cc)
@@ -341,6 +342,10 @@ module _ (n : ℕ) (low : n < NEWEST) (old new : Database) (raises : Raises n ol
   -- a database of a version has become one of the next
   pub becomes_next : Becomes n (suc n) old new × KeepsBeside n (suc n) old new
   becomes_next = (
-    record { holds = next_holds; records = λ h org. ap (λ (u : Tables). record_of u org) (rows_are h) ∙ (step h).same (tables_of old) org },
+    record {
+      holds = next_holds;
+      records = λ h org. ap (λ (u : Tables). record_of u org) (rows_are h) ∙ (step h).same (tables_of old) org;
+      pages = λ h. ap (λ (u : Tables). u.pages) (rows_are h) ∙ (step h).pages (tables_of old);
+    },
     record { holds = λ t h. (raised n t, raises.holds t h); foreign = raises.foreign },
   )

@@ -18,7 +18,7 @@ use Rattle.statements.specs.Tables.{Tables}
 use Rattle.statements.specs.Changes.{is_ws, with_next_version, with_next_run, held_by, released_from, ws_changed, ws_added, run_added}
 use Rattle.statements.specs.Finds.{workspace_of, size_of}
 use Rattle.tables.specs.Records.{workspace_of_cells, retention_at, record_of}
-use Rattle.tables.specs.Sound.{IsSound}
+use Rattle.tables.specs.Sound.{IsGapless, IsSound}
 use Rattle.tables.specs.Inner.Edits.{made_rows, added_rows, FitsTwins}
 use Rattle.tables.specs.Inner.Copies.{released_rows, held_rows, head_rows, Carries, with_versions, with_runs, Begins}
 use Rattle.tables.specs.Inner.Standing.{AreTexts, AreOwned, versions_in, runs_in, workspace_of_rows, StandsSoFar}
@@ -182,6 +182,6 @@ module _ (org ws : List ℕ) (w : Workspace) (t u : Tables) (lawful : IsLawful w
   stands_others = put_other org ws (Some w) t u stands_puts
 
 -- tables are sound with it
-pub stands_sound : (org ws : List ℕ) (w : Workspace) (t u : Tables) → IsSound t → IsTrue (is_ws_name ws) → IsLawful w → (o : Organization) → record_of t org ≡ Some o → count_of (placed o ws (Some w)) ≤ 100_000 → StandsSoFar org ws w t u → IsSound u
-stands_sound org ws w t u sound named lawful o there few stands =
-    placed_keeps org ws (Some w) t u sound named lawful o there few (stands.editions ∙ sound.told.0, stands.metas ∙ sound.told.1) stands.texts stands.owned (stands_puts org ws w t u lawful stands)
+pub stands_sound : (org ws : List ℕ) (w : Workspace) (t u : Tables) → IsSound t → IsTrue (is_ws_name ws) → IsLawful w → IsGapless w → (o : Organization) → record_of t org ≡ Some o → count_of (placed o ws (Some w)) ≤ 100_000 → StandsSoFar org ws w t u → IsSound u
+stands_sound org ws w t u sound named lawful gapless o there few stands =
+    placed_keeps org ws (Some w) t u sound named lawful gapless o there few (stands.editions ∙ sound.told.0, stands.metas ∙ sound.told.1) stands.texts stands.owned (stands_puts org ws w t u lawful stands)

@@ -4,8 +4,8 @@ pub mod Copies
 pub mod Counting
 pub mod Departures
 pub mod Edits
+pub mod Keys
 pub mod Lists
-pub mod Logged
 pub mod Looks
 pub mod Making
 pub mod Scans

@@ -1,12 +1,13 @@
 -- When tables are sound.
-use Rattle.std.specs.Prelude.{◌≡◌, ◌≤◌, ◌<◌, ℕ, zero, suc, pos, true, List, [], ◌∷◌, length, Some, IfSome, IsSomeAnd, IsTrue}
+use Rattle.std.specs.Prelude.{⊤, ◌≡◌, ◌≤◌, ◌<◌, ◌+◌, ℕ, zero, suc, pos, true, List, [], ◌∷◌, length, map, Some, IfSome, IsSomeAnd, IsTrue}
 use Rattle.std.specs.List.{AllByRecursion, list_any}
 use Rattle.sqlite_keyed.specs.Rules.{AreApart}
-use Rattle.basis.specs.Names.{is_org_name, is_prefix}
+use Rattle.basis.specs.Names.{is_org_name, is_ws_name, is_prefix}
 use Rattle.basis.specs.declared.numbers.TheConstants.{MAX_LIMIT}
-use Rattle.machine.specs.Laws.{IsNamedWorkspace}
+use Rattle.machine.specs.Laws.{IsLawful}
 use Rattle.machine.specs.Ranges.{IsMoment}
 use Rattle.machine.specs.Records.{count_of}
+use Rattle.machine.specs.declared.records.Version.{Version}
 use Rattle.machine.specs.declared.records.Workspace.{Workspace}
 use Rattle.machine.specs.declared.records.Organization.{Organization}
 use Rattle.statements.specs.Rows.{Kept, OrgRow, TokenRow, BoundRow, VersionRow, VpageRow}
@@ -45,6 +46,22 @@ IsPlaced t x = IsSomeAnd (size_of x.1.org x.1.ws x.1.number t) (λ size. x.1.pla
 abbrev pub HasText : Tables → Kept VersionRow → Type 0
 HasText t x = IsWhole x.1.org x.1.ws x.1.it.number x.1.it.size t
 
+-- each number is followed by the one after it, and the last one by `next`
+abbrev pub HasNoGap : List ℕ → ℕ → Type 0
+HasNoGap [] next = ⊤
+HasNoGap (n ∷ []) next = n + 1 ≡ next
+HasNoGap (n ∷ m ∷ ns) next = (n + 1 ≡ m) × HasNoGap (m ∷ ns) next
+
+-- from the oldest version that is kept up to the next number none is missing
+abbrev pub IsGapless : Workspace → Type 0
+IsGapless w = HasNoGap (map (λ (v : Version). v.number) w.versions) w.next_version
+
+-- what sound rows denote: a lawful workspace, under its name, none of whose versions is missing
+pub record IsSoundWorkspace (name : List ℕ) (w : Workspace) : Type 0 where
+  pub named : IsTrue (is_ws_name name)
+  pub lawful : IsLawful w
+  pub gapless : IsGapless w
+
 -- When tables of a version are sound. A law of a table that the version hasn't asks for nothing: that table has no rows.
 pub record IsSoundIn (n : ℕ) (t : Tables) : Type 0 where
   -- the tables are those of this version, and say so
@@ -78,8 +95,9 @@ pub record IsSoundIn (n : ℕ) (t : Tables) : Type 0 where
   pub places : HasSoundPlaces t
   pub placed : AllByRecursion (IsPlaced t) t.vpages
   pub texts : AllByRecursion (HasText t) t.versions
-  -- each workspace that the rows denote is lawful: what it keeps is in range, and no two of its versions or runs have one number
-  pub workspaces : (org name : List ℕ) (w : Workspace) → workspace_by t org name ≡ Some w → IsNamedWorkspace name w
+  -- each workspace that the rows denote is lawful: what it keeps is in range, and no two of its versions or runs have one number; and
+  -- no version between two that are kept is missing
+  pub workspaces : (org name : List ℕ) (w : Workspace) → workspace_by t org name ≡ Some w → IsSoundWorkspace name w
 
 -- when tables of the newest version are sound
 abbrev pub IsSound : Tables → Type 0

@@ -21,10 +21,11 @@ pub record HoldsSchema (n : ℕ) (db : Database) : Type 0 where
 abbrev pub schema_records : ℕ → Database → List ℕ → Option Organization
 schema_records n db = record_of (tables_at n db)
 
--- A database of a version has become one of another, with the same records.
+-- A database of a version has become one of another, with the same records and the same pages.
 pub record Becomes (from to : ℕ) (old new : Database) : Type 0 where
   pub holds : HoldsSchema from old → HoldsSchema to new
   pub records : HoldsSchema from old → (org : List ℕ) → schema_records to new org ≡ schema_records from old org
+  pub pages : HoldsSchema from old → (tables_at to new).pages ≡ (tables_at from old).pages
 
 -- The tables of a version, sound or not, have become those of another, and tables of others beside them keep their places and their rows.
 pub record KeepsBeside (from to : ℕ) (old new : Database) : Type 0 where

@@ -2,6 +2,7 @@
 ghost use Rattle.std.specs.Prelude.{⊤};
 ghost use Rattle.statements.specs.Steps.{Sees};
 ghost use Rattle.tables.specs.Inner.Copies.{RelatedSteps};
+ghost use Rattle.tables.specs.Inner.Keys.{KeepsKeys, KeepsPages};
 ghost use Rattle.tables.specs.Inner.Arrivals.{TakesFrom, TokenComes, TokensCome, WorkspacesCome, Brings};
 
 use crate::copies::copy_workspace;
@@ -21,6 +22,7 @@ fn copy_token<T: Alter, S: Alter>(
 ) -> Result<(), Error>
     ensures looks { Sees T.Store (λ _ _. ⊤) from.old from.new result }
     ensures copies { RelatedSteps S.Store (TakesFrom T.Store (TokenComes org.now token.now) from.old from.new) tx.old tx.new result }
+    ensures pages { RelatedSteps S.Store KeepsPages tx.old tx.new result }
 {
     let name = token.name.as_str();
     let Some(reach) = bounds::find(from, org, name)? else {
@@ -45,6 +47,7 @@ fn copy_tokens<T: Alter, S: Alter>(
 ) -> Result<(), Error>
     ensures looks { Sees T.Store (λ _ _. ⊤) from.old from.new result }
     ensures copies { RelatedSteps S.Store (TakesFrom T.Store (TokensCome org.now list.now) from.old from.new) tx.old tx.new result }
+    ensures pages { RelatedSteps S.Store KeepsPages tx.old tx.new result }
 {
     'tokens: for token in list {
         copy_token(tx, from, org, token)?;
@@ -62,6 +65,7 @@ fn copy_workspaces<T: Alter, K: PageKey, S: Alter>(
 ) -> Result<(), Error>
     ensures looks { Sees T.Store (λ _ _. ⊤) from.old from.new result }
     ensures copies { RelatedSteps S.Store (TakesFrom T.Store (WorkspacesCome org.now names.now) from.old from.new) tx.old tx.new result }
+    ensures keyed { RelatedSteps S.Store (KeepsKeys K.key_of) tx.old tx.new result }
 {
     'workspaces: for name in names {
         copy_workspace::<T, K, S>(tx, alloc, from, org, name.as_str())?;
@@ -79,6 +83,7 @@ pub(crate) fn bring<T: Alter, K: PageKey, S: Alter>(
 ) -> Result<(), Error>
     ensures looks { Sees T.Store (λ _ _. ⊤) from.old from.new result }
     ensures brings { RelatedSteps S.Store (TakesFrom T.Store (Brings org.now cap) from.old from.new) tx.old tx.new result }
+    ensures keyed { RelatedSteps S.Store (KeepsKeys K.key_of) tx.old tx.new result }
 {
     let list = tokens::list_whole(alloc, from, org)?;
     let names = workspaces::names(alloc, from, org)?;

@@ -9,10 +9,11 @@ ghost use Rattle.statements.specs.Tables.{Tables, Holds};
 ghost use Rattle.tables.specs.Records.{version_at, workspace_by, workspace_of_cells};
 ghost use Rattle.tables.specs.Sound.{IsSound};
 ghost use Rattle.tables.specs.Inner.Copies.{RelatedSteps, AreMadeBy, released_rows, held_rows, counted_rows, Carries, with_versions, with_runs, Begins};
+ghost use Rattle.tables.specs.Inner.Keys.{KeepsKeys, KeepsPages};
 
 use crate::steps;
 use crate::wholes::{Whole, read_whole};
-use basis::{Bytes, Holder, LockId, Retention, RunRow, VersionRow};
+use basis::{Bytes, Holder, KeepCount, LockId, RunRow, VersionRow};
 use machine::{StateText, Version};
 use pages::PageKey;
 use sqlite::{Alter, Connection, Error, Transaction};
@@ -81,9 +82,10 @@ fn put_head<S: Alter>(
     org: &str,
     ws: &str,
     head: &Workspace,
-    retention: Retention,
+    retention: KeepCount,
 ) -> Result<(), Error>
-    ensures { RelatedSteps S.Store (Begins org.now ws.now (workspace_of_cells retention head.now [] [])) tx.old tx.new result }
+    ensures begins { RelatedSteps S.Store (Begins org.now ws.now (workspace_of_cells retention head.now [] [])) tx.old tx.new result }
+    ensures pages { RelatedSteps S.Store KeepsPages tx.old tx.new result }
 {
     workspaces::add(tx, org, ws, head.runs, retention)?;
     put_counts(tx, org, ws, head)?;
@@ -116,6 +118,7 @@ fn copy_version<T: Alter, K: PageKey, S: Alter>(
     ensures looks { Sees T.Store (λ _ _. ⊤) from.old from.new result }
     ensures copies { (version : AnyVersion) × RelatedSteps S.Store (Carries org.now ws.now (with_versions (version ∷ []))) tx.old tx.new result
         × (HasCleanDisk (state T.Store from.new) → OnOk result ((f : Tables) → Holds (state T.Store from.old).now f → version ≡ version_at f org.now ws.now head.now)) }
+    ensures keyed { RelatedSteps S.Store (KeepsKeys K.key_of) tx.old tx.new result }
 {
     let text = texts::text(alloc, from, org, ws, head.number, head.size)?;
     let version = version_of(alloc, head, text)?;
@@ -134,6 +137,7 @@ fn copy_versions<T: Alter, K: PageKey, S: Alter>(
     ensures looks { Sees T.Store (λ _ _. ⊤) from.old from.new result }
     ensures copies { (versions : List AnyVersion) × RelatedSteps S.Store (Carries org.now ws.now (with_versions versions)) tx.old tx.new result
         × (HasCleanDisk (state T.Store from.new) → OnOk result ((f : Tables) → Holds (state T.Store from.old).now f → versions ≡ map (version_at f org.now ws.now) heads.now)) }
+    ensures keyed { RelatedSteps S.Store (KeepsKeys K.key_of) tx.old tx.new result }
 {
     'versions: for head in heads {
         copy_version::<T, K, S>(tx, alloc, from, org, ws, head)?;
@@ -148,7 +152,8 @@ fn copy_run<S: Alter>(
     ws: &str,
     run: &RunRow,
 ) -> Result<(), Error>
-    ensures { RelatedSteps S.Store (Carries org.now ws.now (with_runs (run.now ∷ []))) tx.old tx.new result }
+    ensures carries { RelatedSteps S.Store (Carries org.now ws.now (with_runs (run.now ∷ []))) tx.old tx.new result }
+    ensures pages { RelatedSteps S.Store KeepsPages tx.old tx.new result }
 {
     let key = steps::optional_str(&run.key);
     let message = run.message.as_str();
@@ -173,7 +178,8 @@ fn put_runs<S: Alter>(
     ws: &str,
     runs: &[RunRow],
 ) -> Result<(), Error>
-    ensures { RelatedSteps S.Store (Carries org.now ws.now (with_runs runs.now)) tx.old tx.new result }
+    ensures carries { RelatedSteps S.Store (Carries org.now ws.now (with_runs runs.now)) tx.old tx.new result }
+    ensures pages { RelatedSteps S.Store KeepsPages tx.old tx.new result }
 {
     'runs: for run in runs {
         copy_run(tx, org, ws, run)?;
@@ -194,6 +200,7 @@ fn copy_parts<T: Alter, K: PageKey, S: Alter>(
     ensures copies { (w : AnyWorkspace) × RelatedSteps S.Store (Begins org.now ws.now w) tx.old tx.new result
         × (HasCleanDisk (state T.Store from.new) → OnOk result ((f : Tables) → Holds (state T.Store from.old).now f
         → w ≡ workspace_of_cells whole.now.retention whole.now.it (map (version_at f org.now ws.now) whole.now.versions) whole.now.runs)) }
+    ensures keyed { RelatedSteps S.Store (KeepsKeys K.key_of) tx.old tx.new result }
 {
     put_head(tx, org, ws, &whole.it, whole.retention)?;
     copy_versions::<T, K, S>(tx, alloc, from, org, ws, whole.versions.as_slice())?;
@@ -211,6 +218,7 @@ pub(crate) fn copy_workspace<T: Alter, K: PageKey, S: Alter>(
     ensures looks { Sees T.Store (λ _ _. ⊤) from.old from.new result }
     ensures copies { (w : AnyWorkspace) × RelatedSteps S.Store (Begins org.now ws.now w) tx.old tx.new result
         × (HasCleanDisk (state T.Store from.new) → OnOk result ((f : Tables) → Holds (state T.Store from.old).now f → IsSound f → workspace_by f org.now ws.now ≡ Some w)) }
+    ensures keyed { RelatedSteps S.Store (KeepsKeys K.key_of) tx.old tx.new result }
 {
     let whole = read_whole(alloc, from, org, ws)?;
     copy_parts::<T, K, S>(tx, alloc, from, org, ws, &whole)

@@ -12,7 +12,7 @@ ghost use Rattle.tables.specs.Inner.Steps.{LooksAt};
 use crate::looks::{caller_as, kept};
 use crate::transactions::assert_settled;
 use basis::{
-    Holder, HolderId, Items, Listing, Number, Prefix, RunRow, Settings, VersionRow, WsName, WsRow,
+    Holder, HolderId, Items, Listing, Number, RunRow, Settings, VersionRow, WsName, WsPrefix, WsRow,
 };
 use machine::{AdminAnswer, OrgRow, TokenRow};
 use sqlite::{Alter, Connection, Error, ErrorCode};
@@ -180,7 +180,7 @@ pub(crate) fn list_of_workspaces<S: Alter>(
     alloc: Global,
     org: &str,
     after: &str,
-    prefix: &Prefix,
+    prefix: &WsPrefix,
 ) -> Result<Listing<WsRow>, Error>
     requires idle { conn.old.in_transaction ≡ false }
     ensures idle { conn.new.in_transaction ≡ false }

@@ -17,7 +17,7 @@ ghost use Rattle.tables.specs.Inner.Looks.{absent_in, runs_in, around_in, unit_f
 
 use crate::transactions::assert_settled;
 use basis::{
-    Bounds, Bytes, Caller, Holder, Items, Limit, Number, Retention, Role, RunRow, RunStatus,
+    Bounds, Bytes, Caller, Holder, Items, KeepCount, Limit, Number, Role, RunRow, RunStatus,
     Settings, Text, VersionRow,
 };
 use definitions::others;
@@ -196,11 +196,11 @@ fn newest<S: Alter>(
 }
 
 /// How many versions a workspace keeps, by its row of keeping. One without such a row keeps what one keeps at first.
-pub(crate) fn kept(retention: Option<Retention>) -> Retention
+pub(crate) fn kept(retention: Option<KeepCount>) -> KeepCount
     ensures { result ≡ unwrap_or retention FIRST_KEPT }
 {
     match retention {
-        None => Retention::first(),
+        None => KeepCount::first(),
         Some(retention) => retention,
     }
 }
@@ -211,11 +211,11 @@ fn retention<S: Alter>(
     org: &str,
     ws: &str,
     needed: bool,
-) -> Result<Retention, Error>
+) -> Result<KeepCount, Error>
     ensures looks { Sees S.Store (Equals (retention_in needed org.now ws.now)) conn.old conn.new result }
 {
     if !needed {
-        return Ok(Retention::first());
+        return Ok(KeepCount::first());
     }
     let found = keepings::find(conn, org, ws)?;
     Ok(kept(found))
@@ -254,7 +254,7 @@ fn outgoing<S: Alter>(
     org: &str,
     ws: &str,
     staying: Staying,
-    retention: Retention,
+    retention: KeepCount,
     next_version: u64,
 ) -> Result<Option<Number>, Error>
     ensures looks { Sees S.Store (Equals (outgoing_in staying retention next_version org.now ws.now)) conn.old conn.new result }
@@ -495,7 +495,7 @@ fn around<S: Alter>(
     org: &str,
     ws: &str,
     needs: &Needs<'_>,
-    retention: Retention,
+    retention: KeepCount,
     workspace: &WorkspaceCells,
 ) -> Result<Surroundings, Error>
     ensures looks { Sees S.Store (Equals (around_in (needed_of needs.now) org.now ws.now retention workspace.now)) conn.old conn.new result }
@@ -519,7 +519,7 @@ fn around<S: Alter>(
     })
 }
 
-fn unit_by(retention: Retention, workspace: WorkspaceCells, around: Surroundings) -> WorkspaceUnit
+fn unit_by(retention: KeepCount, workspace: WorkspaceCells, around: Surroundings) -> WorkspaceUnit
     ensures { result ≡ unit_from retention workspace around }
 {
     let runs = around.runs;

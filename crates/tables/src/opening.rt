@@ -6,7 +6,7 @@ ghost use Rattle.sqlite.specs.Held.{state};
 ghost use Rattle.sqlite.specs.State.{HasCleanDisk, KeepsCommit};
 ghost use Rattle.statements.specs.Place.{IsOwn};
 ghost use Rattle.statements.specs.Schema.{meta_table, version_table, edition_table};
-ghost use Rattle.statements.specs.Tables.{our_tables, table_counts};
+ghost use Rattle.statements.specs.Tables.{our_tables, table_counts, tables_at};
 ghost use Rattle.statements.specs.declared.making.TheConstants.{NEWEST};
 ghost use Rattle.tables.specs.Opening.{any_there, all_there, newest_there, tells_edition, is_integer_column, is_null, is_plain_column, tells_schema_version, is_first_key, has_none, is_meta_table, is_meta, is_edition, have_names, version_names, has_versions, TellsIn, ToldBy, IsOther, GivesBack};
 ghost use Rattle.tables.specs.Stores.{is_in_schema};
@@ -381,7 +381,8 @@ pub(crate) fn ready<S: Alter>(conn: &mut Connection<S>) -> Result<(), Fault>
     ensures stays { HasCleanDisk (state S.Store conn.new) → OnOk result (newest_there (state S.Store conn.old).now.schema ≡ true → (state S.Store conn.new).committed ≡ (state S.Store conn.old).now) }
     ensures beside { HasCleanDisk (state S.Store conn.new) → OnOk result ((n : ℕ) → all_there n (state S.Store conn.old).now.schema ≡ true → KeepsBeside n NEWEST (state S.Store conn.old).now (state S.Store conn.new).committed) }
     ensures climbed { HasCleanDisk (state S.Store conn.new) → OnOk result ((n : ℕ) → HoldsSchema n (state S.Store conn.old).now
-        → HoldsSchema NEWEST (state S.Store conn.new).committed × ((o : List ℕ) → schema_records NEWEST (state S.Store conn.new).committed o ≡ schema_records n (state S.Store conn.old).now o)) }
+        → HoldsSchema NEWEST (state S.Store conn.new).committed × ((o : List ℕ) → schema_records NEWEST (state S.Store conn.new).committed o ≡ schema_records n (state S.Store conn.old).now o)
+        × ((tables_at NEWEST (state S.Store conn.new).committed).pages ≡ (tables_at n (state S.Store conn.old).now).pages)) }
     ensures err { HasCleanDisk (state S.Store conn.new) → OnErr result (GivesBack (state S.Store conn.old) (state S.Store conn.new)) }
     ensures other { HasCleanDisk (state S.Store conn.new) → IfErr result (λ fault. fault ≡ Fault.Schema → (any_there (state S.Store conn.old).now.schema ≡ true) × IsOther (state S.Store conn.old)) }
     ensures kept { HasCleanDisk (state S.Store conn.new) → IfErr result (λ fault. fault ≡ Fault.Schema → KeepsCommit (state S.Store conn.old) (state S.Store conn.new)) }

@@ -1,9 +1,10 @@
 //! What an operator's commands do: each looks first, then changes in one transaction.
-ghost use Rattle.std.specs.Prelude.{◌≡◌, false, ◌||◌, is_some, ⊤, IfOk, OnErr};
+ghost use Rattle.std.specs.Prelude.{◌≡◌, false, ◌||◌, is_some, ⊤, IfOk, OnOk, OnErr};
 ghost use Rattle.sqlite.specs.Held.{state};
 ghost use Rattle.sqlite.specs.State.{HasCleanDisk, KeepsCommit};
 ghost use Rattle.tables.specs.Inner.Arrivals.{TakesCommitted, Copies, CommitsRelated};
 ghost use Rattle.tables.specs.Inner.Departures.{Leaves};
+ghost use Rattle.tables.specs.Inner.Keys.{KeepsKeys};
 ghost use Rattle.statements.specs.Steps.{Equals, Sees};
 ghost use Rattle.tables.specs.Inner.Steps.{ManagesBy, org_managed, limit_managed, token_managed, revocation_managed, is_taken};
 
@@ -53,6 +54,7 @@ pub(crate) fn copy<T: Alter, K: PageKey, S: Alter>(
     ensures looks { Sees T.Store (λ _ _. ⊤) from.old from.new result }
     ensures done { HasCleanDisk (state S.Store conn.new)
         → IfOk result (λ answer. CommitsRelated (TakesCommitted T.Store (Copies answer org.now) from.old from.new) (state S.Store conn.old) (state S.Store conn.new)) × OnErr result (KeepsCommit (state S.Store conn.old) (state S.Store conn.new)) }
+    ensures keyed { HasCleanDisk (state S.Store conn.new) → OnOk result (CommitsRelated (KeepsKeys K.key_of) (state S.Store conn.old) (state S.Store conn.new)) }
 {
     assert_settled(conn);
     assert_settled(from);

@@ -5,6 +5,8 @@ ghost use Rattle.statements.specs.Changes.{run_acted};
 ghost use Rattle.statements.specs.Finds.{size_of, workspace_of, oldest_below};
 ghost use Rattle.statements.specs.Steps.{Steps, Tells};
 ghost use Rattle.tables.specs.Inner.Edits.{version_gone, oldest_gone, gone_below, all_gone, removed_rows, made_rows, configured_rows, numbered_rows, row_added, added_rows, versioned_rows, run_put, run_counted, run_rows, freed_rows, edited_rows, begun_rows, changed_rows, FitsTwins, TakesVersion, TakesEdit};
+ghost use Rattle.tables.specs.Inner.Copies.{RelatedSteps};
+ghost use Rattle.tables.specs.Inner.Keys.{KeepsKeys};
 ghost use Rattle.tables.specs.Inner.Steps.{KeyedSteps};
 
 use basis::numbers::{MAX_KEPT, MAX_NUMBER};
@@ -145,6 +147,7 @@ pub(crate) fn add<K: PageKey, S: Alter>(
 ) -> Result<(), Error>
     ensures adds { KeyedSteps S.Store (λ keys. added_rows keys org.now ws.now version.now) (λ keys. FitsTwins keys org.now ws.now version.now) tx.old tx.new result }
     ensures fresh { Tells (λ _ t. size_of org.now ws.now version.now.number t ≡ None) (state S.Store tx.old.conn.now) (state S.Store tx.new.conn.now) result }
+    ensures keyed { RelatedSteps S.Store (KeepsKeys K.key_of) tx.old tx.new result }
 {
     let text = version.text.as_slice();
     let before = previous(version.number);
@@ -208,7 +211,8 @@ fn put<K: PageKey, S: Alter>(
     version: &Version,
     outgoing: Option<Number>,
 ) -> Result<(), Error>
-    ensures { KeyedSteps S.Store (λ keys. versioned_rows keys org.now ws.now version.now outgoing) (λ keys. TakesVersion keys org.now ws.now version.now) tx.old tx.new result }
+    ensures puts { KeyedSteps S.Store (λ keys. versioned_rows keys org.now ws.now version.now outgoing) (λ keys. TakesVersion keys org.now ws.now version.now) tx.old tx.new result }
+    ensures keyed { RelatedSteps S.Store (KeepsKeys K.key_of) tx.old tx.new result }
 {
     count_on(tx, org, ws, version)?;
     add::<K, S>(tx, org, ws, version)?;
@@ -325,7 +329,8 @@ fn edit<K: PageKey, S: Alter>(
     ws: &str,
     edit: &Edit,
 ) -> Result<(), Error>
-    ensures { KeyedSteps S.Store (λ keys. edited_rows keys org.now ws.now edit.now) (λ keys. TakesEdit keys org.now ws.now edit.now) tx.old tx.new result }
+    ensures edits { KeyedSteps S.Store (λ keys. edited_rows keys org.now ws.now edit.now) (λ keys. TakesEdit keys org.now ws.now edit.now) tx.old tx.new result }
+    ensures keyed { RelatedSteps S.Store (KeepsKeys K.key_of) tx.old tx.new result }
 {
     match edit {
         Edit::Make(settings) => make_workspace(tx, org, ws, settings),
@@ -369,7 +374,8 @@ pub(crate) fn change<K: PageKey, S: Alter>(
     ws: &str,
     change: &Change,
 ) -> Result<(), Error>
-    ensures { KeyedSteps S.Store (λ keys. changed_rows keys org.now ws.now change.now) (λ keys. TakesEdit keys org.now ws.now change.now.edit) tx.old tx.new result }
+    ensures changes { KeyedSteps S.Store (λ keys. changed_rows keys org.now ws.now change.now) (λ keys. TakesEdit keys org.now ws.now change.now.edit) tx.old tx.new result }
+    ensures keyed { RelatedSteps S.Store (KeepsKeys K.key_of) tx.old tx.new result }
 {
     edit::<K, S>(tx, org, ws, &change.edit)?;
     match change.start {

@@ -5,7 +5,7 @@ ghost use Rattle.sqlite.specs.Held.{state};
 ghost use Rattle.sqlite.specs.State.{HasCleanDisk, KeepsCommit};
 ghost use Rattle.tables.specs.Stores.{records_of, IsSoundStore};
 ghost use Rattle.statements.specs.Making.{KeepsTables, KeepsForeign};
-ghost use Rattle.statements.specs.Tables.{Tables, Holds, HoldsIn, schema_tables, our_tables};
+ghost use Rattle.statements.specs.Tables.{Tables, Holds, HoldsIn, schema_tables, our_tables, tables_of, tables_at};
 ghost use Rattle.tables.specs.Opening.{IsSoundKeep, IsFresh, any_there, all_there, newest_there, tells_edition, is_meta, is_edition, has_versions, TellsIn, ToldBy, IsOther, GivesBack};
 ghost use Rattle.basis.specs.Names.{is_prefix};
 ghost use Rattle.std.specs.FinMap.{get};
@@ -16,9 +16,8 @@ ghost use Rattle.machine.specs.declared.records.Organization.{Organization as An
 ghost use Rattle.machine.specs.Ranges.{IsMoment};
 ghost use Rattle.tables.specs.Copying.{IsCopied};
 ghost use Rattle.tables.specs.Defined.{TellsTables};
-ghost use Rattle.tables.specs.Scans.{AreRowsOf};
-ghost use Rattle.tables.specs.Inner.Logged.{text_bytes};
-ghost use Rattle.tables.specs.Logs.{CopiesLog};
+ghost use Rattle.tables.specs.Scans.{AreRowsOf, ArePagesKeyed};
+ghost use Rattle.tables.specs.Logs.{text_bytes, CopiesLog};
 ghost use Rattle.tables.specs.declared.store.TheConstants.{LONG_LOG};
 ghost use Rattle.tables.specs.Versions.{HoldsSchema, schema_records};
 
@@ -27,8 +26,8 @@ use crate::opening::ready;
 use crate::{counts, listings, looks, operators, scans, transactions};
 use basis::numbers::{MAX_LIMIT, MAX_MOMENT, MAX_NUMBER};
 use basis::{
-    Bounds, Bytes, Down, Items, Limit, Listing, Number, OrgName, Prefix, Role, RunRow, Text,
-    VersionRow, WsName, WsRow,
+    Bounds, Bytes, Down, Items, Limit, Listing, Number, OrgName, Role, RunRow, Text, VersionRow,
+    WsName, WsPrefix, WsRow,
 };
 use machine::{Act, AdminAnswer, Change, Edit, Fault, Keep, TokenRow, Unit};
 use pages::PageKey;
@@ -58,15 +57,18 @@ pub struct SqlKeep<S: Alter, K: PageKey> {
 }
 
 impl<K: PageKey> SqlKeep<MemStore, K> {
-    /// What is promised of a store in memory always holds.
+    /// What is promised of a store in memory always holds, and it is always shielded.
     pub fn is_always_clean(&self)
-        ensures { ⟦<SqlKeep<MemStore, K> as Keep>⟧.clean self.now }
+        ensures clean { ⟦<SqlKeep<MemStore, K> as Keep>⟧.clean self.now }
+        ensures shielded { ⟦<SqlKeep<MemStore, K> as Keep>⟧.shielded self.now }
     {}
 
     /// The store with no organization, in memory.
     pub fn in_memory(alloc: Global) -> Result<SqlKeep<MemStore, K>, Down>
         ensures empty { IfOk result (λ keep. (o : List ℕ) → ⟦<SqlKeep<MemStore, K> as Keep>⟧.rows keep o ≡ None) }
         ensures sound { IfOk result (λ keep. ⟦<SqlKeep<MemStore, K> as Keep>⟧.sound keep) }
+        ensures shielded { IfOk result (λ keep. ⟦<SqlKeep<MemStore, K> as Keep>⟧.shielded keep) }
+        ensures keyed { IfOk result (λ keep. ⟦<SqlKeep<MemStore, K> as Keep>⟧.keyed keep) }
     {
         let conn = Connection::open_in_memory(alloc)?;
         match SqlKeep::open(conn) {
@@ -103,6 +105,9 @@ impl<S: Alter, K: PageKey> SqlKeep<S, K> {
             → (IsSoundStore (state S.Store conn).now → ⟦<SqlKeep<S, K> as Keep>⟧.sound keep) × ((o : List ℕ) → ⟦<SqlKeep<S, K> as Keep>⟧.rows keep o ≡ records_of (state S.Store conn).now o)) }
         ensures stays { IfOk result (λ keep. ⟦<SqlKeep<S, K> as Keep>⟧.clean keep → newest_there (state S.Store conn).now.schema ≡ true
             → (state S.Store keep.conn).committed ≡ (state S.Store conn).now) }
+        ensures keyed { IfOk result (λ keep. ⟦<SqlKeep<S, K> as Keep>⟧.clean keep → (any_there (state S.Store conn).now.schema ≡ false → ⟦<SqlKeep<S, K> as Keep>⟧.keyed keep)
+            × (newest_there (state S.Store conn).now.schema ≡ true → ArePagesKeyed K.key_of (tables_of (state S.Store conn).now) → ⟦<SqlKeep<S, K> as Keep>⟧.keyed keep)
+            × ((n : ℕ) → HoldsSchema n (state S.Store conn).now → ArePagesKeyed K.key_of (tables_at n (state S.Store conn).now) → ⟦<SqlKeep<S, K> as Keep>⟧.keyed keep)) }
         ensures version { IfOk result (λ keep. ⟦<SqlKeep<S, K> as Keep>⟧.clean keep → (n : ℕ) → all_there n (state S.Store conn).now.schema ≡ true → TellsIn n (state S.Store conn).now) }
         ensures tells { IfOk result (λ keep. ⟦<SqlKeep<S, K> as Keep>⟧.clean keep → (n : ℕ) → all_there n (state S.Store conn).now.schema ≡ true → ToldBy n (state S.Store conn).now) }
         ensures climbed { IfOk result (λ keep. ⟦<SqlKeep<S, K> as Keep>⟧.clean keep → (n : ℕ) → HoldsSchema n (state S.Store conn).now
@@ -170,6 +175,7 @@ impl<S: Alter, K: PageKey> SqlKeep<S, K> {
         ensures so_far { ⟦<SqlKeep<S, K> as Keep>⟧.clean self.new → ⟦<SqlKeep<S, K> as Keep>⟧.clean self.old }
         ensures shield { ⟦<SqlKeep<S, K> as Keep>⟧.shielded self.old → ⟦<SqlKeep<S, K> as Keep>⟧.shielded self.new }
         ensures kept { ⟦<SqlKeep<S, K> as Keep>⟧.clean self.new → ⟦<SqlKeep<S, K> as Keep>⟧.sound self.old → ⟦<SqlKeep<S, K> as Keep>⟧.sound self.new }
+        ensures keyed { ⟦<SqlKeep<S, K> as Keep>⟧.clean self.new → ⟦<SqlKeep<S, K> as Keep>⟧.sound self.old → ⟦<SqlKeep<S, K> as Keep>⟧.keyed self.old → ⟦<SqlKeep<S, K> as Keep>⟧.keyed self.new }
         ensures same { ⟦<SqlKeep<S, K> as Keep>⟧.clean self.new → ⟦<SqlKeep<S, K> as Keep>⟧.sound self.old → (o : List ℕ) → ⟦<SqlKeep<S, K> as Keep>⟧.rows self.new o ≡ ⟦<SqlKeep<S, K> as Keep>⟧.rows self.old o }
     {
         if self.logged < LONG_LOG {
@@ -209,6 +215,7 @@ impl<S: Alter, K: PageKey> SqlKeep<S, K> {
         ensures shield { ⟦<SqlKeep<S, K> as Keep>⟧.shielded self.old → ⟦<SqlKeep<S, K> as Keep>⟧.shielded self.new }
         ensures kept { ⟦<SqlKeep<S, K> as Keep>⟧.clean self.new → ⟦<SqlKeep<S, K> as Keep>⟧.sound self.old → ⟦<SqlKeep<T, K> as Keep>⟧.clean from.new → ⟦<SqlKeep<T, K> as Keep>⟧.sound from.old
             → ⟦<SqlKeep<S, K> as Keep>⟧.sound self.new }
+        ensures keyed { ⟦<SqlKeep<S, K> as Keep>⟧.clean self.new → ⟦<SqlKeep<S, K> as Keep>⟧.sound self.old → ⟦<SqlKeep<S, K> as Keep>⟧.keyed self.old → ⟦<SqlKeep<S, K> as Keep>⟧.keyed self.new }
         ensures own { ⟦<SqlKeep<S, K> as Keep>⟧.clean self.new → ⟦<SqlKeep<S, K> as Keep>⟧.sound self.old → ⟦<SqlKeep<T, K> as Keep>⟧.clean from.new → ⟦<SqlKeep<T, K> as Keep>⟧.sound from.old
             → IfOk result (λ answer. IsCopied answer (⟦<SqlKeep<T, K> as Keep>⟧.rows from.old org.now) (⟦<SqlKeep<S, K> as Keep>⟧.rows self.old org.now) (⟦<SqlKeep<S, K> as Keep>⟧.rows self.new org.now)) }
         ensures others { ⟦<SqlKeep<S, K> as Keep>⟧.clean self.new → ⟦<SqlKeep<S, K> as Keep>⟧.sound self.old → ⟦<SqlKeep<T, K> as Keep>⟧.clean from.new → ⟦<SqlKeep<T, K> as Keep>⟧.sound from.old
@@ -290,6 +297,8 @@ impl<S: Alter, K: PageKey> Keep for SqlKeep<S, K> {
 
     ghost sound = { λ keep. IsSoundKeep (state S.Store keep.seen.value).committed keep.counted (state S.Store keep.conn) };
 
+    ghost keyed = { λ keep. ArePagesKeyed K.key_of (tables_of (state S.Store keep.seen.value).committed) };
+
     fn records_are_lawful(&self) {}
 
     fn caller(
@@ -335,7 +344,7 @@ impl<S: Alter, K: PageKey> Keep for SqlKeep<S, K> {
         alloc: Global,
         org: &OrgName,
         after: Option<&WsName>,
-        prefix: &Prefix,
+        prefix: &WsPrefix,
     ) -> Result<Listing<WsRow>, Down> {
         let after = name_after(after);
         match listings::list_of_workspaces(&mut self.conn, alloc, org.as_str(), after, prefix) {
@@ -401,6 +410,7 @@ impl<S: Alter, K: PageKey> Keep for SqlKeep<S, K> {
         ensures shield { ⟦<SqlKeep<S, K> as Keep>⟧.shielded self.old → ⟦<SqlKeep<S, K> as Keep>⟧.shielded self.new }
         ensures kept { ⟦<SqlKeep<S, K> as Keep>⟧.clean self.new → ⟦<SqlKeep<S, K> as Keep>⟧.sound self.old → (o : AnyOrganization) → ⟦<SqlKeep<S, K> as Keep>⟧.rows self.old org.now ≡ Some o
             → IsDue (seen_in o ws.now) change.now → ⟦<SqlKeep<S, K> as Keep>⟧.sound self.new }
+        ensures keyed { ⟦<SqlKeep<S, K> as Keep>⟧.clean self.new → ⟦<SqlKeep<S, K> as Keep>⟧.sound self.old → ⟦<SqlKeep<S, K> as Keep>⟧.keyed self.old → ⟦<SqlKeep<S, K> as Keep>⟧.keyed self.new }
         ensures own { ⟦<SqlKeep<S, K> as Keep>⟧.clean self.new → ⟦<SqlKeep<S, K> as Keep>⟧.sound self.old → OnOk result ((o : AnyOrganization) → ⟦<SqlKeep<S, K> as Keep>⟧.rows self.old org.now ≡ Some o
             → IsDue (seen_in o ws.now) change.now
             → ⟦<SqlKeep<S, K> as Keep>⟧.rows self.new org.now ≡ Some (placed o ws.now (changed_by change.now (get o.workspaces ws.now)))) }

@@ -9,6 +9,7 @@ ghost use Rattle.tables.specs.Inner.Arrivals.{TakesFrom, Brings, CommitsRelated}
 ghost use Rattle.tables.specs.Inner.Copies.{AreMadeBy};
 ghost use Rattle.tables.specs.Inner.Departures.{all_gone_of};
 ghost use Rattle.tables.specs.Inner.Edits.{changed_rows, TakesEdit};
+ghost use Rattle.tables.specs.Inner.Keys.{KeepsKeys};
 ghost use Rattle.tables.specs.Inner.Making.{IsMade, StepsFrom};
 ghost use Rattle.tables.specs.Inner.Steps.{IsSettled, Transacts};
 
@@ -93,6 +94,7 @@ pub(crate) fn change<K: PageKey, S: Alter>(
     ensures so_far { HasCleanDisk (state S.Store conn.new) → HasCleanDisk (state S.Store conn.old) }
     ensures shield { (state S.Store conn.old).IsShielded → (state S.Store conn.new).IsShielded }
     ensures done { (keys : ℕ → List ℕ) × Transacts (changed_rows keys org.now ws.now change.now) (λ _. TakesEdit keys org.now ws.now change.now.edit) (state S.Store conn.old) (state S.Store conn.new) result }
+    ensures keyed { HasCleanDisk (state S.Store conn.new) → OnOk result (CommitsRelated (KeepsKeys K.key_of) (state S.Store conn.old) (state S.Store conn.new)) }
 {
     let mut tx = begin(conn);
     steps::change::<K, S>(&mut tx, org, ws, change)?;
@@ -131,6 +133,7 @@ pub(crate) fn copy_organization<T: Alter, K: PageKey, S: Alter>(
     ensures looks { Sees T.Store (λ _ _. ⊤) from.old from.new result }
     ensures done { HasCleanDisk (state S.Store conn.new)
         → OnOk result (CommitsRelated (TakesFrom T.Store (Brings org.now cap) from.old from.new) (state S.Store conn.old) (state S.Store conn.new)) × OnErr result (KeepsCommit (state S.Store conn.old) (state S.Store conn.new)) }
+    ensures keyed { HasCleanDisk (state S.Store conn.new) → OnOk result (CommitsRelated (KeepsKeys K.key_of) (state S.Store conn.old) (state S.Store conn.new)) }
 {
     let mut tx = begin(conn);
     arrivals::bring::<T, K, S>(&mut tx, alloc, from, org, cap)?;

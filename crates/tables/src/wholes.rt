@@ -4,7 +4,7 @@ ghost use Rattle.tables.specs.Sound.{IsSound};
 ghost use Rattle.tables.specs.Inner.Copies.{IsWhole};
 
 use basis::numbers::{MAX_KEPT, MAX_NUMBER};
-use basis::{Items, Retention, RunRow, VersionRow};
+use basis::{Items, KeepCount, RunRow, VersionRow};
 use sqlite::{Alter, Connection, Error};
 use statements::rows::Workspace;
 use statements::{keepings, runs, versions, workspaces};
@@ -20,7 +20,7 @@ const MOST_RUNS: usize = MAX_NUMBER as usize;
 #[derive(Drop)]
 pub(crate) struct Whole {
     pub it: Workspace,
-    pub retention: Retention,
+    pub retention: KeepCount,
     pub versions: Items<VersionRow>,
     pub runs: Items<RunRow>,
 }

@@ -1,5 +1,6 @@
 pub mod AddedLaws
 pub mod InTurn
+pub mod KeyedTexts
 pub mod Many
 pub mod NextPiece
 pub mod OnePiece

@@ -14,6 +14,7 @@ use Rattle.statements.specs.Tables.{Tables}
 use Rattle.tables.specs.Records.{record_of}
 use Rattle.tables.specs.Sound.{IsSound}
 use Rattle.tables.specs.Inner.Edits.{removed_rows}
+use Rattle.tables.specs.Inner.Keys.{KeepsKeys}
 
 -- ---- what keeps it back
 
@@ -51,11 +52,12 @@ AreAllOf org names list t = EqualsWhere NamesApart (workspace_names_of org) name
 
 -- ---- the command
 
--- The rows after an answer: they are sound, the organization is as the rules leave it, and every other one is as before.
+-- The rows after an answer: they are sound, the organization is as the rules leave it, every other one is as before, and pages stay under the keys of their bytes.
 pub record Departs (answer : AdminAnswer) (is_forced : Bool) (org : List ℕ) (t u : Tables) : Type 0 where
   pub sound : IsSound u
   pub own : effect answer (record_of u org) ≡ org_removed is_forced (record_of t org)
   pub others : (q : List ℕ) → q ≢ org → record_of u q ≡ record_of t q
+  pub keyed : (key_of : List ℕ → List ℕ) → KeepsKeys key_of t u
 
 -- sound rows, by the answer
 abbrev pub Leaves : AdminAnswer → Bool → List ℕ → Tables → Tables → Type 0

@@ -3,6 +3,7 @@ use Rattle.std.proofs.Common.{take, Ok}
 use Rattle.sqlite.specs.declared.error.Error.{Error}
 use Rattle.statements.specs.Steps.{Sees}
 use Rattle.tables.specs.Inner.Copies.{RelatedSteps}
+use Rattle.tables.specs.Inner.Keys.{KeepsPages}
 use Rattle.tables.specs.Inner.Arrivals.{TakesFrom, TokensCome}
 use Rattle.tables.proofs.arrivals.copy_tokens.Given as goal
 
@@ -10,4 +11,5 @@ use Rattle.tables.proofs.arrivals.copy_tokens.Given as goal
 abbrev pub invariant-tokens : goal.invariant-tokens
 invariant-tokens g l =
     Sees {X = ⊤} {E = Error} g.T.Store (λ _ _. ⊤) l.fn.from l.from (Ok tt)
+    × RelatedSteps {X = ⊤} {E = Error} g.S.Store KeepsPages l.fn.tx l.tx (Ok tt)
     × RelatedSteps {X = ⊤} {E = Error} g.S.Store (TakesFrom g.T.Store (TokensCome l.org (take l.token-index l.list)) l.fn.from l.from) l.fn.tx l.tx (Ok tt)

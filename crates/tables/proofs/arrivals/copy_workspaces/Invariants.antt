@@ -3,6 +3,7 @@ use Rattle.std.proofs.Common.{take, Ok}
 use Rattle.sqlite.specs.declared.error.Error.{Error}
 use Rattle.statements.specs.Steps.{Sees}
 use Rattle.tables.specs.Inner.Copies.{RelatedSteps}
+use Rattle.tables.specs.Inner.Keys.{KeepsKeys}
 use Rattle.tables.specs.Inner.Arrivals.{TakesFrom, WorkspacesCome}
 use Rattle.tables.proofs.arrivals.copy_workspaces.Given as goal
 
@@ -10,4 +11,5 @@ use Rattle.tables.proofs.arrivals.copy_workspaces.Given as goal
 abbrev pub invariant-workspaces : goal.invariant-workspaces
 invariant-workspaces g l =
     Sees {X = ⊤} {E = Error} g.T.Store (λ _ _. ⊤) l.fn.from l.from (Ok tt)
+    × RelatedSteps {X = ⊤} {E = Error} g.S.Store (KeepsKeys g.K.PageKey.key_of) l.fn.tx l.tx (Ok tt)
     × RelatedSteps {X = ⊤} {E = Error} g.S.Store (TakesFrom g.T.Store (WorkspacesCome l.org (take l.name-index l.names)) l.fn.from l.from) l.fn.tx l.tx (Ok tt)

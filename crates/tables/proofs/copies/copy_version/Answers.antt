@@ -31,3 +31,9 @@ returns-clause-copies g c =
           (version_carries keys org ws v) added.steps c.add.ensures.fresh added.tells,
       λ clean. when_done c.add.result (λ f holds. version_read f org ws head c.in_ok-text.text v c.in_ok-version.ensures ((c.in_ok-text.ensures.queries.sees clean).0 f holds)),
     )
+
+pub returns-in_err-text-clause-keyed : goal.returns-in_err-text-clause-keyed
+returns-in_err-text-clause-keyed g c = related_in_vain g.S.Store _ c.args.tx.now c.from_residual.result c.from_residual.ensures.0
+
+pub returns-in_err-version-clause-keyed : goal.returns-in_err-version-clause-keyed
+returns-in_err-version-clause-keyed g c = related_in_vain g.S.Store _ c.args.tx.now c.from_residual-in_err-version.result c.from_residual-in_err-version.ensures.0

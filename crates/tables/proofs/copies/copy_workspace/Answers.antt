@@ -22,3 +22,6 @@ returns-clause-copies g c =
           on_ok_weaker c.copy_parts.result
           (λ told f holds sound. (seen.0 f holds sound).is ∙ ap Some (sym (told f (still_holds (state g.T.Store c.args.from.now) (state g.T.Store c.read_whole.new.conn) seen.1.0 f holds)))) (copied.2 clean),
     )
+
+pub returns-in_err-whole-clause-keyed : goal.returns-in_err-whole-clause-keyed
+returns-in_err-whole-clause-keyed g c = related_in_vain g.S.Store _ c.args.tx.now c.from_residual.result c.from_residual.ensures.0

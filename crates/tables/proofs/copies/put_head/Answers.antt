@@ -5,11 +5,12 @@ use Rattle.pages.proofs.Looking.{steps_by}
 use Rattle.tables.specs.Records.{workspace_of_cells}
 use Rattle.tables.specs.Inner.Copies.{AreMadeBy, released_rows, held_rows, counted_rows, Begins}
 use Rattle.tables.proofs.Copying.{AreMadeWhere, related_by, made_by_steps, made_then, related_then}
+use Rattle.tables.proofs.KeyedSteps.{paged_by, paged_made, paged_then, released_pages, held_pages}
 use Rattle.tables.proofs.Standing.{head_begins}
 use Rattle.tables.proofs.copies.put_head.Goals as goal
 
-pub returns : goal.returns
-returns g c =
+pub returns-clause-begins : goal.returns-clause-begins
+returns-clause-begins g c =
     let org = c.args.org.now in
     let ws = c.args.ws.now in
     let head = c.args.head.now in
@@ -23,3 +24,16 @@ returns g c =
     let freed = made_then g.S.Store (λ t. workspace_of org ws t ≡ None) (λ t. counted (added t)) released c.args.tx.now c.put_counts.new.tx c.put_released.new.tx tt (Ok tt) numbered c.in_ok-put_released.ensures in
     related_then g.S.Store (AreMadeWhere (λ t. workspace_of org ws t ≡ None) (λ t. released (counted (added t)))) (AreMadeBy held) (Begins org ws (workspace_of_cells keep head [] [])) c.args.tx.now c.put_released.new.tx c.put_holder.new.tx tt c.put_holder.result
     (λ t u z first then. subst (Begins org ws (workspace_of_cells keep head [] []) t) (sym (then ∙ ap held first.1)) (head_begins org ws head keep t first.0)) freed c.put_holder.ensures
+
+pub returns-clause-pages : goal.returns-clause-pages
+returns-clause-pages g c =
+    let org = c.args.org.now in
+    let ws = c.args.ws.now in
+    let head = c.args.head.now in
+    let keep = c.args.retention in
+    let begun = paged_by g.S.Store (ws_added org ws head.runs keep) c.args.tx.now c.add.new.tx (Ok tt) (steps_by g.S.Store (ws_added org ws head.runs keep) c.args.tx.now c.add.new.tx (Ok tt) c.in_ok-add.ensures.writes) (λ t. refl) in
+    let numbered = paged_then g.S.Store c.args.tx.now c.add.new.tx c.put_counts.new.tx tt (Ok tt) begun (paged_by g.S.Store (counted_rows org ws head) c.add.new.tx c.put_counts.new.tx (Ok tt) c.in_ok-put_counts.ensures (λ t. refl)) in
+    let freed = paged_then g.S.Store c.args.tx.now c.put_counts.new.tx c.put_released.new.tx tt (Ok tt) numbered
+    (paged_made g.S.Store (released_rows org ws head.released) c.put_counts.new.tx c.put_released.new.tx (Ok tt) c.in_ok-put_released.ensures (released_pages org ws head.released)) in
+    paged_then g.S.Store c.args.tx.now c.put_released.new.tx c.put_holder.new.tx tt c.put_holder.result freed
+    (paged_made g.S.Store (held_rows org ws head.holder) c.put_released.new.tx c.put_holder.new.tx c.put_holder.result c.put_holder.ensures (held_pages org ws head.holder))

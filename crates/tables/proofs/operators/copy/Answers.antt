@@ -2,6 +2,7 @@ use Rattle.std.proofs.Common.{rules, ◌≡◌, true, false, is_some, None}
 use Rattle.sqlite.specs.Held.{state}
 use Rattle.machine.specs.declared.keeps.AdminAnswer.TheVariants.{Exists, Absent}
 use Rattle.tables.proofs.KeepCopied.{is_absent, is_there, none_of, copies_none, copies_one}
+use Rattle.tables.proofs.KeepKeyed.{keyed_unchanged, keyed_behind}
 use Rattle.tables.proofs.operators.copy.Goals as goal
 
 pub returns-in_default-clause-done : goal.returns-in_default-clause-done
@@ -40,3 +41,14 @@ returns-clause-done g c clean =
           c.in-Some.cap d c.copy_organization.new.from c.in-Some.is (none_of there none) c.copy_organization.ensures.looks.so_far (c.in_ok-copy_organization.ensures.done clean).0,
       tt,
     )
+
+pub returns-in_default-clause-keyed : goal.returns-in_default-clause-keyed
+returns-in_default-clause-keyed g c clean = keyed_unchanged g.K.PageKey.key_of (state g.S.Store c.args.conn.now) (state g.S.Store c.cap-2.new.conn) (c.in_ok-there.ensures.read clean).1.0
+
+pub returns-then-is_some-clause-keyed : goal.returns-then-is_some-clause-keyed
+returns-then-is_some-clause-keyed g c clean = keyed_unchanged g.K.PageKey.key_of (state g.S.Store c.args.conn.now) (state g.S.Store c.cap-2.new.conn) (c.in_ok-there.ensures.read clean).1.0
+
+pub returns-clause-keyed : goal.returns-clause-keyed
+returns-clause-keyed g c clean =
+    let told = c.in_ok-there.ensures.read (c.copy_organization.ensures.so_far clean) in
+    keyed_behind g.K.PageKey.key_of (state g.S.Store c.args.conn.now) (state g.S.Store c.cap-2.new.conn) told.1.0 (state g.S.Store c.copy_organization.new.conn) (c.in_ok-copy_organization.ensures.keyed clean)

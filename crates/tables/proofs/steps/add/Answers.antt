@@ -1,8 +1,11 @@
 use Rattle.texts.proofs.Many.{when_done}
 use Rattle.std.proofs.Common.{rules, ℕ, List, IsTrue, length, subst}
 use Rattle.sqlite.specs.Held.{state}
-use Rattle.tables.specs.Inner.Edits.{row_added}
-use Rattle.texts.specs.Texts.{pages_for, text_added, TwinsFit, AddsText}
+use Rattle.tables.specs.Inner.Edits.{row_added, added_rows}
+use Rattle.tables.specs.Inner.Keys.{KeepsKeys}
+use Rattle.texts.specs.Texts.{pages_for, text_added, TwinsFit, KeysFit, AddsText}
+use Rattle.tables.proofs.Copying.{related_by}
+use Rattle.tables.proofs.KeyedRows.{version_keyed}
 use Rattle.tables.proofs.KeepMoves.{no_keys, steps_then_all, told_then}
 use Rattle.tables.proofs.steps.add.Goals as goal
 
@@ -21,6 +24,20 @@ returns-clause-adds g c =
             c.in_ok-add_row.ensures.steps c.add_text.ensures.so_far (λ is. (adds is).fits);
       },
     )
+
+pub returns-clause-keyed : goal.returns-clause-keyed
+returns-clause-keyed g c =
+    let org = c.args.org.now in
+    let ws = c.args.ws.now in
+    let v = c.args.version.now in
+    let key_of = g.K.PageKey.key_of in
+    let keys = c.add_text.ensures.adds.0 in
+    let adds = subst (λ (text : List ℕ). IsTrue (state g.S.Store c.add_row.new.tx.conn.now).is_open → AddsText g.S.Store key_of keys org ws v.number text c.add_row.new.tx c.add_text.new.tx c.add_text.result) c.as_slice-text.ensures c.add_text.ensures.adds.1 in
+    related_by g.S.Store (λ t. KeysFit key_of keys org ws v.number v.text (pages_for (length v.text)) (row_added org ws v t)) (added_rows keys org ws v) (KeepsKeys key_of) c.args.tx.now c.add_text.new.tx c.add_text.result (version_keyed key_of org ws keys v)
+    (steps_then_all g.S.Store (row_added org ws v) (text_added keys org ws v.number v.text) c.args.tx.now c.add_row.new.tx c.add_text.new.tx _ c.add_text.result
+    c.in_ok-add_row.ensures.steps c.add_text.ensures.same_reference (λ is. (adds is).steps) c.add_text.ensures.so_far c.add_text.ensures.shield)
+    (told_then g.S.Store (row_added org ws v) (KeysFit key_of keys org ws v.number v.text (pages_for (length v.text))) c.args.tx.now c.add_row.new.tx c.add_text.new.tx _ c.add_text.result
+    c.in_ok-add_row.ensures.steps c.add_text.ensures.so_far (λ is. (adds is).keyed))
 
 pub returns-clause-fresh : goal.returns-clause-fresh
 returns-clause-fresh g c clean inside = when_done c.add_text.result (c.in_ok-add_row.ensures.fresh (c.add_text.ensures.so_far clean) inside)

@@ -1,19 +1,26 @@
 use Rattle.texts.proofs.Many.{when_done}
 use Rattle.pages.proofs.Looking.{steps_then}
+use Rattle.tables.proofs.KeyedSteps.{keyed_by, keyed_then}
 use Rattle.tables.proofs.steps.change.Goals as goal
 
-pub returns-in-None : goal.returns-in-None
-returns-in-None g c =
-    let edited = c.in_ok-edit.ensures.1 in
-    rw c.in-None.is (c.in_ok-edit.ensures.0, record { steps = edited.steps; tells = edited.tells })
+pub returns-in-None-clause-changes : goal.returns-in-None-clause-changes
+returns-in-None-clause-changes g c =
+    let edited = c.in_ok-edit.ensures.edits.1 in
+    rw c.in-None.is (c.in_ok-edit.ensures.edits.0, record { steps = edited.steps; tells = edited.tells })
 
-pub returns-in-Some : goal.returns-in-Some
-returns-in-Some g c =
-    let edited = c.in_ok-edit.ensures.1 in
+pub returns-in-Some-clause-changes : goal.returns-in-Some-clause-changes
+returns-in-Some-clause-changes g c =
+    let edited = c.in_ok-edit.ensures.edits.1 in
     rw c.in-Some.is (
-      c.in_ok-edit.ensures.0,
+      c.in_ok-edit.ensures.edits.0,
       record {
         steps = steps_then g.S.Store _ _ _ _ _ _ _ edited.steps c.start.ensures;
         tells = λ clean inside. when_done c.start.result (edited.tells (c.start.ensures.so_far clean) inside);
       },
     )
+
+pub returns-in-Some-clause-keyed : goal.returns-in-Some-clause-keyed
+returns-in-Some-clause-keyed g c =
+    let key_of = g.K.PageKey.key_of in
+    keyed_then g.S.Store key_of c.args.tx.now c.edit.new.tx c.start.new.tx _ c.start.result c.in_ok-edit.ensures.keyed
+    (keyed_by g.S.Store key_of _ c.edit.new.tx c.start.new.tx c.start.result c.start.ensures (λ t keyed. keyed))

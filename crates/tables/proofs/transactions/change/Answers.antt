@@ -2,20 +2,21 @@ use Rattle.std.proofs.Common.{rules}
 use Rattle.sqlite.specs.Held.{state}
 use Rattle.sqlite.specs.State.{HasCleanDisk}
 use Rattle.tables.specs.Inner.Edits.{changed_rows, TakesEdit}
+use Rattle.tables.specs.Inner.Keys.{KeepsKeys}
 use Rattle.statements.proofs.Transactions.{clean_before}
-use Rattle.tables.proofs.KeepCommits.{inside_by, commits_by, told_committed, commits_told}
+use Rattle.tables.proofs.KeepCommits.{inside_by, commits_by, told_committed, commits_told, commits_related}
 use Rattle.tables.proofs.transactions.change.Goals as goal
 
 pub returns-clause-done : goal.returns-clause-done
 returns-clause-done g c = (
-  c.in_ok-change.ensures.0,
+  c.in_ok-change.ensures.changes.0,
   λ clean.
       let h = c.args.conn.now in
       let k = c.begin-tx.result.conn.now in
       let l = c.change.new.tx.conn.now in
       let m = c.commit.new.self.0 in
-      let keys = c.in_ok-change.ensures.0 in
-      let changed = c.in_ok-change.ensures.1 in
+      let keys = c.in_ok-change.ensures.changes.0 in
+      let changed = c.in_ok-change.ensures.changes.1 in
       let late : HasCleanDisk (state g.S.Store m) = search rules in
       let before = clean_before (state g.S.Store l) (state g.S.Store m) _ c.commit.ensures.survives late in
       let settled = c.begin-tx.ensures.settled in
@@ -27,3 +28,16 @@ returns-clause-done g c = (
       let all = commits_by g.S.Store h k l m settled c.begin-tx.ensures.begun rows c.commit.result moved (c.commit.ensures.ok late) (c.commit.ensures.err late) in
       commits_told rows takes (state g.S.Store h) _ c.commit.result (told_committed g.S.Store h k l m settled c.begin-tx.ensures.begun rows takes moved told) (search (rules, all)),
 )
+
+pub returns-clause-keyed : goal.returns-clause-keyed
+returns-clause-keyed g c clean =
+    let h = c.args.conn.now in
+    let k = c.begin-tx.result.conn.now in
+    let l = c.change.new.tx.conn.now in
+    let m = c.commit.new.self.0 in
+    let late : HasCleanDisk (state g.S.Store m) = search rules in
+    let before = clean_before (state g.S.Store l) (state g.S.Store m) _ c.commit.ensures.survives late in
+    let settled = c.begin-tx.ensures.settled in
+    let related = (c.in_ok-change.ensures.keyed.changed before (inside_by h k c.begin-tx.ensures.begun)).0 in
+    let all = commits_related g.S.Store h k l m settled c.begin-tx.ensures.begun (KeepsKeys g.K.PageKey.key_of) c.commit.result related (c.commit.ensures.ok late) (c.commit.ensures.err late) in
+    search (rules, all)

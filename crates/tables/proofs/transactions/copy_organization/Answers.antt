@@ -4,6 +4,7 @@ use Rattle.sqlite.specs.Held.{state}
 use Rattle.sqlite.specs.State.{HasCleanDisk}
 use Rattle.statements.proofs.Transactions.{clean_before}
 use Rattle.tables.specs.Inner.Arrivals.{TakesFrom, Brings}
+use Rattle.tables.specs.Inner.Keys.{KeepsKeys}
 use Rattle.tables.proofs.Arriving.{looks_as}
 use Rattle.tables.proofs.KeepCommits.{inside_by, commits_related}
 use Rattle.tables.proofs.transactions.copy_organization.Goals as goal
@@ -22,4 +23,17 @@ returns-clause-done g c clean =
     let settled = c.begin-tx.ensures.settled in
     let related = (c.in_ok-bring.ensures.brings.changed before (inside_by h k c.begin-tx.ensures.begun)).0 in
     let all = commits_related g.S.Store h k l m settled c.begin-tx.ensures.begun (TakesFrom g.T.Store (Brings c.args.org.now c.args.cap) c.args.from.now c.bring.new.from) c.commit.result related (c.commit.ensures.ok late) (c.commit.ensures.err late) in
+    search (rules, all)
+
+pub returns-clause-keyed : goal.returns-clause-keyed
+returns-clause-keyed g c clean =
+    let h = c.args.conn.now in
+    let k = c.begin-tx.result.conn.now in
+    let l = c.bring.new.tx.conn.now in
+    let m = c.commit.new.self.0 in
+    let late : HasCleanDisk (state g.S.Store m) = search rules in
+    let before = clean_before (state g.S.Store l) (state g.S.Store m) _ c.commit.ensures.survives late in
+    let settled = c.begin-tx.ensures.settled in
+    let related = (c.in_ok-bring.ensures.keyed.changed before (inside_by h k c.begin-tx.ensures.begun)).0 in
+    let all = commits_related g.S.Store h k l m settled c.begin-tx.ensures.begun (KeepsKeys g.K.PageKey.key_of) c.commit.result related (c.commit.ensures.ok late) (c.commit.ensures.err late) in
     search (rules, all)

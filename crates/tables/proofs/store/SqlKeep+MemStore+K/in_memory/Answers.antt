@@ -6,3 +6,6 @@ returns-in-Ok-clause-empty g c = (c.in-Ok.ensures.fresh (memory_is_clean c.in-Ok
 
 pub returns-in-Ok-clause-sound : goal.returns-in-Ok-clause-sound
 returns-in-Ok-clause-sound g c = (c.in-Ok.ensures.fresh (memory_is_clean c.in-Ok.keep.conn) (none_there c.in_ok-conn.conn c.in_ok-conn.ensures.empty)).0
+
+pub returns-in-Ok-clause-keyed : goal.returns-in-Ok-clause-keyed
+returns-in-Ok-clause-keyed g c = (c.in-Ok.ensures.keyed (memory_is_clean c.in-Ok.keep.conn)).0 (none_there c.in_ok-conn.conn c.in_ok-conn.ensures.empty)

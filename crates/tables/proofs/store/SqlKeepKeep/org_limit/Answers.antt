@@ -1,6 +1,7 @@
 use Rattle.std.proofs.Common.{◌≤◌, subst}
 use Rattle.sqlite.specs.Held.{state}
 use Rattle.tables.proofs.KeepShown.{limit_told, limit_others, limit_stays_sound}
+use Rattle.tables.proofs.KeepKeyed.{limit_keyed, keyed_committed}
 use Rattle.tables.proofs.store.SqlKeepKeep.org_limit.Goals as goal
 
 pub returns-in-Ok-clause-kept : goal.returns-in-Ok-clause-kept
@@ -17,3 +18,8 @@ pub returns-in-Ok-clause-others : goal.returns-in-Ok-clause-others
 returns-in-Ok-clause-others g c = rw c.of.ensures (λ clean sound q apart.
     limit_others (state g.S.Store c.args.self.now.seen.value).committed (state g.S.Store c.args.self.now.conn) sound (state g.S.Store c.org_limit.new.conn) c.args.org.now c.args.limit c.in-Ok.answer
     (rw c.as_str.ensures.text at (c.in-Ok.ensures.done clean).0) q apart)
+
+pub returns-in-Ok-clause-keyed : goal.returns-in-Ok-clause-keyed
+returns-in-Ok-clause-keyed g c = rw c.of.ensures (λ clean sound keyed.
+    keyed_committed g.K.PageKey.key_of (state g.S.Store c.args.self.now.seen.value).committed (state g.S.Store c.args.self.now.conn) (state g.S.Store c.org_limit.new.conn) sound keyed _ _ (rw c.as_str.ensures.text at (c.in-Ok.ensures.done clean).0)
+    (λ t are. limit_keyed g.K.PageKey.key_of c.args.org.now t are c.args.limit))

@@ -1,5 +1,5 @@
 use Rattle.sqlite.specs.Held.{state}
-use Rattle.tables.proofs.KeepRemoved.{removed_keeps, removed_own, removed_others}
+use Rattle.tables.proofs.KeepRemoved.{removed_keeps, removed_own, removed_others, removed_keyed}
 use Rattle.tables.proofs.store.SqlKeepKeep.org_remove.Goals as goal
 
 pub returns-in-Ok-clause-kept : goal.returns-in-Ok-clause-kept
@@ -16,3 +16,8 @@ pub returns-in-Ok-clause-others : goal.returns-in-Ok-clause-others
 returns-in-Ok-clause-others g c = rw c.of.ensures (λ clean sound q apart.
     removed_others (state g.S.Store c.args.self.now.seen.value).committed (state g.S.Store c.args.self.now.conn) (state g.S.Store c.org_remove.new.conn) sound c.args.is_forced c.args.org.now c.in-Ok.answer
     (rw c.as_str.ensures.text at (c.in-Ok.ensures.done clean).0) q apart)
+
+pub returns-in-Ok-clause-keyed : goal.returns-in-Ok-clause-keyed
+returns-in-Ok-clause-keyed g c = rw c.of.ensures (λ clean sound.
+    removed_keyed (state g.S.Store c.args.self.now.seen.value).committed (state g.S.Store c.args.self.now.conn) (state g.S.Store c.org_remove.new.conn) sound c.args.is_forced c.args.org.now c.in-Ok.answer
+    (rw c.as_str.ensures.text at (c.in-Ok.ensures.done clean).0) g.K.PageKey.key_of)

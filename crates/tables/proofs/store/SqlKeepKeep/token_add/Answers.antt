@@ -1,5 +1,6 @@
 use Rattle.sqlite.specs.Held.{state}
 use Rattle.tables.proofs.KeepShown.{token_told, token_others, token_keeps}
+use Rattle.tables.proofs.KeepKeyed.{token_keyed, keyed_committed}
 use Rattle.tables.proofs.store.SqlKeepKeep.token_add.Goals as goal
 
 pub returns-in-Ok-clause-kept : goal.returns-in-Ok-clause-kept
@@ -16,3 +17,8 @@ pub returns-in-Ok-clause-others : goal.returns-in-Ok-clause-others
 returns-in-Ok-clause-others g c = rw c.of.ensures (λ clean sound q apart.
     token_others (state g.S.Store c.args.self.now.seen.value).committed (state g.S.Store c.args.self.now.conn) sound (state g.S.Store c.token_add.new.conn) c.args.org.now c.args.name.now c.args.digest.now c.args.role c.args.bounds.now c.in-Ok.answer
     (rw (c.as_str-org.ensures.text, c.as_str-name.ensures.text, c.as_slice-digest.ensures) at (c.in-Ok.ensures.done clean).0) q apart)
+
+pub returns-in-Ok-clause-keyed : goal.returns-in-Ok-clause-keyed
+returns-in-Ok-clause-keyed g c = rw c.of.ensures (λ clean sound keyed.
+    keyed_committed g.K.PageKey.key_of (state g.S.Store c.args.self.now.seen.value).committed (state g.S.Store c.args.self.now.conn) (state g.S.Store c.token_add.new.conn) sound keyed _ _ (rw (c.as_str-org.ensures.text, c.as_str-name.ensures.text, c.as_slice-digest.ensures) at (c.in-Ok.ensures.done clean).0)
+    (λ t are. token_keyed g.K.PageKey.key_of c.args.org.now t are c.args.name.now c.args.digest.now c.args.role c.args.bounds.now))

@@ -1,5 +1,6 @@
 use Rattle.sqlite.specs.Held.{state}
 use Rattle.tables.proofs.KeepShown.{revoke_told, revoke_others, revoke_stays_sound}
+use Rattle.tables.proofs.KeepKeyed.{revocation_keyed, keyed_committed}
 use Rattle.tables.proofs.store.SqlKeepKeep.token_revoke.Goals as goal
 
 pub returns-in-Ok-clause-kept : goal.returns-in-Ok-clause-kept
@@ -16,3 +17,8 @@ pub returns-in-Ok-clause-others : goal.returns-in-Ok-clause-others
 returns-in-Ok-clause-others g c = rw c.of.ensures (λ clean sound q apart.
     revoke_others (state g.S.Store c.args.self.now.seen.value).committed (state g.S.Store c.args.self.now.conn) sound (state g.S.Store c.token_revoke.new.conn) c.args.org.now c.args.name.now c.in-Ok.answer
     (rw (c.as_str.ensures.text, c.as_str-2.ensures.text) at (c.in-Ok.ensures.done clean).0) q apart)
+
+pub returns-in-Ok-clause-keyed : goal.returns-in-Ok-clause-keyed
+returns-in-Ok-clause-keyed g c = rw c.of.ensures (λ clean sound keyed.
+    keyed_committed g.K.PageKey.key_of (state g.S.Store c.args.self.now.seen.value).committed (state g.S.Store c.args.self.now.conn) (state g.S.Store c.token_revoke.new.conn) sound keyed _ _ (rw (c.as_str.ensures.text, c.as_str-2.ensures.text) at (c.in-Ok.ensures.done clean).0)
+    (λ t are. revocation_keyed g.K.PageKey.key_of c.args.org.now t are c.args.name.now))

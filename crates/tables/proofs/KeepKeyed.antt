@@ -1,0 +1,78 @@
+-- From a transaction to a store whose pages are under the keys of their bytes.
+use Rattle.std.proofs.Common.{ℕ, Bool, true, false, List, Option, Some, None, IsTrue, sym, subst}
+use Rattle.sqlite.specs.Effect.{Database}
+use Rattle.sqlite.specs.State.{State, IsUnchanged}
+use Rattle.basis.specs.declared.roles.Bounds.{Bounds}
+use Rattle.basis.specs.declared.roles.Role.{Role}
+use Rattle.statements.specs.Finds.{cap_of, role_of_name}
+use Rattle.statements.specs.Tables.{Tables, Holds, tables_of}
+use Rattle.statements.proofs.Decoding.{tables-held}
+use Rattle.tables.specs.Opening.{IsSoundKeep}
+use Rattle.tables.specs.Scans.{ArePagesKeyed}
+use Rattle.tables.specs.declared.counts.Counted.{Counted}
+use Rattle.tables.specs.Inner.Arrivals.{CommitsRelated}
+use Rattle.tables.specs.Inner.Keys.{KeepsKeys}
+use Rattle.tables.specs.Inner.Steps.{Commits, org_managed_by, org_managed, limit_managed_by, limit_managed, token_managed_by, token_managed, is_taken, revocation_managed_by, revocation_managed}
+
+-- a database that holds tables whose pages are so has such pages
+pub keyed_held : (key_of : List ℕ → List ℕ) (db : Database) (t : Tables) → Holds db t → ArePagesKeyed key_of t → ArePagesKeyed key_of (tables_of db)
+keyed_held key_of db t holds keyed = subst (ArePagesKeyed key_of) (sym (tables-held db t holds)) keyed
+
+module _ (key_of : List ℕ → List ℕ) {counted : Option Counted} (db : Database) (a b : State) (s : IsSoundKeep db counted a) (keyed : ArePagesKeyed key_of (tables_of db)) where
+  held : IsTrue a.is_open → Holds a.committed (tables_of db)
+  held was = subst (λ (d : Database). Holds d (tables_of db)) (sym (s.tied was)) s.store.holds
+
+  pub keyed_related : CommitsRelated (KeepsKeys key_of) a b → ArePagesKeyed key_of (tables_of b.committed)
+  keyed_related m = let u = m.rows (tables_of db) (held m.was_open) in keyed_held key_of b.committed u.0 u.1 (u.2 keyed)
+
+  pub keyed_committed : (f : Tables → Tables) (told : Tables → Type 0) → Commits f told a b → ((t : Tables) → KeepsKeys key_of t (f t)) → ArePagesKeyed key_of (tables_of b.committed)
+  keyed_committed f told m keeps = keyed_held key_of b.committed (f (tables_of db)) (m.rows (tables_of db) (held m.was_open)) (keeps (tables_of db) keyed)
+
+-- ---- behind a look
+
+module _ (key_of : List ℕ → List ℕ) (a b : State) (same : IsUnchanged a b) where
+  pub keyed_unchanged : CommitsRelated (KeepsKeys key_of) a b
+  keyed_unchanged = record {
+    rows = λ t holds. (t, subst (λ (d : Database). Holds d t) (sym same.0.committed_is) holds, λ keyed. keyed);
+    was_open = same.0.was_open;
+    is_open = same.0.is_open;
+  }
+
+  pub keyed_behind : (d : State) → CommitsRelated (KeepsKeys key_of) b d → CommitsRelated (KeepsKeys key_of) a d
+  keyed_behind d done = record {
+    rows = λ t holds. done.rows t (subst (λ (db : Database). Holds db t) (sym same.0.committed_is) holds);
+    was_open = same.0.was_open;
+    is_open = done.is_open;
+  }
+
+-- ---- an operator's commands change no page
+
+module _ (key_of : List ℕ → List ℕ) (org : List ℕ) (t : Tables) (keyed : ArePagesKeyed key_of t) where
+  pub org_keyed : (limit : ℕ) → ArePagesKeyed key_of (org_managed org limit t).left
+  org_keyed limit = go (cap_of org t)
+    where
+      go : (o : Option ℕ) → ArePagesKeyed key_of (org_managed_by o org limit t).left
+      go None = keyed
+      go (Some cap) = keyed
+
+  pub limit_keyed : (limit : ℕ) → ArePagesKeyed key_of (limit_managed org limit t).left
+  limit_keyed limit = go (cap_of org t)
+    where
+      go : (o : Option ℕ) → ArePagesKeyed key_of (limit_managed_by o org limit t).left
+      go None = keyed
+      go (Some cap) = keyed
+
+  pub token_keyed : (name digest : List ℕ) (role : Role) (bounds : Bounds) → ArePagesKeyed key_of (token_managed org name digest role bounds t).left
+  token_keyed name digest role bounds = go (cap_of org t) (is_taken org name digest t)
+    where
+      go : (o : Option ℕ) (taken : Bool) → ArePagesKeyed key_of (token_managed_by o taken org name digest role bounds t).left
+      go None taken = keyed
+      go (Some cap) true = keyed
+      go (Some cap) false = keyed
+
+  pub revocation_keyed : (name : List ℕ) → ArePagesKeyed key_of (revocation_managed org name t).left
+  revocation_keyed name = go (role_of_name org name t)
+    where
+      go : (o : Option Role) → ArePagesKeyed key_of (revocation_managed_by o org name t).left
+      go None = keyed
+      go (Some role) = keyed
