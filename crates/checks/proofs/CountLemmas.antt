@@ -1,14 +1,18 @@
 -- One workspace more is counted.
-use Rattle.std.proofs.Common.{◌≡◌, ℕ, ◌+◌, ◌≤◌, ◌==◌, Bool, true, false, not, cond, ◌&&◌, List, [], ◌∷◌, ◌++◌, filter, length, IsTrue, refl, sym, ap, ◌∙◌, subst, arith, length-append, true≢false}
+use Rattle.std.proofs.Common.{◌≡◌, ℕ, ◌+◌, ◌≤◌, ◌==◌, Bool, true, false, not, cond, ◌&&◌, ◌<◌, nat_lt, List, [], ◌∷◌, ◌++◌, filter, length, IsTrue, refl, sym, ap, ◌∙◌, subst, arith, length-append, true≢false, ◌⊎◌, inl, inr}
 use Rattle.std.specs.Str.{bytes_eq}
-use Rattle.std.proofs.lemmas.Bool.{eqb-true, eq-eqb}
+use Rattle.std.proofs.lemmas.Bool.{eqb-true, eq-eqb, ltb-true, ltb-false}
 use Rattle.statements.specs.Rows.{Kept, WsRow}
 use Rattle.statements.specs.Changes.{is_ws_of}
 use Rattle.tables.proofs.Names.{same_name}
 use Rattle.checks.specs.declared.found.Found.{Found}
-use Rattle.checks.specs.Judging.{Judges}
-use Rattle.checks.specs.Inner.Counts.{count_in, AreFew}
-use Rattle.checks.proofs.JudgingLemmas.{judges_both, judges_as}
+use Rattle.checks.specs.declared.found.Fault.{Fault}
+use Rattle.checks.specs.declared.found.FaultKind.TheVariants as kind
+use Rattle.checks.specs.Judging.{Breaks, Judges}
+use Rattle.checks.specs.Faults.{org_fault, TooMany}
+use Rattle.checks.specs.Workspaces.{count_in}
+use Rattle.checks.specs.Inner.Counts.{AreFew}
+use Rattle.checks.proofs.JudgingLemmas.{judges_both, judges_as, judges_says}
 
 counted_on : (xs : List (Kept WsRow)) (x : Kept WsRow) (org : List ℕ) → count_in (xs ++ x ∷ []) org ≡ cond (is_ws_of org x) (count_in xs org + 1) (count_in xs org)
 counted_on [] x org = go (is_ws_of org x)
@@ -67,12 +71,62 @@ module _ (xs : List (Kept WsRow)) (x : Kept WsRow) where
       go false e h = omega (arith, e, h)
 
   -- one workspace more was looked at
-  pub one_judged : (count : ℕ) (within : Bool) (a b c : Found) → count ≡ count_in (xs ++ x ∷ []) x.1.org → within ≡ not (count == 100_001) → Judges (AreFew xs) a b → Judges (IsTrue within) b c → Judges (AreFew (xs ++ x ∷ [])) a c
+  pub one_judged : (count : ℕ) (within : Bool) (a b c : Found) → count ≡ count_in (xs ++ x ∷ []) x.1.org → within ≡ not (count == 100_001) → Judges (TooMany xs) (AreFew xs) a b → Judges (Breaks (IsTrue within) (org_fault kind.TooMany x.1.org)) (IsTrue within) b c
+      → Judges (TooMany (xs ++ x ∷ [])) (AreFew (xs ++ x ∷ [])) a c
   one_judged count within a b c count_is within_is before here =
       let is : within ≡ not (count_in (xs ++ x ∷ []) x.1.org == 100_001) = within_is ∙ ap (λ n. not (n == 100_001)) count_is in
-      judges_as a c (λ both. still_few both.0 (sym is ∙ both.1))
+      judges_says a c (to is) (from is)
+      (judges_as a c (λ both. still_few both.0 (sym is ∙ both.1))
       (λ few. (were_few few, is ∙ is_within (count_in (xs ++ x ∷ []) x.1.org) 100_001 (λ e. too_many (count_in (xs ++ x ∷ []) x.1.org) e (few x.1.org))))
-      (judges_both a b c before here)
+      (judges_both a b c before here))
     where
+      Both : Fault → Type 0
+      Both f = TooMany xs f ⊎ Breaks (IsTrue within) (org_fault kind.TooMany x.1.org) f
+
+      grown : (org : List ℕ) → count_in xs org ≤ count_in (xs ++ x ∷ []) org
+      grown org = go (is_ws_of org x) (counted_on xs x org)
+        where
+          go : (b : Bool) → count_in (xs ++ x ∷ []) org ≡ cond b (count_in xs org + 1) (count_in xs org) → count_in xs org ≤ count_in (xs ++ x ∷ []) org
+          go true e = omega (arith, e)
+          go false e = omega (arith, e)
+
+      over : (n : ℕ) → not (n == 100_001) ≡ false → 100_000 < n
+      over n e = go (n == 100_001) refl e
+        where
+          go : (b : Bool) → (n == 100_001) ≡ b → not b ≡ false → 100_000 < n
+          go true same e = let is : n ≡ 100_001 = eqb-true n 100_001 same in omega (arith, is)
+          go false same e = absurd (true≢false e)
+
+      broken : (b : Bool) → ¬ (b ≡ true) → b ≡ false
+      broken true n = absurd (n refl)
+      broken false n = refl
+
+      to : within ≡ not (count_in (xs ++ x ∷ []) x.1.org == 100_001) → (f : Fault) → Both f → TooMany (xs ++ x ∷ []) f
+      to is f (inl s) = let more = grown s.0 in let many = s.1 in (s.0, omega (arith, more, many), s.2)
+      to is f (inr s) = (x.1.org, over (count_in (xs ++ x ∷ []) x.1.org) (sym is ∙ broken within s.0), s.1)
+
+      from : within ≡ not (count_in (xs ++ x ∷ []) x.1.org == 100_001) → (f : Fault) → TooMany (xs ++ x ∷ []) f → Both f
+      from is f s = go (bytes_eq x.1.org s.0) refl
+        where
+          go : (b : Bool) → bytes_eq x.1.org s.0 ≡ b → Both f
+          go false e =
+              let same : count_in (xs ++ x ∷ []) s.0 ≡ count_in xs s.0 = counted_on xs x s.0 ∙ ap (λ b. cond b (count_in xs s.0 + 1) (count_in xs s.0)) e in
+              inl (s.0, subst (λ n. 100_000 < n) same s.1, s.2)
+          go true e =
+              at (nat_lt 100_000 (count_in xs s.0)) refl
+            where
+              own_count : count_in (xs ++ x ∷ []) x.1.org ≡ count_in xs s.0 + 1
+              own_count = ap (count_in (xs ++ x ∷ [])) (same_name x.1.org s.0 e) ∙ counted_on xs x s.0 ∙ ap (λ b. cond b (count_in xs s.0 + 1) (count_in xs s.0)) e
+
+              at : (b : Bool) → nat_lt 100_000 (count_in xs s.0) ≡ b → Both f
+              at true less = inl (s.0, ltb-true 100_000 (count_in xs s.0) less, s.2)
+              at false less =
+                  let many = s.1 in
+                  let most = ltb-false 100_000 (count_in xs s.0) less in
+                  let size = counted_on xs x s.0 ∙ ap (λ b. cond b (count_in xs s.0 + 1) (count_in xs s.0)) e in
+                  let own = own_count in
+                  let exactly : count_in (xs ++ x ∷ []) x.1.org ≡ 100_001 = omega (arith, most, many, size, own) in
+                  inr (λ t. not_that (count_in (xs ++ x ∷ []) x.1.org) 100_001 (sym is ∙ t) exactly, s.2 ∙ ap (org_fault kind.TooMany) (sym (same_name x.1.org s.0 e)))
+
       too_many : (n : ℕ) → n ≡ 100_001 → n ≤ 100_000 → ⊥
       too_many n e h = omega (arith, e, h)

@@ -15,10 +15,12 @@ use Rattle.texts.specs.Texts.{names_page, is_place, page_name, bytes_named, piec
 use Rattle.tables.specs.Sound.{HasText}
 use Rattle.checks.specs.declared.found.Found.{Found}
 use Rattle.checks.specs.Judging.{Judges}
+use Rattle.checks.specs.Faults.{SamePages, SamePlaces, OfPages, OfTexts}
 use Rattle.checks.specs.Inner.Heads.{IsSoundHead}
 use Rattle.checks.proofs.JudgingLemmas.{judges_both, judges_as}
 use Rattle.checks.proofs.PageKeys.{heads_apart}
-use Rattle.checks.specs.Inner.Places.{is_head, page_size_in, NamesPage, count_in, IsCountedIn, named_size_in, HasTextIn, AreRowsSound, AreTextsSound}
+use Rattle.checks.specs.Pages.{is_head, page_size_in, NamesPage, count_in, IsCountedIn, named_size_in, HasTextIn}
+use Rattle.checks.specs.Inner.Places.{AreRowsSound, AreTextsSound}
 
 -- ---- tests
 
@@ -326,11 +328,12 @@ module _ (key_of : List ℕ → List ℕ) (t : Tables) where
 -- the looks at rows tell whether the tables are sound
 pub judges_tables : (key_of : List ℕ → List ℕ) (t : Tables) (pages : List PageHead) (versions : List (Kept VersionRow)) (vpages : List (Kept VpageRow)) (w x y z : Found)
     → pages ≡ map (head_in key_of t) t.pages → versions ≡ t.versions → vpages ≡ t.vpages
-    → Judges (AreApart (λ (a b : PageHead). bytes_eq b.key a.key && b.twin == a.twin) pages) w x → Judges (AreApart (λ a b. is_place a.1.org a.1.ws a.1.number a.1.place b) vpages) x y → Judges (AreRowsSound pages versions vpages) y z
-    → Judges (AreTextsSound key_of t) w z
+    → Judges (SamePages pages) (AreApart (λ (a b : PageHead). bytes_eq b.key a.key && b.twin == a.twin) pages) w x → Judges (SamePlaces vpages) (AreApart (λ a b. is_place a.1.org a.1.ws a.1.number a.1.place b) vpages) x y
+    → Judges (OfPages pages versions vpages) (AreRowsSound pages versions vpages) y z
+    → Judges (OfTexts pages versions vpages) (AreTextsSound key_of t) w z
 judges_tables key_of t pages versions vpages w x y z heads_are versions_are vpages_are one two three =
-    let apart = subst (λ (hs : List PageHead). Judges (AreApart (λ (a b : PageHead). bytes_eq b.key a.key && b.twin == a.twin) hs) w x) heads_are one in
-    let apart_rows = subst (λ (vs : List (Kept VpageRow)). Judges (AreApart (λ a b. is_place a.1.org a.1.ws a.1.number a.1.place b) vs) x y) vpages_are two in
-    let rows = subst (λ (vs : List (Kept VpageRow)). Judges (AreRowsSound (map (head_in key_of t) t.pages) t.versions vs) y z) vpages_are
-    (subst (λ (vs : List (Kept VersionRow)). Judges (AreRowsSound (map (head_in key_of t) t.pages) vs vpages) y z) versions_are (subst (λ (hs : List PageHead). Judges (AreRowsSound hs versions vpages) y z) heads_are three)) in
+    let apart = subst (λ (hs : List PageHead). Judges (SamePages pages) (AreApart (λ (a b : PageHead). bytes_eq b.key a.key && b.twin == a.twin) hs) w x) heads_are one in
+    let apart_rows = subst (λ (vs : List (Kept VpageRow)). Judges (SamePlaces vpages) (AreApart (λ a b. is_place a.1.org a.1.ws a.1.number a.1.place b) vs) x y) vpages_are two in
+    let rows = subst (λ (vs : List (Kept VpageRow)). Judges (OfPages pages versions vpages) (AreRowsSound (map (head_in key_of t) t.pages) t.versions vs) y z) vpages_are
+    (subst (λ (vs : List (Kept VersionRow)). Judges (OfPages pages versions vpages) (AreRowsSound (map (head_in key_of t) t.pages) vs vpages) y z) versions_are (subst (λ (hs : List PageHead). Judges (OfPages pages versions vpages) (AreRowsSound hs versions vpages) y z) heads_are three)) in
     judges_as w z (λ laws. sound_to key_of t (laws.0, laws.1.0, laws.1.1)) (λ sound. let laws = sound_from key_of t sound in (laws.0, (laws.1, laws.2))) (judges_both w x z apart (judges_both x y z apart_rows rows))

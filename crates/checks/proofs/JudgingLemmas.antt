@@ -1,30 +1,151 @@
 -- Looks for faults, one after the other.
-use Rattle.std.proofs.Common.{◌≡◌, Bool, true, sym, ◌∙◌}
+use Rattle.std.proofs.Common.{◌≡◌, ◌≤◌, ◌<◌, ◌+◌, ℕ, Bool, true, false, cond, nat_le, List, [], ◌∷◌, ◌++◌, length, length-append, append_assoc, arith, refl, sym, ap, ◌∙◌, subst, ◌⊎◌, inl, inr}
+use Rattle.std.specs.List.{All, Contains}
+use Rattle.std.proofs.lemmas.Bool.{leb-true, leb-false}
+use Rattle.std.proofs.lemmas.List.Elements.{All-nil, All-cons, All-append, All-weaker, Contains-append_left, Contains-append_right, Contains-push}
+use Rattle.checks.specs.declared.found.Fault.{Fault}
 use Rattle.checks.specs.declared.found.Found.{Found}
-use Rattle.checks.specs.Judging.{IsClean, Judges}
+use Rattle.checks.specs.Judging.{Breaks, noted, Adds, AreTold, Judges}
+
+pub adds_both : {A B : Fault → Type 0} (x y z : List Fault) → Adds A x y → Adds B y z → Adds (λ f. A f ⊎ B f) x z
+adds_both {A} {B} x y z one two = record {
+  faults = one.faults ++ two.faults;
+  are = two.are ∙ ap (λ l. l ++ two.faults) one.are ∙ append_assoc x one.faults two.faults;
+  right = All-append (λ f. A f ⊎ B f) one.faults two.faults (All-weaker A (λ f. A f ⊎ B f) (λ f a. inl a) one.faults one.right) (All-weaker B (λ f. A f ⊎ B f) (λ f b. inr b) two.faults two.right);
+  few = λ low. two.few (one.few low);
+  every = λ low f says.
+      let size : length z ≡ length y + length two.faults = ap length two.are ∙ length-append y two.faults in
+      by (omega (arith, low, size)) low f says;
+}
+  where
+    by : length y < 50 → length z < 50 → (f : Fault) → A f ⊎ B f → Contains (one.faults ++ two.faults) f
+    by mid low f (inl a) = Contains-append_left one.faults two.faults f (one.every mid f a)
+    by mid low f (inr b) = Contains-append_right one.faults two.faults f (two.every low f b)
+
+pub adds_as : {A B : Fault → Type 0} (x y : List Fault) → ((f : Fault) → A f → B f) → ((f : Fault) → B f → A f) → Adds A x y → Adds B x y
+adds_as {A} {B} x y to from look = record {
+  faults = look.faults;
+  are = look.are;
+  right = All-weaker A B to look.faults look.right;
+  few = look.few;
+  every = λ low f says. look.every low f (from f says);
+}
+
+append_none : (x : List Fault) → x ≡ x ++ []
+append_none [] = refl
+append_none (f ∷ x) = ap (λ l. f ∷ l) (append_none x)
+
+pub adds_none : {A : Fault → Type 0} (x : List Fault) → ((f : Fault) → A f → ⊥) → Adds A x x
+adds_none {A} x none = record {
+  faults = [];
+  are = append_none x;
+  right = All-nil A;
+  few = λ low. low;
+  every = λ low f says. absurd (none f says);
+}
+
+full_false : (n : ℕ) → nat_le 50 n ≡ false → n < 50
+full_false n e = leb-false 50 n e
+
+full_true : (n : ℕ) → nat_le 50 n ≡ true → 50 ≤ n
+full_true n e = leb-true 50 n e
+
+-- one fault is noted, where there is room
+pub adds_one : (fault : Fault) (x : List Fault) → Adds (λ f. f ≡ fault) x (noted fault x)
+adds_one fault x = by (nat_le 50 (length x)) refl
+  where
+    by : (full : Bool) → nat_le 50 (length x) ≡ full → Adds (λ f. f ≡ fault) x (cond full x (x ++ fault ∷ []))
+    by true e = record {
+      faults = [];
+      are = append_none x;
+      right = All-nil (λ f. f ≡ fault);
+      few = λ low. low;
+      every = λ low f says. let high = full_true (length x) e in absurd (omega (arith, low, high));
+    }
+    by false e = record {
+      faults = fault ∷ [];
+      are = refl;
+      right = All-cons (λ f. f ≡ fault) fault [] refl (All-nil (λ f. f ≡ fault));
+      few = λ low.
+          let below = full_false (length x) e in
+          let size : length (x ++ fault ∷ []) ≡ length x + 1 = length-append x (fault ∷ []) in
+          omega (arith, below, size);
+      every = λ low f says. subst (Contains (fault ∷ [])) (sym says) (Contains-push [] fault);
+    }
+
+pub noted_some : (fault : Fault) (x : List Fault) → noted fault x ≡ [] → ⊥
+noted_some fault [] e = absurd (cc)
+noted_some fault (y ∷ x) e = by (nat_le 50 (length (y ∷ x))) e
+  where
+    by : (full : Bool) → cond full (y ∷ x) (y ∷ (x ++ fault ∷ [])) ≡ [] → ⊥
+    by true e = cc
+    by false e = cc
 
 -- two looks look for both laws
-pub judges_both : {A B : Type 0} (x y z : Found) → Judges A x y → Judges B y z → Judges (A × B) x z
+pub judges_both : {S T : Fault → Type 0} {A B : Type 0} (x y z : Found) → Judges S A x y → Judges T B y z → Judges (λ f. S f ⊎ T f) (A × B) x z
 judges_both x y z one two = record {
   told = λ clean. let mid = two.told clean in let first = one.told mid.0 in (first.0, (first.1, mid.1));
   spared = λ clean laws. two.spared (one.spared clean laws.0) laws.1;
+  adds = adds_both x.faults y.faults z.faults one.adds two.adds;
 }
 
 -- another law that holds just where this does
-pub judges_as : {A B : Type 0} (x y : Found) → (A → B) → (B → A) → Judges A x y → Judges B x y
+pub judges_as : {S : Fault → Type 0} {A B : Type 0} (x y : Found) → (A → B) → (B → A) → Judges S A x y → Judges S B x y
 judges_as x y to from look = record {
   told = λ clean. let both = look.told clean in (both.0, to both.1);
   spared = λ clean law. look.spared clean (from law);
+  adds = look.adds;
 }
 
--- the law doesn't hold, and a fault was noted
-pub judges_fault : {A : Type 0} (x y : Found) → ¬ A → ¬ IsClean y → Judges A x y
-judges_fault x y broken noted = record { told = λ clean. absurd (noted clean); spared = λ clean law. absurd (broken law) }
+-- the same faults, said otherwise
+pub judges_says : {S T : Fault → Type 0} {A : Type 0} (x y : Found) → ((f : Fault) → S f → T f) → ((f : Fault) → T f → S f) → Judges S A x y → Judges T A x y
+judges_says x y to from look = record { told = look.told; spared = look.spared; adds = adds_as x.faults y.faults to from look.adds }
+
+-- another law that holds just where this does, broken by the same fault
+pub judges_law : {A B : Type 0} {fault : Fault} (x y : Found) → (A → B) → (B → A) → Judges (Breaks A fault) A x y → Judges (Breaks B fault) B x y
+judges_law x y to from look = judges_says x y (λ f says. (λ law. says.0 (from law), says.1)) (λ f says. (λ law. says.0 (to law), says.1)) (judges_as x y to from look)
+
+-- the same fault, named otherwise
+pub judges_named : {A : Type 0} {fault other : Fault} (x y : Found) → fault ≡ other → Judges (Breaks A fault) A x y → Judges (Breaks A other) A x y
+judges_named {A} x y same look = subst (λ (f : Fault). Judges (Breaks A f) A x y) same look
+
+-- the law doesn't hold, and the one fault that tells it was noted
+pub judges_this : {S : Fault → Type 0} {A : Type 0} (fault : Fault) (x y : Found) → ¬ A → y.faults ≡ noted fault x.faults → S fault → ((f : Fault) → S f → f ≡ fault) → Judges S A x y
+judges_this {S} {A} fault x y broken is says only = record {
+  told = λ clean. absurd (noted_some fault x.faults (sym is ∙ clean));
+  spared = λ clean law. absurd (broken law);
+  adds = subst (Adds S x.faults) (sym is) (adds_as x.faults (noted fault x.faults) (λ f e. subst S (sym e) says) only (adds_one fault x.faults));
+}
+
+-- the law holds, and there is no fault to tell
+pub judges_none : {S : Fault → Type 0} {A : Type 0} (x : Found) → A → ((f : Fault) → S f → ⊥) → Judges S A x x
+judges_none x law none = record { told = λ clean. (clean, law); spared = λ clean other. clean; adds = adds_none x.faults none }
+
+-- what was added to nothing
+pub all_told : {S : Fault → Type 0} (old new : List Fault) → old ≡ [] → Adds S old new → AreTold S new
+all_told {S} old new empty look =
+    let are : new ≡ look.faults = look.are ∙ ap (λ l. l ++ look.faults) empty in
+    record {
+      right = subst (All S) (sym are) look.right;
+      few = look.few (subst (λ (l : List Fault). length l ≤ 50) (sym empty) (omega arith));
+      every = λ low f says. subst (λ l. Contains l f) (sym are) (look.every low f says);
+    }
+
+pub told_adds : {S : Fault → Type 0} (faults : List Fault) → AreTold S faults → Adds S [] faults
+told_adds faults told = record { faults = faults; are = refl; right = told.right; few = λ low. told.few; every = told.every }
+
+-- the law doesn't hold, and its fault was noted
+pub judges_fault : {A : Type 0} {fault : Fault} (x y : Found) → ¬ A → y.faults ≡ noted fault x.faults → Judges (Breaks A fault) A x y
+judges_fault {A} {fault} x y broken is = record {
+  told = λ clean. absurd (noted_some fault x.faults (sym is ∙ clean));
+  spared = λ clean law. absurd (broken law);
+  adds = subst (Adds (Breaks A fault) x.faults) (sym is) (adds_as x.faults (noted fault x.faults) (λ f e. (broken, e)) (λ f says. says.1) (adds_one fault x.faults));
+}
 
 -- the law holds, and nothing was noted
-pub judges_right : {A : Type 0} (x : Found) → A → Judges A x x
-judges_right x law = record { told = λ clean. (clean, law); spared = λ clean other. clean }
+pub judges_right : {A : Type 0} {fault : Fault} (x : Found) → A → Judges (Breaks A fault) A x x
+judges_right x law = record { told = λ clean. (clean, law); spared = λ clean other. clean; adds = adds_none x.faults (λ f says. says.0 law) }
 
 -- a law that is a test, of which this tells
-pub judges_where : {x y : Found} {test law : Bool} → test ≡ law → Judges (test ≡ true) x y → Judges (law ≡ true) x y
-judges_where {x} {y} same look = judges_as x y (λ h. sym same ∙ h) (λ h. same ∙ h) look
+pub judges_where : {x y : Found} {test law : Bool} {fault : Fault} → test ≡ law → Judges (Breaks (test ≡ true) fault) (test ≡ true) x y → Judges (Breaks (law ≡ true) fault) (law ≡ true) x y
+judges_where {x} {y} same look = judges_law x y (λ h. sym same ∙ h) (λ h. same ∙ h) look

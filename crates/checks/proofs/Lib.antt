@@ -1,11 +1,11 @@
 pub mod CountLemmas
 pub mod FirstsLemmas
 pub mod GroupLemmas
+pub mod HeadLemmas
 pub mod InTables
 pub mod JudgingLemmas
 pub mod KeyLemmas
 pub mod LookLemmas
-pub mod LoopLemmas
 pub mod NumberLemmas
 pub mod PageKeys
 pub mod PlacesLemmas

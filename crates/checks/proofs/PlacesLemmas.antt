@@ -13,9 +13,12 @@ use Rattle.statements.specs.declared.rows.PageHead.{PageHead}
 use Rattle.statements.specs.Rows.{Kept, VersionRow, VpageRow}
 use Rattle.texts.specs.Texts.{pages_for, piece_size, names_page}
 use Rattle.checks.specs.declared.keys.RowKey.{RowKey}
-use Rattle.checks.specs.Judging.{Judges}
+use Rattle.checks.specs.declared.found.Fault.{Fault}
+use Rattle.checks.specs.Judging.{OfSome, Judges}
+use Rattle.checks.specs.Faults.{OfHeads, PagesMiscounted, PlacesOutside, PagesMissing, TextsBroken, OfPages}
 use Rattle.checks.specs.declared.found.Found.{Found}
-use Rattle.checks.specs.Inner.Places.{IsRunOf, AreRuns, size_in, IsPlacedIn, HasCounts, count_in, piece_in, HasPieceIn, HasTextIn, IsCountedIn, NamesPage, AreRowsSound}
+use Rattle.checks.specs.Pages.{size_in, IsPlacedIn, count_in, piece_in, HasPieceIn, HasTextIn, IsCountedIn, NamesPage}
+use Rattle.checks.specs.Inner.Places.{IsRunOf, AreRuns, HasCounts, AreRowsSound}
 use Rattle.checks.specs.Inner.Heads.{IsSoundHead}
 use Rattle.checks.specs.Inner.Keys.{is_key}
 use Rattle.checks.specs.Inner.Firsts.{key_cmp, IsKeyOf}
@@ -131,9 +134,10 @@ few vpages i x key m below has is =
 
 -- one look after the other finds what is wrong with any of the rows
 pub judges_rows : (heads : List PageHead) (versions : List (Kept VersionRow)) (vpages : List (Kept VpageRow)) (v w x y z : Found)
-    → Judges (AllByRecursion IsSoundHead heads) v w → Judges (AllByRecursion (IsCountedIn vpages) heads) w x → Judges (AllByRecursion (λ r. IsPlacedIn versions r.1) vpages) x y
-    → Judges (AllByRecursion (λ r. NamesPage heads r.1) vpages × AllByRecursion (λ r. HasTextIn heads vpages r.1) versions) y z
-    → Judges (AreRowsSound heads versions vpages) v z
+    → Judges (OfHeads vpages heads) (AllByRecursion IsSoundHead heads) v w → Judges (PagesMiscounted vpages heads) (AllByRecursion (IsCountedIn vpages) heads) w x
+    → Judges (PlacesOutside versions vpages) (AllByRecursion (λ r. IsPlacedIn versions r.1) vpages) x y
+    → Judges (λ f. PagesMissing heads vpages f ⊎ TextsBroken heads vpages versions f) (AllByRecursion (λ r. NamesPage heads r.1) vpages × AllByRecursion (λ r. HasTextIn heads vpages r.1) versions) y z
+    → Judges (OfPages heads versions vpages) (AreRowsSound heads versions vpages) v z
 judges_rows heads versions vpages v w x y z one two three four =
     judges_as v z
     (λ laws. record { heads_sound = laws.0; counts = laws.1.0; places = laws.1.1.0; names = laws.1.1.1.0; whole = laws.1.1.1.1 })
@@ -141,5 +145,6 @@ judges_rows heads versions vpages v w x y z one two three four =
     (judges_both v w z one (judges_both w x z two (judges_both x y z three four)))
 
 -- all rows are looked at
-pub judges_all : {X : Type 0} (P : X → Type 0) (xs : List X) (i : ℕ) (x y : Found) → length xs ≤ i → Judges (AllByRecursion P (take i xs)) x y → Judges (AllByRecursion P xs) x y
-judges_all P xs i x y past so_far = rw (take_all i xs past) at so_far
+pub judges_all : {X : Type 0} (Says : X → Fault → Type 0) (P : X → Type 0) (xs : List X) (i : ℕ) (x y : Found) → length xs ≤ i → Judges (OfSome Says (take i xs)) (AllByRecursion P (take i xs)) x y
+    → Judges (OfSome Says xs) (AllByRecursion P xs) x y
+judges_all Says P xs i x y past so_far = rw (take_all i xs past) at so_far

@@ -1,5 +1,5 @@
 -- Laws of the rows of a list, as the rows come one by one.
-use Rattle.std.proofs.Common.{◌≡◌, ℕ, ◌+◌, ◌<◌, Bool, true, false, not, List, [], ◌∷◌, ◌++◌, ◌||◌, take, get_or, length, refl, sym, ap, ◌∙◌, subst}
+use Rattle.std.proofs.Common.{◌≡◌, ℕ, ◌+◌, ◌<◌, Bool, true, false, not, List, [], ◌∷◌, ◌++◌, ◌||◌, take, get_or, length, refl, sym, ap, ◌∙◌, subst, true≢false, ◌⊎◌, inl, inr}
 use Rattle.std.specs.List.{AllByRecursion, list_any}
 use Rattle.std.proofs.lemmas.List.{take_more}
 use Rattle.std.proofs.lemmas.Bool.{not-true}
@@ -7,8 +7,9 @@ use Rattle.std.proofs.lemmas.List.Folds.{list_any-append}
 use Rattle.sqlite_keyed.specs.Rules.{AreApart}
 use Rattle.sqlite_keyed.proofs.ListLemmas.{none_from_any, any_from_none}
 use Rattle.checks.specs.declared.found.Found.{Found}
-use Rattle.checks.specs.Judging.{Judges}
-use Rattle.checks.proofs.JudgingLemmas.{judges_both, judges_as}
+use Rattle.checks.specs.declared.found.Fault.{Fault}
+use Rattle.checks.specs.Judging.{Breaks, OfSome, OfClash, Judges}
+use Rattle.checks.proofs.JudgingLemmas.{judges_both, judges_as, judges_says}
 
 pub or_none : (a : Bool) → (a || false) ≡ a
 or_none true = refl
@@ -16,6 +17,82 @@ or_none false = refl
 
 pub any_same : {X : Type 0} (p q : X → Bool) → ((x : X) → p x ≡ q x) → (xs : List X) → list_any p xs ≡ list_any q xs
 any_same p q same xs = λ i. list_any (λ x. same x i) xs
+
+-- ---- faults of the rows so far
+
+module _ {X : Type 0} (Says : X → Fault → Type 0) where
+  pub some_split : (xs : List X) (x : X) (f : Fault) → OfSome Says (xs ++ x ∷ []) f → OfSome Says xs f ⊎ Says x f
+  some_split [] x f (inl here) = inr here
+  some_split [] x f (inr none) = absurd none
+  some_split (a ∷ xs) x f (inl first) = inl (inl first)
+  some_split (a ∷ xs) x f (inr rest) = go (some_split xs x f rest)
+    where
+      go : OfSome Says xs f ⊎ Says x f → OfSome Says (a ∷ xs) f ⊎ Says x f
+      go (inl s) = inl (inr s)
+      go (inr s) = inr s
+
+  pub some_back : (xs : List X) (x : X) (f : Fault) → OfSome Says xs f ⊎ Says x f → OfSome Says (xs ++ x ∷ []) f
+  some_back [] x f (inl none) = absurd none
+  some_back [] x f (inr here) = inl here
+  some_back (a ∷ xs) x f (inl (inl first)) = inl first
+  some_back (a ∷ xs) x f (inl (inr rest)) = inr (some_back xs x f (inl rest))
+  some_back (a ∷ xs) x f (inr here) = inr (some_back xs x f (inr here))
+
+pub some_weaker : {X : Type 0} (P Q : X → Fault → Type 0) → ((x : X) (f : Fault) → P x f → Q x f) → (xs : List X) (f : Fault) → OfSome P xs f → OfSome Q xs f
+some_weaker P Q to [] f none = none
+some_weaker P Q to (x ∷ xs) f (inl here) = inl (to x f here)
+some_weaker P Q to (x ∷ xs) f (inr rest) = inr (some_weaker P Q to xs f rest)
+
+or_left : (a b : Bool) → a ≡ true → (a || b) ≡ true
+or_left true b e = refl
+or_left false b e = absurd (true≢false (sym e))
+
+or_right : (a b : Bool) → b ≡ true → (a || b) ≡ true
+or_right true b e = refl
+or_right false b e = e
+
+or_cases : (a b : Bool) → (a || b) ≡ true → (a ≡ true) ⊎ (b ≡ true)
+or_cases true b e = inl refl
+or_cases false b e = inr e
+
+module _ {X : Type 0} (clash : X → X → Bool) (fault : X → Fault) where
+  abbrev Clashing : X → X → Fault → Type 0
+  Clashing a y g = (clash a y ≡ true) × (g ≡ fault y)
+
+  abbrev Here : List X → X → Fault → Type 0
+  Here xs x f = (list_any (λ a. clash a x) xs ≡ true) × (f ≡ fault x)
+
+  clash_split : (xs : List X) (x : X) (f : Fault) → OfClash clash fault (xs ++ x ∷ []) f → OfClash clash fault xs f ⊎ Here xs x f
+  clash_split [] x f (inl none) = absurd none
+  clash_split [] x f (inr none) = absurd none
+  clash_split (a ∷ xs) x f (inl first) = go (some_split (Clashing a) xs x f first)
+    where
+      go : OfSome (Clashing a) xs f ⊎ Clashing a x f → OfClash clash fault (a ∷ xs) f ⊎ Here (a ∷ xs) x f
+      go (inl s) = inl (inl s)
+      go (inr s) = inr (or_left (clash a x) (list_any (λ b. clash b x) xs) s.0, s.1)
+  clash_split (a ∷ xs) x f (inr rest) = go (clash_split xs x f rest)
+    where
+      go : OfClash clash fault xs f ⊎ Here xs x f → OfClash clash fault (a ∷ xs) f ⊎ Here (a ∷ xs) x f
+      go (inl s) = inl (inr s)
+      go (inr s) = inr (or_right (clash a x) (list_any (λ b. clash b x) xs) s.0, s.1)
+
+  clash_back : (xs : List X) (x : X) (f : Fault) → OfClash clash fault xs f ⊎ Here xs x f → OfClash clash fault (xs ++ x ∷ []) f
+  clash_back [] x f (inl none) = absurd none
+  clash_back [] x f (inr here) = absurd (true≢false (sym here.0))
+  clash_back (a ∷ xs) x f (inl (inl first)) = inl (some_back (Clashing a) xs x f (inl first))
+  clash_back (a ∷ xs) x f (inl (inr rest)) = inr (clash_back xs x f (inl rest))
+  clash_back (a ∷ xs) x f (inr here) = go (λ there. clash_back xs x f (inr there)) (or_cases (clash a x) (list_any (λ b. clash b x) xs) here.0)
+    where
+      go : (Here xs x f → OfClash clash fault (xs ++ x ∷ []) f) → (clash a x ≡ true) ⊎ (list_any (λ b. clash b x) xs ≡ true) → OfClash clash fault ((a ∷ xs) ++ x ∷ []) f
+      go rest (inl e) = inl (some_back (Clashing a) xs x f (inr (e, here.1)))
+      go rest (inr e) = inr (rest (e, here.1))
+
+stale : (fresh any : Bool) → fresh ≡ not any → ¬ (fresh ≡ true) → any ≡ true
+stale fresh true e n = refl
+stale fresh false e n = absurd (n e)
+
+not_fresh : (fresh any : Bool) → fresh ≡ not any → any ≡ true → ¬ (fresh ≡ true)
+not_fresh fresh any e is = λ t. true≢false (sym t ∙ e ∙ ap not is)
 
 module _ {X : Type 0} where
   all_more : (P : X → Type 0) (xs : List X) (x : X) → AllByRecursion P xs → P x → AllByRecursion P (xs ++ x ∷ [])
@@ -45,20 +122,34 @@ module _ {X : Type 0} where
   any_judged p xs i x inside is = ap (list_any p) (next_row xs i x inside is) ∙ list_any-append p (take i xs) (x ∷ []) ∙ ap (λ b. list_any p (take i xs) || b) (or_none (p x))
 
   -- Each of the first rows was looked at, and now the next one.
-  pub all_judged : (P : X → Type 0) (xs : List X) (i : ℕ) (x : X) (start old new : Found) → i < length xs → x ≡ get_or xs i x
-      → Judges (AllByRecursion P (take i xs)) start old → Judges (P x) old new → Judges (AllByRecursion P (take (i + 1) xs)) start new
-  all_judged P xs i x start old new inside is before here =
-      subst (λ (l : List X). Judges (AllByRecursion P l) start new) (sym (next_row xs i x inside is))
-      (judges_as start new (λ both. all_more P (take i xs) x both.0 both.1) (all_less P (take i xs) x) (judges_both start old new before here))
+  pub all_judged : (Says : X → Fault → Type 0) (P : X → Type 0) (xs : List X) (i : ℕ) (x : X) (start old new : Found) → i < length xs → x ≡ get_or xs i x
+      → Judges (OfSome Says (take i xs)) (AllByRecursion P (take i xs)) start old → Judges (Says x) (P x) old new
+      → Judges (OfSome Says (take (i + 1) xs)) (AllByRecursion P (take (i + 1) xs)) start new
+  all_judged Says P xs i x start old new inside is before here =
+      subst (λ (l : List X). Judges (OfSome Says l) (AllByRecursion P l) start new) (sym (next_row xs i x inside is))
+      (judges_says start new (some_back Says (take i xs) x) (some_split Says (take i xs) x)
+      (judges_as start new (λ both. all_more P (take i xs) x both.0 both.1) (all_less P (take i xs) x) (judges_both start old new before here)))
 
   -- The first rows are apart, and the next one is apart from them where its key is new.
-  pub apart_judged : (clash : X → X → Bool) → ((a b : X) → clash a b ≡ clash b a) → (xs : List X) (i : ℕ) (x : X) (fresh : Bool) (start old new : Found) → i < length xs → x ≡ get_or xs i x
-      → fresh ≡ not (list_any (clash x) (take i xs)) → Judges (AreApart clash (take i xs)) start old → Judges (fresh ≡ true) old new
-      → Judges (AreApart clash (take (i + 1) xs)) start new
-  apart_judged clash turn xs i x fresh start old new inside is told before here =
+  pub apart_judged : (clash : X → X → Bool) (fault : X → Fault) → ((a b : X) → clash a b ≡ clash b a) → (xs : List X) (i : ℕ) (x : X) (fresh : Bool) (start old new : Found) → i < length xs → x ≡ get_or xs i x
+      → fresh ≡ not (list_any (clash x) (take i xs)) → Judges (OfClash clash fault (take i xs)) (AreApart clash (take i xs)) start old → Judges (Breaks (fresh ≡ true) (fault x)) (fresh ≡ true) old new
+      → Judges (OfClash clash fault (take (i + 1) xs)) (AreApart clash (take (i + 1) xs)) start new
+  apart_judged clash fault turn xs i x fresh start old new inside is told before here =
       let same : list_any (λ a. clash a x) (take i xs) ≡ list_any (clash x) (take i xs) = any_same (λ a. clash a x) (clash x) (λ a. turn a x) (take i xs) in
-      subst (λ (l : List X). Judges (AreApart clash l) start new) (sym (next_row xs i x inside is))
+      subst (λ (l : List X). Judges (OfClash clash fault l) (AreApart clash l) start new) (sym (next_row xs i x inside is))
+      (judges_says start new (λ f says. clash_back clash fault (take i xs) x f (to f says)) (λ f says. from f (clash_split clash fault (take i xs) x f says))
       (judges_as start new
       (λ both. apart_more clash (take i xs) x both.0 (none_from_any (λ a. clash a x) (take i xs) (same ∙ not-true _ (sym told ∙ both.1))))
       (λ law. let parts = apart_less clash (take i xs) x law in (parts.0, told ∙ ap not (sym same ∙ any_from_none (λ a. clash a x) (take i xs) parts.1)))
-      (judges_both start old new before here))
+      (judges_both start old new before here)))
+    where
+      turned : list_any (λ a. clash a x) (take i xs) ≡ list_any (clash x) (take i xs)
+      turned = any_same (λ a. clash a x) (clash x) (λ a. turn a x) (take i xs)
+
+      to : (f : Fault) → OfClash clash fault (take i xs) f ⊎ Breaks (fresh ≡ true) (fault x) f → OfClash clash fault (take i xs) f ⊎ Here clash fault (take i xs) x f
+      to f (inl s) = inl s
+      to f (inr s) = inr (turned ∙ stale fresh (list_any (clash x) (take i xs)) told s.0, s.1)
+
+      from : (f : Fault) → OfClash clash fault (take i xs) f ⊎ Here clash fault (take i xs) x f → OfClash clash fault (take i xs) f ⊎ Breaks (fresh ≡ true) (fault x) f
+      from f (inl s) = inl s
+      from f (inr s) = inr (not_fresh fresh (list_any (clash x) (take i xs)) told (sym turned ∙ s.0), s.1)

@@ -4,7 +4,7 @@ use Rattle.std.specs.List.{list_all, list_any}
 use Rattle.std.specs.Str.{bytes_eq}
 use Rattle.statements.specs.Rows.{Kept, RunRow}
 use Rattle.checks.specs.Inner.Groups.{with_some, picked}
-use Rattle.checks.specs.Inner.Runs.{is_other, have_others, keys_differ, is_new, is_unseen, is_that, has_key}
+use Rattle.checks.specs.Runs.{is_other, have_others, keys_differ, is_new, is_unseen, is_that, has_key}
 
 pub either : (a b : Bool) → cond a true b ≡ (a || b)
 either true b = refl

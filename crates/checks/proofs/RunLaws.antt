@@ -30,8 +30,8 @@ use Rattle.tables.specs.Records.{runs_at}
 use Rattle.tables.proofs.Names.{same_name, name_is}
 use Rattle.tables.proofs.Ordered.{runs_total}
 use Rattle.tables.proofs.Sorted.{count_sorted, found_sorted}
-use Rattle.checks.specs.Inner.Versions.{rises, sorted}
-use Rattle.checks.specs.Inner.Runs.{run_number, is_key, is_where_action_ends, is_active_rightly, waits_rightly, is_run, is_run_row, is_open_row, count_open, is_other, have_others, keys_differ, queued_in, is_held, are_runs}
+use Rattle.checks.specs.Versions.{rises, sorted}
+use Rattle.checks.specs.Runs.{run_number, is_key, is_where_action_ends, is_active_rightly, waits_rightly, is_run, is_run_row, is_open_row, count_open, is_other, have_others, keys_differ, queued_in, is_held, are_runs}
 use Rattle.checks.proofs.TestLemmas.{all_from_tests, tests_from_all, all_in_order, all_as_they_stand}
 use Rattle.checks.proofs.VersionLaws.{rises_by_test, test_of_rises}
 

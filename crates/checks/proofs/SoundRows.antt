@@ -1,11 +1,11 @@
 -- What the looks look for is that the tables are sound.
-use Rattle.std.proofs.Common.{◌≡◌, ℕ, List, map, sym, subst}
+use Rattle.std.proofs.Common.{◌≡◌, ℕ, List, sym, subst}
 use Rattle.statements.specs.declared.rows.Rows.{Rows}
 use Rattle.statements.specs.Tables.{Tables}
-use Rattle.pages.specs.Heads.{head_in}
 use Rattle.tables.specs.Scans.{AreRowsOf, ArePagesKeyed}
 use Rattle.tables.specs.Sound.{IsSound}
 use Rattle.checks.specs.Judging.{Judges}
+use Rattle.checks.specs.Faults.{rows_of, OfRows, OfTables, IsFaultOf}
 use Rattle.checks.specs.declared.found.Found.{Found}
 use Rattle.checks.specs.Inner.Counts.{AreFew}
 use Rattle.checks.specs.Inner.Places.{AreTextsSound}
@@ -13,22 +13,6 @@ use Rattle.checks.specs.Inner.Workspaces.{AreLawfulWss, HasWsRows}
 use Rattle.checks.specs.Inner.Looks.{AreRowsFit}
 use Rattle.checks.proofs.JudgingLemmas.{judges_both, judges_as}
 use Rattle.checks.proofs.WsTies.{named_by_rows, rows_by_name, counts_by_rows, rows_by_counts}
-
--- the rows that are read of the tables
-abbrev pub rows_of : (List ℕ → List ℕ) → Tables → Rows
-rows_of key_of t = record {
-  metas = t.metas;
-  orgs = t.orgs;
-  tokens = t.tokens;
-  wss = t.wss;
-  versions = t.versions;
-  runs = t.runs;
-  pages = map (head_in key_of t) t.pages;
-  vpages = t.vpages;
-  bounds = t.bounds;
-  editions = t.editions;
-  keepings = t.keepings;
-}
 
 pub rows_are : (key_of : List ℕ → List ℕ) (t : Tables) (rows : Rows) → AreRowsOf key_of t rows → rows ≡ rows_of key_of t
 rows_are key_of t rows are = λ i. record {
@@ -91,7 +75,7 @@ module _ (key_of : List ℕ → List ℕ) (t : Tables) where
   texts_from s keyed = record { places = s.places; keyed = keyed; placed = s.placed; texts = s.texts }
 
   -- the looks at rows, and those at tables, look for what is promised
-  pub judges_sound : (rows : Rows) (x y z : Found) → AreRowsOf key_of t rows → Judges (AreRowsFit rows) x y → Judges (AreTextsSound key_of t × AreFew t.wss × AreLawfulWss t) y z → Judges (IsSound t × ArePagesKeyed key_of t) x z
+  pub judges_sound : (rows : Rows) (x y z : Found) → AreRowsOf key_of t rows → Judges (OfRows rows) (AreRowsFit rows) x y → Judges (OfTables rows) (AreTextsSound key_of t × AreFew t.wss × AreLawfulWss t) y z → Judges (IsFaultOf rows) (IsSound t × ArePagesKeyed key_of t) x z
   judges_sound rows x y z are one two =
       judges_as x z (λ laws. (sound_to laws.0 laws.1.0 laws.1.1 laws.1.2, laws.1.0.keyed)) (λ laws. (rows_from laws.0, (texts_from laws.0 laws.1, rows_by_counts t laws.0.wss_apart laws.0.wss_owned laws.0.counts, rows_by_name t laws.0.wss_apart laws.0.workspaces)))
-      (judges_both x y z (subst (λ (r : Rows). Judges (AreRowsFit r) x y) (rows_are key_of t rows are) one) two)
+      (judges_both x y z (subst (λ (r : Rows). Judges (OfRows rows) (AreRowsFit r) x y) (rows_are key_of t rows are) one) two)

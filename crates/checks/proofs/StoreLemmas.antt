@@ -1,7 +1,7 @@
 -- From the rows that were read to the store that has them.
-use Rattle.std.proofs.Common.{◌≡◌, ◌==◌, true, ◌<◌, ◌+◌, ℕ, List, [], ◌∷◌, map, take, length, Option, arith, refl, sym, ap, ◌∙◌, subst}
+use Rattle.std.proofs.Common.{◌≡◌, ◌==◌, true, ◌<◌, ◌≤◌, ◌+◌, ℕ, List, [], ◌∷◌, ◌++◌, map, take, get_or, length, Option, arith, refl, sym, ap, ◌∙◌, subst}
 use Rattle.std.proofs.lemmas.Bool.{eqb-true}
-use Rattle.std.proofs.lemmas.List.{length-take-le}
+use Rattle.std.proofs.lemmas.List.{length-take-le, length-map}
 use Rattle.sqlite.specs.Effect.{Database}
 use Rattle.sqlite.specs.State.{State}
 use Rattle.statements.specs.Tables.{Tables, Holds, IsOurs, tables_of}
@@ -9,14 +9,22 @@ use Rattle.tables.specs.Counting.{IsCounted}
 use Rattle.tables.specs.declared.counts.Counted.{Counted}
 use Rattle.tables.specs.Defined.{TellsTables as NamesTables}
 use Rattle.tables.specs.Opening.{IsFresh, IsSoundKeep}
-use Rattle.tables.specs.Scans.{AreRowsOf}
+use Rattle.tables.specs.Scans.{AreRowsOf, ArePagesKeyed}
+use Rattle.tables.specs.Sound.{IsSound}
 use Rattle.tables.specs.Stores.{records_of}
+use Rattle.statements.specs.declared.rows.Rows.{Rows}
+use Rattle.checks.specs.declared.found.Fault.{Fault}
 use Rattle.checks.specs.declared.found.Found.{Found}
 use Rattle.checks.specs.declared.stores.Looked.{Looked}
-use Rattle.checks.specs.Judging.{IsClean, Decides}
+use Rattle.checks.specs.Judging.{noted, OfSome, Decides, AreTold}
+use Rattle.checks.specs.Faults.{table_fault, IsFaultOf}
+use Rattle.checks.specs.Lines.{fault_line, TellsEach, TellsFaults}
 use Rattle.checks.specs.Standing.{HaveRows, TellsStore}
 use Rattle.checks.specs.Totals.{AreTotalsOf}
 use Rattle.checks.specs.Inner.Stores.{TellsTables, LooksAtRows}
+use Rattle.checks.proofs.JudgingLemmas.{noted_some, adds_none, adds_one, adds_both, adds_as, all_told, told_adds}
+use Rattle.checks.proofs.RowLists.{next_row, some_split, some_back}
+use Rattle.checks.proofs.SoundRows.{rows_are}
 
 -- where something was taken of a list, it isn't empty
 some_taken : {X : Type 0} (xs : List X) (i : ℕ) → i < length xs → ¬ (take (i + 1) xs ≡ [])
@@ -31,8 +39,24 @@ none_long (x ∷ xs) is =
     let size : length (x ∷ xs) ≡ 0 = eqb-true (length (x ∷ xs)) 0 is in
     absurd (omega (arith, size))
 
-pub noted_more : {X : Type 0} (names : List X) (i : ℕ) (found : Found) → i < length names → ¬ IsClean found → Decides (take (i + 1) names ≡ []) found
-noted_more names i found low noted = record { holds = λ clean. absurd (noted clean); clean = λ none. absurd (some_taken names i low none) }
+pub noted_more : {X : Type 0} (names : List X) (i : ℕ) (fault : Fault) (old new : Found) → i < length names → new.faults ≡ noted fault old.faults → Decides (take (i + 1) names ≡ []) new
+noted_more names i fault old new low is = record { holds = λ clean. absurd (noted_some fault old.faults (sym is ∙ clean)); clean = λ none. absurd (some_taken names i low none) }
+
+abbrev pub TellsNames : List (List ℕ) → List Fault → Type 0
+TellsNames names = AreTold (OfSome (λ name f. f ≡ table_fault name) names)
+
+-- a fault was noted for one name more
+pub told_more_names : (names : List (List ℕ)) (i : ℕ) (name : List ℕ) (old new : List Fault) → i < length names → name ≡ get_or names i name → new ≡ noted (table_fault name) old → TellsNames (take i names) old → TellsNames (take (i + 1) names) new
+told_more_names names i name old new low is noted_it told =
+    subst (λ l. TellsNames l new) (sym (next_row names i name low is))
+    (subst (TellsNames (take i names ++ name ∷ [])) (sym noted_it)
+    (all_told [] (noted (table_fault name) old) refl
+    (adds_as [] (noted (table_fault name) old) (some_back (λ n f. f ≡ table_fault n) (take i names) name) (some_split (λ n f. f ≡ table_fault n) (take i names) name)
+    (adds_both [] old (noted (table_fault name) old) (told_adds old told) (adds_one (table_fault name) old)))))
+
+-- no fault was noted of no names
+pub none_told : (faults : List Fault) → faults ≡ [] → TellsNames [] faults
+none_told faults none = all_told faults faults none (adds_none faults (λ f says. says))
 
 -- where nothing is listed nothing was
 none_mapped : {A B : Type 0} (f : A → B) (xs : List A) → map f xs ≡ [] → xs ≡ []
@@ -44,17 +68,36 @@ none_listed f [] none = refl
 none_listed f (x ∷ xs) none = absurd (cc)
 
 -- a line for each table that isn't ours
-pub tables_told : {A : Type 0} (f : A → List ℕ) (old new : State) (names lines : List (List ℕ)) (faults : List A) → NamesTables old new names → (faults ≡ [] → names ≡ []) → (names ≡ [] → faults ≡ [])
-    → lines ≡ map f faults → TellsTables old.committed new.committed lines
-tables_told f old new names lines faults named holds clean are = record {
-  none = (λ none. named.none.0 (holds (none_mapped f faults (sym are ∙ none))), λ ours. are ∙ none_listed f faults (clean (named.none.1 ours)));
+pub tables_told : (old new : State) (names lines : List (List ℕ)) (faults : List Fault) → NamesTables old new names → (faults ≡ [] → names ≡ []) → (names ≡ [] → faults ≡ []) → TellsNames names faults
+    → lines ≡ map fault_line faults → TellsTables old.committed new.committed lines
+tables_told old new names lines faults named holds clean told are = record {
+  none = (λ none. named.none.0 (holds (none_mapped fault_line faults (sym are ∙ none))), λ ours. are ∙ none_listed fault_line faults (clean (named.none.1 ours)));
+  others = record { names = names; others = named.named; each = record { faults = faults; told = told; lines_are = are } };
   same = named.same;
 }
+
+-- the lines of the faults of rows
+pub rows_told : (rows : Rows) (found : Found) (lines : List (List ℕ)) → lines ≡ map fault_line found.faults
+    → ((key_of : List ℕ → List ℕ) (t : Tables) → AreRowsOf key_of t rows → Decides (IsSound t × ArePagesKeyed key_of t) found) → AreTold (IsFaultOf rows) found.faults → TellsFaults rows lines
+rows_told rows found lines are decides told = record {
+  each = record { faults = found.faults; told = told; lines_are = are };
+  holds = λ none key_of t rows_of. (decides key_of t rows_of).holds (none_mapped fault_line found.faults (sym are ∙ none));
+  clean = λ key_of t rows_of sound keyed. are ∙ none_listed fault_line found.faults ((decides key_of t rows_of).clean (sound, keyed));
+}
+
+each_few : {S : Fault → Type 0} (lines : List (List ℕ)) → TellsEach S lines → length lines ≤ 50
+each_few lines each =
+    let size : length lines ≡ length each.faults = ap length each.lines_are ∙ length-map each.faults fault_line in
+    let few = each.told.few in
+    omega (arith, size, few)
 
 module _ (key_of : List ℕ → List ℕ) (old mid : Database) (others : List (List ℕ)) (tells : TellsTables old mid others) where
   -- a table isn't ours
   pub others_told : ¬ (others ≡ []) → TellsStore key_of old others
   others_told some = record {
+    few = each_few others tells.others.each;
+    rows = λ own. absurd (some (tells.none.1 own));
+    others = λ _. tells.others;
     ours = λ none. absurd (some none);
     holds = λ none. absurd (some none);
     clean = λ own. absurd (some (tells.none.1 own));
@@ -70,6 +113,9 @@ module _ (key_of : List ℕ → List ℕ) (old mid : Database) (others : List (L
     -- what is told of the rows is told of the tables that have them
     pub store_told : TellsStore key_of old looked.faults
     store_told = record {
+      few = each_few looked.faults look.faults.each;
+      rows = λ own t held. subst (λ (r : Rows). TellsEach (IsFaultOf r) looked.faults) (rows_are key_of t look.rows (rows_read t held)) look.faults.each;
+      others = λ foreign. absurd (foreign (tells.none.0 none));
       ours = λ _. tells.none.0 none;
       holds = λ clean t held. look.faults.holds clean key_of t (rows_read t held);
       clean = λ own t held. look.faults.clean key_of t (rows_read t held);

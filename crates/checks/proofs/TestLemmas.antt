@@ -5,7 +5,8 @@ use Rattle.std.proofs.lemmas.Bool.{and_from}
 use Rattle.sqlite_keyed.proofs.RuleLemmas.{first_of_both, second_of_both}
 use Rattle.sqlite_keyed.specs.Lists.{sort_by, insert_sorted}
 use Rattle.statements.proofs.Sorting.{all_sorted}
-use Rattle.checks.specs.Inner.Groups.{with_some, picked, first_unfit}
+use Rattle.checks.specs.Versions.{first_unfit}
+use Rattle.checks.specs.Inner.Groups.{with_some, picked}
 
 module _ {X : Type 0} (test : X → Bool) (P : X → Type 0) where
   pub all_from_tests : ((x : X) → test x ≡ true → P x) → (xs : List X) → list_all test xs ≡ true → AllByRecursion P xs

@@ -7,7 +7,7 @@ use Rattle.sqlite_keyed.specs.Lists.{sort_by}
 use Rattle.sqlite_keyed.proofs.ListLemmas.{map-map}
 use Rattle.sqlite_keyed.proofs.SortLemmas.{sort_by-map}
 use Rattle.sqlite_keyed.proofs.RuleLemmas.{first_of_both, second_of_both}
-use Rattle.machine.specs.Laws.{Rises, HasNoGap, IsVersion, AreVersions, IsNext}
+use Rattle.machine.specs.Laws.{Rises, IsVersion, AreVersions, IsNext}
 use Rattle.machine.specs.Ranges.{IsRetention}
 use Rattle.machine.specs.declared.records.Version.{Version}
 use Rattle.statements.specs.Rows.{Kept, VersionRow}
@@ -15,7 +15,8 @@ use Rattle.statements.specs.Tables.{Tables}
 use Rattle.statements.specs.Changes.{is_version_of}
 use Rattle.statements.specs.Finds.{version_cmp}
 use Rattle.tables.specs.Records.{version_at, versions_at}
-use Rattle.checks.specs.Inner.Versions.{is_version_row, version_number, rises, reaches, sorted, are_versions}
+use Rattle.tables.specs.Sound.{HasNoGap}
+use Rattle.checks.specs.Versions.{is_version_row, version_number, rises, reaches, sorted, are_versions}
 use Rattle.checks.proofs.TestLemmas.{all_from_tests, tests_from_all, all_in_order, all_as_they_stand}
 
 -- ---- numbers
@@ -101,16 +102,24 @@ module _ (t : Tables) (org ws : List ℕ) where
         keep = kept;
         next = nexts;
         rise = subst (λ ms. Rises 0 ms next) (sym numbers_are) rise;
-        gapless = subst (λ ms. HasNoGap ms next) (sym numbers_are) (gapless_by_test 0 next ns rise (second_of_both (nat_le (length ns) keep && rises 0 ns next) (reaches ns next) three));
         each = all_in_order version_cmp IsVersion value rows (all_from_tests is_version_row (λ x. IsVersion (value x)) row_by_test rows (second_of_both (nat_le (length ns) keep && rises 0 ns next && reaches ns next) (list_all is_version_row rows) h));
         kept = subst (λ n. n ≤ keep) (sym count_is) (leb-true (length ns) keep (first_of_both (nat_le (length ns) keep) (rises 0 ns next) two));
       }
 
-  pub test_of_versions : (keep next : ℕ) → AreVersions keep next (versions_at t org ws) → are_versions keep next rows ≡ true
-  test_of_versions keep next are =
+  -- and none between them is missing
+  pub no_gap_by_test : (keep next : ℕ) → are_versions keep next rows ≡ true → HasNoGap (map (λ (v : Version). v.number) (versions_at t org ws)) next
+  no_gap_by_test keep next h =
+      let ns = sorted (map version_number rows) in
+      let three = first_of_both (nat_le (length ns) keep && rises 0 ns next && reaches ns next) (list_all is_version_row rows) h in
+      let two = first_of_both (nat_le (length ns) keep && rises 0 ns next) (reaches ns next) three in
+      let rise : Rises 0 ns next = rises_by_test 0 next ns (second_of_both (nat_le (length ns) keep) (rises 0 ns next) two) in
+      subst (λ ms. HasNoGap ms next) (sym numbers_are) (gapless_by_test 0 next ns rise (second_of_both (nat_le (length ns) keep && rises 0 ns next) (reaches ns next) three))
+
+  pub test_of_versions : (keep next : ℕ) → AreVersions keep next (versions_at t org ws) → HasNoGap (map (λ (v : Version). v.number) (versions_at t org ws)) next → are_versions keep next rows ≡ true
+  test_of_versions keep next are gapless =
       let ns = sorted (map version_number rows) in
       and_from (nat_le (length ns) keep && rises 0 ns next && reaches ns next) (list_all is_version_row rows)
       (and_from (nat_le (length ns) keep && rises 0 ns next) (reaches ns next)
       (and_from (nat_le (length ns) keep) (rises 0 ns next) (le-leb (length ns) keep (subst (λ n. n ≤ keep) count_is are.kept)) (test_of_rises 0 next ns (subst (λ ms. Rises 0 ms next) numbers_are are.rise)))
-      (test_of_gapless next ns (subst (λ ms. HasNoGap ms next) numbers_are are.gapless)))
+      (test_of_gapless next ns (subst (λ ms. HasNoGap ms next) numbers_are gapless)))
       (tests_from_all is_version_row (λ x. IsVersion (value x)) test_of_row rows (all_as_they_stand version_cmp IsVersion value rows are.each))

@@ -7,21 +7,26 @@ use Rattle.sqlite_keyed.proofs.ListLemmas.{all_weaker}
 use Rattle.sqlite_keyed.proofs.RuleLemmas.{first_of_both, second_of_both}
 use Rattle.basis.specs.Names.{is_ws_name, is_free_id}
 use Rattle.basis.specs.declared.numbers.TheConstants.{MAX_NUMBER, FIRST_KEPT}
-use Rattle.machine.specs.Laws.{IsNext, IsNamedWorkspace}
+use Rattle.machine.specs.Laws.{IsNext}
 use Rattle.machine.specs.Ranges.{IsRetention}
 use Rattle.statements.specs.Rows.{Kept, WsRow, VersionRow, RunRow, KeepingRow}
 use Rattle.statements.specs.Tables.{Tables}
 use Rattle.statements.specs.declared.rows.Rows.{Rows}
 use Rattle.statements.specs.Changes.{is_keeping, is_version_of, is_run_of}
 use Rattle.tables.specs.Records.{retention_at, workspace_at}
+use Rattle.tables.specs.Sound.{IsSoundWorkspace}
 use Rattle.checks.specs.declared.found.Found.{Found}
 use Rattle.checks.specs.declared.workspaces.Grouped.{Grouped}
-use Rattle.checks.specs.Judging.{Judges}
+use Rattle.checks.specs.declared.found.Fault.{Fault}
+use Rattle.checks.specs.Judging.{OfSome, Judges}
+use Rattle.checks.specs.Faults.{OfWorkspace, OfWorkspaces}
 use Rattle.checks.specs.Inner.Groups.{picked, places_in}
-use Rattle.checks.specs.Inner.Versions.{are_versions}
-use Rattle.checks.specs.Inner.Workspaces.{is_next, is_free_if, kept_in, retention_among, IsLawfulRow, IsLawfulAt, AreAllGrouped, HasWsRows, AreLawfulWss}
-use Rattle.checks.proofs.JudgingLemmas.{judges_as}
-use Rattle.checks.proofs.VersionLaws.{versions_by_test, test_of_versions}
+use Rattle.checks.specs.Versions.{are_versions}
+use Rattle.checks.specs.Workspaces.{is_next, is_free_if, kept_in, retention_among}
+use Rattle.checks.specs.Inner.Workspaces.{IsLawfulRow, IsLawfulAt, OfGroups, AreAllGrouped, HasWsRows, AreLawfulWss}
+use Rattle.checks.proofs.JudgingLemmas.{judges_as, judges_says}
+use Rattle.checks.proofs.RowLists.{some_weaker}
+use Rattle.checks.proofs.VersionLaws.{versions_by_test, no_gap_by_test, test_of_versions}
 use Rattle.checks.proofs.RunLaws.{runs_by_test, test_of_runs}
 
 next_by_test : (n : ℕ) → is_next n ≡ true → IsNext n
@@ -52,7 +57,7 @@ module _ (t : Tables) (x : Kept WsRow) where
   Lawful = IsLawfulRow (filter (is_keeping x.1.org x.1.name) t.keepings) (filter (is_version_of x.1.org x.1.name) t.versions) (filter (is_run_of x.1.org x.1.name) t.runs) x.1
 
   abbrev Named : Type 0
-  Named = IsNamedWorkspace x.1.name (workspace_at t x.1.org x.1.name x.1.it)
+  Named = IsSoundWorkspace x.1.name (workspace_at t x.1.org x.1.name x.1.it)
 
   retention_is : retention_among (filter (is_keeping x.1.org x.1.name) t.keepings) ≡ retention_at t x.1.org x.1.name
   retention_is = ap (λ o. unwrap_or o FIRST_KEPT) (kept_is (is_keeping x.1.org x.1.name) t.keepings)
@@ -74,6 +79,8 @@ module _ (t : Tables) (x : Kept WsRow) where
           runs = runs_by_test t x.1.org x.1.name x.1.it.holder x.1.it.next_run (next_by_test x.1.it.next_run (second_of_both (a && b) c three)) law.runs;
           released = free_by_test x.1.it.released (second_of_both (a && b && c) d law.own);
         };
+        gapless = no_gap_by_test t x.1.org x.1.name (retention_at t x.1.org x.1.name) x.1.it.next_version
+            (subst (λ n. are_versions n x.1.it.next_version (filter (is_version_of x.1.org x.1.name) t.versions) ≡ true) retention_is law.versions);
       }
 
   tests_of_named : Named → Lawful
@@ -85,7 +92,7 @@ module _ (t : Tables) (x : Kept WsRow) where
       record {
         keep = subst IsRetention (sym retention_is) it.lawful.versions.keep;
         own = and_from (a && b && c) d (and_from (a && b) c (and_from a b it.named (test_of_next x.1.it.next_version it.lawful.versions.next)) (test_of_next x.1.it.next_run it.lawful.runs.next)) (test_of_free x.1.it.released it.lawful.released);
-        versions = subst (λ n. are_versions n x.1.it.next_version (filter (is_version_of x.1.org x.1.name) t.versions) ≡ true) (sym retention_is) (test_of_versions t x.1.org x.1.name (retention_at t x.1.org x.1.name) x.1.it.next_version it.lawful.versions);
+        versions = subst (λ n. are_versions n x.1.it.next_version (filter (is_version_of x.1.org x.1.name) t.versions) ≡ true) (sym retention_is) (test_of_versions t x.1.org x.1.name (retention_at t x.1.org x.1.name) x.1.it.next_version it.lawful.versions it.gapless);
         runs = test_of_runs t x.1.org x.1.name x.1.it.holder x.1.it.next_run it.lawful.runs;
       }
 
@@ -93,12 +100,24 @@ moved : (x : WsRow) (ks ls : List (Kept KeepingRow)) (vs us : List (Kept Version
 moved x ks ls vs us rs ss k v r law =
     subst (λ l. IsLawfulRow ls us l x) r (subst (λ l. IsLawfulRow ls l rs x) v (subst (λ l. IsLawfulRow l vs rs x) k law))
 
+-- what the groups say the rows say
+pub grouped_faults : (rows : Rows) (groups : Grouped) → AreAllGrouped rows groups → (x : Kept WsRow) (f : Fault) → OfGroups rows groups x f
+    ≡ OfWorkspace (filter (is_keeping x.1.org x.1.name) rows.keepings) (filter (is_version_of x.1.org x.1.name) rows.versions) (filter (is_run_of x.1.org x.1.name) rows.runs) x.1 f
+grouped_faults rows groups grouped x f = λ i. OfWorkspace (grouped.keepings x.1.org x.1.name i) (grouped.versions x.1.org x.1.name i) (grouped.runs x.1.org x.1.name i) x.1 f
+
+pub grouped_says : {A : Type 0} (rows : Rows) (groups : Grouped) (a b : Found) → AreAllGrouped rows groups → Judges (OfSome (OfGroups rows groups) rows.wss) A a b → Judges (OfWorkspaces rows) A a b
+grouped_says rows groups a b grouped look =
+    judges_says a b
+    (some_weaker (OfGroups rows groups) _ (λ x f says. subst (λ (T : Type 0). T) (grouped_faults rows groups grouped x f) says) rows.wss)
+    (some_weaker _ (OfGroups rows groups) (λ x f says. subst (λ (T : Type 0). T) (sym (grouped_faults rows groups grouped x f)) says) rows.wss) look
+
 -- a look by groups at all rows judges the workspaces
-pub workspaces_judged : (rows : Rows) (groups : Grouped) (t : Tables) (a b : Found) → AreAllGrouped rows groups → HasWsRows rows t → Judges (AllByRecursion (IsLawfulAt rows groups) rows.wss) a b → Judges (AreLawfulWss t) a b
-workspaces_judged rows groups t a b grouped has =
+pub workspaces_judged : (rows : Rows) (groups : Grouped) (t : Tables) (a b : Found) → AreAllGrouped rows groups → HasWsRows rows t → Judges (OfSome (OfGroups rows groups) rows.wss) (AllByRecursion (IsLawfulAt rows groups) rows.wss) a b → Judges (OfWorkspaces rows) (AreLawfulWss t) a b
+workspaces_judged rows groups t a b grouped has look =
     judges_as a b
     (λ all. subst (AllByRecursion (Named t)) (sym has.wss) (all_weaker (IsLawfulAt rows groups) (Named t) (λ x law. named_by_tests t x (there x law)) rows.wss all))
     (λ all. all_weaker (Named t) (IsLawfulAt rows groups) (λ x it. back x (tests_of_named t x it)) rows.wss (subst (AllByRecursion (Named t)) has.wss all))
+    (grouped_says rows groups a b grouped look)
   where
     keepings : (x : Kept WsRow) → picked rows.keepings (places_in groups.keepings x.1.org x.1.name) ≡ filter (is_keeping x.1.org x.1.name) t.keepings
     keepings x = grouped.keepings x.1.org x.1.name ∙ ap (filter (is_keeping x.1.org x.1.name)) (sym has.keepings)

@@ -7,7 +7,6 @@ use Rattle.sqlite_keyed.specs.Rules.{AreApart}
 use Rattle.sqlite_keyed.proofs.ListLemmas.{all_weaker, filter_none}
 use Rattle.sqlite_keyed.proofs.SliceLemmas.{any_is_found}
 use Rattle.basis.specs.declared.numbers.TheConstants.{MAX_LIMIT}
-use Rattle.machine.specs.Laws.{IsNamedWorkspace}
 use Rattle.machine.specs.Records.{count_of}
 use Rattle.machine.specs.declared.records.Workspace.{Workspace}
 use Rattle.machine.specs.declared.records.Organization.{Organization}
@@ -17,11 +16,13 @@ use Rattle.statements.specs.Changes.{is_org, is_ws, is_ws_of}
 use Rattle.statements.specs.Finds.{cap_of}
 use Rattle.statements.proofs.Found.{found_passes, found_holds}
 use Rattle.tables.specs.Records.{workspace_at, workspace_by, workspaces_at, organization_at, record_of}
+use Rattle.tables.specs.Sound.{IsSoundWorkspace}
 use Rattle.tables.proofs.Names.{same_name, pair_first, pair_second, pair_is, pair_apart}
 use Rattle.tables.proofs.Finding.{entries_counted}
 use Rattle.tables.proofs.Sets.{one_of}
 use Rattle.checks.specs.Inner.Workspaces.{AreLawfulWss}
-use Rattle.checks.specs.Inner.Counts.{count_in, AreFew}
+use Rattle.checks.specs.Workspaces.{count_in}
+use Rattle.checks.specs.Inner.Counts.{AreFew}
 
 module _ (t : Tables) where
   abbrev AreSingle : Type 0
@@ -30,7 +31,7 @@ module _ (t : Tables) where
   -- ---- each workspace by its name
 
   abbrev AreNamed : Type 0
-  AreNamed = (org name : List ℕ) (w : Workspace) → workspace_by t org name ≡ Some w → IsNamedWorkspace name w
+  AreNamed = (org name : List ℕ) (w : Workspace) → workspace_by t org name ≡ Some w → IsSoundWorkspace name w
 
   some_is : (a b : Workspace) → Some a ≡ Some b → a ≡ b
   some_is a b e = let same : a ≡ b = cc e in same
@@ -39,15 +40,15 @@ module _ (t : Tables) where
   pub named_by_rows : AreLawfulWss t → AreNamed
   named_by_rows all org name w = go (find (is_ws org name) t.wss) refl
     where
-      go : (o : Option (Kept WsRow)) → find (is_ws org name) t.wss ≡ o → option_map (workspace_at t org name) (option_map (λ x. x.1.it) o) ≡ Some w → IsNamedWorkspace name w
+      go : (o : Option (Kept WsRow)) → find (is_ws org name) t.wss ≡ o → option_map (workspace_at t org name) (option_map (λ x. x.1.it) o) ≡ Some w → IsSoundWorkspace name w
       go None e is = absurd (let none : ⊥ = cc is in none)
       go (Some x) e is =
           let passes : is_ws org name x ≡ true = found_passes (is_ws org name) t.wss x e in
-          let lawful : IsNamedWorkspace x.1.name (workspace_at t x.1.org x.1.name x.1.it) =
-          found_holds (λ (y : Kept WsRow). IsNamedWorkspace y.1.name (workspace_at t y.1.org y.1.name y.1.it)) (is_ws org name) t.wss x all e in
-          subst (IsNamedWorkspace name) (some_is (workspace_at t org name x.1.it) w is)
-          (subst (λ o. IsNamedWorkspace name (workspace_at t o name x.1.it)) (pair_first org name x.1.org x.1.name passes)
-          (subst (λ n. IsNamedWorkspace n (workspace_at t x.1.org n x.1.it)) (pair_second org name x.1.org x.1.name passes) lawful))
+          let lawful : IsSoundWorkspace x.1.name (workspace_at t x.1.org x.1.name x.1.it) =
+          found_holds (λ (y : Kept WsRow). IsSoundWorkspace y.1.name (workspace_at t y.1.org y.1.name y.1.it)) (is_ws org name) t.wss x all e in
+          subst (IsSoundWorkspace name) (some_is (workspace_at t org name x.1.it) w is)
+          (subst (λ o. IsSoundWorkspace name (workspace_at t o name x.1.it)) (pair_first org name x.1.org x.1.name passes)
+          (subst (λ n. IsSoundWorkspace n (workspace_at t x.1.org n x.1.it)) (pair_second org name x.1.org x.1.name passes) lawful))
 
   apart_back : (x z : Kept WsRow) → is_ws x.1.org x.1.name z ≡ false → is_ws z.1.org z.1.name x ≡ false
   apart_back x z apart = pair_apart x.1.org x.1.name z.1.org z.1.name x.1.org x.1.name apart (pair_is x.1.org x.1.name)
@@ -68,7 +69,7 @@ module _ (t : Tables) where
 
   pub rows_by_name : AreSingle → AreNamed → AreLawfulWss t
   rows_by_name apart named =
-      all_weaker (λ x. find (is_ws x.1.org x.1.name) t.wss ≡ Some x) (λ x. IsNamedWorkspace x.1.name (workspace_at t x.1.org x.1.name x.1.it))
+      all_weaker (λ x. find (is_ws x.1.org x.1.name) t.wss ≡ Some x) (λ x. IsSoundWorkspace x.1.name (workspace_at t x.1.org x.1.name x.1.it))
       (λ x e. named x.1.org x.1.name (workspace_at t x.1.org x.1.name x.1.it) (ap (λ o. option_map (workspace_at t x.1.org x.1.name) (option_map (λ (y : Kept WsRow). y.1.it) o)) e)) t.wss (found_itself t.wss apart)
 
   -- ---- how many each organization has

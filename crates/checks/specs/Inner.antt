@@ -6,7 +6,5 @@ pub mod Heads
 pub mod Keys
 pub mod Looks
 pub mod Places
-pub mod Runs
 pub mod Stores
-pub mod Versions
 pub mod Workspaces

@@ -1,5 +1,10 @@
+pub mod Faults
 pub mod Inner
 pub mod Judging
 pub mod Lines
+pub mod Pages
+pub mod Runs
 pub mod Standing
 pub mod Totals
+pub mod Versions
+pub mod Workspaces

@@ -1,5 +1,5 @@
 -- The line that tells a fault.
-use Rattle.std.specs.Prelude.{◌≡◌, ℕ, List, [], ◌++◌, codes, if◌then◌else◌, Option, Some, None}
+use Rattle.std.specs.Prelude.{◌≡◌, ℕ, List, [], ◌++◌, map, codes, if◌then◌else◌, Option, Some, None}
 use Rattle.std.specs.Fmt.{decimal}
 use Rattle.basis.specs.Names.{is_ws_name}
 use Rattle.statements.specs.declared.rows.Rows.{Rows}
@@ -9,6 +9,8 @@ use Rattle.tables.specs.Sound.{IsSound}
 use Rattle.checks.specs.declared.found.Fault.{Fault}
 use Rattle.checks.specs.declared.found.FaultKind.{FaultKind}
 use Rattle.checks.specs.declared.found.FaultKind.TheVariants as kind
+use Rattle.checks.specs.Judging.{AreTold}
+use Rattle.checks.specs.Faults.{IsFaultOf}
 
 abbrev pub fault_word : FaultKind → List ℕ
 fault_word kind.Table = codes "table"
@@ -42,7 +44,14 @@ abbrev pub fault_line : Fault → List ℕ
 fault_line f =
     codes "fault " ++ fault_word f.kind ++ codes " " ++ name_or_hyphen f.org ++ codes " " ++ name_or_hyphen f.ws ++ codes " " ++ number_or_hyphen f.number
 
+-- A line for each of some faults that are to be told: of all, where they are fewer than 50.
+pub record TellsEach (Says : Fault → Type 0) (lines : List (List ℕ)) : Type 0 where
+  pub faults : List Fault
+  pub told : AreTold Says faults
+  pub lines_are : lines ≡ map fault_line faults
+
 -- The lines that tell the faults of rows: none exactly where the tables that have these rows are sound, and each page's key is that of its bytes.
 pub record TellsFaults (rows : Rows) (lines : List (List ℕ)) : Type 0 where
+  pub each : TellsEach (IsFaultOf rows) lines
   pub holds : lines ≡ [] → (key_of : List ℕ → List ℕ) (t : Tables) → AreRowsOf key_of t rows → IsSound t × ArePagesKeyed key_of t
   pub clean : (key_of : List ℕ → List ℕ) (t : Tables) → AreRowsOf key_of t rows → IsSound t → ArePagesKeyed key_of t → lines ≡ []

@@ -1,18 +1,33 @@
 -- What the lines of a look tell of a database, whoever made it.
-use Rattle.std.specs.Prelude.{◌≡◌, ℕ, List, []}
+use Rattle.std.specs.Prelude.{◌≡◌, ◌≤◌, ℕ, List, [], length}
 use Rattle.std.specs.List.{AllByRecursion}
 use Rattle.sqlite.specs.Effect.{Database}
-use Rattle.statements.specs.Tables.{Tables, HasRows, IsOurs, stored_tables}
+use Rattle.statements.specs.Tables.{Tables, HasRows, IsOurs, our_tables, stored_tables}
+use Rattle.definitions.specs.Others.{IsOther}
 use Rattle.tables.specs.Scans.{ArePagesKeyed}
 use Rattle.tables.specs.Sound.{IsSound}
+use Rattle.checks.specs.declared.found.TheConstants.{MAX_FAULTS}
+use Rattle.checks.specs.Judging.{OfSome}
+use Rattle.checks.specs.Faults.{table_fault, rows_of, IsFaultOf}
+use Rattle.checks.specs.Lines.{TellsEach}
 
 -- What the names of our tables mean has these rows, in the order of their rowids, however it is defined.
 abbrev pub HaveRows : Database → Tables → Type 0
 HaveRows db t = AllByRecursion (HasRows db) (stored_tables t)
 
+-- A line for each of some tables of ours that don't stand in the database as they are defined, 50 at most.
+pub record TellsOthers (db : Database) (lines : List (List ℕ)) : Type 0 where
+  pub names : List (List ℕ)
+  pub others : AllByRecursion (IsOther db.schema our_tables) names
+  pub each : TellsEach (OfSome (λ name f. f ≡ table_fault name) names) lines
+
 -- There is no line exactly where our tables stand in the database as they are defined, the rows that they have are sound, and each page's key is that of
 -- its bytes.
+-- Each line tells a fault of the rows, of all where they are fewer than 50; if a table of ours doesn't stand there as it is defined, one of those instead.
 pub record TellsStore (key_of : List ℕ → List ℕ) (db : Database) (lines : List (List ℕ)) : Type 0 where
+  pub few : length lines ≤ MAX_FAULTS
+  pub rows : IsOurs db.schema → (t : Tables) → HaveRows db t → TellsEach (IsFaultOf (rows_of key_of t)) lines
+  pub others : ¬ IsOurs db.schema → TellsOthers db lines
   pub ours : lines ≡ [] → IsOurs db.schema
   pub holds : lines ≡ [] → (t : Tables) → HaveRows db t → IsSound t × ArePagesKeyed key_of t
   pub clean : IsOurs db.schema → (t : Tables) → HaveRows db t → IsSound t → ArePagesKeyed key_of t → lines ≡ []

@@ -1,6 +1,7 @@
 //! Whether no organization has more workspaces than any may have.
 ghost use Rattle.std.specs.Prelude.{OnOk};
 ghost use Rattle.checks.specs.Judging.{Judges};
+ghost use Rattle.checks.specs.Faults.{TooMany};
 ghost use Rattle.checks.specs.Inner.Counts.{AreFew};
 
 use crate::found::{FaultKind, Found};
@@ -15,7 +16,7 @@ const TOO_MANY: usize = MAX_LIMIT as usize + 1;
 
 /// Looks whether no organization has more workspaces than the greatest limit. One that has is told once.
 pub fn judge_counts(alloc: Global, wss: &[(i64, WsRow)], found: &mut Found) -> Result<(), Down>
-    ensures { OnOk result (Judges (AreFew wss.now) found.old found.new) }
+    ensures { OnOk result (Judges (TooMany wss.now) (AreFew wss.now) found.old found.new) }
 {
     // The places of an organization's workspaces, all under the empty name.
     let mut groups = Groups::new(alloc);

@@ -1,6 +1,6 @@
 //! The faults that were found.
-ghost use Rattle.std.specs.Prelude.{◌≡◌, true, OnOk};
-ghost use Rattle.checks.specs.Judging.{IsClean, Judges};
+ghost use Rattle.std.specs.Prelude.{◌≡◌, true, nat_le, length, OnOk};
+ghost use Rattle.checks.specs.Judging.{IsClean, fault_of, Breaks, noted, Judges};
 
 use basis::{Down, Items, Text};
 use std::alloc::Global;
@@ -89,7 +89,7 @@ impl Found {
 
     /// Whether as many faults were found as are told.
     pub fn is_full(&self) -> bool
-        ensures { result ≡ true → ¬ IsClean self.now }
+        ensures { result ≡ nat_le MAX_FAULTS (length self.now.faults) }
     {
         self.faults.as_slice().len() >= MAX_FAULTS
     }
@@ -103,7 +103,7 @@ impl Found {
         ws: &str,
         number: Option<u64>,
     ) -> Result<(), Down>
-        ensures { OnOk result (¬ IsClean self.new) }
+        ensures { OnOk result (self.new.faults ≡ noted (fault_of kind org.now ws.now number) self.old.faults) }
     {
         if self.is_full() {
             return Ok(());
@@ -128,7 +128,7 @@ impl Found {
         ws: &str,
         number: Option<u64>,
     ) -> Result<(), Down>
-        ensures { OnOk result (Judges (holds ≡ true) self.old self.new) }
+        ensures { OnOk result (Judges (Breaks (holds ≡ true) (fault_of kind org.now ws.now number)) (holds ≡ true) self.old self.new) }
     {
         if holds {
             return Ok(());

@@ -1,7 +1,9 @@
 //! Looks at the head of each page.
-ghost use Rattle.std.specs.Prelude.{OnOk};
+ghost use Rattle.std.specs.Prelude.{◌≡◌, OnOk};
 ghost use Rattle.std.specs.List.{AllByRecursion};
-ghost use Rattle.checks.specs.Judging.{IsClean, Judges};
+ghost use Rattle.texts.specs.Texts.{names_page};
+ghost use Rattle.checks.specs.Judging.{noted, Judges};
+ghost use Rattle.checks.specs.Faults.{page_fault, OfHead, OfHeads};
 ghost use Rattle.checks.specs.Inner.Heads.{IsSoundHead};
 
 use crate::found::{FaultKind, Found};
@@ -9,17 +11,14 @@ use basis::Down;
 use statements::rows::{PageHead, VpageRow};
 use std::alloc::Global;
 
-/// The first row that names the page.
-fn naming_row<'a>(vpages: &'a [(i64, VpageRow)], head: &PageHead) -> Option<&'a VpageRow> {
-    for (_, row) in vpages {
-        if row.twin == head.twin && row.key.as_slice() == head.key.as_slice() {
-            return Some(row);
-        }
-    }
-    None
+/// Whether the row names the page.
+fn names(row: &(i64, VpageRow), head: &PageHead) -> bool
+    ensures { result ≡ names_page head.now.key head.now.twin row.now }
+{
+    row.1.key.as_slice() == head.key.as_slice() && row.1.twin == head.twin
 }
 
-/// Notes a fault of a page by a version that has it, if there is one. Once no more faults are told, none is looked for.
+/// Notes a fault of a page by the version of the first row that names it, if there is one. Once no more faults are told, none is looked for.
 pub(crate) fn note_page(
     alloc: Global,
     kind: FaultKind,
@@ -27,21 +26,19 @@ pub(crate) fn note_page(
     vpages: &[(i64, VpageRow)],
     found: &mut Found,
 ) -> Result<(), Down>
-    ensures { OnOk result (¬ IsClean found.new) }
+    ensures { OnOk result (found.new.faults ≡ noted (page_fault kind vpages.now head.now) found.old.faults) }
 {
     if found.is_full() {
         return found.note(alloc, kind, "", "", None);
     }
-    match naming_row(vpages, head) {
-        Some(row) => found.note(
-            alloc,
-            kind,
-            row.org.as_str(),
-            row.ws.as_str(),
-            Some(row.number),
-        ),
-        None => found.note(alloc, kind, "", "", None),
+    for row in vpages {
+        if names(row, head) {
+            let org = row.1.org.as_str();
+            let ws = row.1.ws.as_str();
+            return found.note(alloc, kind, org, ws, Some(row.1.number));
+        }
     }
+    found.note(alloc, kind, "", "", None)
 }
 
 /// Notes a page that is not in use, one whose key isn't that of its bytes, and one whose bytes another page of its key has.
@@ -51,7 +48,7 @@ fn judge_head(
     vpages: &[(i64, VpageRow)],
     found: &mut Found,
 ) -> Result<(), Down>
-    ensures { OnOk result (Judges (IsSoundHead head.now) found.old found.new) }
+    ensures { OnOk result (Judges (OfHead vpages.now head.now) (IsSoundHead head.now) found.old found.new) }
 {
     if head.uses < 1 {
         return note_page(alloc, FaultKind::Uses, head, vpages, found);
@@ -72,7 +69,7 @@ pub(crate) fn judge_heads(
     vpages: &[(i64, VpageRow)],
     found: &mut Found,
 ) -> Result<(), Down>
-    ensures { OnOk result (Judges (AllByRecursion IsSoundHead heads.now) found.old found.new) }
+    ensures { OnOk result (Judges (OfHeads vpages.now heads.now) (AllByRecursion IsSoundHead heads.now) found.old found.new) }
 {
     for head in heads {
         judge_head(alloc, head, vpages, found)?;

@@ -1,10 +1,12 @@
 //! Keys of rows, and whether no two rows of a table have one key.
-ghost use Rattle.std.specs.Prelude.{◌≡◌, ℕ, List, false, not, ◌&&◌, ◌||◌, ◌==◌, bytes_eq, IfOk, OnOk};
+ghost use Rattle.std.specs.Prelude.{◌≡◌, ℕ, List, Option, Some, None, false, not, ◌&&◌, ◌||◌, ◌==◌, bytes_eq, IfOk, OnOk};
 ghost use Rattle.std.specs.List.{list_any};
 ghost use Rattle.sqlite_keyed.specs.Rules.{AreApart};
 ghost use Rattle.statements.specs.Changes.{is_org, is_token, is_digest_of, is_ws, is_bound, is_keeping};
 ghost use Rattle.texts.specs.Texts.{is_place};
-ghost use Rattle.checks.specs.Judging.{Judges};
+ghost use Rattle.checks.specs.declared.found.FaultKind.TheVariants.{Twice};
+ghost use Rattle.checks.specs.Judging.{fault_of, OfClash, Judges};
+ghost use Rattle.checks.specs.Faults.{SameOrgs, SameTokens, SameDigests, SameWorkspaces, SameBounds, SameKeepings, SamePages, SamePlaces};
 ghost use Rattle.checks.specs.Inner.Keys.{is_key, has_key};
 
 use crate::found::{FaultKind, Found};
@@ -85,6 +87,8 @@ pub(crate) trait Named {
 
     ghost name_of: { Self → List ℕ };
 
+    ghost number_of: { Self → Option ℕ };
+
     fn org(&self) -> &str
         ensures { result.now ≡ org_of self.now };
 
@@ -92,13 +96,16 @@ pub(crate) trait Named {
         ensures { result.now ≡ name_of self.now };
 
     /// The number of the version or run that it is.
-    fn number(&self) -> Option<u64>;
+    fn number(&self) -> Option<u64>
+        ensures { result ≡ number_of self.now };
 }
 
 impl Named for TokenRow {
     ghost org_of = { λ r. r.org };
 
     ghost name_of = { λ r. r.name };
+
+    ghost number_of = { λ r. None };
 
     fn org(&self) -> &str {
         self.org.as_str()
@@ -118,6 +125,8 @@ impl Named for BoundRow {
 
     ghost name_of = { λ r. r.name };
 
+    ghost number_of = { λ r. None };
+
     fn org(&self) -> &str {
         self.org.as_str()
     }
@@ -135,6 +144,8 @@ impl Named for WsRow {
     ghost org_of = { λ r. r.org };
 
     ghost name_of = { λ r. r.name };
+
+    ghost number_of = { λ r. None };
 
     fn org(&self) -> &str {
         self.org.as_str()
@@ -154,6 +165,8 @@ impl Named for KeepingRow {
 
     ghost name_of = { λ r. r.ws };
 
+    ghost number_of = { λ r. None };
+
     fn org(&self) -> &str {
         self.org.as_str()
     }
@@ -172,6 +185,8 @@ impl Named for VersionRow {
 
     ghost name_of = { λ r. r.ws };
 
+    ghost number_of = { λ r. Some r.it.number };
+
     fn org(&self) -> &str {
         self.org.as_str()
     }
@@ -189,6 +204,8 @@ impl Named for RunRow {
     ghost org_of = { λ r. r.org };
 
     ghost name_of = { λ r. r.ws };
+
+    ghost number_of = { λ r. Some r.it.number };
 
     fn org(&self) -> &str {
         self.org.as_str()
@@ -216,31 +233,28 @@ pub(crate) fn keys_of<'a, R: Named>(alloc: Global, rows: &'a [(i64, R)]) -> Resu
 
 /// Whether no two rows have one organization and name.
 fn names_apart<R: Named>(alloc: Global, rows: &[(i64, R)], found: &mut Found) -> Result<(), Down>
-    ensures { OnOk result (Judges (AreApart (λ a b. bytes_eq (R.org_of b.1) (R.org_of a.1) && bytes_eq (R.name_of b.1) (R.name_of a.1)) rows.now) found.old found.new) }
+    ensures { OnOk result (Judges (OfClash (λ a b. bytes_eq (R.org_of b.1) (R.org_of a.1) && bytes_eq (R.name_of b.1) (R.name_of a.1)) (λ x. fault_of Twice (R.org_of x.1) (R.name_of x.1) (R.number_of x.1)) rows.now) (AreApart (λ a b. bytes_eq (R.org_of b.1) (R.org_of a.1) && bytes_eq (R.name_of b.1) (R.name_of a.1)) rows.now) found.old found.new) }
 {
     let mut keys = Keys::new(alloc);
     for (_, row) in rows {
-        let fresh = keys.add_texts(row.org().as_bytes(), row.name().as_bytes())?;
-        found.judge(
-            alloc,
-            fresh,
-            FaultKind::Twice,
-            row.org(),
-            row.name(),
-            row.number(),
-        )?;
+        let org = row.org();
+        let name = row.name();
+        let number = row.number();
+        let fresh = keys.add_texts(org.as_bytes(), name.as_bytes())?;
+        found.judge(alloc, fresh, FaultKind::Twice, org, name, number)?;
     }
     Ok(())
 }
 
 /// Whether no two organizations have one name.
 pub fn orgs_apart(alloc: Global, orgs: &[(i64, OrgRow)], found: &mut Found) -> Result<(), Down>
-    ensures { OnOk result (Judges (AreApart (λ a b. is_org a.1.name b) orgs.now) found.old found.new) }
+    ensures { OnOk result (Judges (SameOrgs orgs.now) (AreApart (λ a b. is_org a.1.name b) orgs.now) found.old found.new) }
 {
     let mut keys = Keys::new(alloc);
     for (_, row) in orgs {
-        let fresh = keys.add_texts(&[], row.name.as_str().as_bytes())?;
-        found.judge(alloc, fresh, FaultKind::Twice, row.name.as_str(), "", None)?;
+        let name = row.name.as_str();
+        let fresh = keys.add_texts(&[], name.as_bytes())?;
+        found.judge(alloc, fresh, FaultKind::Twice, name, "", None)?;
     }
     Ok(())
 }
@@ -251,14 +265,14 @@ pub fn tokens_apart(
     tokens: &[(i64, TokenRow)],
     found: &mut Found,
 ) -> Result<(), Down>
-    ensures { OnOk result (Judges (AreApart (λ a b. is_token a.1.org a.1.name b) tokens.now) found.old found.new) }
+    ensures { OnOk result (Judges (SameTokens tokens.now) (AreApart (λ a b. is_token a.1.org a.1.name b) tokens.now) found.old found.new) }
 {
     names_apart(alloc, tokens, found)
 }
 
 /// Whether no two workspaces of an organization have one name.
 pub fn wss_apart(alloc: Global, wss: &[(i64, WsRow)], found: &mut Found) -> Result<(), Down>
-    ensures { OnOk result (Judges (AreApart (λ a b. is_ws a.1.org a.1.name b) wss.now) found.old found.new) }
+    ensures { OnOk result (Judges (SameWorkspaces wss.now) (AreApart (λ a b. is_ws a.1.org a.1.name b) wss.now) found.old found.new) }
 {
     names_apart(alloc, wss, found)
 }
@@ -269,7 +283,7 @@ pub fn bounds_apart(
     bounds: &[(i64, BoundRow)],
     found: &mut Found,
 ) -> Result<(), Down>
-    ensures { OnOk result (Judges (AreApart (λ a b. is_bound a.1.org a.1.name b) bounds.now) found.old found.new) }
+    ensures { OnOk result (Judges (SameBounds bounds.now) (AreApart (λ a b. is_bound a.1.org a.1.name b) bounds.now) found.old found.new) }
 {
     names_apart(alloc, bounds, found)
 }
@@ -280,7 +294,7 @@ pub fn keepings_apart(
     keepings: &[(i64, KeepingRow)],
     found: &mut Found,
 ) -> Result<(), Down>
-    ensures { OnOk result (Judges (AreApart (λ a b. is_keeping a.1.org a.1.ws b) keepings.now) found.old found.new) }
+    ensures { OnOk result (Judges (SameKeepings keepings.now) (AreApart (λ a b. is_keeping a.1.org a.1.ws b) keepings.now) found.old found.new) }
 {
     names_apart(alloc, keepings, found)
 }
@@ -291,26 +305,21 @@ pub fn digests_apart(
     tokens: &[(i64, TokenRow)],
     found: &mut Found,
 ) -> Result<(), Down>
-    ensures { OnOk result (Judges (AreApart (λ a b. is_digest_of a.1.org a.1.it.digest b) tokens.now) found.old found.new) }
+    ensures { OnOk result (Judges (SameDigests tokens.now) (AreApart (λ a b. is_digest_of a.1.org a.1.it.digest b) tokens.now) found.old found.new) }
 {
     let mut keys = Keys::new(alloc);
     for (_, row) in tokens {
-        let fresh = keys.add_texts(row.org.as_str().as_bytes(), row.it.digest.as_slice())?;
-        found.judge(
-            alloc,
-            fresh,
-            FaultKind::DigestTwice,
-            row.org.as_str(),
-            row.name.as_str(),
-            None,
-        )?;
+        let org = row.org.as_str();
+        let name = row.name.as_str();
+        let fresh = keys.add_texts(org.as_bytes(), row.it.digest.as_slice())?;
+        found.judge(alloc, fresh, FaultKind::DigestTwice, org, name, None)?;
     }
     Ok(())
 }
 
 /// Whether no two pages of a key have one twin number.
 pub fn pages_apart(alloc: Global, heads: &[PageHead], found: &mut Found) -> Result<(), Down>
-    ensures { OnOk result (Judges (AreApart (λ a b. bytes_eq b.key a.key && b.twin == a.twin) heads.now) found.old found.new) }
+    ensures { OnOk result (Judges (SamePages heads.now) (AreApart (λ a b. bytes_eq b.key a.key && b.twin == a.twin) heads.now) found.old found.new) }
 {
     let mut keys = Keys::new(alloc);
     for head in heads {
@@ -331,24 +340,19 @@ pub fn vpages_apart(
     vpages: &[(i64, VpageRow)],
     found: &mut Found,
 ) -> Result<(), Down>
-    ensures { OnOk result (Judges (AreApart (λ a b. is_place a.1.org a.1.ws a.1.number a.1.place b) vpages.now) found.old found.new) }
+    ensures { OnOk result (Judges (SamePlaces vpages.now) (AreApart (λ a b. is_place a.1.org a.1.ws a.1.number a.1.place b) vpages.now) found.old found.new) }
 {
     let mut keys = Keys::new(alloc);
     for (_, row) in vpages {
+        let org = row.org.as_str();
+        let ws = row.ws.as_str();
         let fresh = keys.add(RowKey {
             place: row.place,
             number: row.number,
-            first: row.org.as_str().as_bytes(),
-            second: row.ws.as_str().as_bytes(),
+            first: org.as_bytes(),
+            second: ws.as_bytes(),
         })?;
-        found.judge(
-            alloc,
-            fresh,
-            FaultKind::Twice,
-            row.org.as_str(),
-            row.ws.as_str(),
-            Some(row.number),
-        )?;
+        found.judge(alloc, fresh, FaultKind::Twice, org, ws, Some(row.number))?;
     }
     Ok(())
 }

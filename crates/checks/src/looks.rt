@@ -3,7 +3,8 @@ ghost use Rattle.std.specs.Prelude.{ℕ, List, IfOk, OnOk};
 ghost use Rattle.statements.specs.Tables.{Tables};
 ghost use Rattle.tables.specs.Scans.{AreRowsOf, ArePagesKeyed};
 ghost use Rattle.tables.specs.Sound.{IsSound};
-ghost use Rattle.checks.specs.Judging.{Judges, Decides};
+ghost use Rattle.checks.specs.Judging.{Adds, Judges, Decides, AreTold};
+ghost use Rattle.checks.specs.Faults.{OfNames, OfOthers, OfTokens, OfOwned, OfRanges, OfRows, OfTables, IsFaultOf};
 ghost use Rattle.checks.specs.Inner.Counts.{AreFew};
 ghost use Rattle.checks.specs.Inner.Places.{AreTextsSound};
 ghost use Rattle.checks.specs.Inner.Workspaces.{AreLawfulWss};
@@ -28,7 +29,7 @@ use std::alloc::Global;
 
 /// Whether organizations, tokens, their digests and workspaces are there once.
 fn judge_names(alloc: Global, rows: &Rows, found: &mut Found) -> Result<(), Down>
-    ensures { OnOk result (Judges (AreNamesApart rows.now) found.old found.new) }
+    ensures { OnOk result (Judges (OfNames rows.now) (AreNamesApart rows.now) found.old found.new) }
 {
     orgs_apart(alloc, rows.orgs.as_slice(), found)?;
     tokens_apart(alloc, rows.tokens.as_slice(), found)?;
@@ -38,7 +39,7 @@ fn judge_names(alloc: Global, rows: &Rows, found: &mut Found) -> Result<(), Down
 
 /// Whether rows of bound and of keeping are there once.
 fn judge_others(alloc: Global, rows: &Rows, found: &mut Found) -> Result<(), Down>
-    ensures { OnOk result (Judges (AreOthersApart rows.now) found.old found.new) }
+    ensures { OnOk result (Judges (OfOthers rows.now) (AreOthersApart rows.now) found.old found.new) }
 {
     bounds_apart(alloc, rows.bounds.as_slice(), found)?;
     keepings_apart(alloc, rows.keepings.as_slice(), found)
@@ -46,7 +47,7 @@ fn judge_others(alloc: Global, rows: &Rows, found: &mut Found) -> Result<(), Dow
 
 /// Whether tokens and how far they reach belong to one another, and to organizations.
 fn judge_tokens(alloc: Global, rows: &Rows, found: &mut Found) -> Result<(), Down>
-    ensures { OnOk result (Judges (HaveTokensOwners rows.now) found.old found.new) }
+    ensures { OnOk result (Judges (OfTokens rows.now) (HaveTokensOwners rows.now) found.old found.new) }
 {
     let (orgs, tokens, bounds) = (
         rows.orgs.as_slice(),
@@ -60,7 +61,7 @@ fn judge_tokens(alloc: Global, rows: &Rows, found: &mut Found) -> Result<(), Dow
 
 /// Whether workspaces, what they keep, versions and runs belong to one another, and to organizations.
 fn judge_owned(alloc: Global, rows: &Rows, found: &mut Found) -> Result<(), Down>
-    ensures { OnOk result (Judges (HaveWorkspacesOwners rows.now) found.old found.new) }
+    ensures { OnOk result (Judges (OfOwned rows.now) (HaveWorkspacesOwners rows.now) found.old found.new) }
 {
     let wss = rows.wss.as_slice();
     wss_kept(alloc, wss, rows.keepings.as_slice(), found)?;
@@ -72,7 +73,7 @@ fn judge_owned(alloc: Global, rows: &Rows, found: &mut Found) -> Result<(), Down
 
 /// Whether the version is told, and names, limits, digests, ends and prefixes are in range.
 fn judge_ranges(alloc: Global, rows: &Rows, found: &mut Found) -> Result<(), Down>
-    ensures { OnOk result (Judges (AreInRange rows.now) found.old found.new) }
+    ensures { OnOk result (Judges (OfRanges rows.now) (AreInRange rows.now) found.old found.new) }
 {
     version_told(
         alloc,
@@ -87,7 +88,7 @@ fn judge_ranges(alloc: Global, rows: &Rows, found: &mut Found) -> Result<(), Dow
 
 /// All that is told by the rows of each table but those of texts.
 fn judge_rows(alloc: Global, rows: &Rows, found: &mut Found) -> Result<(), Down>
-    ensures { OnOk result (Judges (AreRowsFit rows.now) found.old found.new) }
+    ensures { OnOk result (Judges (OfRows rows.now) (AreRowsFit rows.now) found.old found.new) }
 {
     judge_names(alloc, rows, found)?;
     judge_others(alloc, rows, found)?;
@@ -98,7 +99,8 @@ fn judge_rows(alloc: Global, rows: &Rows, found: &mut Found) -> Result<(), Down>
 
 /// Texts and their pages, how many workspaces there are, and what each is.
 fn judge_tables(alloc: Global, rows: &Rows, found: &mut Found) -> Result<(), Down>
-    ensures { OnOk result ((key_of : List ℕ → List ℕ) (t : Tables) → AreRowsOf key_of t rows.now → Judges (AreTextsSound key_of t × AreFew t.wss × AreLawfulWss t) found.old found.new) }
+    ensures judges { OnOk result ((key_of : List ℕ → List ℕ) (t : Tables) → AreRowsOf key_of t rows.now → Judges (OfTables rows.now) (AreTextsSound key_of t × AreFew t.wss × AreLawfulWss t) found.old found.new) }
+    ensures adds { OnOk result (Adds (OfTables rows.now) found.old.faults found.new.faults) }
 {
     let (versions, vpages) = (rows.versions.as_slice(), rows.vpages.as_slice());
     judge_pages(alloc, rows.pages.as_slice(), versions, vpages, found)?;
@@ -107,15 +109,18 @@ fn judge_tables(alloc: Global, rows: &Rows, found: &mut Found) -> Result<(), Dow
 }
 
 fn judge(alloc: Global, rows: &Rows, found: &mut Found) -> Result<(), Down>
-    ensures { OnOk result ((key_of : List ℕ → List ℕ) (t : Tables) → AreRowsOf key_of t rows.now → Judges (IsSound t × ArePagesKeyed key_of t) found.old found.new) }
+    ensures judges { OnOk result ((key_of : List ℕ → List ℕ) (t : Tables) → AreRowsOf key_of t rows.now → Judges (IsFaultOf rows.now) (IsSound t × ArePagesKeyed key_of t) found.old found.new) }
+    ensures adds { OnOk result (Adds (IsFaultOf rows.now) found.old.faults found.new.faults) }
 {
     judge_rows(alloc, rows, found)?;
     judge_tables(alloc, rows, found)
 }
 
-/// The faults of the rows: none exactly where the tables are sound, and each page's key is that of its bytes.
+/// The faults of the rows: none exactly where the tables are sound, and each page's key is that of its bytes. They are all
+/// where they are fewer than `MAX_FAULTS`.
 pub fn faults(alloc: Global, rows: &Rows) -> Result<Found, Down>
-    ensures { IfOk result (λ found. (key_of : List ℕ → List ℕ) (t : Tables) → AreRowsOf key_of t rows.now → Decides (IsSound t × ArePagesKeyed key_of t) found) }
+    ensures decides { IfOk result (λ found. (key_of : List ℕ → List ℕ) (t : Tables) → AreRowsOf key_of t rows.now → Decides (IsSound t × ArePagesKeyed key_of t) found) }
+    ensures told { IfOk result (λ found. AreTold (IsFaultOf rows.now) found.faults) }
 {
     let mut found = Found::new(alloc);
     judge(alloc, rows, &mut found)?;

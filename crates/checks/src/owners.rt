@@ -2,7 +2,9 @@
 ghost use Rattle.std.specs.Prelude.{◌≡◌, ℕ, List, [], true, ◌&&◌, bytes_eq, IfOk, OnOk};
 ghost use Rattle.std.specs.List.{AllByRecursion, list_any};
 ghost use Rattle.statements.specs.Changes.{is_org, is_token, is_ws, is_bound, is_keeping};
-ghost use Rattle.checks.specs.Judging.{Judges};
+ghost use Rattle.checks.specs.declared.found.FaultKind.TheVariants.{Ownerless};
+ghost use Rattle.checks.specs.Judging.{fault_of, Breaks, OfSome, Judges};
+ghost use Rattle.checks.specs.Faults.{TokensUnbounded, TokensOwnerless, BoundsOwnerless, WorkspacesUnkept, WorkspacesOwnerless, KeepingsOwnerless, VersionsOwnerless, RunsOwnerless};
 ghost use Rattle.checks.specs.Inner.Keys.{has_key};
 
 use crate::found::{FaultKind, Found};
@@ -29,19 +31,15 @@ fn all_of_orgs<'a, R: Named>(
     rows: &'a [(i64, R)],
     found: &mut Found,
 ) -> Result<(), Down>
-    ensures { OnOk result (Judges (AllByRecursion (λ x. list_any (is_org (R.org_of x.1)) orgs.now ≡ true) rows.now) found.old found.new) }
+    ensures { OnOk result (Judges (OfSome (λ x. Breaks (list_any (is_org (R.org_of x.1)) orgs.now ≡ true) (fault_of Ownerless (R.org_of x.1) (R.name_of x.1) (R.number_of x.1))) rows.now) (AllByRecursion (λ x. list_any (is_org (R.org_of x.1)) orgs.now ≡ true) rows.now) found.old found.new) }
 {
     let keys = org_keys(alloc, orgs)?;
     for (_, row) in rows {
-        let known = keys.has_texts(&[], row.org().as_bytes());
-        found.judge(
-            alloc,
-            known,
-            FaultKind::Ownerless,
-            row.org(),
-            row.name(),
-            row.number(),
-        )?;
+        let org = row.org();
+        let name = row.name();
+        let number = row.number();
+        let known = keys.has_texts(&[], org.as_bytes());
+        found.judge(alloc, known, FaultKind::Ownerless, org, name, number)?;
     }
     Ok(())
 }
@@ -54,12 +52,15 @@ fn all_among<'a, O: Named, R: Named>(
     kind: FaultKind,
     found: &mut Found,
 ) -> Result<(), Down>
-    ensures { OnOk result (Judges (AllByRecursion (λ x. list_any (λ y. bytes_eq (O.org_of y.1) (R.org_of x.1) && bytes_eq (O.name_of y.1) (R.name_of x.1)) others.now ≡ true) rows.now) found.old found.new) }
+    ensures { OnOk result (Judges (OfSome (λ x. Breaks (list_any (λ y. bytes_eq (O.org_of y.1) (R.org_of x.1) && bytes_eq (O.name_of y.1) (R.name_of x.1)) others.now ≡ true) (fault_of kind (R.org_of x.1) (R.name_of x.1) (R.number_of x.1))) rows.now) (AllByRecursion (λ x. list_any (λ y. bytes_eq (O.org_of y.1) (R.org_of x.1) && bytes_eq (O.name_of y.1) (R.name_of x.1)) others.now ≡ true) rows.now) found.old found.new) }
 {
     let keys = keys_of(alloc, others)?;
     for (_, row) in rows {
-        let known = keys.has_texts(row.org().as_bytes(), row.name().as_bytes());
-        found.judge(alloc, known, kind, row.org(), row.name(), row.number())?;
+        let org = row.org();
+        let name = row.name();
+        let number = row.number();
+        let known = keys.has_texts(org.as_bytes(), name.as_bytes());
+        found.judge(alloc, known, kind, org, name, number)?;
     }
     Ok(())
 }
@@ -71,7 +72,7 @@ pub fn tokens_bound<'a>(
     bounds: &'a [(i64, BoundRow)],
     found: &mut Found,
 ) -> Result<(), Down>
-    ensures { OnOk result (Judges (AllByRecursion (λ x. list_any (is_bound x.1.org x.1.name) bounds.now ≡ true) tokens.now) found.old found.new) }
+    ensures { OnOk result (Judges (TokensUnbounded bounds.now tokens.now) (AllByRecursion (λ x. list_any (is_bound x.1.org x.1.name) bounds.now ≡ true) tokens.now) found.old found.new) }
 {
     all_among(alloc, bounds, tokens, FaultKind::Unbounded, found)
 }
@@ -83,7 +84,7 @@ pub fn wss_kept<'a>(
     keepings: &'a [(i64, KeepingRow)],
     found: &mut Found,
 ) -> Result<(), Down>
-    ensures { OnOk result (Judges (AllByRecursion (λ x. list_any (is_keeping x.1.org x.1.name) keepings.now ≡ true) wss.now) found.old found.new) }
+    ensures { OnOk result (Judges (WorkspacesUnkept keepings.now wss.now) (AllByRecursion (λ x. list_any (is_keeping x.1.org x.1.name) keepings.now ≡ true) wss.now) found.old found.new) }
 {
     all_among(alloc, keepings, wss, FaultKind::Unkept, found)
 }
@@ -95,7 +96,7 @@ pub fn tokens_owned<'a>(
     orgs: &'a [(i64, OrgRow)],
     found: &mut Found,
 ) -> Result<(), Down>
-    ensures { OnOk result (Judges (AllByRecursion (λ x. list_any (is_org x.1.org) orgs.now ≡ true) tokens.now) found.old found.new) }
+    ensures { OnOk result (Judges (TokensOwnerless orgs.now tokens.now) (AllByRecursion (λ x. list_any (is_org x.1.org) orgs.now ≡ true) tokens.now) found.old found.new) }
 {
     all_of_orgs(alloc, orgs, tokens, found)
 }
@@ -107,7 +108,7 @@ pub fn bounds_owned<'a>(
     tokens: &'a [(i64, TokenRow)],
     found: &mut Found,
 ) -> Result<(), Down>
-    ensures { OnOk result (Judges (AllByRecursion (λ x. list_any (is_token x.1.org x.1.name) tokens.now ≡ true) bounds.now) found.old found.new) }
+    ensures { OnOk result (Judges (BoundsOwnerless tokens.now bounds.now) (AllByRecursion (λ x. list_any (is_token x.1.org x.1.name) tokens.now ≡ true) bounds.now) found.old found.new) }
 {
     all_among(alloc, tokens, bounds, FaultKind::Ownerless, found)
 }
@@ -119,7 +120,7 @@ pub fn wss_owned<'a>(
     orgs: &'a [(i64, OrgRow)],
     found: &mut Found,
 ) -> Result<(), Down>
-    ensures { OnOk result (Judges (AllByRecursion (λ x. list_any (is_org x.1.org) orgs.now ≡ true) wss.now) found.old found.new) }
+    ensures { OnOk result (Judges (WorkspacesOwnerless orgs.now wss.now) (AllByRecursion (λ x. list_any (is_org x.1.org) orgs.now ≡ true) wss.now) found.old found.new) }
 {
     all_of_orgs(alloc, orgs, wss, found)
 }
@@ -131,7 +132,7 @@ pub fn keepings_owned<'a>(
     wss: &'a [(i64, WsRow)],
     found: &mut Found,
 ) -> Result<(), Down>
-    ensures { OnOk result (Judges (AllByRecursion (λ x. list_any (is_ws x.1.org x.1.ws) wss.now ≡ true) keepings.now) found.old found.new) }
+    ensures { OnOk result (Judges (KeepingsOwnerless wss.now keepings.now) (AllByRecursion (λ x. list_any (is_ws x.1.org x.1.ws) wss.now ≡ true) keepings.now) found.old found.new) }
 {
     all_among(alloc, wss, keepings, FaultKind::Ownerless, found)
 }
@@ -143,7 +144,7 @@ pub fn versions_owned<'a>(
     wss: &'a [(i64, WsRow)],
     found: &mut Found,
 ) -> Result<(), Down>
-    ensures { OnOk result (Judges (AllByRecursion (λ x. list_any (is_ws x.1.org x.1.ws) wss.now ≡ true) versions.now) found.old found.new) }
+    ensures { OnOk result (Judges (VersionsOwnerless wss.now versions.now) (AllByRecursion (λ x. list_any (is_ws x.1.org x.1.ws) wss.now ≡ true) versions.now) found.old found.new) }
 {
     all_among(alloc, wss, versions, FaultKind::Ownerless, found)
 }
@@ -155,7 +156,7 @@ pub fn runs_owned<'a>(
     wss: &'a [(i64, WsRow)],
     found: &mut Found,
 ) -> Result<(), Down>
-    ensures { OnOk result (Judges (AllByRecursion (λ x. list_any (is_ws x.1.org x.1.ws) wss.now ≡ true) runs.now) found.old found.new) }
+    ensures { OnOk result (Judges (RunsOwnerless wss.now runs.now) (AllByRecursion (λ x. list_any (is_ws x.1.org x.1.ws) wss.now ≡ true) runs.now) found.old found.new) }
 {
     all_among(alloc, wss, runs, FaultKind::Ownerless, found)
 }

@@ -1,14 +1,17 @@
 //! Looks at the places of texts, the uses of pages, and the texts of versions.
-ghost use Rattle.std.specs.Prelude.{◌≡◌, ℕ, ◌<◌, ◌↔◌, List, [], map, Some, IsTrue, IfOk, OnOk};
+ghost use Rattle.std.specs.Prelude.{◌≡◌, ℕ, ◌<◌, ◌↔◌, ◌⊎◌, List, [], map, Some, IsTrue, IfOk, OnOk};
 ghost use Rattle.std.specs.List.{AllByRecursion};
 ghost use Rattle.statements.specs.Rows.{Kept, VersionRow, VpageRow};
 ghost use Rattle.statements.specs.declared.rows.PageHead.{PageHead};
 ghost use Rattle.statements.specs.Tables.{Tables};
 ghost use Rattle.pages.specs.Heads.{head_in};
 ghost use Rattle.texts.specs.Texts.{pages_for, piece_size};
-ghost use Rattle.checks.specs.Judging.{Judges};
+ghost use Rattle.checks.specs.declared.found.FaultKind.TheVariants.{Place as PlaceFault, Text as TextFault, Uses};
+ghost use Rattle.checks.specs.Judging.{Breaks, Adds, Judges};
+ghost use Rattle.checks.specs.Faults.{version_fault, place_fault, page_fault, PagesMiscounted, PlacesOutside, PagesMissing, TextsBroken, OfPages, OfTexts};
 ghost use Rattle.checks.specs.Inner.Firsts.{IsKeyOf};
-ghost use Rattle.checks.specs.Inner.Places.{HasSizes, IsPlacedIn, page_size_in, HasPageSizes, NamesPage, HasCounts, IsCountedIn, HasPieces, piece_in, IsRunOf, AreRuns, HasTextIn, AreRowsSound, AreTextsSound};
+ghost use Rattle.checks.specs.Pages.{IsPlacedIn, page_size_in, NamesPage, IsCountedIn, piece_in, HasTextIn};
+ghost use Rattle.checks.specs.Inner.Places.{HasSizes, HasPageSizes, HasCounts, HasPieces, IsRunOf, AreRuns, AreRowsSound, AreTextsSound};
 
 use crate::firsts::{add_one, count_at, keep_first};
 use crate::found::{FaultKind, Found};
@@ -100,7 +103,7 @@ fn judge_place<'a>(
     row: &'a VpageRow,
     found: &mut Found,
 ) -> Result<(), Down>
-    ensures { (versions : List (Kept VersionRow)) → HasSizes versions sizes.now → OnOk result (Judges (IsPlacedIn versions row.now) found.old found.new) }
+    ensures { (versions : List (Kept VersionRow)) → HasSizes versions sizes.now → OnOk result (Judges (Breaks (IsPlacedIn versions row.now) (place_fault PlaceFault row.now)) (IsPlacedIn versions row.now) found.old found.new) }
 {
     if is_placed(sizes, row) {
         return Ok(());
@@ -121,7 +124,7 @@ pub(crate) fn judge_places<'a>(
     vpages: &'a [(i64, VpageRow)],
     found: &mut Found,
 ) -> Result<(), Down>
-    ensures { OnOk result (Judges (AllByRecursion (λ x. IsPlacedIn versions.now x.1) vpages.now) found.old found.new) }
+    ensures { OnOk result (Judges (PlacesOutside versions.now vpages.now) (AllByRecursion (λ x. IsPlacedIn versions.now x.1) vpages.now) found.old found.new) }
 {
     let sizes = sizes_of(alloc, versions)?;
     for row in vpages {
@@ -153,7 +156,7 @@ fn judge_count<'a>(
     rows: &[(i64, VpageRow)],
     found: &mut Found,
 ) -> Result<(), Down>
-    ensures { (vpages : List (Kept VpageRow)) → HasCounts vpages counts.now → OnOk result (Judges (IsCountedIn vpages head.now) found.old found.new) }
+    ensures { (vpages : List (Kept VpageRow)) → HasCounts vpages counts.now → OnOk result (Judges (Breaks (IsCountedIn vpages head.now) (page_fault Uses rows.now head.now)) (IsCountedIn vpages head.now) found.old found.new) }
 {
     let count = count_at(counts, &page_key(&head.key, head.twin));
     if count == head.uses {
@@ -169,7 +172,7 @@ pub(crate) fn judge_counts<'a>(
     vpages: &'a [(i64, VpageRow)],
     found: &mut Found,
 ) -> Result<(), Down>
-    ensures { OnOk result (Judges (AllByRecursion (IsCountedIn vpages.now) heads.now) found.old found.new) }
+    ensures { OnOk result (Judges (PagesMiscounted vpages.now heads.now) (AllByRecursion (IsCountedIn vpages.now) heads.now) found.old found.new) }
 {
     let counts = counts_of(alloc, vpages)?;
     for head in heads {
@@ -206,7 +209,7 @@ fn judge_name<'a>(
     row: &'a VpageRow,
     found: &mut Found,
 ) -> Result<(), Down>
-    ensures { (heads : List PageHead) → HasPageSizes heads sizes.now → OnOk result (Judges (NamesPage heads row.now) found.old found.new) }
+    ensures { (heads : List PageHead) → HasPageSizes heads sizes.now → OnOk result (Judges (Breaks (NamesPage heads row.now) (place_fault TextFault row.now)) (NamesPage heads row.now) found.old found.new) }
 {
     match page_size(sizes, row) {
         Some(_) => Ok(()),
@@ -227,7 +230,7 @@ fn judge_names<'a>(
     vpages: &'a [(i64, VpageRow)],
     found: &mut Found,
 ) -> Result<(), Down>
-    ensures { (heads : List PageHead) → HasPageSizes heads sizes.now → OnOk result (Judges (AllByRecursion (λ x. NamesPage heads x.1) vpages.now) found.old found.new) }
+    ensures { (heads : List PageHead) → HasPageSizes heads sizes.now → OnOk result (Judges (PagesMissing heads vpages.now) (AllByRecursion (λ x. NamesPage heads x.1) vpages.now) found.old found.new) }
 {
     for row in vpages {
         judge_name(alloc, sizes, &row.1, found)?;
@@ -333,7 +336,7 @@ fn judge_text<'a>(
     version: &'a VersionRow,
     found: &mut Found,
 ) -> Result<(), Down>
-    ensures judges { (heads : List PageHead) (vpages : List (Kept VpageRow)) → HasPieces heads vpages pieces.now → AreRuns heads vpages runs.old → OnOk result (Judges (HasTextIn heads vpages version.now) found.old found.new) }
+    ensures judges { (heads : List PageHead) (vpages : List (Kept VpageRow)) → HasPieces heads vpages pieces.now → AreRuns heads vpages runs.old → OnOk result (Judges (Breaks (HasTextIn heads vpages version.now) (version_fault TextFault version.now)) (HasTextIn heads vpages version.now) found.old found.new) }
     ensures runs { (heads : List PageHead) (vpages : List (Kept VpageRow)) → HasPieces heads vpages pieces.now → AreRuns heads vpages runs.old → OnOk result (AreRuns heads vpages runs.new) }
 {
     let run = known_run(pieces, runs, version)?;
@@ -357,7 +360,7 @@ fn judge_wholes<'a>(
     versions: &'a [(i64, VersionRow)],
     found: &mut Found,
 ) -> Result<(), Down>
-    ensures { (heads : List PageHead) (vpages : List (Kept VpageRow)) → HasPieces heads vpages pieces.now → OnOk result (Judges (AllByRecursion (λ x. HasTextIn heads vpages x.1) versions.now) found.old found.new) }
+    ensures { (heads : List PageHead) (vpages : List (Kept VpageRow)) → HasPieces heads vpages pieces.now → OnOk result (Judges (TextsBroken heads vpages versions.now) (AllByRecursion (λ x. HasTextIn heads vpages x.1) versions.now) found.old found.new) }
 {
     let mut runs = BTreeMap::new(alloc);
     for row in versions {
@@ -374,7 +377,7 @@ pub(crate) fn judge_texts<'a>(
     vpages: &'a [(i64, VpageRow)],
     found: &mut Found,
 ) -> Result<(), Down>
-    ensures { OnOk result (Judges (AllByRecursion (λ x. NamesPage heads.now x.1) vpages.now × AllByRecursion (λ x. HasTextIn heads.now vpages.now x.1) versions.now) found.old found.new) }
+    ensures { OnOk result (Judges (λ f. PagesMissing heads.now vpages.now f ⊎ TextsBroken heads.now vpages.now versions.now f) (AllByRecursion (λ x. NamesPage heads.now x.1) vpages.now × AllByRecursion (λ x. HasTextIn heads.now vpages.now x.1) versions.now) found.old found.new) }
 {
     let sizes = page_sizes_of(alloc, heads)?;
     judge_names(alloc, &sizes, vpages, found)?;
@@ -390,7 +393,7 @@ fn judge_rows<'a>(
     vpages: &'a [(i64, VpageRow)],
     found: &mut Found,
 ) -> Result<(), Down>
-    ensures { OnOk result (Judges (AreRowsSound heads.now versions.now vpages.now) found.old found.new) }
+    ensures { OnOk result (Judges (OfPages heads.now versions.now vpages.now) (AreRowsSound heads.now versions.now vpages.now) found.old found.new) }
 {
     judge_heads(alloc, heads, vpages, found)?;
     judge_counts(alloc, heads, vpages, found)?;
@@ -406,7 +409,8 @@ pub(crate) fn judge_pages<'a>(
     vpages: &'a [(i64, VpageRow)],
     found: &mut Found,
 ) -> Result<(), Down>
-    ensures { (key_of : List ℕ → List ℕ) (t : Tables) → heads.now ≡ map (head_in key_of t) t.pages → versions.now ≡ t.versions → vpages.now ≡ t.vpages → OnOk result (Judges (AreTextsSound key_of t) found.old found.new) }
+    ensures judges { (key_of : List ℕ → List ℕ) (t : Tables) → heads.now ≡ map (head_in key_of t) t.pages → versions.now ≡ t.versions → vpages.now ≡ t.vpages → OnOk result (Judges (OfTexts heads.now versions.now vpages.now) (AreTextsSound key_of t) found.old found.new) }
+    ensures adds { OnOk result (Adds (OfTexts heads.now versions.now vpages.now) found.old.faults found.new.faults) }
 {
     pages_apart(alloc, heads, found)?;
     vpages_apart(alloc, vpages, found)?;

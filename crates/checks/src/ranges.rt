@@ -6,10 +6,11 @@ ghost use Rattle.basis.specs.declared.numbers.TheConstants.{MAX_LIMIT};
 ghost use Rattle.machine.specs.Ranges.{IsMoment};
 ghost use Rattle.tables.specs.Sound.{IsOrgRow, IsTokenRow, IsBoundRow};
 ghost use Rattle.checks.specs.Judging.{Judges};
+ghost use Rattle.checks.specs.Faults.{OrgsOutside, TokensOutside, BoundsOutside};
 
 use crate::found::{FaultKind, Found};
 use basis::numbers::{MAX_LIMIT, MAX_MOMENT};
-use basis::{Down, Limit, Moment, OrgName, Prefix, Unfit};
+use basis::{Down, Limit, Moment, OrgName, Unfit, WsPrefix};
 use statements::rows::{BoundRow, OrgRow, TokenRow};
 use std::alloc::Global;
 
@@ -41,7 +42,7 @@ fn is_token(alloc: Global, name: &str, digest: &[u8]) -> Result<bool, Down>
 fn is_beginning(alloc: Global, text: &str) -> Result<bool, Down>
     ensures { IfOk result (λ fits. fits ≡ is_prefix text.now) }
 {
-    match Prefix::read(alloc, text) {
+    match WsPrefix::read(alloc, text) {
         Ok(_) => Ok(true),
         Err(Unfit::Syntax) => Ok(false),
         Err(Unfit::Down) => Err(Down),
@@ -66,12 +67,13 @@ fn known_end(until: Option<Moment>)
 
 /// Whether the name of each organization is one, and its limit in range.
 pub fn orgs_in_range(alloc: Global, orgs: &[(i64, OrgRow)], found: &mut Found) -> Result<(), Down>
-    ensures { OnOk result (Judges (AllByRecursion IsOrgRow orgs.now) found.old found.new) }
+    ensures { OnOk result (Judges (OrgsOutside orgs.now) (AllByRecursion IsOrgRow orgs.now) found.old found.new) }
 {
     for (_, row) in orgs {
         known_limit(row.cap);
-        let fits = is_name(alloc, row.name.as_str())?;
-        found.judge(alloc, fits, FaultKind::Range, row.name.as_str(), "", None)?;
+        let name = row.name.as_str();
+        let fits = is_name(alloc, name)?;
+        found.judge(alloc, fits, FaultKind::Range, name, "", None)?;
     }
     Ok(())
 }
@@ -82,18 +84,13 @@ pub fn tokens_in_range(
     tokens: &[(i64, TokenRow)],
     found: &mut Found,
 ) -> Result<(), Down>
-    ensures { OnOk result (Judges (AllByRecursion IsTokenRow tokens.now) found.old found.new) }
+    ensures { OnOk result (Judges (TokensOutside tokens.now) (AllByRecursion IsTokenRow tokens.now) found.old found.new) }
 {
     for (_, row) in tokens {
-        let fits = is_token(alloc, row.name.as_str(), row.it.digest.as_slice())?;
-        found.judge(
-            alloc,
-            fits,
-            FaultKind::Range,
-            row.org.as_str(),
-            row.name.as_str(),
-            None,
-        )?;
+        let org = row.org.as_str();
+        let name = row.name.as_str();
+        let fits = is_token(alloc, name, row.it.digest.as_slice())?;
+        found.judge(alloc, fits, FaultKind::Range, org, name, None)?;
     }
     Ok(())
 }
@@ -104,19 +101,14 @@ pub fn bounds_in_range(
     bounds: &[(i64, BoundRow)],
     found: &mut Found,
 ) -> Result<(), Down>
-    ensures { OnOk result (Judges (AllByRecursion IsBoundRow bounds.now) found.old found.new) }
+    ensures { OnOk result (Judges (BoundsOutside bounds.now) (AllByRecursion IsBoundRow bounds.now) found.old found.new) }
 {
     for (_, row) in bounds {
         known_end(row.until);
+        let org = row.org.as_str();
+        let name = row.name.as_str();
         let fits = is_beginning(alloc, row.prefix.as_str())?;
-        found.judge(
-            alloc,
-            fits,
-            FaultKind::Range,
-            row.org.as_str(),
-            row.name.as_str(),
-            None,
-        )?;
+        found.judge(alloc, fits, FaultKind::Range, org, name, None)?;
     }
     Ok(())
 }

@@ -6,7 +6,7 @@ ghost use Rattle.std.specs.BTreeSet.{contains_text};
 ghost use Rattle.machine.specs.RunSteps.{is_status};
 ghost use Rattle.machine.specs.Laws.{is_active, is_pending, holds, is_nobody};
 ghost use Rattle.checks.specs.Inner.Groups.{picked};
-ghost use Rattle.checks.specs.Inner.Runs.{run_number, is_key, action_ends, is_unreached, is_where_action_ends, is_active_rightly, waits_rightly, is_run, is_run_row, unfit_run, is_open_row, count_open, is_unseen, has_key, keys_differ, queued_in, is_queued, is_held, are_runs};
+ghost use Rattle.checks.specs.Runs.{run_number, is_key, action_ends, is_unreached, is_where_action_ends, is_active_rightly, waits_rightly, is_run, is_run_row, unfit_run, is_open_row, count_open, is_unseen, has_key, keys_differ, queued_in, is_queued, is_held, are_runs};
 
 use crate::versions::{rise, sort};
 use basis::numbers::MAX_MOMENT;

@@ -2,7 +2,7 @@
 ghost use Rattle.std.specs.Prelude.{◌≡◌, ◌++◌, ◌∷◌, [], IfOk, OnOk, map};
 ghost use Rattle.std.specs.List.{list_all};
 ghost use Rattle.checks.specs.Inner.Groups.{picked};
-ghost use Rattle.checks.specs.Inner.Versions.{is_version_row, unfit_version, version_number, rises, reaches, sorted, are_versions};
+ghost use Rattle.checks.specs.Versions.{is_version_row, unfit_version, version_number, rises, reaches, sorted, are_versions};
 
 use basis::Down;
 use basis::numbers::{MAX_MOMENT, MAX_SERIAL};

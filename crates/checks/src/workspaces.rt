@@ -3,16 +3,18 @@ ghost use Rattle.std.specs.Prelude.{◌≡◌, ◌∷◌, [], IfOk, OnOk};
 ghost use Rattle.std.specs.List.{AllByRecursion};
 ghost use Rattle.basis.specs.Names.{is_ws_name};
 ghost use Rattle.statements.specs.Tables.{Tables};
-ghost use Rattle.checks.specs.Judging.{Judges};
+ghost use Rattle.checks.specs.Judging.{OfSome, Adds, Judges};
+ghost use Rattle.checks.specs.Faults.{OfWorkspaces};
 ghost use Rattle.checks.specs.Inner.Groups.{picked};
-ghost use Rattle.checks.specs.Inner.Workspaces.{is_next, is_free_if, is_own, kept_in, retention_among, IsLawfulAt, AreAllGrouped, HasWsRows, AreLawfulWss};
+ghost use Rattle.checks.specs.Workspaces.{is_next, is_free_if, is_own, kept_in, retention_among};
+ghost use Rattle.checks.specs.Inner.Workspaces.{IsLawfulAt, OfGroups, AreAllGrouped, HasWsRows, AreLawfulWss};
 
 use crate::found::{FaultKind, Found};
 use crate::groups::{Groups, group};
 use crate::runs::{are_runs, unfit_run};
 use crate::versions::{are_versions, unfit_version};
 use basis::numbers::MAX_NUMBER;
-use basis::{Down, LockId, Retention, Unfit, WsName, is_free_id};
+use basis::{Down, KeepCount, LockId, Unfit, WsName, is_free_id};
 use statements::rows::{KeepingRow, Rows, WsRow};
 use std::alloc::Global;
 
@@ -27,7 +29,8 @@ pub struct Grouped {
 /// Looks whether each workspace is lawful: its name, next numbers, holder and the lock released last, its
 /// versions, and its runs.
 pub fn judge_workspaces(alloc: Global, rows: &Rows, found: &mut Found) -> Result<(), Down>
-    ensures { OnOk result ((t : Tables) → HasWsRows rows.now t → Judges (AreLawfulWss t) found.old found.new) }
+    ensures judges { OnOk result ((t : Tables) → HasWsRows rows.now t → Judges (OfWorkspaces rows.now) (AreLawfulWss t) found.old found.new) }
+    ensures adds { OnOk result (Adds (OfWorkspaces rows.now) found.old.faults found.new.faults) }
 {
     let groups = group_all(alloc, rows)?;
     judge_rows(alloc, rows, &groups, found)?;
@@ -48,7 +51,7 @@ fn group_all(alloc: Global, rows: &Rows) -> Result<Grouped, Down>
 }
 
 fn judge_rows(alloc: Global, rows: &Rows, groups: &Grouped, found: &mut Found) -> Result<(), Down>
-    ensures { OnOk result (Judges (AllByRecursion (IsLawfulAt rows.now groups.now) rows.now.wss) found.old found.new) }
+    ensures { OnOk result (Judges (OfSome (OfGroups rows.now groups.now) rows.now.wss) (AllByRecursion (IsLawfulAt rows.now groups.now) rows.now.wss) found.old found.new) }
 {
     let wss = rows.wss.as_slice();
     for row in wss {
@@ -64,7 +67,7 @@ fn judge_row(
     row: &(i64, WsRow),
     found: &mut Found,
 ) -> Result<(), Down>
-    ensures { OnOk result (Judges (IsLawfulAt rows.now groups.now row.now) found.old found.new) }
+    ensures { OnOk result (Judges (OfGroups rows.now groups.now row.now) (IsLawfulAt rows.now groups.now row.now) found.old found.new) }
 {
     let org = row.1.org.as_str();
     let ws = row.1.name.as_str();
@@ -96,16 +99,16 @@ fn judge_row(
 }
 
 // How many versions are kept, by the first of these rows.
-fn retention_among(rows: &[(i64, KeepingRow)], places: &[usize]) -> Retention
+fn retention_among(rows: &[(i64, KeepingRow)], places: &[usize]) -> KeepCount
     ensures { result ≡ retention_among (picked rows.now places.now) }
 {
     match kept_in(rows, places) {
         Some(retention) => retention,
-        None => Retention::first(),
+        None => KeepCount::first(),
     }
 }
 
-fn kept_in(rows: &[(i64, KeepingRow)], places: &[usize]) -> Option<Retention>
+fn kept_in(rows: &[(i64, KeepingRow)], places: &[usize]) -> Option<KeepCount>
     ensures { result ≡ kept_in (picked rows.now places.now) }
 {
     for place in places {
@@ -116,7 +119,7 @@ fn kept_in(rows: &[(i64, KeepingRow)], places: &[usize]) -> Option<Retention>
     None
 }
 
-fn kept_at(rows: &[(i64, KeepingRow)], place: usize) -> Option<Retention>
+fn kept_at(rows: &[(i64, KeepingRow)], place: usize) -> Option<KeepCount>
     ensures { result ≡ kept_in (picked rows.now (place ∷ [])) }
 {
     match rows.get(place) {

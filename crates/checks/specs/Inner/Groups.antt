@@ -1,5 +1,5 @@
 -- Rows by the places where they stand in their list.
-use Rattle.std.specs.Prelude.{◌≡◌, ℕ, Bool, cond, List, [], ◌∷◌, filter, Option, Some, None, slice_get, String, Vec}
+use Rattle.std.specs.Prelude.{◌≡◌, ℕ, Bool, List, [], ◌∷◌, filter, Option, Some, None, slice_get, String, Vec}
 use Rattle.std.specs.Option.{option_map_or}
 use Rattle.std.specs.BTreeMap.{BTreeMap, get_by_text}
 use Rattle.checks.specs.declared.groups.Groups.{Groups}
@@ -12,11 +12,6 @@ with_some (Some x) xs = x ∷ xs
 abbrev pub picked : {X : Type 0} → List X → List ℕ → List X
 picked rows [] = []
 picked rows (i ∷ places) = with_some (slice_get rows i) (picked rows places)
-
--- the number of the first row that doesn't pass, if there is one
-abbrev pub first_unfit : {X : Type 0} → (X → Bool) → (X → ℕ) → List X → Option ℕ
-first_unfit test number [] = None
-first_unfit test number (x ∷ xs) = cond (test x) (first_unfit test number xs) (Some (number x))
 
 -- the places that a map has at a workspace, by its name
 abbrev pub places_at : {Y Z : Type 0} → BTreeMap (String Y) (Vec ℕ Z) → List ℕ → List ℕ

@@ -6,11 +6,13 @@ use Rattle.statements.specs.Tables.{Tables, Holds, IsOurs}
 use Rattle.tables.specs.Scans.{AreRowsOf}
 use Rattle.checks.specs.declared.stores.Looked.{Looked}
 use Rattle.checks.specs.Lines.{TellsFaults}
+use Rattle.checks.specs.Standing.{TellsOthers}
 use Rattle.checks.specs.Totals.{AreTotalsOf}
 
 -- no line exactly where our tables stand in the database as they are defined, and it stays
 pub record TellsTables (old new : Database) (lines : List (List ℕ)) : Type 0 where
   pub none : (lines ≡ []) ↔ IsOurs old.schema
+  pub others : TellsOthers old lines
   pub same : new ≡ old
 
 -- The rows that were read, their faults, and how many they are.

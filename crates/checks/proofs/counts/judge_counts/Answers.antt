@@ -1,9 +1,13 @@
 use Rattle.std.proofs.Common.{◌≡◌, ℕ, ◌+◌, ◌==◌, ◌&&◌, not, true, cond, List, [], ◌∷◌, ◌++◌, length, take, refl, sym, ap, subst, ◌∙◌}
 use Rattle.std.specs.Str.{bytes_eq}
 use Rattle.std.proofs.lemmas.List.{take_more, take_all}
+use Rattle.checks.specs.declared.found.FaultKind.TheVariants as kind
 use Rattle.checks.specs.Judging.{Judges}
+use Rattle.checks.specs.Faults.{org_fault, TooMany}
 use Rattle.checks.specs.Inner.Groups.{places_in}
-use Rattle.checks.specs.Inner.Counts.{count_in, AreFew}
+use Rattle.checks.specs.Workspaces.{count_in}
+use Rattle.checks.specs.Inner.Counts.{AreFew}
+use Rattle.checks.proofs.JudgingLemmas.{judges_named}
 use Rattle.checks.proofs.CountLemmas.{one_counted, one_judged}
 use Rattle.checks.proofs.counts.judge_counts.Goals as goal
 
@@ -20,9 +24,9 @@ loop-place-preserved c =
     let count_is : length c.places-count.result.now ≡ count_in (xs ++ x ∷ []) x.1.org = ap length (c.places-count.ensures ∙ (λ j. places_in c.add.new.self (c.as_str-org.ensures j) [])) ∙ counted x.1.org in
     record {
       counted = λ org. counted org ∙ ap (λ l. count_in l org) longer;
-      judged = subst (λ l. Judges (AreFew l) c.args.found.now c.judge.new.self) longer
-          (one_judged xs x (length c.places-count.result.now) (not (length c.places-count.result.now == 100_001)) c.args.found.now c.loop-place.found c.judge.new.self count_is refl c.loop-place.invariant.judged c.in_ok-judge.ensures);
+      judged = subst (λ l. Judges (TooMany l) (AreFew l) c.args.found.now c.judge.new.self) longer
+          (one_judged xs x (length c.places-count.result.now) (not (length c.places-count.result.now == 100_001)) c.args.found.now c.loop-place.found c.judge.new.self count_is refl c.loop-place.invariant.judged (judges_named c.loop-place.found c.judge.new.self (ap (org_fault kind.TooMany) c.as_str-org.ensures) c.in_ok-judge.ensures));
     }
 
 pub returns : goal.returns
-returns c = subst (λ l. Judges (AreFew l) c.args.found.now c.loop-place.found) (take_all c.loop-place.place c.args.wss.now c.loop-place-test.false) c.loop-place.invariant.judged
+returns c = subst (λ l. Judges (TooMany l) (AreFew l) c.args.found.now c.loop-place.found) (take_all c.loop-place.place c.args.wss.now c.loop-place-test.false) c.loop-place.invariant.judged

@@ -1,7 +1,10 @@
 use Rattle.std.proofs.Common.{◌&&◌, ◌||◌, ap, ap₂, sym, ◌∙◌}
 use Rattle.std.specs.Str.{bytes_eq}
 use Rattle.statements.specs.Changes.{is_digest_of}
+use Rattle.checks.specs.declared.found.FaultKind.TheVariants as kind
+use Rattle.checks.specs.Faults.{name_fault}
 use Rattle.checks.specs.Inner.Keys.{has_key}
+use Rattle.checks.proofs.JudgingLemmas.{judges_named}
 use Rattle.checks.proofs.KeyLemmas.{bytes_turned, fresh_by}
 use Rattle.checks.proofs.RowLists.{any_judged, apart_judged}
 use Rattle.checks.proofs.keys.digests_apart.Goals as goal
@@ -12,15 +15,16 @@ loop-row-preserved c =
     let xs = c.args.tokens.now in
     let i = c.loop-row.row-index in
     let known = c.loop-row.invariant in
-    let of_org = c.as_bytes.ensures.value ∙ c.as_str.ensures in
+    let of_org = c.as_bytes.ensures.value ∙ c.as_str-org.ensures in
     let of_digest = c.as_slice.ensures in
     record {
       judged =
           apart_judged (λ a b. is_digest_of a.1.org a.1.it.digest b)
+          (λ x. name_fault kind.DigestTwice x.1.org x.1.name)
           (λ a b. ap₂ ◌&&◌ (bytes_turned b.1.org a.1.org) (bytes_turned b.1.it.digest a.1.it.digest))
           xs i x c.in_ok-fresh.fresh c.args.found.now c.loop-row.found c.judge.new.self c.loop-row-test.true c.loop-row-item.is
           (fresh_by c.in_ok-fresh.fresh (λ m n. has_key c.loop-row.keys m n 0 0) c.as_bytes.result.now c.as_slice.result.now x.1.org x.1.it.digest _ c.in_ok-fresh.ensures.fresh of_org of_digest (known.keys x.1.org x.1.it.digest))
-          known.judged c.in_ok-judge.ensures;
+          known.judged (judges_named c.loop-row.found c.judge.new.self (ap₂ (name_fault kind.DigestTwice) c.as_str-org.ensures c.as_str-name.ensures) c.in_ok-judge.ensures);
       keys = λ m n.
           c.in_ok-fresh.ensures.added m n ∙ ap₂ ◌||◌ (known.keys m n) (ap₂ ◌&&◌ (ap (λ l. bytes_eq l m) of_org) (ap (λ l. bytes_eq l n) of_digest))
           ∙ sym (any_judged (is_digest_of m n) xs i x c.loop-row-test.true c.loop-row-item.is);

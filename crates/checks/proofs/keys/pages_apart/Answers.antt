@@ -1,5 +1,7 @@
-use Rattle.std.proofs.Common.{◌&&◌, ◌||◌, ◌==◌, [], not, ap, ap₂, sym, ◌∙◌}
+use Rattle.std.proofs.Common.{◌&&◌, ◌||◌, ◌==◌, [], None, not, ap, ap₂, sym, ◌∙◌}
 use Rattle.std.specs.Str.{bytes_eq}
+use Rattle.checks.specs.declared.found.FaultKind.TheVariants as kind
+use Rattle.checks.specs.Judging.{fault_of}
 use Rattle.checks.specs.Inner.Keys.{has_key}
 use Rattle.checks.proofs.KeyLemmas.{bytes_turned, number_turned, both_turned}
 use Rattle.checks.proofs.RowLists.{any_judged, apart_judged}
@@ -15,6 +17,7 @@ loop-head-preserved c =
     record {
       judged =
           apart_judged (λ a b. bytes_eq b.key a.key && b.twin == a.twin)
+          (λ x. fault_of kind.Twice [] [] None)
           (λ a b. ap₂ ◌&&◌ (bytes_turned b.key a.key) (number_turned b.twin a.twin))
           xs i x c.in_ok-fresh.fresh c.args.found.now c.loop-head.found c.judge.new.self c.loop-head-test.true c.head-item.is
           (c.in_ok-fresh.ensures.fresh ∙ ap not (ap (λ k. has_key c.loop-head.keys [] k x.twin 0) of_key ∙ known.keys x.key x.twin)) known.judged c.in_ok-judge.ensures;

@@ -3,11 +3,12 @@ use Rattle.std.specs.Str.{bytes_eq}
 use Rattle.std.specs.List.{list_any}
 use Rattle.sqlite_keyed.specs.Rules.{AreApart}
 use Rattle.checks.specs.Judging.{Judges}
+use Rattle.checks.specs.Faults.{SamePages}
 use Rattle.checks.specs.Inner.Keys.{has_key}
 use Rattle.checks.proofs.keys.pages_apart.Given as goal
 
 abbrev pub invariant-loop-head : goal.invariant-loop-head
 invariant-loop-head l = record {
-  judged : Judges (AreApart (λ a b. bytes_eq b.key a.key && b.twin == a.twin) (take l.head-index l.heads)) l.fn.found l.found;
+  judged : Judges (SamePages (take l.head-index l.heads)) (AreApart (λ a b. bytes_eq b.key a.key && b.twin == a.twin) (take l.head-index l.heads)) l.fn.found l.found;
   keys : (key : List ℕ) (twin : ℕ) → has_key l.keys [] key twin 0 ≡ list_any (λ x. bytes_eq x.key key && x.twin == twin) (take l.head-index l.heads);
 }

@@ -1,5 +1,5 @@
-use Rattle.checks.proofs.JudgingLemmas.{judges_both}
-use Rattle.checks.proofs.LookLemmas.{looked_for}
+use Rattle.checks.proofs.JudgingLemmas.{judges_both, judges_as}
+use Rattle.checks.proofs.LookLemmas.{told_more}
 use Rattle.checks.proofs.looks.judge_owned.Goals as goal
 
 pub returns : goal.returns
@@ -9,10 +9,11 @@ returns c =
     let x2 = c.wss_owned.new.found in
     let x3 = c.keepings_owned.new.found in
     let x4 = c.versions_owned.new.found in
-    looked_for x x4 c.runs_owned.new.found c.runs_owned.result (λ a b. record { kept = a.0.0.0; wss = a.0.0.1; keepings = a.0.1; versions = a.1; runs = b }) (λ r. (((r.kept, r.wss), r.keepings), r.versions)) (λ r. r.runs)
-    (judges_both x x3 x4
-    (judges_both x x2 x3
-    (judges_both x x1 x2 (rw (c.as_slice-wss.ensures, c.as_slice.ensures) at c.in_ok-wss_kept.ensures) (rw (c.as_slice-wss.ensures, c.as_slice-2.ensures) at c.in_ok-wss_owned.ensures))
-    (rw (c.as_slice-wss.ensures, c.as_slice-3.ensures) at c.in_ok-keepings_owned.ensures))
-    (rw (c.as_slice-wss.ensures, c.as_slice-4.ensures) at c.in_ok-versions_owned.ensures))
+    let z = c.runs_owned.new.found in
+    told_more c.runs_owned.result (λ last.
+    judges_as x z (λ laws. record { kept = laws.0; wss = laws.1.0; keepings = laws.1.1.0; versions = laws.1.1.1.0; runs = laws.1.1.1.1 }) (λ r. (r.kept, (r.wss, (r.keepings, (r.versions, r.runs)))))
+    (judges_both x x1 z (rw (c.as_slice-wss.ensures, c.as_slice.ensures) at c.in_ok-wss_kept.ensures)
+    (judges_both x1 x2 z (rw (c.as_slice-wss.ensures, c.as_slice-2.ensures) at c.in_ok-wss_owned.ensures)
+    (judges_both x2 x3 z (rw (c.as_slice-wss.ensures, c.as_slice-3.ensures) at c.in_ok-keepings_owned.ensures)
+    (judges_both x3 x4 z (rw (c.as_slice-wss.ensures, c.as_slice-4.ensures) at c.in_ok-versions_owned.ensures) last)))))
     (rw (c.as_slice-wss.ensures, c.as_slice-5.ensures) at c.runs_owned.ensures)

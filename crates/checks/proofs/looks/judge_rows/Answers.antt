@@ -1,5 +1,5 @@
-use Rattle.checks.proofs.JudgingLemmas.{judges_both}
-use Rattle.checks.proofs.LookLemmas.{looked_for}
+use Rattle.checks.proofs.JudgingLemmas.{judges_both, judges_as}
+use Rattle.checks.proofs.LookLemmas.{told_more}
 use Rattle.checks.proofs.looks.judge_rows.Goals as goal
 
 pub returns : goal.returns
@@ -9,6 +9,8 @@ returns c =
     let x2 = c.judge_others.new.found in
     let x3 = c.judge_tokens.new.found in
     let x4 = c.judge_owned.new.found in
-    looked_for x x4 c.judge_ranges.new.found c.judge_ranges.result (λ a b. record { names = a.0.0.0; others = a.0.0.1; tokens = a.0.1; owned = a.1; ranges = b }) (λ r. (((r.names, r.others), r.tokens), r.owned)) (λ r. r.ranges)
-    (judges_both x x3 x4 (judges_both x x2 x3 (judges_both x x1 x2 c.in_ok-judge_names.ensures c.in_ok-judge_others.ensures) c.in_ok-judge_tokens.ensures) c.in_ok-judge_owned.ensures)
+    let z = c.judge_ranges.new.found in
+    told_more c.judge_ranges.result (λ last.
+    judges_as x z (λ laws. record { names = laws.0; others = laws.1.0; tokens = laws.1.1.0; owned = laws.1.1.1.0; ranges = laws.1.1.1.1 }) (λ r. (r.names, (r.others, (r.tokens, (r.owned, r.ranges)))))
+    (judges_both x x1 z c.in_ok-judge_names.ensures (judges_both x1 x2 z c.in_ok-judge_others.ensures (judges_both x2 x3 z c.in_ok-judge_tokens.ensures (judges_both x3 x4 z c.in_ok-judge_owned.ensures last)))))
     c.judge_ranges.ensures

@@ -1,6 +1,6 @@
 use Rattle.std.proofs.Common.{◌∙◌, sym}
 use Rattle.checks.specs.Inner.Firsts.{IsKeyOf}
-use Rattle.checks.specs.Inner.Places.{piece_in}
+use Rattle.checks.specs.Pages.{piece_in}
 use Rattle.checks.proofs.FirstsLemmas.{at_key}
 use Rattle.checks.proofs.PlacesLemmas.{size_there, size_nowhere}
 use Rattle.checks.proofs.places.has_size.Goals as goal

@@ -1,9 +1,10 @@
 use Rattle.std.proofs.Common.{take}
 use Rattle.std.specs.List.{AllByRecursion}
 use Rattle.checks.specs.Judging.{Judges}
-use Rattle.checks.specs.Inner.Places.{IsPlacedIn}
+use Rattle.checks.specs.Faults.{PlacesOutside}
+use Rattle.checks.specs.Pages.{IsPlacedIn}
 use Rattle.checks.proofs.places.judge_places.Given as goal
 
 -- the rows so far are looked at
 abbrev pub invariant-loop-row : goal.invariant-loop-row
-invariant-loop-row l = Judges (AllByRecursion (λ x. IsPlacedIn l.versions x.1) (take l.row-index l.vpages)) l.fn.found l.found
+invariant-loop-row l = Judges (PlacesOutside l.versions (take l.row-index l.vpages)) (AllByRecursion (λ x. IsPlacedIn l.versions x.1) (take l.row-index l.vpages)) l.fn.found l.found

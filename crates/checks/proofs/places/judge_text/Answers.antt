@@ -11,4 +11,4 @@ pub returns-clause-judges : goal.returns-clause-judges
 returns-clause-judges c heads vpages has known =
     on_ok_weaker c.note.result
     (judges_fault c.args.found.now c.note.new.self (λ law. true≢false (sym ((c.is_whole.ensures heads vpages has (c.in_ok-run.ensures.run heads vpages has known)).1 law) ∙ c.if-is_whole.false)))
-    c.note.ensures
+    (rw (c.as_str.ensures, c.as_str-2.ensures, c.from-number.ensures ∙ c.get.ensures.value) at c.note.ensures)

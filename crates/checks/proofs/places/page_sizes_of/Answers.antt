@@ -1,7 +1,7 @@
 use Rattle.std.proofs.Common.{◌∙◌, Bool, [], Some, None, cond, ap}
 use Rattle.std.specs.Option.{option_or}
 use Rattle.checks.specs.Inner.Firsts.{value_at}
-use Rattle.checks.specs.Inner.Places.{is_head}
+use Rattle.checks.specs.Pages.{is_head}
 use Rattle.checks.proofs.FirstsLemmas.{empty_at}
 use Rattle.checks.proofs.PlacesLemmas.{page_parts, first_more}
 use Rattle.checks.proofs.places.page_sizes_of.Goals as goal

@@ -4,7 +4,7 @@ use Rattle.std.specs.Option.{option_or}
 use Rattle.texts.specs.Texts.{is_place}
 use Rattle.checks.specs.Inner.Keys.{is_key}
 use Rattle.checks.specs.Inner.Firsts.{value_at}
-use Rattle.checks.specs.Inner.Places.{named_size_in}
+use Rattle.checks.specs.Pages.{named_size_in}
 use Rattle.checks.proofs.FirstsLemmas.{empty_at}
 use Rattle.checks.proofs.PlacesLemmas.{place_parts, first_more}
 use Rattle.checks.proofs.places.pieces_of.Goals as goal

@@ -2,7 +2,8 @@ use Rattle.std.proofs.Common.{◌≡◌, ◌<◌, ℕ, List, Some}
 use Rattle.statements.specs.declared.rows.PageHead.{PageHead}
 use Rattle.statements.specs.Rows.{Kept, VpageRow}
 use Rattle.texts.specs.declared.texts.TheConstants.{PAGE_BYTES}
-use Rattle.checks.specs.Inner.Places.{HasPieces, piece_in}
+use Rattle.checks.specs.Pages.{piece_in}
+use Rattle.checks.specs.Inner.Places.{HasPieces}
 use Rattle.checks.proofs.places.run_of.Given as goal
 
 -- the places so far name whole pages

@@ -2,7 +2,8 @@ use Rattle.std.proofs.Common.{take}
 use Rattle.std.specs.List.{AllByRecursion}
 use Rattle.tables.specs.Sound.{IsBoundRow}
 use Rattle.checks.specs.Judging.{Judges}
+use Rattle.checks.specs.Faults.{BoundsOutside}
 use Rattle.checks.proofs.ranges.bounds_in_range.Given as goal
 
 abbrev pub invariant-loop-row : goal.invariant-loop-row
-invariant-loop-row l = Judges (AllByRecursion IsBoundRow (take l.row-index l.bounds)) l.fn.found l.found
+invariant-loop-row l = Judges (BoundsOutside (take l.row-index l.bounds)) (AllByRecursion IsBoundRow (take l.row-index l.bounds)) l.fn.found l.found

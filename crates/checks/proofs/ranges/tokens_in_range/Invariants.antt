@@ -2,7 +2,8 @@ use Rattle.std.proofs.Common.{take}
 use Rattle.std.specs.List.{AllByRecursion}
 use Rattle.tables.specs.Sound.{IsTokenRow}
 use Rattle.checks.specs.Judging.{Judges}
+use Rattle.checks.specs.Faults.{TokensOutside}
 use Rattle.checks.proofs.ranges.tokens_in_range.Given as goal
 
 abbrev pub invariant-loop-row : goal.invariant-loop-row
-invariant-loop-row l = Judges (AllByRecursion IsTokenRow (take l.row-index l.tokens)) l.fn.found l.found
+invariant-loop-row l = Judges (TokensOutside (take l.row-index l.tokens)) (AllByRecursion IsTokenRow (take l.row-index l.tokens)) l.fn.found l.found

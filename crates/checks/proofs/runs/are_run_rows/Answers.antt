@@ -1,5 +1,5 @@
 use Rattle.checks.specs.Inner.Groups.{picked}
-use Rattle.checks.specs.Inner.Runs.{is_run_row, run_number}
+use Rattle.checks.specs.Runs.{is_run_row, run_number}
 use Rattle.checks.proofs.TestLemmas.{all_fit}
 use Rattle.checks.proofs.runs.are_run_rows.Goals as goal
 

@@ -1,6 +1,6 @@
 use Rattle.std.proofs.Common.{◌≡◌, ◌≤◌, ◌+◌, drop}
 use Rattle.checks.specs.Inner.Groups.{picked}
-use Rattle.checks.specs.Inner.Runs.{count_open}
+use Rattle.checks.specs.Runs.{count_open}
 use Rattle.checks.proofs.runs.count_open.Given as goal
 
 abbrev pub invariant-loop-place : goal.invariant-loop-place

@@ -2,7 +2,7 @@ use Rattle.std.proofs.Common.{◌≡◌, ◌∙◌, ◌&&◌, ◌+◌, add-one, 
 use Rattle.std.specs.List.{list_all}
 use Rattle.std.specs.BTreeSet.{contains_text}
 use Rattle.checks.specs.Inner.Groups.{picked}
-use Rattle.checks.specs.Inner.Runs.{is_unseen, keys_differ}
+use Rattle.checks.specs.Runs.{is_unseen, keys_differ}
 use Rattle.checks.proofs.RunKeys.{all_unseen, one_more}
 use Rattle.checks.proofs.runs.keys_differ.Goals as goal
 

@@ -2,7 +2,7 @@ use Rattle.std.proofs.Common.{◌≡◌, ◌&&◌, drop}
 use Rattle.std.specs.List.{list_all}
 use Rattle.std.specs.BTreeSet.{contains_text}
 use Rattle.checks.specs.Inner.Groups.{picked}
-use Rattle.checks.specs.Inner.Runs.{is_unseen, keys_differ}
+use Rattle.checks.specs.Runs.{is_unseen, keys_differ}
 use Rattle.checks.proofs.runs.keys_differ.Given as goal
 
 -- the keys that are left differ from those seen and from one another where all differ

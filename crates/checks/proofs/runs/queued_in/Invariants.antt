@@ -1,6 +1,6 @@
 use Rattle.std.proofs.Common.{◌≡◌, drop}
 use Rattle.checks.specs.Inner.Groups.{picked}
-use Rattle.checks.specs.Inner.Runs.{queued_in}
+use Rattle.checks.specs.Runs.{queued_in}
 use Rattle.checks.proofs.runs.queued_in.Given as goal
 
 abbrev pub invariant-loop-place : goal.invariant-loop-place

@@ -1,6 +1,6 @@
 use Rattle.std.proofs.Common.{◌≡◌, ◌∙◌, ◌∷◌, ◌+◌, ap, sym, drop, slice_index, drop-cons, add-one}
 use Rattle.checks.specs.Inner.Groups.{picked}
-use Rattle.checks.specs.Inner.Runs.{is_run_row, run_number, unfit_run}
+use Rattle.checks.specs.Runs.{is_run_row, run_number, unfit_run}
 use Rattle.checks.proofs.TestLemmas.{unfit_here, unfit_later}
 use Rattle.checks.proofs.runs.unfit_run.Goals as goal
 

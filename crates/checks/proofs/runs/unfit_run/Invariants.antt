@@ -1,6 +1,6 @@
 use Rattle.std.proofs.Common.{◌≡◌, drop}
 use Rattle.checks.specs.Inner.Groups.{picked}
-use Rattle.checks.specs.Inner.Runs.{unfit_run}
+use Rattle.checks.specs.Runs.{unfit_run}
 use Rattle.checks.proofs.runs.unfit_run.Given as goal
 
 abbrev pub invariant-loop-place : goal.invariant-loop-place

@@ -1,11 +1,13 @@
-use Rattle.std.proofs.Common.{◌∙◌, sym}
+use Rattle.std.proofs.Common.{◌≡◌, ◌∙◌, sym, subst}
 use Rattle.std.proofs.lemmas.Result.{IfOk-weaker}
 use Rattle.sqlite.specs.Held.{state}
-use Rattle.checks.specs.Lines.{fault_line}
+use Rattle.checks.specs.Judging.{OfSome, AreTold}
+use Rattle.checks.specs.Faults.{table_fault}
 use Rattle.checks.proofs.StoreLemmas.{tables_told}
 use Rattle.checks.proofs.stores.tell_tables.Goals as goal
 
 pub returns-clause-told : goal.returns-clause-told
 returns-clause-told g c clean =
-    IfOk-weaker c.lines_of.result _ _ (λ lines are. tables_told fault_line (state g.S.Store c.args.keep.now.conn) (state g.S.Store c.other_tables.new.self.conn) c.in_ok-names.names lines c.faults.result.now (c.in_ok-names.ensures.told clean)
-    (λ none. sym c.as_slice.ensures ∙ c.in_ok-found.ensures.holds (sym c.faults.ensures ∙ none)) (λ none. c.faults.ensures ∙ c.in_ok-found.ensures.clean (c.as_slice.ensures ∙ none)) are) c.lines_of.ensures
+    IfOk-weaker c.lines_of.result _ _ (λ lines are. tables_told (state g.S.Store c.args.keep.now.conn) (state g.S.Store c.other_tables.new.self.conn) c.in_ok-names.names lines c.faults.result.now (c.in_ok-names.ensures.told clean)
+    (λ none. sym c.as_slice.ensures ∙ c.in_ok-found.ensures.decides.holds (sym c.faults.ensures ∙ none)) (λ none. c.faults.ensures ∙ c.in_ok-found.ensures.decides.clean (c.as_slice.ensures ∙ none))
+    (subst (AreTold (OfSome (λ name f. f ≡ table_fault name) c.in_ok-names.names)) (sym c.faults.ensures) (rw c.as_slice.ensures at c.in_ok-found.ensures.told)) are) c.lines_of.ensures

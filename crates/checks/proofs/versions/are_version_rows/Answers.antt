@@ -1,5 +1,5 @@
 use Rattle.checks.specs.Inner.Groups.{picked}
-use Rattle.checks.specs.Inner.Versions.{is_version_row, version_number}
+use Rattle.checks.specs.Versions.{is_version_row, version_number}
 use Rattle.checks.proofs.TestLemmas.{all_fit}
 use Rattle.checks.proofs.versions.are_version_rows.Goals as goal
 

@@ -1,5 +1,5 @@
 use Rattle.std.proofs.Common.{◌≡◌, drop}
-use Rattle.checks.specs.Inner.Versions.{rises}
+use Rattle.checks.specs.Versions.{rises}
 use Rattle.checks.proofs.versions.rise.Given as goal
 
 abbrev pub invariant-loop-number : goal.invariant-loop-number

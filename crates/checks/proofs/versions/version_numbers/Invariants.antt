@@ -1,6 +1,6 @@
 use Rattle.std.proofs.Common.{◌≡◌, ◌++◌, map, drop}
 use Rattle.checks.specs.Inner.Groups.{picked}
-use Rattle.checks.specs.Inner.Versions.{version_number}
+use Rattle.checks.specs.Versions.{version_number}
 use Rattle.checks.proofs.versions.version_numbers.Given as goal
 
 abbrev pub invariant-loop-place : goal.invariant-loop-place

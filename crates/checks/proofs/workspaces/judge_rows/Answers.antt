@@ -1,9 +1,9 @@
-use Rattle.checks.specs.Inner.Workspaces.{IsLawfulAt}
-use Rattle.checks.proofs.LoopLemmas.{judges_more}
+use Rattle.checks.specs.Inner.Workspaces.{IsLawfulAt, OfGroups}
+use Rattle.checks.proofs.RowLists.{all_judged}
 use Rattle.checks.proofs.workspaces.judge_rows.Goals as goal
 
 -- one workspace more was looked at
 pub loop-row-preserved : goal.loop-row-preserved
 loop-row-preserved c =
-    judges_more (IsLawfulAt c.args.rows.now c.args.groups.now) c.as_slice-wss.result.now c.loop-row.row-index c.row-item.result c.args.found.now c.loop-row.found c.judge_row.new.found
+    all_judged (OfGroups c.args.rows.now c.args.groups.now) (IsLawfulAt c.args.rows.now c.args.groups.now) c.as_slice-wss.result.now c.loop-row.row-index c.row-item.result c.args.found.now c.loop-row.found c.judge_row.new.found
     c.loop-row-test.true c.row-item.is c.loop-row.invariant c.in_ok-judge_row.ensures

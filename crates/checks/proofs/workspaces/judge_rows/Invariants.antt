@@ -1,8 +1,8 @@
 use Rattle.std.proofs.Common.{take}
 use Rattle.std.specs.List.{AllByRecursion}
-use Rattle.checks.specs.Judging.{Judges}
-use Rattle.checks.specs.Inner.Workspaces.{IsLawfulAt}
+use Rattle.checks.specs.Judging.{OfSome, Judges}
+use Rattle.checks.specs.Inner.Workspaces.{IsLawfulAt, OfGroups}
 use Rattle.checks.proofs.workspaces.judge_rows.Given as goal
 
 abbrev pub invariant-loop-row : goal.invariant-loop-row
-invariant-loop-row l = Judges (AllByRecursion (IsLawfulAt l.rows l.groups) (take l.row-index l.wss)) l.fn.found l.found
+invariant-loop-row l = Judges (OfSome (OfGroups l.rows l.groups) (take l.row-index l.wss)) (AllByRecursion (IsLawfulAt l.rows l.groups) (take l.row-index l.wss)) l.fn.found l.found

@@ -1,6 +1,6 @@
 use Rattle.std.proofs.Common.{◌≡◌, drop}
 use Rattle.checks.specs.Inner.Groups.{picked}
-use Rattle.checks.specs.Inner.Workspaces.{kept_in}
+use Rattle.checks.specs.Workspaces.{kept_in}
 use Rattle.checks.proofs.workspaces.kept_in.Given as goal
 
 abbrev pub invariant-loop-place : goal.invariant-loop-place

@@ -15,8 +15,7 @@ use Rattle.basis.specs.declared.rows.RunRow.{RunRow as Run}
 use Rattle.machine.specs.RunSteps.{plan_only_steps, auto_apply_steps, confirmed_steps}
 use Rattle.machine.specs.Laws.{is_active, is_pending, ends_in, holds, is_nobody}
 use Rattle.statements.specs.Rows.{Kept, RunRow}
-use Rattle.checks.specs.Inner.Groups.{first_unfit}
-use Rattle.checks.specs.Inner.Versions.{rises, sorted}
+use Rattle.checks.specs.Versions.{first_unfit, rises, sorted}
 
 abbrev pub run_number : Kept RunRow → ℕ
 run_number x = x.1.it.number

@@ -1,12 +1,16 @@
 -- When the rows of a workspace's versions are lawful, in whatever order they stand, as tests.
-use Rattle.std.specs.Prelude.{ℕ, ◌-◌, Bool, true, ◌&&◌, ◌==◌, nat_le, nat_lt, List, [], ◌∷◌, length, map, Option}
+use Rattle.std.specs.Prelude.{ℕ, ◌-◌, Bool, true, cond, ◌&&◌, ◌==◌, nat_le, nat_lt, List, [], ◌∷◌, length, map, Option, Some, None}
 use Rattle.std.specs.List.{list_all}
 use Rattle.std.specs.Ordering.{nat_cmp}
 use Rattle.sqlite_keyed.specs.Lists.{sort_by}
 use Rattle.basis.specs.declared.numbers.TheConstants.{MAX_MOMENT, MAX_SERIAL}
 use Rattle.basis.specs.declared.rows.TheConstants.{MAX_LINEAGE}
 use Rattle.statements.specs.Rows.{Kept, VersionRow}
-use Rattle.checks.specs.Inner.Groups.{first_unfit}
+
+-- the number of the first row that doesn't pass, if there is one
+abbrev pub first_unfit : {X : Type 0} → (X → Bool) → (X → ℕ) → List X → Option ℕ
+first_unfit test number [] = None
+first_unfit test number (x ∷ xs) = cond (test x) (first_unfit test number xs) (Some (number x))
 
 -- serial, lineage and moment are in range
 abbrev pub is_version_row : Kept VersionRow → Bool
