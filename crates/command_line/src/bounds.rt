@@ -4,7 +4,7 @@ ghost use Rattle.command_line.specs.Bounds.{moment_of, prefix_of, until_given, p
 ghost use Rattle.command_line.specs.Orders.{text_in};
 
 use basis::numbers::whole_number;
-use basis::{Bounds, Moment, Prefix, Unfit};
+use basis::{Bounds, Moment, Unfit, WsPrefix};
 use std::alloc::Global;
 
 /// The moment that a word writes.
@@ -15,11 +15,11 @@ pub fn read_moment(word: &str) -> Option<Moment>
 }
 
 /// The prefix that a word writes.
-pub fn read_prefix(alloc: Global, word: &str) -> Result<Prefix, Unfit>
+pub fn read_prefix(alloc: Global, word: &str) -> Result<WsPrefix, Unfit>
     ensures ok { IfOk result (λ prefix. prefix_of word.now ≡ Some prefix) }
     ensures syntax { IsErrOf result Unfit.Syntax → prefix_of word.now ≡ None }
 {
-    Prefix::read(alloc, word)
+    WsPrefix::read(alloc, word)
 }
 
 fn until_given(value: Option<&str>) -> Result<Option<Moment>, Unfit>
@@ -35,13 +35,13 @@ fn until_given(value: Option<&str>) -> Result<Option<Moment>, Unfit>
     }
 }
 
-fn prefix_given(alloc: Global, value: Option<&str>) -> Result<Prefix, Unfit>
+fn prefix_given(alloc: Global, value: Option<&str>) -> Result<WsPrefix, Unfit>
     ensures ok { IfOk result (λ prefix. prefix_given (text_in value.entry) ≡ Some prefix) }
     ensures syntax { IsErrOf result Unfit.Syntax → prefix_given (text_in value.entry) ≡ None }
 {
     match value {
         Some(word) => read_prefix(alloc, word),
-        None => Ok(Prefix::new(alloc)),
+        None => Ok(WsPrefix::new(alloc)),
     }
 }
 

@@ -20,7 +20,8 @@ use Rattle.program.specs.declared.reasons.Cause.{Cause}
 use Rattle.program.specs.declared.reasons.Cause.TheVariants.{Unfinished}
 use Rattle.program.specs.Moves.{org_copied, copied_into, Arrives, AllAreCopied, SomeAreCopied, IsFilled, lists_none, CopiesBetween}
 use Rattle.program.specs.declared.outside.Opening.TheVariants.{Target}
-use Rattle.program.specs.Outcomes.{Stream, stream, IsSaid, filled_ending, TellsCause, TellsWord, Refuses, RefusesToOpen, RefusesSecond, OpensSound, OpensBoth, Closes, ClosesBoth, CopiesOver, IsCopied, IsCompacted}
+use Rattle.program.specs.Outcomes.{Stream, Errors, stream, error_stream, IsSaid, filled_ending, TellsCause, TellsWord, Refuses, RefusesToOpen, RefusesSecond, OpensSound, OpensBoth, Closes, ClosesBoth, CopiesOver, IsCopied, IsCompacted}
+use Rattle.program.specs.Streams.{Told}
 use Rattle.program.proofs.MoveLemmas.{copied_none, copied_left}
 use Rattle.program.proofs.OutsideLemmas.{same_records}
 
@@ -149,19 +150,19 @@ some_stay from old new same org = inl (same org)
 -- ---- answers
 
 -- an answer is told as it is, and where there is none `refused down`, with its cause
-pub copied : (Fails : Cause → Type 0) (org : List ℕ) (from old new : Records) (e : Ending) (output errors : Stream) (result : Result AdminAnswer Down)
+pub copied : (Fails : Cause → Type 0) (org : List ℕ) (from old new : Records) (e : Ending) (output : Stream) (errors : Errors) (result : Result AdminAnswer Down)
     → IfOk result (λ answer. effect answer (new org) ≡ org_copied (from org) (old org)) → ((other : List ℕ) → other ≢ org → new other ≡ old other) → OnErr result (Stays old new)
     → IfOk result (λ answer. TellsWord answer e output × (errors.new ≡ errors.old)) → OnErr result ((why : Cause) × Fails why × Refuses why e output errors) → IsCopied Fails org from old new e output errors
 copied Fails org from old new e output errors (Ok answer) own others stays tells down = inl (answer, own, others, tells.0, tells.1)
 copied Fails org from old new e output errors (Err d) own others stays tells down = inr (stays, down)
 
-pub compacted : (from old new : Records) (e : Ending) (output errors : Stream) (result : Result Bool Down) → SomeAreCopied from old new → IfOk result (IsFilled from old new)
+pub compacted : (from old new : Records) (e : Ending) (output : Stream) (errors : Errors) (result : Result Bool Down) → SomeAreCopied from old new → IfOk result (IsFilled from old new)
     → IfOk result (λ is_filled. IsSaid (filled_ending is_filled) e output.old output.new × (errors.new ≡ errors.old)) → OnErr result (Refuses Unfinished e output errors) → IsCompacted from old new e output errors
 compacted from old new e output errors (Ok is_filled) some filled tells down = inl (is_filled, filled, tells.0, tells.1)
 compacted from old new e output errors (Err d) some filled tells down = inr (some, down)
 
 -- the only cause of a copy that isn't finished
-pub unfinished : (P : Type 0) (errors : Stream) → P ⊎ TellsCause Unfinished errors → P ⊎ ((why : Cause) × (why ≡ Unfinished) × TellsCause why errors)
+pub unfinished : (P : Type 0) (errors : Errors) → P ⊎ TellsCause Unfinished errors → P ⊎ ((why : Cause) × (why ≡ Unfinished) × TellsCause why errors)
 unfinished P errors (inl p) = inl p
 unfinished P errors (inr h) = inr (Unfinished, refl, h)
 
@@ -169,9 +170,9 @@ unfinished P errors (inr h) = inr (Unfinished, refl, h)
 
 module _ {K F : Type 0} (k : keep.Ghosts K) (f : files.Ghosts F K) where
   -- the second of two paths isn't opened, and the first is closed again
-  pub refuses_second : (from to : List ℕ) (old opened unopened new : F) (source : K) (e : Ending) (out said before noted told after : Option (List ℕ)) → from ≢ to
-      → OpensSound k f from old opened source (stream before noted) → RefusesToOpen k f to Target opened unopened e (stream out said) (stream noted told) → Closes k f from unopened new source (stream told after)
-      → RefusesSecond k f from to old new e (stream out said) (stream before after)
+  pub refuses_second : (from to : List ℕ) (old opened unopened new : F) (source : K) (e : Ending) (out said : Option (List ℕ)) (before noted told after : Told) → from ≢ to
+      → OpensSound k f from old opened source (error_stream before noted) → RefusesToOpen k f to Target opened unopened e (stream out said) (error_stream noted told) → Closes k f from unopened new source (error_stream told after)
+      → RefusesSecond k f from to old new e (stream out said) (error_stream before after)
   refuses_second from to old opened unopened new source e out said before noted told after differ first second closes = record {
     differ = differ;
     source = source;
@@ -186,12 +187,12 @@ module _ {K F : Type 0} (k : keep.Ghosts K) (f : files.Ghosts F K) where
   }
 
   -- stores are opened at two paths, it is copied from one to the other, and they are closed
-  pub copies_over : (from to : List ℕ) (Becomes : K → Records → Records → Records → Stream → Type 0) (Fails : K → Cause → Type 0) (old worked new : F) (source source' target target' : K) (before noted told after : Option (List ℕ))
-      → OpensBoth k f from to old worked source target (stream before noted)
-      → CopiesBetween k (λ s o n. Becomes target' s o n (stream noted told)) source source' target target'
-      → (told ≡ noted) ⊎ ((why : Cause) × Fails target' why × TellsCause why (stream noted told))
-      → ClosesBoth k f from to worked new source' target' (stream told after)
-      → CopiesOver k f from to Becomes Fails old new (stream before after)
+  pub copies_over : (from to : List ℕ) (Becomes : K → Records → Records → Records → Errors → Type 0) (Fails : K → Cause → Type 0) (old worked new : F) (source source' target target' : K) (before noted told after : Told)
+      → OpensBoth k f from to old worked source target (error_stream before noted)
+      → CopiesBetween k (λ s o n. Becomes target' s o n (error_stream noted told)) source source' target target'
+      → (told ≡ noted) ⊎ ((why : Cause) × Fails target' why × TellsCause why (error_stream noted told))
+      → ClosesBoth k f from to worked new source' target' (error_stream told after)
+      → CopiesOver k f from to Becomes Fails old new (error_stream before after)
   copies_over from to Becomes Fails old worked new source source' target target' before noted told after opens copies why closes = record {
     source_before = source;
     source_after = source';
@@ -202,7 +203,7 @@ module _ {K F : Type 0} (k : keep.Ghosts K) (f : files.Ghosts F K) where
     told = told;
     opens = opens;
     copies = copies;
-    ours = λ clean sound clean_source ours. subst (λ (rows : Records). Becomes target' rows (k.rows target) (k.rows target') (stream noted told))
+    ours = λ clean sound clean_source ours. subst (λ (rows : Records). Becomes target' rows (k.rows target) (k.rows target') (error_stream noted told))
         (same_records (k.rows source) (k.rows opens.first.opened) (opens.first.look.same (copies.look.so_far clean_source)))
         (copies.model clean sound clean_source (opens.first.sound_ours (copies.look.so_far clean_source) ours).1);
     why = why;

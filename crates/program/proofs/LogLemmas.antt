@@ -26,6 +26,7 @@ use Rattle.program.specs.declared.outside.Files as files
 use Rattle.program.specs.declared.reasons.Cause.{Cause}
 use Rattle.program.specs.Logs.{end_word, row_text, with_log, Logs, Line, log_text, ChangeByLines}
 use Rattle.program.specs.Serving.{State, AnswersOne, AnswersNext, AnswersAll, EndsEarly}
+use Rattle.program.specs.Streams.{Told}
 use Rattle.program.proofs.ServingLemmas.{tended_so_far, tended_kept, tended_rows}
 
 -- a log where it is asked for, and else nothing
@@ -83,7 +84,7 @@ exchange_row now received left old new before after is_down row (Err Continue) t
 exchange_row now received left old new before after is_down row (Err Write) told = answered_row now received old new told.0 (told.1 ++ told.2) row is_down told.4
 
 module _ {K N R W : Type 0} (k : keep.Ghosts K) (n : connections.Ghosts N R W) (i : inlet.Ghosts R) (o : outlet.Ghosts W) where
-  line_of : (place at : ℕ) (is_down : Bool) (reader : R) (writer : W) (network network' : N) (store store' : K) (errors errors' output output' : Option (List ℕ))
+  line_of : (place at : ℕ) (is_down : Bool) (reader : R) (writer : W) (network network' : N) (store store' : K) (errors errors' : Told) (output output' : Option (List ℕ))
       → AnswersOne k n i o true place at is_down true reader writer network network' store store' errors errors' output output' → k.clean store' → k.sound store
       → (line : Line) × Appends output output' (log_line place (end_word line.ended) line.row) × ChangesAsTold line.row (k.rows store) (k.rows store')
   line_of place at is_down reader writer network network' store store' errors errors' output output' one clean sound =

@@ -11,9 +11,10 @@ use Rattle.program.specs.Logs.{with_log}
 use Rattle.program.specs.declared.outside.Files as files
 use Rattle.program.specs.declared.outside.Opening.{Opening}
 use Rattle.machine.specs.declared.keeps.Keep as keep
-use Rattle.program.specs.Outcomes.{Stream, stream, Gets, Says, IsSaid, ReplaysFrames, RefusesToOpen, ServesAt, AnswersCommand, AnswersFaults}
+use Rattle.program.specs.Outcomes.{Stream, Errors, stream, error_stream, Gets, Says, IsSaid, ReplaysFrames, RefusesToOpen, ServesAt, AnswersCommand, AnswersFaults}
 use Rattle.program.specs.Replies.{AnswersFrames, printed, bad_frame_text, answer_line}
 use Rattle.program.specs.Serving.{Listens, listening_line}
+use Rattle.program.specs.Streams.{Told, GetsWhole}
 
 -- whatever allows an ending whose line is said, and one whose streams took not all
 pub said : (P : Ending → Type 0) (e result : Ending) (old new : Option (List ℕ)) → (Says e (stream old new) → P e) → P Unprinted → IsSaid e result old new → P result
@@ -24,8 +25,8 @@ said P e result old new right wrong (inr h) = subst P (sym h) wrong
 pub said_behind : (e result : Ending) (old mid new : Option (List ℕ)) → mid ≡ old → IsSaid e result mid new → IsSaid e result old new
 said_behind e result old mid new same is = subst (λ (o : Option (List ℕ)). IsSaid e result o new) same is
 
-pub replayed : (input : Option (List ℕ)) (replies : List (List ℕ)) (bad : Option ℕ) (result : Ending) (output errors : Stream) → IfSome input (λ bytes. AnswersFrames bytes replies bad) → Gets output (printed replies)
-    → (bad ≡ None → result ≡ Done) → IfSome bad (λ frame. ((result ≡ BadFrame) × Gets errors (bad_frame_text frame)) ⊎ (result ≡ Unprinted)) → ReplaysFrames input result output errors
+pub replayed : (input : Option (List ℕ)) (replies : List (List ℕ)) (bad : Option ℕ) (result : Ending) (output : Stream) (errors : Errors) → IfSome input (λ bytes. AnswersFrames bytes replies bad) → Gets output (printed replies)
+    → (bad ≡ None → result ≡ Done) → IfSome bad (λ frame. ((result ≡ BadFrame) × GetsWhole errors.old errors.new (bad_frame_text frame)) ⊎ (result ≡ Unprinted)) → ReplaysFrames input result output errors
 replayed input replies None result output errors answers out done bad =
     subst (λ (e : Ending). ReplaysFrames input e output errors) (sym (done refl)) (whole input answers)
   where
@@ -38,7 +39,7 @@ replayed input replies (Some frame) result output errors answers out done (inl h
   where
     to_bad : (known : Option (List ℕ)) → IfSome known (λ bytes. AnswersFrames bytes replies (Some frame)) → ReplaysFrames known BadFrame output errors
     to_bad None a = tt
-    to_bad (Some bytes) a = (a.0, replies, a.1, a.2, out, subst (λ (n : ℕ). Gets errors (bad_frame_text n)) a.3 h.1)
+    to_bad (Some bytes) a = (a.0, replies, a.1, a.2, out, subst (λ (n : ℕ). GetsWhole errors.old errors.new (bad_frame_text n)) a.3 h.1)
 
 -- what was told before, and then the last line
 pub served : (logs : Bool) (ending result : Ending) (old mid new : Option (List ℕ)) → Listens logs ending old mid → (ending ≡ Down → IsSaid Down result mid new) → (ending ≢ Down → (result ≡ ending) × (new ≡ mid)) → ServesAt logs result (stream old new)
@@ -86,8 +87,8 @@ command_refused command e result old new (inr h) is = by_schema command (subst (
     by_schema (TokenRevoke org name) is = said (λ (x : Ending). AnswersCommand (TokenRevoke org name) x (stream old new)) Schema result old new (λ h. h) tt is
 
 -- which of the two a refusal to open is
-pub refused_by : {K F : Type 0} (k : keep.Ghosts K) (f : files.Ghosts F K) (path : List ℕ) (opening : Opening) (was is : F) (e : Ending) (old new before after : Option (List ℕ))
-    → RefusesToOpen k f path opening was is e (stream old new) (stream before after) → IsSaid Down e old new ⊎ IsSaid Schema e old new
+pub refused_by : {K F : Type 0} (k : keep.Ghosts K) (f : files.Ghosts F K) (path : List ℕ) (opening : Opening) (was is : F) (e : Ending) (old new : Option (List ℕ)) (before after : Told)
+    → RefusesToOpen k f path opening was is e (stream old new) (error_stream before after) → IsSaid Down e old new ⊎ IsSaid Schema e old new
 refused_by k f path opening was is e old new before after (stays, left, inl h) = inl h.2.0
 refused_by k f path opening was is e old new before after (stays, left, inr (inl h)) = inl h.2
 refused_by k f path opening was is e old new before after (stays, left, inr (inr h)) = inr h.2

@@ -16,8 +16,9 @@ use Rattle.command_line.specs.declared.timeouts.Timeouts.{Timeouts}
 use Rattle.program.specs.Inner.Outcomes.{LooksFirst, ServesOpened}
 use Rattle.serve.specs.declared.steps.Admin.{Admin}
 use Rattle.machine.specs.Keeping.{Looks}
-use Rattle.program.specs.Outcomes.{stream, outside, TellsFound, opening_of, HasFailed, IsOperated, Operates, TellsCause, Opens, OpensSound, Closes, ServesFrom, ServesChecked, LooksOver, SaysServed, TellsUnsound}
+use Rattle.program.specs.Outcomes.{stream, error_stream, outside, TellsFound, opening_of, HasFailed, IsOperated, Operates, TellsCause, Opens, OpensSound, Closes, ServesFrom, ServesChecked, LooksOver, SaysServed, TellsUnsound}
 use Rattle.program.specs.Serving.{Serves, state, AnswersAtPort}
+use Rattle.program.specs.Streams.{Told}
 
 -- records that are the same at each organization
 pub same_records : (a b : List ℕ → Option Organization) → ((org : List ℕ) → a org ≡ b org) → a ≡ b
@@ -29,14 +30,14 @@ module _ {K F : Type 0} (k : keep.Ghosts K) (f : files.Ghosts F K) where
   none_found opened store found looked is none sound = subst (λ (r : Result Looked Down). IfOk r (λ looked. looked.faults ≡ [] → k.clean store → f.is_ours opened → k.sound opened)) is sound none
 
   -- a store is opened at a path, and a look finds no fault in its tables
-  pub opens_sound : (path : List ℕ) (why : Cause) (old mid : F) (opened store : K) (before noted known : Option (List ℕ))
-      → Opens k f path Existing old mid opened (stream before noted) → LooksFirst k f why opened true store (stream noted known)
-      → OpensSound k f path old mid store (stream before known)
+  pub opens_sound : (path : List ℕ) (why : Cause) (old mid : F) (opened store : K) (before noted known : Told)
+      → Opens k f path Existing old mid opened (error_stream before noted) → LooksFirst k f why opened true store (error_stream noted known)
+      → OpensSound k f path old mid store (error_stream before known)
   opens_sound path why old mid opened store before noted known opens look =
       let sound : k.clean store → f.is_ours opened → k.sound opened = none_found opened store look.result look.says.0.0 look.says.0.1 look.says.0.2 look.sound in
       record {
         opened = opened;
-        opens = subst (λ (e : Option (List ℕ)). Opens k f path Existing old mid opened (stream before e)) (sym look.says.1) opens;
+        opens = subst (λ (e : Told). Opens k f path Existing old mid opened (error_stream before e)) (sym look.says.1) opens;
         look = look.look;
         looked = look.says.0.0;
         finds = subst (λ (r : Result Looked Down). f.finds opened r store) look.says.0.1 look.finds;
@@ -45,12 +46,12 @@ module _ {K F : Type 0} (k : keep.Ghosts K) (f : files.Ghosts F K) where
       }
 
   -- a store is opened at a path, its tables are looked over, what is found is told, and it is closed there
-  pub looks_at : (path : List ℕ) (old mid new : F) (opened store : K) (found : Result Looked Down) (e : Ending) (out heard said before noted told after : Option (List ℕ))
-      → Opens k f path Existing old mid opened (stream before noted) → heard ≡ out
+  pub looks_at : (path : List ℕ) (old mid new : F) (opened store : K) (found : Result Looked Down) (e : Ending) (out heard said : Option (List ℕ)) (before noted told after : Told)
+      → Opens k f path Existing old mid opened (error_stream before noted) → heard ≡ out
       → Looks k.rows k.clean k.sound k.shielded opened store → f.finds opened found store
       → IfOk found (λ looked. looked.faults ≡ [] → k.clean store → f.is_ours opened → k.sound opened)
-      → TellsFound found e (stream heard said) (stream noted told) → Closes k f path mid new store (stream told after)
-      → LooksOver k f path (λ found told. TellsFound found e (stream out said) told) old new (stream before after)
+      → TellsFound found e (stream heard said) (error_stream noted told) → Closes k f path mid new store (error_stream told after)
+      → LooksOver k f path (λ found told. TellsFound found e (stream out said) told) old new (error_stream before after)
   looks_at path old mid new opened store found e out heard said before noted told after opens same look finds sound tells closes = record {
     before = opened;
     after = store;
@@ -63,17 +64,17 @@ module _ {K F : Type 0} (k : keep.Ghosts K) (f : files.Ghosts F K) where
       result = found;
       finds = finds;
       sound = sound;
-      says = subst (λ (o : Option (List ℕ)). TellsFound found e (stream o said) (stream noted told)) same tells;
+      says = subst (λ (o : Option (List ℕ)). TellsFound found e (stream o said) (error_stream noted told)) same tells;
     };
     closes = closes;
     others = λ other store differs held. closes.others other store differs (opens.others other store differs held);
   }
 
   -- a store is opened at a path, a look finds faults in its tables or is refused, and it is closed there
-  pub looks_over : (path : List ℕ) (why : Cause) (old mid new : F) (opened store : K) (before noted known after : Option (List ℕ))
-      → Opens k f path Existing old mid opened (stream before noted) → LooksFirst k f why opened false store (stream noted known)
-      → Closes k f path mid new store (stream known after)
-      → LooksOver k f path (TellsUnsound why) old new (stream before after)
+  pub looks_over : (path : List ℕ) (why : Cause) (old mid new : F) (opened store : K) (before noted known after : Told)
+      → Opens k f path Existing old mid opened (error_stream before noted) → LooksFirst k f why opened false store (error_stream noted known)
+      → Closes k f path mid new store (error_stream known after)
+      → LooksOver k f path (TellsUnsound why) old new (error_stream before after)
   looks_over path why old mid new opened store before noted known after opens look closes = record {
     before = opened;
     after = store;
@@ -88,13 +89,13 @@ module _ {K F : Type 0} (k : keep.Ghosts K) (f : files.Ghosts F K) where
 
 module _ {K F : Type 0} (k : keep.Ghosts K) (f : files.Ghosts F K) where
   -- a store is opened at a path, a command is carried out on it, and it is closed there
-  pub operates : (path : List ℕ) (command : Admin) (old mid new : F) (before after : K) (e : Ending) (out heard said first noted told last : Option (List ℕ))
-      → Opens k f path (opening_of command) old mid before (stream first noted) → heard ≡ out
+  pub operates : (path : List ℕ) (command : Admin) (old mid new : F) (before after : K) (e : Ending) (out heard said : Option (List ℕ)) (first noted told last : Told)
+      → Opens k f path (opening_of command) old mid before (error_stream first noted) → heard ≡ out
       → (k.clean after → k.clean before) → (k.shielded before → k.shielded after) → (k.clean after → k.sound before → k.sound after)
-      → (k.clean after → k.sound before → IsOperated (HasFailed k f after) command (k.rows before) (k.rows after) e (stream heard said) (stream noted told))
-      → (told ≡ noted) ⊎ ((why : Cause) × HasFailed k f after why × TellsCause why (stream noted told))
-      → Closes k f path mid new after (stream told last)
-      → Operates k f path command old new e (stream out said) (stream first last)
+      → (k.clean after → k.sound before → IsOperated (HasFailed k f after) command (k.rows before) (k.rows after) e (stream heard said) (error_stream noted told))
+      → (told ≡ noted) ⊎ ((why : Cause) × HasFailed k f after why × TellsCause why (error_stream noted told))
+      → Closes k f path mid new after (error_stream told last)
+      → Operates k f path command old new e (stream out said) (error_stream first last)
   operates path command old mid new before after e out heard said first noted told last opens same so_far shield kept model why closes = record {
     before = before;
     after = after;
@@ -105,7 +106,7 @@ module _ {K F : Type 0} (k : keep.Ghosts K) (f : files.Ghosts F K) where
     so_far = so_far;
     shield = shield;
     kept = kept;
-    model = λ clean sound. subst (λ (o : Option (List ℕ)). IsOperated (HasFailed k f after) command (k.rows before) (k.rows after) e (stream o said) (stream noted told)) same (model clean sound);
+    model = λ clean sound. subst (λ (o : Option (List ℕ)). IsOperated (HasFailed k f after) command (k.rows before) (k.rows after) e (stream o said) (error_stream noted told)) same (model clean sound);
     why = why;
     closes = closes;
     others = λ other store differs held. closes.others other store differs (opens.others other store differs held);
@@ -113,15 +114,15 @@ module _ {K F : Type 0} (k : keep.Ghosts K) (f : files.Ghosts F K) where
 
 module _ {K F N C R W : Type 0} (k : keep.Ghosts K) (f : files.Ghosts F K) (n : connections.Ghosts N R W) (c : clock.Ghosts C) (i : inlet.Ghosts R) (o : outlet.Ghosts W) where
   -- connections are answered from an opened store, and it is closed
-  pub serves_opened : (path : List ℕ) (port : ℕ) (timeouts : Timeouts) (logs : Bool) (count : ℕ) (old new : F) (network network' : N) (time time' : C) (opened from to closed : K) (served e : Ending) (out told last before lines after : Option (List ℕ))
+  pub serves_opened : (path : List ℕ) (port : ℕ) (timeouts : Timeouts) (logs : Bool) (count : ℕ) (old new : F) (network network' : N) (time time' : C) (opened from to closed : K) (served e : Ending) (out told last : Option (List ℕ)) (before lines after : Told)
       → from ≡ opened → closed ≡ to
       → (k.clean to → k.clean from) → (k.shielded from → k.shielded to) → (k.clean to → k.sound from → k.sound to)
       → (k.clean to → k.sound from → Serves count (k.rows from) (k.rows to))
       → AnswersAtPort k f n c i o port timeouts logs count (state network time from before out) (state network' time' to lines told) served
-      → Closes k f path old new closed (stream lines after) → SaysServed served e told last
-      → ServesOpened k f n c i o path port timeouts logs count opened (outside old network time) (outside new network' time') e (stream out last) (stream before after)
+      → Closes k f path old new closed (error_stream lines after) → SaysServed served e told last
+      → ServesOpened k f n c i o path port timeouts logs count opened (outside old network time) (outside new network' time') e (stream out last) (error_stream before after)
   serves_opened path port timeouts logs count old new network network' time time' opened from to closed served e out told last before lines after begins ends so_far shield kept rows answers closes says =
-      subst (λ (s : K). ServesOpened k f n c i o path port timeouts logs count s (outside old network time) (outside new network' time') e (stream out last) (stream before after)) begins
+      subst (λ (s : K). ServesOpened k f n c i o path port timeouts logs count s (outside old network time) (outside new network' time') e (stream out last) (error_stream before after)) begins
       (record {
         after = to;
         so_far = so_far;
@@ -133,14 +134,14 @@ module _ {K F N C R W : Type 0} (k : keep.Ghosts K) (f : files.Ghosts F K) (n : 
         lines = lines;
         answers = answers;
         says = says;
-        closes = subst (λ (s : K). Closes k f path old new s (stream lines after)) ends closes;
+        closes = subst (λ (s : K). Closes k f path old new s (error_stream lines after)) ends closes;
       })
 
   -- a store is opened at a path, and connections are answered from it
-  pub serves_from : (path : List ℕ) (port : ℕ) (timeouts : Timeouts) (logs : Bool) (count : ℕ) (old mid new : F) (network network' : N) (time time' : C) (opened : K) (e : Ending) (out heard last before noted after : Option (List ℕ))
-      → Opens k f path Created old mid opened (stream before noted) → heard ≡ out
-      → ServesOpened k f n c i o path port timeouts logs count opened (outside mid network time) (outside new network' time') e (stream heard last) (stream noted after)
-      → ServesFrom k f n c i o path port timeouts logs count (outside old network time) (outside new network' time') e (stream out last) (stream before after)
+  pub serves_from : (path : List ℕ) (port : ℕ) (timeouts : Timeouts) (logs : Bool) (count : ℕ) (old mid new : F) (network network' : N) (time time' : C) (opened : K) (e : Ending) (out heard last : Option (List ℕ)) (before noted after : Told)
+      → Opens k f path Created old mid opened (error_stream before noted) → heard ≡ out
+      → ServesOpened k f n c i o path port timeouts logs count opened (outside mid network time) (outside new network' time') e (stream heard last) (error_stream noted after)
+      → ServesFrom k f n c i o path port timeouts logs count (outside old network time) (outside new network' time') e (stream out last) (error_stream before after)
   serves_from path port timeouts logs count old mid new network network' time time' opened e out heard last before noted after opens same from = record {
     before = opened;
     after = from.after;
@@ -161,10 +162,10 @@ module _ {K F N C R W : Type 0} (k : keep.Ghosts K) (f : files.Ghosts F K) (n : 
   }
 
   -- a store is opened at a path, a look finds no fault in its tables, and connections are answered from it
-  pub serves_checked : (path : List ℕ) (port : ℕ) (timeouts : Timeouts) (logs : Bool) (count : ℕ) (old mid new : F) (network network' : N) (time time' : C) (store : K) (e : Ending) (out heard last before known after : Option (List ℕ))
-      → OpensSound k f path old mid store (stream before known) → heard ≡ out
-      → ServesOpened k f n c i o path port timeouts logs count store (outside mid network time) (outside new network' time') e (stream heard last) (stream known after)
-      → ServesChecked k f n c i o path port timeouts logs count (outside old network time) (outside new network' time') e (stream out last) (stream before after)
+  pub serves_checked : (path : List ℕ) (port : ℕ) (timeouts : Timeouts) (logs : Bool) (count : ℕ) (old mid new : F) (network network' : N) (time time' : C) (store : K) (e : Ending) (out heard last : Option (List ℕ)) (before known after : Told)
+      → OpensSound k f path old mid store (error_stream before known) → heard ≡ out
+      → ServesOpened k f n c i o path port timeouts logs count store (outside mid network time) (outside new network' time') e (stream heard last) (error_stream known after)
+      → ServesChecked k f n c i o path port timeouts logs count (outside old network time) (outside new network' time') e (stream out last) (error_stream before after)
   serves_checked path port timeouts logs count old mid new network network' time time' store e out heard last before known after opens same from = record {
     before = store;
     after = from.after;

@@ -1,16 +1,12 @@
--- What stands on the error stream. Of a text that the stream took not whole a front stands there.
-use Rattle.std.specs.Prelude.{◌≡◌, ◌++◌, ℕ, List, [], ◌∷◌, Bool, true, false, Option, Result, Ok, Err, codes, decimal}
-use Rattle.std.specs.Io.KnownBytes.{Appends}
+-- The lines of the error stream.
+use Rattle.std.specs.Prelude.{◌++◌, ℕ, List, [], ◌∷◌, Bool, true, false, Result, Ok, Err, codes, decimal}
 use Rattle.serve.specs.declared.exchanges.LinkFault.{LinkFault}
 use Rattle.serve.specs.declared.exchanges.LinkFault.TheVariants.{Ended, Read, Continue, Write}
 use Rattle.program.specs.declared.reasons.Cause.{Cause}
 use Rattle.program.specs.declared.reasons.Cause.TheVariants.{InUse, NotPermitted, NoFile, NoFolder, NoTargetFolder, Missing, LogAlone, NoTables, Journal, Corrupt, Unsound, NoRoom, NoMemory, Disk, Store, Unfinished, Shut, Halted, Unknown, Input, PortTaken, PortNotPermitted, Port, Accept, Clock, Log, Faults, SourceFaults, Encoding, NoNull}
 use Rattle.program.specs.declared.reasons.OtherSchema.{OtherSchema}
 use Rattle.program.specs.declared.reasons.OtherSchema.TheVariants.{Version, Untold}
-
--- the stream got the text, or a front of it
-abbrev pub GetsFront : Option (List ℕ) → Option (List ℕ) → List ℕ → Type 0
-GetsFront old new text = (front : List ℕ) × (rest : List ℕ) × (text ≡ front ++ rest) × Appends old new front
+use Rattle.program.specs.Streams.{Told, Tells}
 
 -- what the fault of a link is called
 abbrev pub fault_text : LinkFault → List ℕ
@@ -33,10 +29,10 @@ abbrev pub fault_line : {T : Type 0} → ℕ → Result T LinkFault → List ℕ
 fault_line place (Ok done) = []
 fault_line place (Err fault) = connection_line place (fault_text fault)
 
--- the stream got what is told of the connection of this number, or a front of it: the line on the 503 exactly where that was its
--- reply, and then the line on its fault exactly where it ended by one
-abbrev pub GetsConnectionLines : {T : Type 0} → ℕ → Bool → Result T LinkFault → Option (List ℕ) → Option (List ℕ) → Type 0
-GetsConnectionLines place is_down result old new = GetsFront old new (down_line place is_down ++ fault_line place result)
+-- the error stream is told of the connection of this number: by the line on the 503 exactly where that was its reply, and then by the
+-- line on its fault exactly where it ended by one
+abbrev pub GetsConnectionLines : {T : Type 0} → ℕ → Bool → Result T LinkFault → Told → Told → Type 0
+GetsConnectionLines place is_down result old new = Tells old new (down_line place is_down ++ fault_line place result)
 
 -- what is told where the log of a file stays beside it
 abbrev pub log_line : List ℕ

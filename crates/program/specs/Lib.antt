@@ -12,5 +12,6 @@ pub mod Paths
 pub mod Replies
 pub mod Secrets
 pub mod Serving
+pub mod Streams
 pub mod Totals
 pub mod Upkeep

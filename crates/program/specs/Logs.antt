@@ -8,7 +8,7 @@ use Rattle.serve.specs.declared.exchanges.LinkFault.{LinkFault}
 use Rattle.serve.specs.declared.exchanges.LinkFault.TheVariants.{Ended, Read, Continue, Write}
 use Rattle.serve.specs.Exchanges.{ChangesAsTold}
 use Rattle.serve.specs.Service.{Stays}
-use Rattle.program.specs.Errors.{GetsFront}
+use Rattle.program.specs.Streams.{GetsFront}
 
 -- how an exchange ended, in a word
 abbrev pub end_word : {T : Type 0} → Result T LinkFault → List ℕ

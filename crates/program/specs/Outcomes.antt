@@ -1,5 +1,6 @@
 -- What the program does for each kind of words: how it ends, what stands on both streams then, and what lies at
--- each path. Of a stream that took not all that was to be printed nothing is said.
+-- each path. Of standard output that took not all that was to be printed nothing is said. The error stream gets the whole of each line,
+-- unless a call on it failed while the line was written.
 use Rattle.std.specs.Prelude.{◌≡◌, ◌≢◌, ◌<◌, ◌⊎◌, ◌+◌, ◌++◌, ℕ, Bool, List, [], ◌∷◌, ⊤, Option, Some, None, IfSome, Result, Ok, Err, IfOk, true, false, length, is_some}
 use Rattle.std.specs.Io.KnownBytes.{Appends}
 use Rattle.basis.specs.declared.memory.Down.{Down}
@@ -19,7 +20,7 @@ use Rattle.serve.specs.Service.{Carries as CarriesOut, IsAdminAnswer, Stays, org
 use Rattle.program.specs.declared.endings.Ending.{Ending}
 use Rattle.program.specs.declared.endings.Ending.TheVariants as ending
 use Rattle.program.specs.Endings.{ending_line}
-use Rattle.program.specs.Errors.{GetsFront, log_line, readers_line, secret_line, new_line, cause_line, memory_line, other_line, unprinted_line}
+use Rattle.program.specs.Errors.{log_line, readers_line, secret_line, new_line, cause_line, memory_line, other_line, unprinted_line}
 use Rattle.program.specs.declared.reasons.Cause.{Cause}
 use Rattle.program.specs.declared.reasons.Cause.TheVariants as cause
 use Rattle.program.specs.declared.reasons.OtherSchema.{OtherSchema}
@@ -38,6 +39,7 @@ use Rattle.program.specs.Paths.{AllStay, OthersStay, OthersStayBut, LeavesVacant
 use Rattle.program.specs.Replies.{printed, bad_frame_text, answer_line, fault_lines, AreReplies, Replays}
 use Rattle.program.specs.Secrets.{secret_in}
 use Rattle.program.specs.Serving.{listening_line, Serves, state, AnswersAtPort}
+use Rattle.program.specs.Streams.{Told, GetsWhole, Tells}
 use Rattle.program.specs.declared.outside.Clock as clock
 use Rattle.program.specs.declared.outside.Connections as connections
 use Rattle.command_line.specs.declared.timeouts.Timeouts.{Timeouts}
@@ -45,7 +47,7 @@ use Rattle.wire.specs.declared.devices.Inlet as inlet
 use Rattle.wire.specs.declared.devices.Outlet as outlet
 use Rattle.command_line.specs.Words.{asked_in, AskForHelp, AreNoCommand}
 
--- a stream: what it holds before and after
+-- standard output: what it holds before and after
 pub record Stream : Type 0 where
   pub old : Option (List ℕ)
   pub new : Option (List ℕ)
@@ -56,9 +58,17 @@ stream before after = record { old = before; new = after }
 abbrev pub Gets : Stream → List ℕ → Type 0
 Gets stream text = Appends stream.old stream.new text
 
--- some text, which isn't empty
-abbrev pub GetsSome : Stream → Type 0
-GetsSome stream = (text : List ℕ) × (0 < length text) × Gets stream text
+-- the error stream: what it has, and how many calls on it have failed, before and after
+pub record Errors : Type 0 where
+  pub old : Told
+  pub new : Told
+
+abbrev pub error_stream : Told → Told → Errors
+error_stream before after = record { old = before; new = after }
+
+-- the whole of some text, which isn't empty
+abbrev pub GetsSome : Errors → Type 0
+GetsSome errors = (text : List ℕ) × (0 < length text) × GetsWhole errors.old errors.new text
 
 -- the line that says how the program ends
 abbrev pub Says : Ending → Stream → Type 0
@@ -153,23 +163,23 @@ TellsAnswer (TokenList org) answer e output = TellsTokens answer e output
 TellsAnswer (TokenRevoke org name) answer e output = TellsWord answer e output
 
 -- the error stream is told the cause of `refused down`
-abbrev pub TellsCause : Cause → Stream → Type 0
-TellsCause why errors = GetsFront errors.old errors.new (cause_line why)
+abbrev pub TellsCause : Cause → Errors → Type 0
+TellsCause why errors = Tells errors.old errors.new (cause_line why)
 
 -- `refused down` is printed, and the error stream is told the cause
-abbrev pub Refuses : Cause → Ending → Stream → Stream → Type 0
+abbrev pub Refuses : Cause → Ending → Stream → Errors → Type 0
 Refuses why e output errors = IsSaid ending.Down e output.old output.new × TellsCause why errors
 
 -- an operator's command was carried out, each record as the machine leaves it, and its answer by the records before was
 -- told; or memory or the store refused, which is told by such a cause, and no record is seen to have changed
-abbrev pub IsOperated : (Cause → Type 0) → Admin → (List ℕ → Option Organization) → (List ℕ → Option Organization) → Ending → Stream → Stream → Type 0
+abbrev pub IsOperated : (Cause → Type 0) → Admin → (List ℕ → Option Organization) → (List ℕ → Option Organization) → Ending → Stream → Errors → Type 0
 IsOperated Fails command old new e output errors =
     ((answer : AdminAnswer) × (at : ℕ) × CarriesOut (commands at command) old new × IsAdminAnswer old command answer × TellsAnswer command answer e output × (errors.new ≡ errors.old))
     ⊎ (Stays old new × ((why : Cause) × Fails why × Refuses why e output errors))
 
 -- an organization was copied, its record as the rule says by the records before, and the answer was told; or memory or a store
 -- refused, which is told by such a cause, and no record is seen to have changed
-abbrev pub IsCopied : (Cause → Type 0) → List ℕ → (from old new : List ℕ → Option Organization) → Ending → Stream → Stream → Type 0
+abbrev pub IsCopied : (Cause → Type 0) → List ℕ → (from old new : List ℕ → Option Organization) → Ending → Stream → Errors → Type 0
 IsCopied Fails org from old new e output errors =
     ((answer : AdminAnswer) × (effect answer (new org) ≡ org_copied (from org) (old org)) × ((other : List ℕ) → other ≢ org → new other ≡ old other)
     × TellsWord answer e output × (errors.new ≡ errors.old))
@@ -177,13 +187,13 @@ IsCopied Fails org from old new e output errors =
 
 -- every organization was copied to where none was, and `ok` was told; or some were there, none was copied, and that was told; or memory
 -- or a store refused before, which is told, and only some were copied
-abbrev pub IsCompacted : (from old new : List ℕ → Option Organization) → Ending → Stream → Stream → Type 0
+abbrev pub IsCompacted : (from old new : List ℕ → Option Organization) → Ending → Stream → Errors → Type 0
 IsCompacted from old new e output errors =
     ((is_filled : Bool) × IsFilled from old new is_filled × IsSaid (filled_ending is_filled) e output.old output.new × (errors.new ≡ errors.old))
     ⊎ (SomeAreCopied from old new × Refuses cause.Unfinished e output errors)
 
 -- `refused usage` on the standard output, and why on the error stream
-abbrev pub RefusesUsage : Ending → Stream → Stream → Type 0
+abbrev pub RefusesUsage : Ending → Stream → Errors → Type 0
 RefusesUsage ending.Usage output errors = Says ending.Usage output × GetsSome errors
 RefusesUsage ending.Unprinted output errors = ⊤
 RefusesUsage e output errors = ⊥
@@ -202,7 +212,7 @@ abbrev pub HasNoSecret : Option (List ℕ) → Type 0
 HasNoSecret input = IfSome input (λ bytes. secret_in bytes ≡ None)
 
 -- a token is added: its secret is read before the file is opened
-abbrev pub AddsToken : Option (List ℕ) → Ending → Stream → Stream → Type 0
+abbrev pub AddsToken : Option (List ℕ) → Ending → Stream → Errors → Type 0
 AddsToken input e output errors =
     (HasSecret input × AnswersLine e output) ⊎ ((HasNoSecret input × RefusesUsage e output errors) ⊎ RefusesDown e output)
 
@@ -222,17 +232,17 @@ TellsFaults [] totals e output = ((e ≡ ending.Done) × Gets output (sound_text
 TellsFaults (fault ∷ faults) totals e output = ((e ≡ ending.Faults) × Gets output (fault_lines (fault ∷ faults))) ⊎ (e ≡ ending.Unprinted)
 
 -- what a look over the tables found is told; or that memory or the store refused
-abbrev pub TellsFound : Result Looked Down → Ending → Stream → Stream → Type 0
+abbrev pub TellsFound : Result Looked Down → Ending → Stream → Errors → Type 0
 TellsFound (Ok looked) e output errors = TellsFaults looked.faults looked.totals e output × (errors.new ≡ errors.old)
 TellsFound (Err refused) e output errors = Refuses cause.Store e output errors
 
 -- these faults: the error stream is told by the cause what isn't done, and each fault
-abbrev pub TellsEach : Cause → List (List ℕ) → Stream → Type 0
+abbrev pub TellsEach : Cause → List (List ℕ) → Errors → Type 0
 TellsEach why [] errors = ⊥
-TellsEach why (fault ∷ faults) errors = GetsFront errors.old errors.new (cause_line why ++ fault_lines (fault ∷ faults))
+TellsEach why (fault ∷ faults) errors = Tells errors.old errors.new (cause_line why ++ fault_lines (fault ∷ faults))
 
 -- a look found faults, or memory or the store refused: the error stream is told so
-abbrev pub TellsUnsound : Cause → Result Looked Down → Stream → Type 0
+abbrev pub TellsUnsound : Cause → Result Looked Down → Errors → Type 0
 TellsUnsound why (Ok looked) errors = TellsEach why looked.faults errors
 TellsUnsound why (Err refused) errors = TellsCause cause.Store errors
 
@@ -246,12 +256,12 @@ ServesAt logs ending.Unprinted output = ⊤
 ServesAt logs e output = ⊥
 
 -- the replies to the frames before a bad one, and on the error stream which one is bad, counted from 1
-abbrev pub ReplaysToBad : List ℕ → Stream → Stream → Type 0
+abbrev pub ReplaysToBad : List ℕ → Stream → Errors → Type 0
 ReplaysToBad bytes output errors =
-    (steps : List Step) × (replies : List (List ℕ)) × AreFrames bytes steps true × AreReplies steps replies × Gets output (printed replies) × Gets errors (bad_frame_text (length steps + 1))
+    (steps : List Step) × (replies : List (List ℕ)) × AreFrames bytes steps true × AreReplies steps replies × Gets output (printed replies) × GetsWhole errors.old errors.new (bad_frame_text (length steps + 1))
 
 -- frames are replayed over an empty database in memory
-abbrev pub ReplaysFrames : Option (List ℕ) → Ending → Stream → Stream → Type 0
+abbrev pub ReplaysFrames : Option (List ℕ) → Ending → Stream → Errors → Type 0
 ReplaysFrames input ending.Done output errors = IfSome input (λ bytes. Replays bytes false output.old output.new)
 ReplaysFrames input ending.BadFrame output errors = IfSome input (λ bytes. ReplaysToBad bytes output errors)
 ReplaysFrames input ending.Down output errors = Says ending.Down output × TellsCause cause.Input errors
@@ -265,7 +275,7 @@ TellsVersion schema ending.Unprinted output = ⊤
 TellsVersion schema e output = ⊥
 
 -- what is asked for is done, or it is said why not; this is the newest version of the schema
-abbrev pub Does : ℕ → Asked → Option (List ℕ) → Ending → Stream → Stream → Type 0
+abbrev pub Does : ℕ → Asked → Option (List ℕ) → Ending → Stream → Errors → Type 0
 Does schema (carries db command) input e output errors = AnswersCommand command e output
 Does schema (adds_token db org name role bounds) input e output errors = AddsToken input e output errors
 Does schema (looks_over db) input e output errors = AnswersFaults e output
@@ -277,7 +287,7 @@ Does schema tells_version input e output errors = TellsVersion schema e output
 
 -- words that ask for nothing that is carried out: for help, whose text goes to the error stream; or for
 -- nothing at all; or memory was refused
-abbrev pub RefusesWords : List (List ℕ) → Ending → Stream → Stream → Type 0
+abbrev pub RefusesWords : List (List ℕ) → Ending → Stream → Errors → Type 0
 RefusesWords words ending.Done output errors = AskForHelp words × (output.new ≡ output.old) × GetsSome errors
 RefusesWords words ending.Usage output errors = (AreNoCommand words ⊎ (asked_in words ≡ None)) × RefusesUsage ending.Usage output errors
 RefusesWords words ending.Down output errors = Says ending.Down output × TellsCause cause.NoMemory errors
@@ -285,41 +295,41 @@ RefusesWords words ending.Unprinted output errors = ⊤
 RefusesWords words e output errors = ⊥
 
 -- what is printed, by the words
-abbrev pub PrintsFor : ℕ → List (List ℕ) → Option (List ℕ) → Ending → Stream → Stream → Type 0
+abbrev pub PrintsFor : ℕ → List (List ℕ) → Option (List ℕ) → Ending → Stream → Errors → Type 0
 PrintsFor schema words input e output errors =
     ((asked : Asked) × (asked_in words ≡ Some asked) × Does schema asked input e output errors) ⊎ RefusesWords words e output errors
 
 -- where a stream took not all the error stream is told so, and else nothing
-abbrev pub TellsEnd : Ending → Stream → Type 0
-TellsEnd ending.Unprinted errors = GetsFront errors.old errors.new unprinted_line
+abbrev pub TellsEnd : Ending → Errors → Type 0
+TellsEnd ending.Unprinted errors = Tells errors.old errors.new unprinted_line
 TellsEnd e errors = errors.new ≡ errors.old
 
 -- and behind it on the error stream that a stream took not all, where one didn't
-abbrev pub Prints : ℕ → List (List ℕ) → Option (List ℕ) → Ending → Stream → Stream → Type 0
+abbrev pub Prints : ℕ → List (List ℕ) → Option (List ℕ) → Ending → Stream → Errors → Type 0
 Prints schema words input e output errors =
-    (told : Option (List ℕ)) × PrintsFor schema words input e output (stream errors.old told) × TellsEnd e (stream told errors.new)
+    (told : Told) × PrintsFor schema words input e output (error_stream errors.old told) × TellsEnd e (error_stream told errors.new)
 
 -- the input is known, and this is its secret
 abbrev pub IsSecretOf : Option (List ℕ) → List ℕ → Type 0
 IsSecretOf input secret = IfSome input (λ bytes. secret_in bytes ≡ Some secret)
 
 -- the error stream is told that others may read the file, where they may, and else nothing
-abbrev pub TellsOfReaders : Bool → Stream → Type 0
-TellsOfReaders true errors = GetsFront errors.old errors.new readers_line
+abbrev pub TellsOfReaders : Bool → Errors → Type 0
+TellsOfReaders true errors = Tells errors.old errors.new readers_line
 TellsOfReaders false errors = errors.new ≡ errors.old
 
 -- the error stream is told that a file is made, where none lay at its path, and else nothing
-abbrev pub TellsOfNew : Bool → Stream → Type 0
-TellsOfNew true errors = GetsFront errors.old errors.new new_line
+abbrev pub TellsOfNew : Bool → Errors → Type 0
+TellsOfNew true errors = Tells errors.old errors.new new_line
 TellsOfNew false errors = errors.new ≡ errors.old
 
 -- both are told, in this order
-abbrev pub TellsOfFile : Bool → Bool → Stream → Type 0
-TellsOfFile is_new others_may_read errors = (mid : Option (List ℕ)) × TellsOfNew is_new (stream errors.old mid) × TellsOfReaders others_may_read (stream mid errors.new)
+abbrev pub TellsOfFile : Bool → Bool → Errors → Type 0
+TellsOfFile is_new others_may_read errors = (mid : Told) × TellsOfNew is_new (error_stream errors.old mid) × TellsOfReaders others_may_read (error_stream mid errors.new)
 
 -- the log of a file is copied into it, or the error stream is told that it stays beside it
-abbrev pub TellsOfLog : Type 0 → Stream → Type 0
-TellsOfLog IsCopied errors = (IsCopied × (errors.new ≡ errors.old)) ⊎ GetsFront errors.old errors.new log_line
+abbrev pub TellsOfLog : Type 0 → Errors → Type 0
+TellsOfLog IsCopied errors = (IsCopied × (errors.new ≡ errors.old)) ⊎ Tells errors.old errors.new log_line
 
 -- the same cause, where the path stands behind `--to` as one that says so
 abbrev pub seen_at : Opening → Cause → Cause
@@ -353,16 +363,16 @@ module _ {K F : Type 0} (k : keep.Ghosts K) (f : files.Ghosts F K) where
 
   -- what lies at a path isn't opened, and at each path all stays, where no database is to be made also that no file lies there:
   -- memory or the store refuses, or it is of another schema; and the error stream is told why
-  abbrev pub RefusesToOpen : List ℕ → Opening → F → F → Ending → Stream → Stream → Type 0
+  abbrev pub RefusesToOpen : List ℕ → Opening → F → F → Ending → Stream → Errors → Type 0
   RefusesToOpen path opening old new e output errors =
       AllStay f.holds old new × LeavesVacant f.vacant (makes opening) path old new
       × (((why : Cause) × f.refuses old path (fault.Down why) × Refuses (seen_at opening why) e output errors)
-      ⊎ (((bytes : ℕ) × f.refuses old path (fault.Memory bytes) × IsSaid ending.Down e output.old output.new × GetsFront errors.old errors.new (memory_line bytes))
-      ⊎ ((other : OtherSchema) × f.refuses old path (fault.Schema other) × IsSaid ending.Schema e output.old output.new × GetsFront errors.old errors.new (other_line other))))
+      ⊎ (((bytes : ℕ) × f.refuses old path (fault.Memory bytes) × IsSaid ending.Down e output.old output.new × Tells errors.old errors.new (memory_line bytes))
+      ⊎ ((other : OtherSchema) × f.refuses old path (fault.Schema other) × IsSaid ending.Schema e output.old output.new × Tells errors.old errors.new (other_line other))))
 
   -- a store was opened at a path, and its file told of; what lies at other paths stays. Where no database is to be made, one with our
   -- tables lay there
-  pub record Opens (path : List ℕ) (opening : Opening) (old new : F) (store : K) (errors : Stream) : Type 0 where
+  pub record Opens (path : List ℕ) (opening : Opening) (old new : F) (store : K) (errors : Errors) : Type 0 where
     pub found : f.holds old path store
     pub existing : makes opening ≡ false → k.clean store → ¬ f.bare old path
     pub there : makes opening ≡ false → ¬ f.vacant old path
@@ -375,73 +385,73 @@ module _ {K F : Type 0} (k : keep.Ghosts K) (f : files.Ghosts F K) where
     pub tells : TellsOfFile is_new others_may_read errors
 
   -- a store was closed at a path; what lies at other paths stays
-  pub record Closes (path : List ℕ) (old new : F) (store : K) (errors : Stream) : Type 0 where
+  pub record Closes (path : List ℕ) (old new : F) (store : K) (errors : Errors) : Type 0 where
     pub left : f.holds new path store
     pub others : OthersStay f.holds path old new
     pub vacancies : LeavesVacant f.vacant true path old new
     pub log : TellsOfLog (f.copied new path store) errors
 
   -- an operator's command was carried out on what lay at a path; what that left lies there now, and nothing else changed
-  pub record Operates (path : List ℕ) (command : Admin) (old new : F) (e : Ending) (output errors : Stream) : Type 0 where
+  pub record Operates (path : List ℕ) (command : Admin) (old new : F) (e : Ending) (output : Stream) (errors : Errors) : Type 0 where
     pub before : K
     pub after : K
     pub worked : F
-    pub noted : Option (List ℕ)
-    pub told : Option (List ℕ)
-    pub opens : Opens path (opening_of command) old worked before (stream errors.old noted)
+    pub noted : Told
+    pub told : Told
+    pub opens : Opens path (opening_of command) old worked before (error_stream errors.old noted)
     pub so_far : k.clean after → k.clean before
     pub shield : k.shielded before → k.shielded after
     pub kept : k.clean after → k.sound before → k.sound after
     pub model : k.clean after → k.sound before
-        → IsOperated (HasFailed after) command (k.rows before) (k.rows after) e output (stream noted told)
-    pub why : (told ≡ noted) ⊎ ((why : Cause) × HasFailed after why × TellsCause why (stream noted told))
-    pub closes : Closes path worked new after (stream told errors.new)
+        → IsOperated (HasFailed after) command (k.rows before) (k.rows after) e output (error_stream noted told)
+    pub why : (told ≡ noted) ⊎ ((why : Cause) × HasFailed after why × TellsCause why (error_stream noted told))
+    pub closes : Closes path worked new after (error_stream told errors.new)
     pub others : OthersStay f.holds path old new
 
-  abbrev pub OperatesAt : List ℕ → Admin → F → F → Ending → Stream → Stream → Type 0
+  abbrev pub OperatesAt : List ℕ → Admin → F → F → Ending → Stream → Errors → Type 0
   OperatesAt path command old new e output errors = Operates path command old new e output errors ⊎ RefusesToOpen path (opening_of command) old new e output errors
 
   -- a token is added at a path with the secret of the input; or there is none, or it isn't read, and nothing changes
-  abbrev pub AddsTokenAt : List ℕ → (List ℕ → Admin) → Option (List ℕ) → F → F → Ending → Stream → Stream → Type 0
+  abbrev pub AddsTokenAt : List ℕ → (List ℕ → Admin) → Option (List ℕ) → F → F → Ending → Stream → Errors → Type 0
   AddsTokenAt path adding input old new e output errors =
       ((secret : List ℕ) × IsSecretOf input secret × OperatesAt path (adding secret) old new e output errors)
-      ⊎ ((new ≡ old) × ((HasNoSecret input × RefusesUsage e output errors × GetsFront errors.old errors.new secret_line)
+      ⊎ ((new ≡ old) × ((HasNoSecret input × RefusesUsage e output errors × Tells errors.old errors.new secret_line)
       ⊎ (RefusesDown e output × TellsCause cause.Input errors)))
 
   -- the tables of a store were looked over: of what was found this is told. Where no fault was found the store is sound, if its tables are
   -- defined as ours. Each record is as before
-  pub record LooksFor (Tells : Result Looked Down → Stream → Type 0) (before after : K) (errors : Stream) : Type 0 where
+  pub record LooksFor (IsTold : Result Looked Down → Errors → Type 0) (before after : K) (errors : Errors) : Type 0 where
     pub look : Looks k.rows k.clean k.sound k.shielded before after
     pub result : Result Looked Down
     pub finds : f.finds before result after
     pub sound : IfOk result (λ looked. looked.faults ≡ [] → k.clean after → f.is_ours before → k.sound before)
-    pub says : Tells result errors
+    pub says : IsTold result errors
 
   -- what lay at a path was looked over, which made no file. What the look left lies there now, each record as before, and nothing else
   -- changed
-  pub record LooksOver (path : List ℕ) (Tells : Result Looked Down → Stream → Type 0) (old new : F) (errors : Stream) : Type 0 where
+  pub record LooksOver (path : List ℕ) (IsTold : Result Looked Down → Errors → Type 0) (old new : F) (errors : Errors) : Type 0 where
     pub before : K
     pub after : K
     pub worked : F
-    pub noted : Option (List ℕ)
-    pub told : Option (List ℕ)
-    pub opens : Opens path opening.Existing old worked before (stream errors.old noted)
-    pub looks : LooksFor Tells before after (stream noted told)
-    pub closes : Closes path worked new after (stream told errors.new)
+    pub noted : Told
+    pub told : Told
+    pub opens : Opens path opening.Existing old worked before (error_stream errors.old noted)
+    pub looks : LooksFor IsTold before after (error_stream noted told)
+    pub closes : Closes path worked new after (error_stream told errors.new)
     pub others : OthersStay f.holds path old new
 
   -- faults are looked for at a path, and what is found is printed
-  abbrev pub LooksAt : List ℕ → F → F → Ending → Stream → Stream → Type 0
+  abbrev pub LooksAt : List ℕ → F → F → Ending → Stream → Errors → Type 0
   LooksAt path old new e output errors =
       LooksOver path (λ found told. TellsFound found e output told) old new errors ⊎ RefusesToOpen path opening.Existing old new e output errors
 
   -- faults are found at a path, or the look for them is refused, and so nothing more is done: by this cause
-  abbrev pub RefusesUnsound : List ℕ → Cause → F → F → Ending → Stream → Stream → Type 0
+  abbrev pub RefusesUnsound : List ℕ → Cause → F → F → Ending → Stream → Errors → Type 0
   RefusesUnsound path why old new e output errors = LooksOver path (TellsUnsound why) old new errors × IsSaid ending.Down e output.old output.new
 
   -- a store was opened at a path, which made no file, and a look over its tables found no fault: so it is sound, if its tables are
   -- defined as ours
-  pub record OpensSound (path : List ℕ) (old new : F) (store : K) (errors : Stream) : Type 0 where
+  pub record OpensSound (path : List ℕ) (old new : F) (store : K) (errors : Errors) : Type 0 where
     pub opened : K
     pub opens : Opens path opening.Existing old new opened errors
     pub look : Looks k.rows k.clean k.sound k.shielded opened store
@@ -451,73 +461,73 @@ module _ {K F : Type 0} (k : keep.Ghosts K) (f : files.Ghosts F K) where
     pub sound_ours : k.clean store → f.is_ours opened → k.sound opened × k.sound store
 
   -- what is copied isn't opened, or faults are found in its tables
-  abbrev pub RefusesSource : List ℕ → F → F → Ending → Stream → Stream → Type 0
+  abbrev pub RefusesSource : List ℕ → F → F → Ending → Stream → Errors → Type 0
   RefusesSource path old new e output errors =
       RefusesToOpen path opening.Existing old new e output errors ⊎ RefusesUnsound path cause.SourceFaults old new e output errors
 
   -- stores were opened at two paths, one after the other, the first without a fault
-  pub record OpensBoth (from to : List ℕ) (old new : F) (source target : K) (errors : Stream) : Type 0 where
+  pub record OpensBoth (from to : List ℕ) (old new : F) (source target : K) (errors : Errors) : Type 0 where
     pub differ : from ≢ to
     pub mid : F
-    pub noted : Option (List ℕ)
-    pub first : OpensSound from old mid source (stream errors.old noted)
-    pub second : Opens to opening.Target mid new target (stream noted errors.new)
+    pub noted : Told
+    pub first : OpensSound from old mid source (error_stream errors.old noted)
+    pub second : Opens to opening.Target mid new target (error_stream noted errors.new)
 
   -- they were closed there, the second first
-  pub record ClosesBoth (from to : List ℕ) (old new : F) (source target : K) (errors : Stream) : Type 0 where
+  pub record ClosesBoth (from to : List ℕ) (old new : F) (source target : K) (errors : Errors) : Type 0 where
     pub mid : F
-    pub noted : Option (List ℕ)
-    pub second : Closes to old mid target (stream errors.old noted)
-    pub first : Closes from mid new source (stream noted errors.new)
+    pub noted : Told
+    pub second : Closes to old mid target (error_stream errors.old noted)
+    pub first : Closes from mid new source (error_stream noted errors.new)
 
   -- a store was opened at one path, and what lies at the other isn't opened; so the first was closed as it was, and at each other path
   -- all stays
-  pub record RefusesSecond (from to : List ℕ) (old new : F) (e : Ending) (output errors : Stream) : Type 0 where
+  pub record RefusesSecond (from to : List ℕ) (old new : F) (e : Ending) (output : Stream) (errors : Errors) : Type 0 where
     pub differ : from ≢ to
     pub source : K
     pub opened : F
     pub unopened : F
-    pub noted : Option (List ℕ)
-    pub told : Option (List ℕ)
-    pub first : OpensSound from old opened source (stream errors.old noted)
-    pub second : RefusesToOpen to opening.Target opened unopened e output (stream noted told)
-    pub closes : Closes from unopened new source (stream told errors.new)
+    pub noted : Told
+    pub told : Told
+    pub first : OpensSound from old opened source (error_stream errors.old noted)
+    pub second : RefusesToOpen to opening.Target opened unopened e output (error_stream noted told)
+    pub closes : Closes from unopened new source (error_stream told errors.new)
     pub others : OthersStay f.holds from old new
 
   -- of two paths one isn't opened; or they are the same, and nothing is opened
-  abbrev pub RefusesBoth : List ℕ → List ℕ → F → F → Ending → Stream → Stream → Type 0
+  abbrev pub RefusesBoth : List ℕ → List ℕ → F → F → Ending → Stream → Errors → Type 0
   RefusesBoth from to old new e output errors =
       ((from ≡ to) × (new ≡ old) × Refuses cause.InUse e output errors)
       ⊎ (((from ≢ to) × RefusesSource from old new e output errors) ⊎ RefusesSecond from to old new e output errors)
 
   -- it was copied from what lay at one path, without a fault, to what lay at another, and this became of the records, where the first's
   -- tables are defined as ours. What that left lies there now, and nothing else changed
-  pub record CopiesOver (from to : List ℕ) (Becomes : K → (from old new : List ℕ → Option Organization) → Stream → Type 0) (Fails : K → Cause → Type 0) (old new : F) (errors : Stream) : Type 0 where
+  pub record CopiesOver (from to : List ℕ) (Becomes : K → (from old new : List ℕ → Option Organization) → Errors → Type 0) (Fails : K → Cause → Type 0) (old new : F) (errors : Errors) : Type 0 where
     pub source_before : K
     pub source_after : K
     pub target_before : K
     pub target_after : K
     pub worked : F
-    pub noted : Option (List ℕ)
-    pub told : Option (List ℕ)
-    pub opens : OpensBoth from to old worked source_before target_before (stream errors.old noted)
-    pub copies : CopiesBetween k (λ source before after. Becomes target_after source before after (stream noted told)) source_before source_after target_before target_after
+    pub noted : Told
+    pub told : Told
+    pub opens : OpensBoth from to old worked source_before target_before (error_stream errors.old noted)
+    pub copies : CopiesBetween k (λ source before after. Becomes target_after source before after (error_stream noted told)) source_before source_after target_before target_after
     pub ours : k.clean target_after → k.sound target_before → k.clean source_after → f.is_ours opens.first.opened
-        → Becomes target_after (k.rows opens.first.opened) (k.rows target_before) (k.rows target_after) (stream noted told)
-    pub why : (told ≡ noted) ⊎ ((why : Cause) × Fails target_after why × TellsCause why (stream noted told))
-    pub closes : ClosesBoth from to worked new source_after target_after (stream told errors.new)
+        → Becomes target_after (k.rows opens.first.opened) (k.rows target_before) (k.rows target_after) (error_stream noted told)
+    pub why : (told ≡ noted) ⊎ ((why : Cause) × Fails target_after why × TellsCause why (error_stream noted told))
+    pub closes : ClosesBoth from to worked new source_after target_after (error_stream told errors.new)
     pub left_source : f.holds new from source_after
     pub left_target : f.holds new to target_after
     pub others : OthersStayBut f.holds from to old new
 
   -- an organization is copied from what lies at one path to what lies at another
-  abbrev pub CopiesAt : List ℕ → List ℕ → List ℕ → F → F → Ending → Stream → Stream → Type 0
+  abbrev pub CopiesAt : List ℕ → List ℕ → List ℕ → F → F → Ending → Stream → Errors → Type 0
   CopiesAt from to org old new e output errors =
       CopiesOver from to (λ left source before after told. IsCopied (HasFailed left) org source before after e output told) HasFailed old new errors
       ⊎ RefusesBoth from to old new e output errors
 
   -- every organization is copied so
-  abbrev pub CompactsAt : List ℕ → List ℕ → F → F → Ending → Stream → Stream → Type 0
+  abbrev pub CompactsAt : List ℕ → List ℕ → F → F → Ending → Stream → Errors → Type 0
   CompactsAt from to old new e output errors =
       CopiesOver from to (λ left source before after told. IsCompacted source before after e output told) (λ left why. why ≡ cause.Unfinished) old new errors
       ⊎ RefusesBoth from to old new e output errors
@@ -543,32 +553,32 @@ SaysServed served e old new =
 module _ {K F N C R W : Type 0} (k : keep.Ghosts K) (f : files.Ghosts F K) (n : connections.Ghosts N R W) (c : clock.Ghosts C) (i : inlet.Ghosts R) (o : outlet.Ghosts W) where
   -- connections are answered from what lay at a path, each with these timeouts, with the log or without it; what they left
   -- lies there now, and nothing else changed
-  pub record ServesFrom (path : List ℕ) (port : ℕ) (timeouts : Timeouts) (logs : Bool) (count : ℕ) (old new : Outside F N C) (e : Ending) (output errors : Stream) : Type 0 where
+  pub record ServesFrom (path : List ℕ) (port : ℕ) (timeouts : Timeouts) (logs : Bool) (count : ℕ) (old new : Outside F N C) (e : Ending) (output : Stream) (errors : Errors) : Type 0 where
     pub before : K
     pub after : K
     pub worked : F
-    pub noted : Option (List ℕ)
-    pub opens : Opens k f path opening.Created old.files worked before (stream errors.old noted)
+    pub noted : Told
+    pub opens : Opens k f path opening.Created old.files worked before (error_stream errors.old noted)
     pub so_far : k.clean after → k.clean before
     pub shield : k.shielded before → k.shielded after
     pub kept : k.clean after → k.sound before → k.sound after
     pub serves : k.clean after → k.sound before → Serves count (k.rows before) (k.rows after)
     pub served : Ending
     pub told : Option (List ℕ)
-    pub lines : Option (List ℕ)
+    pub lines : Told
     pub answers : AnswersAtPort k f n c i o port timeouts logs count (state old.network old.clock before noted output.old) (state new.network new.clock after lines told) served
     pub says : SaysServed served e told output.new
-    pub closes : Closes k f path worked new.files after (stream lines errors.new)
+    pub closes : Closes k f path worked new.files after (error_stream lines errors.new)
     pub others : OthersStay f.holds path old.files new.files
 
   -- the same of a file that was there, behind a look for faults in its tables, which found none. So what is served is sound, if its
   -- tables are defined as ours
-  pub record ServesChecked (path : List ℕ) (port : ℕ) (timeouts : Timeouts) (logs : Bool) (count : ℕ) (old new : Outside F N C) (e : Ending) (output errors : Stream) : Type 0 where
+  pub record ServesChecked (path : List ℕ) (port : ℕ) (timeouts : Timeouts) (logs : Bool) (count : ℕ) (old new : Outside F N C) (e : Ending) (output : Stream) (errors : Errors) : Type 0 where
     pub before : K
     pub after : K
     pub worked : F
-    pub noted : Option (List ℕ)
-    pub opens : OpensSound k f path old.files worked before (stream errors.old noted)
+    pub noted : Told
+    pub opens : OpensSound k f path old.files worked before (error_stream errors.old noted)
     pub so_far : k.clean after → k.clean before
     pub shield : k.shielded before → k.shielded after
     pub kept : k.clean after → k.sound before → k.sound after
@@ -577,15 +587,15 @@ module _ {K F N C R W : Type 0} (k : keep.Ghosts K) (f : files.Ghosts F K) (n : 
     pub serves_ours : k.clean after → f.is_ours opens.opened → Serves count (k.rows opens.opened) (k.rows after)
     pub served : Ending
     pub told : Option (List ℕ)
-    pub lines : Option (List ℕ)
+    pub lines : Told
     pub answers : AnswersAtPort k f n c i o port timeouts logs count (state old.network old.clock before noted output.old) (state new.network new.clock after lines told) served
     pub says : SaysServed served e told output.new
-    pub closes : Closes k f path worked new.files after (stream lines errors.new)
+    pub closes : Closes k f path worked new.files after (error_stream lines errors.new)
     pub others : OthersStay f.holds path old.files new.files
 
   -- connections are answered; where a look for faults is asked for (`true`), behind one, and only where it found none, and then no file is
   -- made; or what lies at the path isn't opened
-  abbrev pub ServesAsAsked : Bool → List ℕ → ℕ → Timeouts → Bool → ℕ → Outside F N C → Outside F N C → Ending → Stream → Stream → Type 0
+  abbrev pub ServesAsAsked : Bool → List ℕ → ℕ → Timeouts → Bool → ℕ → Outside F N C → Outside F N C → Ending → Stream → Errors → Type 0
   ServesAsAsked false path port timeouts logs count old new e output errors =
       ServesFrom path port timeouts logs count old new e output errors ⊎ (RefusesToOpen k f path opening.Created old.files new.files e output errors × IsAlone old new)
   ServesAsAsked true path port timeouts logs count old new e output errors =
@@ -593,7 +603,7 @@ module _ {K F N C R W : Type 0} (k : keep.Ghosts K) (f : files.Ghosts F K) (n : 
       ⊎ (RefusesToOpen k f path opening.Existing old.files new.files e output errors × IsAlone old new)
 
   -- what is asked for is done to what lies at its path, and to nothing else
-  abbrev pub Leaves : Asked → Option (List ℕ) → Outside F N C → Outside F N C → Ending → Stream → Stream → Type 0
+  abbrev pub Leaves : Asked → Option (List ℕ) → Outside F N C → Outside F N C → Ending → Stream → Errors → Type 0
   Leaves (carries db command) input old new e output errors = OperatesAt k f db command old.files new.files e output errors × IsAlone old new
   Leaves (adds_token db org name role bounds) input old new e output errors =
       AddsTokenAt k f db (λ secret. TokenAdd org name role secret bounds) input old.files new.files e output errors × IsAlone old new
@@ -605,13 +615,13 @@ module _ {K F N C R W : Type 0} (k : keep.Ghosts K) (f : files.Ghosts F K) (n : 
   Leaves tells_version input old new e output errors = new ≡ old
 
   -- the program by its words, up to what is told where a stream took not all
-  pub record RunsOver (words : List (List ℕ)) (input : Option (List ℕ)) (old new : Outside F N C) (e : Ending) (output errors : Stream) : Type 0 where
+  pub record RunsOver (words : List (List ℕ)) (input : Option (List ℕ)) (old new : Outside F N C) (e : Ending) (output : Stream) (errors : Errors) : Type 0 where
     pub prints : PrintsFor f.newest words input e output errors
     pub leaves : ((asked : Asked) × (asked_in words ≡ Some asked) × Leaves asked input old new e output errors)
         ⊎ (RefusesWords words e output errors × (new ≡ old))
 
   -- the program by its words: how it ends, what is printed, and what the program stands on before and after
-  pub record Runs (words : List (List ℕ)) (input : Option (List ℕ)) (old new : Outside F N C) (e : Ending) (output errors : Stream) : Type 0 where
-    pub told : Option (List ℕ)
-    pub runs : RunsOver words input old new e output (stream errors.old told)
-    pub ends : TellsEnd e (stream told errors.new)
+  pub record Runs (words : List (List ℕ)) (input : Option (List ℕ)) (old new : Outside F N C) (e : Ending) (output : Stream) (errors : Errors) : Type 0 where
+    pub told : Told
+    pub runs : RunsOver words input old new e output (error_stream errors.old told)
+    pub ends : TellsEnd e (error_stream told errors.new)

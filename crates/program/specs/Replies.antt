@@ -7,7 +7,7 @@ use Rattle.serve.specs.declared.steps.Step.{Step}
 use Rattle.machine.specs.declared.records.Organization.{Organization}
 use Rattle.serve.specs.Asks.{Ask, Owner}
 use Rattle.serve.specs.Service.{AreAsked}
-use Rattle.serve.specs.Runs.{AreOwnReplies}
+use Rattle.serve.specs.Runs.{AreOwnReplies, ListsAreTold}
 use Rattle.program.specs.Frames.{AreFrames}
 
 -- `reply LEN`, a line feed (10), the bytes of the reply and a line feed
@@ -20,7 +20,7 @@ printed replies = flat_map reply_frame replies
 
 -- the line about the frame at this place, which doesn't parse
 abbrev pub bad_frame_text : ℕ → List ℕ
-bad_frame_text frame = codes "custody: bad frame " ++ decimal frame ++ 10 ∷ []
+bad_frame_text frame = codes "custody: bad frame " ++ (decimal frame ++ 10 ∷ [])
 
 -- a line of an answer: a word or two and a line feed
 abbrev pub answer_line : List ℕ → List ℕ
@@ -35,10 +35,12 @@ abbrev pub no_records : List ℕ → Option Organization
 no_records org = None
 
 -- the replies to these steps over an empty store: one for each, and at the places of the steps of an
--- organization, and of nobody, those that its own machine says; the operator's are lists
+-- organization, and of nobody, those that its own machine says; the operator's are lists, and each tells the organizations that the
+-- steps before it leave
 pub record AreReplies (steps : List Step) (replies : List (List ℕ)) : Type 0 where
   pub one_each : length replies ≡ length steps
   pub own : (asked : List Ask) → AreAsked steps asked → (owner : Owner) → AreOwnReplies asked no_records replies owner
+  pub lists : (asked : List Ask) → AreAsked steps asked → ListsAreTold no_records asked replies
 
 -- the replies to the frames of the bytes, and the place of the bad frame behind them, counted from 1
 abbrev pub AnswersFrames : List ℕ → List (List ℕ) → Option ℕ → Type 0

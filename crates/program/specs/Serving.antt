@@ -13,7 +13,8 @@ use Rattle.serve.specs.Asks.{Ask}
 use Rattle.serve.specs.Exchanges.{Exchanges, ChangesAsTold}
 use Rattle.serve.specs.Service.{AreAsked}
 use Rattle.serve.specs.Runs.{IsOwnRecord}
-use Rattle.program.specs.Errors.{GetsConnectionLines, GetsFront, cause_line}
+use Rattle.program.specs.Errors.{GetsConnectionLines, cause_line}
+use Rattle.program.specs.Streams.{Told, Tells}
 use Rattle.program.specs.Upkeep.{Upkeep}
 use Rattle.program.specs.Logs.{row_text, tells_act, with_log, Logs, Line, log_text, ChangeByLines}
 use Rattle.program.specs.declared.reasons.Cause.{Cause}
@@ -51,10 +52,10 @@ pub record State (N C K : Type 0) : Type 0 where
   pub network : N
   pub clock : C
   pub store : K
-  pub errors : Option (List ℕ)
+  pub errors : Told
   pub output : Option (List ℕ)
 
-abbrev pub state : {N C K : Type 0} → N → C → K → Option (List ℕ) → Option (List ℕ) → State N C K
+abbrev pub state : {N C K : Type 0} → N → C → K → Told → Option (List ℕ) → State N C K
 state network clock store errors output = record { network = network; clock = clock; store = store; errors = errors; output = output }
 
 -- no connection is accepted with these timeouts, or the clock tells no moment for it, and this is the cause: the network
@@ -69,7 +70,7 @@ module _ {K N R W : Type 0} (k : keep.Ghosts K) (n : connections.Ghosts N R W) (
   -- a store that refused or not, told of on the error stream, and in the log where it is asked for, and ended, as one whose message
   -- was read whole where an act is told of it; and whether the log's line was taken: the network, the store and what the error
   -- stream and standard output have, before and after
-  pub record AnswersOne (logs : Bool) (place at : ℕ) (is_down is_told : Bool) (reader : R) (writer : W) (network network' : N) (store store' : K) (errors errors' output output' : Option (List ℕ)) : Type 0 where
+  pub record AnswersOne (logs : Bool) (place at : ℕ) (is_down is_told : Bool) (reader : R) (writer : W) (network network' : N) (store store' : K) (errors errors' : Told) (output output' : Option (List ℕ)) : Type 0 where
     pub read : R
     pub written : W
     pub result : Result (Unit {0}) LinkFault
@@ -133,7 +134,7 @@ module _ {K F N C R W : Type 0} (k : keep.Ghosts K) (f : files.Ghosts F K) (n : 
   AnswersCount port timeouts logs count old new ending.Down =
       (heard : Option (List ℕ)) × Appends old.output heard (listening_line port)
       × (moments : List ℕ) × (last : State N C K) × (length moments < count) × AnswersAll timeouts logs 1 moments (state old.network old.clock old.store old.errors heard) last
-      × (why : Cause) × (errors : Option (List ℕ)) × EndsEarly timeouts logs (suc (length moments)) last (state new.network new.clock new.store errors new.output) why × GetsFront errors new.errors (cause_line why)
+      × (why : Cause) × (errors : Told) × EndsEarly timeouts logs (suc (length moments)) last (state new.network new.clock new.store errors new.output) why × Tells errors new.errors (cause_line why)
   AnswersCount port timeouts logs count old new ending.Unprinted = (new.network ≡ old.network) × (new.clock ≡ old.clock) × (new.store ≡ old.store) × (new.errors ≡ old.errors)
   AnswersCount port timeouts logs count old new other = ⊥
 
@@ -144,7 +145,7 @@ module _ {K F N C R W : Type 0} (k : keep.Ghosts K) (f : files.Ghosts F K) (n : 
       ((bound : N) × (given : ℕ) × n.binds old.network (127 ∷ 0 ∷ 0 ∷ 1 ∷ []) port (Ok given) bound
       × AnswersCount given timeouts logs count (state bound old.clock old.store old.errors old.output) new e × ListensAt given logs e old.output new.output)
       ⊎ ((why : Cause) × n.binds old.network (127 ∷ 0 ∷ 0 ∷ 1 ∷ []) port (Err why) new.network
-      × (new.clock ≡ old.clock) × (new.store ≡ old.store) × GetsFront old.errors new.errors (cause_line why) × (e ≡ ending.Down) × (new.output ≡ old.output))
+      × (new.clock ≡ old.clock) × (new.store ≡ old.store) × Tells old.errors new.errors (cause_line why) × (e ≡ ending.Down) × (new.output ≡ old.output))
 
   -- the log tells each connection that was answered by one line, in turn; and between two lines no record changes but that of the
   -- organization that the later line names

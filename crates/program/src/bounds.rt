@@ -3,7 +3,7 @@ ghost use Rattle.std.specs.Prelude.{◌≡◌, Some, None, IfOk, IsErrOf, option
 ghost use Rattle.program.specs.Bounds.{behind, until_word, prefix_word, either_bound, both_bounds, bounds_of};
 ghost use Rattle.program.specs.Lines.{bytes_of};
 
-use basis::{Bounds, Moment, Prefix, Unfit};
+use basis::{Bounds, Moment, Unfit, WsPrefix};
 use command_line::bounds::{read_moment, read_prefix};
 use std::alloc::Global;
 
@@ -19,7 +19,7 @@ fn until_word(word: &str) -> Option<Moment>
     read_moment(behind("until=", word)?)
 }
 
-fn prefix_word(alloc: Global, word: &str) -> Result<Prefix, Unfit>
+fn prefix_word(alloc: Global, word: &str) -> Result<WsPrefix, Unfit>
     ensures ok { IfOk result (λ prefix. prefix_word word.now ≡ Some prefix) }
     ensures syntax { IsErrOf result Unfit.Syntax → prefix_word word.now ≡ None }
 {
@@ -36,7 +36,7 @@ fn either_bound(alloc: Global, word: &str) -> Result<Bounds, Unfit>
     match until_word(word) {
         Some(until) => Ok(Bounds {
             until: Some(until),
-            prefix: Prefix::new(alloc),
+            prefix: WsPrefix::new(alloc),
         }),
         None => Ok(Bounds {
             until: None,
@@ -67,7 +67,7 @@ pub fn read_bounds(alloc: Global, words: &[&str]) -> Result<Bounds, Unfit>
     match *words {
         [] => Ok(Bounds {
             until: None,
-            prefix: Prefix::new(alloc),
+            prefix: WsPrefix::new(alloc),
         }),
         [word] => either_bound(alloc, word),
         [first, second] => both_bounds(alloc, first, second),

@@ -1,6 +1,6 @@
 //! Looks over the tables of a file.
 ghost use Rattle.std.specs.Prelude.{[], Ok};
-ghost use Rattle.program.specs.Outcomes.{stream, AnswersFaults, TellsFaults, TellsFound, LooksAt};
+ghost use Rattle.program.specs.Outcomes.{stream, error_stream, AnswersFaults, TellsFaults, TellsFound, LooksAt};
 ghost use Rattle.program.specs.Inner.Outcomes.{FindsNone, LooksFirst};
 
 use crate::endings::Ending;
@@ -9,6 +9,7 @@ use crate::openings::{close_after, open_one};
 use crate::outside::{Files, Opening};
 use crate::reasons::Cause;
 use crate::replies::{print_faults, print_sound, refuse};
+use crate::streams::ErrorStream;
 use crate::totals::{Looked, Totals};
 use basis::{Down, Text};
 use machine::Keep;
@@ -38,13 +39,13 @@ fn say_faults<O: Write>(output: &mut O, faults: &[Text], totals: &Totals) -> End
     }
 }
 
-fn say_found<O: Write, E: Write>(
+fn say_found<O: Write, E: ErrorStream>(
     output: &mut O,
     errors: &mut E,
     found: &Result<Looked, Down>,
 ) -> Ending
     ensures line { AnswersFaults result (stream (O.contents output.old) (O.contents output.new)) }
-    ensures tells { TellsFound found.now result (stream (O.contents output.old) (O.contents output.new)) (stream (E.contents errors.old) (E.contents errors.new)) }
+    ensures tells { TellsFound found.now result (stream (O.contents output.old) (O.contents output.new)) (error_stream (E.told errors.old) (E.told errors.new)) }
 {
     match found {
         Ok(looked) => say_faults(output, looked.faults.as_slice(), &looked.totals),
@@ -53,7 +54,7 @@ fn say_found<O: Write, E: Write>(
 }
 
 /// Looks for faults in the tables of a file, and prints what it finds.
-pub fn check<K: Keep, F: Files<K>, O: Write, E: Write>(
+pub fn check<K: Keep, F: Files<K>, O: Write, E: ErrorStream>(
     alloc: Global,
     files: &mut F,
     db: &str,
@@ -61,7 +62,7 @@ pub fn check<K: Keep, F: Files<K>, O: Write, E: Write>(
     errors: &mut E,
 ) -> Ending
     ensures line { AnswersFaults result (stream (O.contents output.old) (O.contents output.new)) }
-    ensures looks { LooksAt K.Keep F.Files db.now files.old files.new result (stream (O.contents output.old) (O.contents output.new)) (stream (E.contents errors.old) (E.contents errors.new)) }
+    ensures looks { LooksAt K.Keep F.Files db.now files.old files.new result (stream (O.contents output.old) (O.contents output.new)) (error_stream (E.told errors.old) (E.told errors.new)) }
 {
     let mut store = match open_one(files, db, Opening::Existing, output, errors) {
         Ok(store) => store,
@@ -73,8 +74,8 @@ pub fn check<K: Keep, F: Files<K>, O: Write, E: Write>(
     ending
 }
 
-fn tell_if_some<E: Write>(errors: &mut E, cause: Cause, looked: &Looked) -> bool
-    ensures { FindsNone cause (Ok looked.now) result (stream (E.contents errors.old) (E.contents errors.new)) }
+fn tell_if_some<E: ErrorStream>(errors: &mut E, cause: Cause, looked: &Looked) -> bool
+    ensures { FindsNone cause (Ok looked.now) result (error_stream (E.told errors.old) (E.told errors.new)) }
 {
     let faults = looked.faults.as_slice();
     match faults {
@@ -86,8 +87,8 @@ fn tell_if_some<E: Write>(errors: &mut E, cause: Cause, looked: &Looked) -> bool
     }
 }
 
-fn tell_unsound<E: Write>(errors: &mut E, cause: Cause, found: &Result<Looked, Down>) -> bool
-    ensures { FindsNone cause found.now result (stream (E.contents errors.old) (E.contents errors.new)) }
+fn tell_unsound<E: ErrorStream>(errors: &mut E, cause: Cause, found: &Result<Looked, Down>) -> bool
+    ensures { FindsNone cause found.now result (error_stream (E.told errors.old) (E.told errors.new)) }
 {
     match found {
         Ok(looked) => tell_if_some(errors, cause, looked),
@@ -100,14 +101,14 @@ fn tell_unsound<E: Write>(errors: &mut E, cause: Cause, found: &Result<Looked, D
 
 /// Looks for faults in the tables of a store; true where it finds none. Else it says by the cause what isn't done, and each
 /// fault.
-pub fn look_first<K: Keep, F: Files<K>, E: Write>(
+pub fn look_first<K: Keep, F: Files<K>, E: ErrorStream>(
     alloc: Global,
     files: &F,
     store: &mut K,
     cause: Cause,
     errors: &mut E,
 ) -> bool
-    ensures { LooksFirst K.Keep F.Files cause store.old result store.new (stream (E.contents errors.old) (E.contents errors.new)) }
+    ensures { LooksFirst K.Keep F.Files cause store.old result store.new (error_stream (E.told errors.old) (E.told errors.new)) }
 {
     let found = files.check(alloc, store);
     tell_unsound(errors, cause, &found)

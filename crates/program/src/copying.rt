@@ -4,7 +4,7 @@ ghost use Rattle.std.specs.List.{AllByRecursion};
 ghost use Rattle.machine.specs.Tokens.{ListsOrganizations};
 ghost use Rattle.machine.specs.Keeping.{Looks};
 ghost use Rattle.program.specs.Moves.{Arrives, AllAreCopied, SomeAreCopied, IsFilled, lists_none, CopiesBetween};
-ghost use Rattle.program.specs.Outcomes.{stream, AnswersLine, AnswersFilled, filled_ending, IsSaid, CopiesAt, CompactsAt, TellsWord, TellsCause, Refuses, HasFailed, OpensSound, RefusesSource, OpensBoth, RefusesBoth};
+ghost use Rattle.program.specs.Outcomes.{stream, error_stream, AnswersLine, AnswersFilled, filled_ending, IsSaid, CopiesAt, CompactsAt, TellsWord, TellsCause, Refuses, HasFailed, OpensSound, RefusesSource, OpensBoth, RefusesBoth};
 ghost use Rattle.program.specs.declared.reasons.Cause.{Cause as AnyCause};
 
 use crate::checking::look_first;
@@ -14,21 +14,22 @@ use crate::operating::failure;
 use crate::outside::{Files, Opening};
 use crate::reasons::Cause;
 use crate::replies::{refuse, say, say_word};
+use crate::streams::ErrorStream;
 use basis::{Down, OrgName};
 use machine::{AdminAnswer, Keep, OrgRow};
 use std::alloc::Global;
 use std::io::Write;
 
 /// Opens the store of a path, in whose tables there may be no fault; or says why it isn't opened, and closes it again.
-fn open_sound<K: Keep, F: Files<K>, O: Write, E: Write>(
+fn open_sound<K: Keep, F: Files<K>, O: Write, E: ErrorStream>(
     alloc: Global,
     files: &mut F,
     path: &str,
     output: &mut O,
     errors: &mut E,
 ) -> Result<K, Ending>
-    ensures opened { IfOk result (λ store. OpensSound K.Keep F.Files path.now files.old files.new store (stream (E.contents errors.old) (E.contents errors.new)) × (O.contents output.new ≡ O.contents output.old)) }
-    ensures refused { IfErr result (λ ending. RefusesSource K.Keep F.Files path.now files.old files.new ending (stream (O.contents output.old) (O.contents output.new)) (stream (E.contents errors.old) (E.contents errors.new))) }
+    ensures opened { IfOk result (λ store. OpensSound K.Keep F.Files path.now files.old files.new store (error_stream (E.told errors.old) (E.told errors.new)) × (O.contents output.new ≡ O.contents output.old)) }
+    ensures refused { IfErr result (λ ending. RefusesSource K.Keep F.Files path.now files.old files.new ending (stream (O.contents output.old) (O.contents output.new)) (error_stream (E.told errors.old) (E.told errors.new))) }
 {
     let mut store = match open_one(files, path, Opening::Existing, output, errors) {
         Ok(store) => store,
@@ -43,7 +44,7 @@ fn open_sound<K: Keep, F: Files<K>, O: Write, E: Write>(
 
 /// Opens the stores of two paths, the first first; or says why one isn't opened. Where faults are found in the first's tables,
 /// nothing is opened at the second; where the second isn't opened, the first is closed again. Of one path nothing is opened.
-fn open_both<K: Keep, F: Files<K>, O: Write, E: Write>(
+fn open_both<K: Keep, F: Files<K>, O: Write, E: ErrorStream>(
     alloc: Global,
     files: &mut F,
     from: &str,
@@ -51,8 +52,8 @@ fn open_both<K: Keep, F: Files<K>, O: Write, E: Write>(
     output: &mut O,
     errors: &mut E,
 ) -> Result<(K, K), Ending>
-    ensures opened { IfOk result (λ stores. OpensBoth K.Keep F.Files from.now to.now files.old files.new stores.0 stores.1 (stream (E.contents errors.old) (E.contents errors.new)) × (O.contents output.new ≡ O.contents output.old)) }
-    ensures refused { IfErr result (λ ending. RefusesBoth K.Keep F.Files from.now to.now files.old files.new ending (stream (O.contents output.old) (O.contents output.new)) (stream (E.contents errors.old) (E.contents errors.new))) }
+    ensures opened { IfOk result (λ stores. OpensBoth K.Keep F.Files from.now to.now files.old files.new stores.0 stores.1 (error_stream (E.told errors.old) (E.told errors.new)) × (O.contents output.new ≡ O.contents output.old)) }
+    ensures refused { IfErr result (λ ending. RefusesBoth K.Keep F.Files from.now to.now files.old files.new ending (stream (O.contents output.old) (O.contents output.new)) (error_stream (E.told errors.old) (E.told errors.new))) }
 {
     if from == to {
         return Err(refuse(output, errors, Cause::InUse));
@@ -70,7 +71,7 @@ fn open_both<K: Keep, F: Files<K>, O: Write, E: Write>(
     }
 }
 
-fn say_copied<K: Keep, F: Files<K>, O: Write, E: Write>(
+fn say_copied<K: Keep, F: Files<K>, O: Write, E: ErrorStream>(
     files: &F,
     target: &mut K,
     output: &mut O,
@@ -79,9 +80,9 @@ fn say_copied<K: Keep, F: Files<K>, O: Write, E: Write>(
 ) -> Ending
     ensures line { AnswersLine result (stream (O.contents output.old) (O.contents output.new)) }
     ensures looks { Looks K.rows K.clean K.sound K.shielded target.old target.new }
-    ensures tells { IfOk answered.now (λ answer. TellsWord answer result (stream (O.contents output.old) (O.contents output.new)) × (E.contents errors.new ≡ E.contents errors.old)) }
-    ensures down { OnErr answered.now ((why : AnyCause) × HasFailed K.Keep F.Files target.new why × Refuses why result (stream (O.contents output.old) (O.contents output.new)) (stream (E.contents errors.old) (E.contents errors.new))) }
-    ensures why { (E.contents errors.new ≡ E.contents errors.old) ⊎ ((why : AnyCause) × HasFailed K.Keep F.Files target.new why × TellsCause why (stream (E.contents errors.old) (E.contents errors.new))) }
+    ensures tells { IfOk answered.now (λ answer. TellsWord answer result (stream (O.contents output.old) (O.contents output.new)) × (E.told errors.new ≡ E.told errors.old)) }
+    ensures down { OnErr answered.now ((why : AnyCause) × HasFailed K.Keep F.Files target.new why × Refuses why result (stream (O.contents output.old) (O.contents output.new)) (error_stream (E.told errors.old) (E.told errors.new))) }
+    ensures why { (E.told errors.new ≡ E.told errors.old) ⊎ ((why : AnyCause) × HasFailed K.Keep F.Files target.new why × TellsCause why (error_stream (E.told errors.old) (E.told errors.new))) }
 {
     match answered {
         Ok(answer) => say_word(output, answer),
@@ -93,7 +94,7 @@ fn say_copied<K: Keep, F: Files<K>, O: Write, E: Write>(
 }
 
 /// Copies an organization from one file to another, and prints the answer.
-pub fn copy_one<K: Keep, F: Files<K>, O: Write, E: Write>(
+pub fn copy_one<K: Keep, F: Files<K>, O: Write, E: ErrorStream>(
     alloc: Global,
     files: &mut F,
     from: &str,
@@ -103,7 +104,7 @@ pub fn copy_one<K: Keep, F: Files<K>, O: Write, E: Write>(
     errors: &mut E,
 ) -> Ending
     ensures line { AnswersLine result (stream (O.contents output.old) (O.contents output.new)) }
-    ensures copies { CopiesAt K.Keep F.Files from.now to.now org.now files.old files.new result (stream (O.contents output.old) (O.contents output.new)) (stream (E.contents errors.old) (E.contents errors.new)) }
+    ensures copies { CopiesAt K.Keep F.Files from.now to.now org.now files.old files.new result (stream (O.contents output.old) (O.contents output.new)) (error_stream (E.told errors.old) (E.told errors.new)) }
 {
     let (mut source, mut target) = match open_both(alloc, files, from, to, output, errors) {
         Ok(stores) => stores,
@@ -208,15 +209,15 @@ fn fill<K: Keep, F: Files<K>>(
     }
 }
 
-fn say_filled<O: Write, E: Write>(
+fn say_filled<O: Write, E: ErrorStream>(
     output: &mut O,
     errors: &mut E,
     filled: &Result<bool, Down>,
 ) -> Ending
     ensures line { AnswersFilled result (stream (O.contents output.old) (O.contents output.new)) }
-    ensures tells { IfOk filled.now (λ is_filled. IsSaid (filled_ending is_filled) result (O.contents output.old) (O.contents output.new) × (E.contents errors.new ≡ E.contents errors.old)) }
-    ensures down { OnErr filled.now (Refuses Cause.Unfinished result (stream (O.contents output.old) (O.contents output.new)) (stream (E.contents errors.old) (E.contents errors.new))) }
-    ensures why { (E.contents errors.new ≡ E.contents errors.old) ⊎ TellsCause Cause.Unfinished (stream (E.contents errors.old) (E.contents errors.new)) }
+    ensures tells { IfOk filled.now (λ is_filled. IsSaid (filled_ending is_filled) result (O.contents output.old) (O.contents output.new) × (E.told errors.new ≡ E.told errors.old)) }
+    ensures down { OnErr filled.now (Refuses Cause.Unfinished result (stream (O.contents output.old) (O.contents output.new)) (error_stream (E.told errors.old) (E.told errors.new))) }
+    ensures why { (E.told errors.new ≡ E.told errors.old) ⊎ TellsCause Cause.Unfinished (error_stream (E.told errors.old) (E.told errors.new)) }
 {
     match filled {
         Ok(true) => say(output, Ending::Done),
@@ -226,7 +227,7 @@ fn say_filled<O: Write, E: Write>(
 }
 
 /// Copies every organization from one file to another, which may have none.
-pub fn compact<K: Keep, F: Files<K>, O: Write, E: Write>(
+pub fn compact<K: Keep, F: Files<K>, O: Write, E: ErrorStream>(
     alloc: Global,
     files: &mut F,
     from: &str,
@@ -235,7 +236,7 @@ pub fn compact<K: Keep, F: Files<K>, O: Write, E: Write>(
     errors: &mut E,
 ) -> Ending
     ensures line { AnswersFilled result (stream (O.contents output.old) (O.contents output.new)) }
-    ensures copies { CompactsAt K.Keep F.Files from.now to.now files.old files.new result (stream (O.contents output.old) (O.contents output.new)) (stream (E.contents errors.old) (E.contents errors.new)) }
+    ensures copies { CompactsAt K.Keep F.Files from.now to.now files.old files.new result (stream (O.contents output.old) (O.contents output.new)) (error_stream (E.told errors.old) (E.told errors.new)) }
 {
     let (mut source, mut target) = match open_both(alloc, files, from, to, output, errors) {
         Ok(stores) => stores,

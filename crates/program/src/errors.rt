@@ -1,24 +1,22 @@
 //! Texts of the error stream.
-ghost use Rattle.std.specs.Prelude.{◌++◌, ◌∷◌, [], OnOk, codes, decimal};
-ghost use Rattle.std.specs.Io.KnownBytes.{Appends};
-ghost use Rattle.wire.specs.Links.{Writes};
-ghost use Rattle.program.specs.Errors.{GetsFront, connection_line, cause_line, memory_line, other_line, version_line, version_end};
-ghost use Rattle.program.specs.Replies.{fault_lines};
+ghost use Rattle.std.specs.Prelude.{◌++◌, ◌∷◌, [], List, ℕ, codes, decimal};
+ghost use Rattle.program.specs.Errors.{connection_line, cause_line, memory_line, other_line, version_line, version_end};
+ghost use Rattle.program.specs.Replies.{bad_frame_text, fault_lines};
+ghost use Rattle.program.specs.Streams.{Told, Tells, TellsBy};
 
 use crate::reasons::{Cause, OtherSchema};
+use crate::streams::ErrorStream;
 use basis::Text;
 use itoa::Buffer;
 use std::io;
-use std::io::{ErrorKind, Write};
 
-/// Writes a text, as far as the stream takes it.
-pub fn write_text<E: Write>(errors: &mut E, text: &[u8]) -> io::Result<()>
-    ensures { Writes (E.contents errors.old) (E.contents errors.new) text.now result }
+/// Writes a text, up to the first call that fails.
+fn write_text<E: ErrorStream>(errors: &mut E, text: &[u8]) -> io::Result<()>
+    ensures { TellsBy (E.told errors.old) (E.told errors.new) text.now result }
 {
     let mut rest = text;
     'writing: while !rest.is_empty() {
         match errors.write(rest) {
-            Ok(0) => return Err(io::Error::from(ErrorKind::WriteZero)),
             Ok(count) => rest = rest.split_at(count).1,
             Err(error) => return Err(error),
         }
@@ -26,8 +24,18 @@ pub fn write_text<E: Write>(errors: &mut E, text: &[u8]) -> io::Result<()>
     Ok(())
 }
 
-fn write_ended<E: Write>(errors: &mut E, text: &str) -> io::Result<()>
-    ensures { Writes (E.contents errors.old) (E.contents errors.new) (text.now ++ 10 ∷ []) result }
+/// Sends on what was written, where no call failed.
+pub fn send_on<E: ErrorStream>(errors: &mut E, written: io::Result<()>) -> io::Result<()>
+    ensures { (before : Told) (text : List ℕ) → TellsBy before (E.told errors.old) text written → TellsBy before (E.told errors.new) text result }
+{
+    match written {
+        Ok(()) => errors.flush(),
+        Err(error) => Err(error),
+    }
+}
+
+fn write_ended<E: ErrorStream>(errors: &mut E, text: &str) -> io::Result<()>
+    ensures { TellsBy (E.told errors.old) (E.told errors.new) (text.now ++ 10 ∷ []) result }
 {
     match write_text(errors, text.as_bytes()) {
         Ok(()) => write_text(errors, b"\n"),
@@ -35,8 +43,8 @@ fn write_ended<E: Write>(errors: &mut E, text: &str) -> io::Result<()>
     }
 }
 
-fn write_told<E: Write>(errors: &mut E, text: &str) -> io::Result<()>
-    ensures { Writes (E.contents errors.old) (E.contents errors.new) (codes ": " ++ text.now ++ 10 ∷ []) result }
+fn write_told<E: ErrorStream>(errors: &mut E, text: &str) -> io::Result<()>
+    ensures { TellsBy (E.told errors.old) (E.told errors.new) (codes ": " ++ text.now ++ 10 ∷ []) result }
 {
     match write_text(errors, b": ") {
         Ok(()) => write_ended(errors, text),
@@ -44,8 +52,8 @@ fn write_told<E: Write>(errors: &mut E, text: &str) -> io::Result<()>
     }
 }
 
-fn write_placed<E: Write>(errors: &mut E, place: u64, text: &str) -> io::Result<()>
-    ensures { Writes (E.contents errors.old) (E.contents errors.new) (decimal place ++ codes ": " ++ text.now ++ 10 ∷ []) result }
+fn write_placed<E: ErrorStream>(errors: &mut E, place: u64, text: &str) -> io::Result<()>
+    ensures { TellsBy (E.told errors.old) (E.told errors.new) (decimal place ++ codes ": " ++ text.now ++ 10 ∷ []) result }
 {
     let mut buffer = Buffer::new();
     let digits = buffer.format(place);
@@ -56,8 +64,8 @@ fn write_placed<E: Write>(errors: &mut E, place: u64, text: &str) -> io::Result<
 }
 
 /// Writes a line on the connection of this number.
-pub fn write_line<E: Write>(errors: &mut E, place: u64, text: &str) -> io::Result<()>
-    ensures { Writes (E.contents errors.old) (E.contents errors.new) (connection_line place text.now) result }
+pub fn write_line<E: ErrorStream>(errors: &mut E, place: u64, text: &str) -> io::Result<()>
+    ensures { TellsBy (E.told errors.old) (E.told errors.new) (connection_line place text.now) result }
 {
     match write_text(errors, b"custody: connection ") {
         Ok(()) => write_placed(errors, place, text),
@@ -65,34 +73,24 @@ pub fn write_line<E: Write>(errors: &mut E, place: u64, text: &str) -> io::Resul
     }
 }
 
-/// Writes bytes, as far as the stream takes them, and sends them on.
-pub fn send<E: Write>(errors: &mut E, text: &[u8]) -> io::Result<()>
-    ensures whole { OnOk result (Appends (E.contents errors.old) (E.contents errors.new) text.now) }
-    ensures front { GetsFront (E.contents errors.old) (E.contents errors.new) text.now }
+/// Writes a text, up to the first call that fails, and sends it on.
+pub fn note<E: ErrorStream>(errors: &mut E, text: &str) -> io::Result<()>
+    ensures by { TellsBy (E.told errors.old) (E.told errors.new) text.now result }
+    ensures told { Tells (E.told errors.old) (E.told errors.new) text.now }
 {
-    match write_text(errors, text) {
-        Ok(()) => errors.flush(),
-        Err(error) => Err(error),
-    }
+    let written = write_text(errors, text.as_bytes());
+    send_on(errors, written)
 }
 
-/// Writes a text, as far as the stream takes it, and sends it on.
-pub fn note<E: Write>(errors: &mut E, text: &str) -> io::Result<()>
-    ensures whole { OnOk result (Appends (E.contents errors.old) (E.contents errors.new) text.now) }
-    ensures front { GetsFront (E.contents errors.old) (E.contents errors.new) text.now }
-{
-    send(errors, text.as_bytes())
-}
-
-/// Says why memory, the store, the input or the network was refused, as far as the stream takes it.
-pub fn tell_cause<E: Write>(errors: &mut E, cause: Cause)
-    ensures { GetsFront (E.contents errors.old) (E.contents errors.new) (cause_line cause) }
+/// Says why memory, the store, the input or the network was refused.
+pub fn tell_cause<E: ErrorStream>(errors: &mut E, cause: Cause)
+    ensures { Tells (E.told errors.old) (E.told errors.new) (cause_line cause) }
 {
     let _ = note(errors, cause.line());
 }
 
-fn write_faults<E: Write>(errors: &mut E, faults: &[Text]) -> io::Result<()>
-    ensures { Writes (E.contents errors.old) (E.contents errors.new) (fault_lines faults.now) result }
+fn write_faults<E: ErrorStream>(errors: &mut E, faults: &[Text]) -> io::Result<()>
+    ensures { TellsBy (E.told errors.old) (E.told errors.new) (fault_lines faults.now) result }
 {
     for fault in faults {
         match write_ended(errors, fault.as_str()) {
@@ -103,8 +101,8 @@ fn write_faults<E: Write>(errors: &mut E, faults: &[Text]) -> io::Result<()>
     Ok(())
 }
 
-fn note_faults<E: Write>(errors: &mut E, cause: Cause, faults: &[Text]) -> io::Result<()>
-    ensures { Writes (E.contents errors.old) (E.contents errors.new) (cause_line cause ++ fault_lines faults.now) result }
+fn note_faults<E: ErrorStream>(errors: &mut E, cause: Cause, faults: &[Text]) -> io::Result<()>
+    ensures { TellsBy (E.told errors.old) (E.told errors.new) (cause_line cause ++ fault_lines faults.now) result }
 {
     match write_text(errors, cause.line().as_bytes()) {
         Ok(()) => write_faults(errors, faults),
@@ -112,16 +110,34 @@ fn note_faults<E: Write>(errors: &mut E, cause: Cause, faults: &[Text]) -> io::R
     }
 }
 
-/// Says what isn't done since the tables of a file aren't sound, and each fault on a line, as far as the stream takes it.
-pub fn tell_faults<E: Write>(errors: &mut E, cause: Cause, faults: &[Text])
-    ensures { GetsFront (E.contents errors.old) (E.contents errors.new) (cause_line cause ++ fault_lines faults.now) }
+/// Says what isn't done since the tables of a file aren't sound, and each fault on a line.
+pub fn tell_faults<E: ErrorStream>(errors: &mut E, cause: Cause, faults: &[Text])
+    ensures { Tells (E.told errors.old) (E.told errors.new) (cause_line cause ++ fault_lines faults.now) }
 {
-    let _ = note_faults(errors, cause, faults);
-    let _ = errors.flush();
+    let written = note_faults(errors, cause, faults);
+    let _ = send_on(errors, written);
 }
 
-fn note_memory<E: Write>(errors: &mut E, bytes: u64) -> io::Result<()>
-    ensures { Writes (E.contents errors.old) (E.contents errors.new) (memory_line bytes) result }
+fn write_frame<E: ErrorStream>(errors: &mut E, frame: usize) -> io::Result<()>
+    ensures { TellsBy (E.told errors.old) (E.told errors.new) (decimal frame ++ 10 ∷ []) result }
+{
+    let mut buffer = Buffer::new();
+    let digits = buffer.format(frame);
+    write_ended(errors, digits)
+}
+
+/// Writes the line about the frame that doesn't parse; `frame` is its place, from 1 on.
+pub fn note_bad_frame<E: ErrorStream>(errors: &mut E, frame: usize) -> io::Result<()>
+    ensures { TellsBy (E.told errors.old) (E.told errors.new) (bad_frame_text frame) result }
+{
+    match write_text(errors, b"custody: bad frame ") {
+        Ok(()) => write_frame(errors, frame),
+        Err(error) => Err(error),
+    }
+}
+
+fn note_memory<E: ErrorStream>(errors: &mut E, bytes: u64) -> io::Result<()>
+    ensures { TellsBy (E.told errors.old) (E.told errors.new) (memory_line bytes) result }
 {
     match write_text(errors, b"custody: memory was refused to open the file of ") {
         Ok(()) => write_bytes(errors, bytes),
@@ -129,8 +145,8 @@ fn note_memory<E: Write>(errors: &mut E, bytes: u64) -> io::Result<()>
     }
 }
 
-fn write_bytes<E: Write>(errors: &mut E, bytes: u64) -> io::Result<()>
-    ensures { Writes (E.contents errors.old) (E.contents errors.new) (decimal bytes ++ codes " bytes\n") result }
+fn write_bytes<E: ErrorStream>(errors: &mut E, bytes: u64) -> io::Result<()>
+    ensures { TellsBy (E.told errors.old) (E.told errors.new) (decimal bytes ++ codes " bytes\n") result }
 {
     let mut buffer = Buffer::new();
     let digits = buffer.format(bytes);
@@ -140,20 +156,20 @@ fn write_bytes<E: Write>(errors: &mut E, bytes: u64) -> io::Result<()>
     }
 }
 
-/// Says that memory was refused to open a file of so many bytes, as far as the stream takes it.
-pub fn tell_memory<E: Write>(errors: &mut E, bytes: u64)
-    ensures { GetsFront (E.contents errors.old) (E.contents errors.new) (memory_line bytes) }
+/// Says that memory was refused to open a file of so many bytes.
+pub fn tell_memory<E: ErrorStream>(errors: &mut E, bytes: u64)
+    ensures { Tells (E.told errors.old) (E.told errors.new) (memory_line bytes) }
 {
-    let _ = note_memory(errors, bytes);
-    let _ = errors.flush();
+    let written = note_memory(errors, bytes);
+    let _ = send_on(errors, written);
 }
 
 /// What is said of tables that have names of ours, where none tells a version.
 const UNTOLD: &str =
     "custody: tables in the file have names of this schema, and none tells its version\n";
 
-fn write_version<E: Write>(errors: &mut E, version: u64) -> io::Result<()>
-    ensures { Writes (E.contents errors.old) (E.contents errors.new) (decimal version ++ version_end) result }
+fn write_version<E: ErrorStream>(errors: &mut E, version: u64) -> io::Result<()>
+    ensures { TellsBy (E.told errors.old) (E.told errors.new) (decimal version ++ version_end) result }
 {
     let mut buffer = Buffer::new();
     let digits = buffer.format(version);
@@ -166,8 +182,8 @@ fn write_version<E: Write>(errors: &mut E, version: u64) -> io::Result<()>
     }
 }
 
-fn note_version<E: Write>(errors: &mut E, version: u64) -> io::Result<()>
-    ensures { Writes (E.contents errors.old) (E.contents errors.new) (version_line version) result }
+fn note_version<E: ErrorStream>(errors: &mut E, version: u64) -> io::Result<()>
+    ensures { TellsBy (E.told errors.old) (E.told errors.new) (version_line version) result }
 {
     match write_text(errors, b"custody: the file tells version ") {
         Ok(()) => write_version(errors, version),
@@ -175,16 +191,16 @@ fn note_version<E: Write>(errors: &mut E, version: u64) -> io::Result<()>
     }
 }
 
-fn tell_version<E: Write>(errors: &mut E, version: u64)
-    ensures { GetsFront (E.contents errors.old) (E.contents errors.new) (version_line version) }
+fn tell_version<E: ErrorStream>(errors: &mut E, version: u64)
+    ensures { Tells (E.told errors.old) (E.told errors.new) (version_line version) }
 {
-    let _ = note_version(errors, version);
-    let _ = errors.flush();
+    let written = note_version(errors, version);
+    let _ = send_on(errors, written);
 }
 
-/// Says what a file of another schema has, as far as the stream takes it.
-pub fn tell_other<E: Write>(errors: &mut E, other: OtherSchema)
-    ensures { GetsFront (E.contents errors.old) (E.contents errors.new) (other_line other) }
+/// Says what a file of another schema has.
+pub fn tell_other<E: ErrorStream>(errors: &mut E, other: OtherSchema)
+    ensures { Tells (E.told errors.old) (E.told errors.new) (other_line other) }
 {
     match other {
         OtherSchema::Version(version) => tell_version(errors, version),
@@ -192,8 +208,8 @@ pub fn tell_other<E: Write>(errors: &mut E, other: OtherSchema)
     }
 }
 
-fn tell_untold<E: Write>(errors: &mut E)
-    ensures { GetsFront (E.contents errors.old) (E.contents errors.new) (other_line OtherSchema.Untold) }
+fn tell_untold<E: ErrorStream>(errors: &mut E)
+    ensures { Tells (E.told errors.old) (E.told errors.new) (other_line OtherSchema.Untold) }
 {
     let _ = note(errors, UNTOLD);
 }

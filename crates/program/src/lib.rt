@@ -21,6 +21,7 @@ pub mod running;
 mod secrets;
 pub mod serving;
 mod starting;
+pub mod streams;
 pub mod totals;
 
 pub use command_line::timeouts;

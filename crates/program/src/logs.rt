@@ -2,15 +2,16 @@
 ghost use Rattle.std.specs.Prelude.{◌≡◌, OnOk};
 ghost use Rattle.std.specs.Io.KnownBytes.{Appends};
 ghost use Rattle.docs.specs.Logs.{log_line};
-ghost use Rattle.program.specs.Errors.{GetsFront};
+ghost use Rattle.wire.specs.Links.{Writes};
 ghost use Rattle.program.specs.Logs.{end_word, row_text, tells_act, Logs};
+ghost use Rattle.program.specs.Streams.{GetsFront};
 
-use crate::errors::send;
 use basis::Down;
 use docs::{LogRow, write_log_line};
 use serve::LinkFault;
 use std::alloc::Global;
-use std::io::Write;
+use std::io;
+use std::io::{ErrorKind, Write};
 
 /// The word of how an exchange ended.
 fn end_word(ended: Result<(), LinkFault>) -> &'static str
@@ -32,6 +33,32 @@ pub fn tells_act(row: &Option<LogRow>) -> bool
     match row {
         Some(row) => row.act.is_some(),
         None => false,
+    }
+}
+
+// Writes bytes, as far as the output takes them.
+fn write_bytes<O: Write>(output: &mut O, bytes: &[u8]) -> io::Result<()>
+    ensures { Writes (O.contents output.old) (O.contents output.new) bytes.now result }
+{
+    let mut rest = bytes;
+    'writing: while !rest.is_empty() {
+        match output.write(rest) {
+            Ok(0) => return Err(io::Error::from(ErrorKind::WriteZero)),
+            Ok(count) => rest = rest.split_at(count).1,
+            Err(error) => return Err(error),
+        }
+    }
+    Ok(())
+}
+
+// The same, and sends them on.
+fn send<O: Write>(output: &mut O, bytes: &[u8]) -> io::Result<()>
+    ensures whole { OnOk result (Appends (O.contents output.old) (O.contents output.new) bytes.now) }
+    ensures front { GetsFront (O.contents output.old) (O.contents output.new) bytes.now }
+{
+    match write_bytes(output, bytes) {
+        Ok(()) => output.flush(),
+        Err(error) => Err(error),
     }
 }
 

@@ -1,13 +1,15 @@
 //! Files that are opened and closed, and what is told of them.
 ghost use Rattle.std.specs.Prelude.{◌≡◌, IfOk, IfErr};
-ghost use Rattle.program.specs.Errors.{GetsFront, other_line, memory_line};
-ghost use Rattle.program.specs.Outcomes.{stream, IsSaid, TellsOfNew, TellsOfReaders, TellsOfFile, RefusesToOpen, Opens, Closes, ClosesBoth, seen_at};
+ghost use Rattle.program.specs.Errors.{other_line, memory_line};
+ghost use Rattle.program.specs.Streams.{Tells};
+ghost use Rattle.program.specs.Outcomes.{stream, error_stream, IsSaid, TellsOfNew, TellsOfReaders, TellsOfFile, RefusesToOpen, Opens, Closes, ClosesBoth, seen_at};
 
 use crate::endings::Ending;
 use crate::errors::{note, tell_memory, tell_other};
 use crate::outside::{Files, Opening};
 use crate::reasons::{Cause, OpenFault, OtherSchema};
 use crate::replies::{refuse, say};
+use crate::streams::ErrorStream;
 use machine::Keep;
 use std::io::Write;
 
@@ -22,24 +24,24 @@ const OTHERS_READ: &str =
 /// What is said where no file lay at a path.
 const NEW_FILE: &str = "custody: there was no file at the path: a new one was made\n";
 
-fn tell_of_readers<E: Write>(errors: &mut E, others_may_read: bool)
-    ensures { TellsOfReaders others_may_read (stream (E.contents errors.old) (E.contents errors.new)) }
+fn tell_of_readers<E: ErrorStream>(errors: &mut E, others_may_read: bool)
+    ensures { TellsOfReaders others_may_read (error_stream (E.told errors.old) (E.told errors.new)) }
 {
     if others_may_read {
         let _ = note(errors, OTHERS_READ);
     }
 }
 
-fn tell_of_new<E: Write>(errors: &mut E, is_new: bool)
-    ensures { TellsOfNew is_new (stream (E.contents errors.old) (E.contents errors.new)) }
+fn tell_of_new<E: ErrorStream>(errors: &mut E, is_new: bool)
+    ensures { TellsOfNew is_new (error_stream (E.told errors.old) (E.told errors.new)) }
 {
     if is_new {
         let _ = note(errors, NEW_FILE);
     }
 }
 
-fn tell_of_file<E: Write>(errors: &mut E, is_new: bool, others_may_read: bool)
-    ensures { TellsOfFile is_new others_may_read (stream (E.contents errors.old) (E.contents errors.new)) }
+fn tell_of_file<E: ErrorStream>(errors: &mut E, is_new: bool, others_may_read: bool)
+    ensures { TellsOfFile is_new others_may_read (error_stream (E.told errors.old) (E.told errors.new)) }
 {
     tell_of_new(errors, is_new);
     tell_of_readers(errors, others_may_read);
@@ -55,32 +57,36 @@ fn seen_at(opening: Opening, cause: Cause) -> Cause
     }
 }
 
-fn refuse_other<O: Write, E: Write>(output: &mut O, errors: &mut E, other: OtherSchema) -> Ending
+fn refuse_other<O: Write, E: ErrorStream>(
+    output: &mut O,
+    errors: &mut E,
+    other: OtherSchema,
+) -> Ending
     ensures schema { IsSaid Ending.Schema result (O.contents output.old) (O.contents output.new) }
-    ensures why { GetsFront (E.contents errors.old) (E.contents errors.new) (other_line other) }
+    ensures why { Tells (E.told errors.old) (E.told errors.new) (other_line other) }
 {
     tell_other(errors, other);
     say(output, Ending::Schema)
 }
 
-fn refuse_memory<O: Write, E: Write>(output: &mut O, errors: &mut E, bytes: u64) -> Ending
+fn refuse_memory<O: Write, E: ErrorStream>(output: &mut O, errors: &mut E, bytes: u64) -> Ending
     ensures said { IsSaid Ending.Down result (O.contents output.old) (O.contents output.new) }
-    ensures why { GetsFront (E.contents errors.old) (E.contents errors.new) (memory_line bytes) }
+    ensures why { Tells (E.told errors.old) (E.told errors.new) (memory_line bytes) }
 {
     tell_memory(errors, bytes);
     say(output, Ending::Down)
 }
 
 /// Opens the store of a path, and tells of its file; or says why it isn't opened.
-pub fn open_one<K: Keep, F: Files<K>, O: Write, E: Write>(
+pub fn open_one<K: Keep, F: Files<K>, O: Write, E: ErrorStream>(
     files: &mut F,
     path: &str,
     opening: Opening,
     output: &mut O,
     errors: &mut E,
 ) -> Result<K, Ending>
-    ensures opened { IfOk result (λ store. Opens K.Keep F.Files path.now opening files.old files.new store (stream (E.contents errors.old) (E.contents errors.new)) × (O.contents output.new ≡ O.contents output.old)) }
-    ensures refused { IfErr result (λ ending. RefusesToOpen K.Keep F.Files path.now opening files.old files.new ending (stream (O.contents output.old) (O.contents output.new)) (stream (E.contents errors.old) (E.contents errors.new))) }
+    ensures opened { IfOk result (λ store. Opens K.Keep F.Files path.now opening files.old files.new store (error_stream (E.told errors.old) (E.told errors.new)) × (O.contents output.new ≡ O.contents output.old)) }
+    ensures refused { IfErr result (λ ending. RefusesToOpen K.Keep F.Files path.now opening files.old files.new ending (stream (O.contents output.old) (O.contents output.new)) (error_stream (E.told errors.old) (E.told errors.new))) }
 {
     let is_new = files.is_absent(path);
     let others_may_read = files.others_may_read(path);
@@ -96,13 +102,13 @@ pub fn open_one<K: Keep, F: Files<K>, O: Write, E: Write>(
 }
 
 /// Closes the store of a path, and says where its log stays.
-pub fn close_after<K: Keep, F: Files<K>, E: Write>(
+pub fn close_after<K: Keep, F: Files<K>, E: ErrorStream>(
     files: &mut F,
     path: &str,
     store: K,
     errors: &mut E,
 )
-    ensures { Closes K.Keep F.Files path.now files.old files.new store (stream (E.contents errors.old) (E.contents errors.new)) }
+    ensures { Closes K.Keep F.Files path.now files.old files.new store (error_stream (E.told errors.old) (E.told errors.new)) }
 {
     if files.close(path, store).is_err() {
         let _ = note(errors, LOG_STAYS);
@@ -110,7 +116,7 @@ pub fn close_after<K: Keep, F: Files<K>, E: Write>(
 }
 
 /// Closes the stores of two paths, the second first.
-pub fn close_both<K: Keep, F: Files<K>, E: Write>(
+pub fn close_both<K: Keep, F: Files<K>, E: ErrorStream>(
     files: &mut F,
     from: &str,
     source: K,
@@ -118,7 +124,7 @@ pub fn close_both<K: Keep, F: Files<K>, E: Write>(
     target: K,
     errors: &mut E,
 )
-    ensures { ClosesBoth K.Keep F.Files from.now to.now files.old files.new source target (stream (E.contents errors.old) (E.contents errors.new)) }
+    ensures { ClosesBoth K.Keep F.Files from.now to.now files.old files.new source target (error_stream (E.told errors.old) (E.told errors.new)) }
 {
     close_after(files, to, target, errors);
     close_after(files, from, source, errors);

@@ -3,8 +3,8 @@ ghost use Rattle.std.specs.Prelude.{◌≡◌, ◌⊎◌, ◌<◌, IfOk, OnOk, I
 ghost use Rattle.program.specs.declared.reasons.Cause.{Cause as AnyCause};
 ghost use Rattle.command_line.specs.Orders.{with_secret};
 ghost use Rattle.machine.specs.Keeping.{Looks};
-ghost use Rattle.program.specs.Errors.{GetsFront};
-ghost use Rattle.program.specs.Outcomes.{stream, AnswersLine, AnswersList, AnswersTokens, TellsList, TellsTokens, TellsAnswer, IsOperated, AnswersCommand, HasSecret, HasNoSecret, IsSecretOf, AddsToken, OperatesAt, AddsTokenAt, TellsCause, opening_of, FailsAs, HasFailed};
+ghost use Rattle.program.specs.Streams.{Tells};
+ghost use Rattle.program.specs.Outcomes.{stream, error_stream, AnswersLine, AnswersList, AnswersTokens, TellsList, TellsTokens, TellsAnswer, IsOperated, AnswersCommand, HasSecret, HasNoSecret, IsSecretOf, AddsToken, OperatesAt, AddsTokenAt, TellsCause, opening_of, FailsAs, HasFailed};
 ghost use Rattle.program.specs.Inner.Outcomes.{IsSaidWhy};
 
 use crate::endings::Ending;
@@ -15,6 +15,7 @@ use crate::reasons::Cause;
 use crate::replays::read_all;
 use crate::replies::{print_organizations, print_tokens, refuse, say, say_word};
 use crate::secrets::read_secret;
+use crate::streams::ErrorStream;
 use basis::{Down, Moment, Secret, Unfit};
 use command_line::NewToken;
 use machine::{AdminAnswer, Keep};
@@ -27,14 +28,14 @@ const SECRET_FORM: &str =
     "custody: the secret isn't one line of 16 to 64 ASCII letters or digits\n";
 
 /// Says why on the error stream, and the ending on standard output.
-pub fn say_why<O: Write, E: Write>(
+pub fn say_why<O: Write, E: ErrorStream>(
     output: &mut O,
     errors: &mut E,
     ending: Ending,
     why: &str,
 ) -> Ending
-    ensures said { 0 < length why.now → IsSaidWhy ending result (stream (O.contents output.old) (O.contents output.new)) (stream (E.contents errors.old) (E.contents errors.new)) }
-    ensures front { GetsFront (E.contents errors.old) (E.contents errors.new) why.now }
+    ensures said { 0 < length why.now → IsSaidWhy ending result (stream (O.contents output.old) (O.contents output.new)) (error_stream (E.told errors.old) (E.told errors.new)) }
+    ensures told { Tells (E.told errors.old) (E.told errors.new) why.now }
 {
     let noted = note(errors, why);
     let said = say(output, ending);
@@ -103,7 +104,7 @@ pub fn failure<K: Keep, F: Files<K>>(files: &F, store: &mut K) -> Cause
 
 /// Carries out an operator's command over a store, prints its answer, and gives the store back. It looks
 /// at no clock: no answer to an operator's command depends on the moment.
-fn operate<K: Keep, F: Files<K>, O: Write, E: Write>(
+fn operate<K: Keep, F: Files<K>, O: Write, E: ErrorStream>(
     alloc: Global,
     files: &F,
     keep: K,
@@ -115,8 +116,8 @@ fn operate<K: Keep, F: Files<K>, O: Write, E: Write>(
     ensures shield { K.shielded keep → K.shielded result.1 }
     ensures kept { K.clean result.1 → K.sound keep → K.sound result.1 }
     ensures line { AnswersCommand command.now result.0 (stream (O.contents output.old) (O.contents output.new)) }
-    ensures model { K.clean result.1 → K.sound keep → IsOperated (HasFailed K.Keep F.Files result.1) command.now (K.rows keep) (K.rows result.1) result.0 (stream (O.contents output.old) (O.contents output.new)) (stream (E.contents errors.old) (E.contents errors.new)) }
-    ensures why { (E.contents errors.new ≡ E.contents errors.old) ⊎ ((why : AnyCause) × HasFailed K.Keep F.Files result.1 why × TellsCause why (stream (E.contents errors.old) (E.contents errors.new))) }
+    ensures model { K.clean result.1 → K.sound keep → IsOperated (HasFailed K.Keep F.Files result.1) command.now (K.rows keep) (K.rows result.1) result.0 (stream (O.contents output.old) (O.contents output.new)) (error_stream (E.told errors.old) (E.told errors.new)) }
+    ensures why { (E.told errors.new ≡ E.told errors.old) ⊎ ((why : AnyCause) × HasFailed K.Keep F.Files result.1 why × TellsCause why (error_stream (E.told errors.old) (E.told errors.new))) }
 {
     let mut service = Service::new(keep);
     let answered = service.admin(alloc, Moment::new(0).unwrap(), command);
@@ -142,7 +143,7 @@ fn opening_of(command: &Admin) -> Opening
     }
 }
 
-pub fn carry_out<K: Keep, F: Files<K>, O: Write, E: Write>(
+pub fn carry_out<K: Keep, F: Files<K>, O: Write, E: ErrorStream>(
     alloc: Global,
     files: &mut F,
     db: &str,
@@ -151,7 +152,7 @@ pub fn carry_out<K: Keep, F: Files<K>, O: Write, E: Write>(
     errors: &mut E,
 ) -> Ending
     ensures line { AnswersCommand command.now result (stream (O.contents output.old) (O.contents output.new)) }
-    ensures operates { OperatesAt K.Keep F.Files db.now command.now files.old files.new result (stream (O.contents output.old) (O.contents output.new)) (stream (E.contents errors.old) (E.contents errors.new)) }
+    ensures operates { OperatesAt K.Keep F.Files db.now command.now files.old files.new result (stream (O.contents output.old) (O.contents output.new)) (error_stream (E.told errors.old) (E.told errors.new)) }
 {
     let store = match open_one(files, db, opening_of(command), output, errors) {
         Ok(store) => store,
@@ -162,7 +163,7 @@ pub fn carry_out<K: Keep, F: Files<K>, O: Write, E: Write>(
     ending
 }
 
-fn add_token<K: Keep, F: Files<K>, O: Write, E: Write>(
+fn add_token<K: Keep, F: Files<K>, O: Write, E: ErrorStream>(
     alloc: Global,
     files: &mut F,
     db: &str,
@@ -172,7 +173,7 @@ fn add_token<K: Keep, F: Files<K>, O: Write, E: Write>(
     errors: &mut E,
 ) -> Ending
     ensures line { AnswersLine result (stream (O.contents output.old) (O.contents output.new)) }
-    ensures operates { OperatesAt K.Keep F.Files db.now (with_secret token secret) files.old files.new result (stream (O.contents output.old) (O.contents output.new)) (stream (E.contents errors.old) (E.contents errors.new)) }
+    ensures operates { OperatesAt K.Keep F.Files db.now (with_secret token secret) files.old files.new result (stream (O.contents output.old) (O.contents output.new)) (error_stream (E.told errors.old) (E.told errors.new)) }
 {
     let command = token.with_secret(secret);
     carry_out(alloc, files, db, &command, output, errors)
@@ -190,7 +191,7 @@ fn input_secret<I: Read>(alloc: Global, input: &mut I) -> Result<Secret, Unfit>
     }
 }
 
-pub fn read_and_add<K: Keep, F: Files<K>, I: Read, O: Write, E: Write>(
+pub fn read_and_add<K: Keep, F: Files<K>, I: Read, O: Write, E: ErrorStream>(
     alloc: Global,
     files: &mut F,
     db: &str,
@@ -199,8 +200,8 @@ pub fn read_and_add<K: Keep, F: Files<K>, I: Read, O: Write, E: Write>(
     output: &mut O,
     errors: &mut E,
 ) -> Ending
-    ensures line { AddsToken (I.remaining input.old) result (stream (O.contents output.old) (O.contents output.new)) (stream (E.contents errors.old) (E.contents errors.new)) }
-    ensures adds { AddsTokenAt K.Keep F.Files db.now (with_secret token) (I.remaining input.old) files.old files.new result (stream (O.contents output.old) (O.contents output.new)) (stream (E.contents errors.old) (E.contents errors.new)) }
+    ensures line { AddsToken (I.remaining input.old) result (stream (O.contents output.old) (O.contents output.new)) (error_stream (E.told errors.old) (E.told errors.new)) }
+    ensures adds { AddsTokenAt K.Keep F.Files db.now (with_secret token) (I.remaining input.old) files.old files.new result (stream (O.contents output.old) (O.contents output.new)) (error_stream (E.told errors.old) (E.told errors.new)) }
 {
     match input_secret(alloc, input) {
         Ok(secret) => add_token(alloc, files, db, token, secret, output, errors),

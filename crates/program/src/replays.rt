@@ -3,14 +3,17 @@ ghost use Rattle.std.specs.Prelude.{◌≡◌, ◌⊎◌, ℕ, List, None, IfSom
 ghost use Rattle.std.specs.Io.KnownBytes.{Appends};
 ghost use Rattle.program.specs.Replies.{printed, bad_frame_text, AreReplies, AnswersFrames};
 ghost use Rattle.program.specs.Endings.{status_of};
-ghost use Rattle.program.specs.Outcomes.{ReplaysFrames};
+ghost use Rattle.program.specs.Outcomes.{stream, error_stream, ReplaysFrames};
+ghost use Rattle.program.specs.Streams.{GetsWhole};
 ghost use Rattle.program.specs.declared.endings.Ending.{Ending};
 
 use crate::endings::Ending;
+use crate::errors::note_bad_frame;
 use crate::frames::read_frames;
 use crate::outside::Files;
 use crate::reasons::Cause;
-use crate::replies::{print_bad_frame, print_replies, refuse};
+use crate::replies::{print_replies, refuse};
+use crate::streams::ErrorStream;
 use basis::{Bytes, Down};
 use machine::Keep;
 use serve::{Service, Step};
@@ -77,13 +80,13 @@ fn print_all<O: Write>(output: &mut O, replies: &[Bytes]) -> io::Result<()>
     output.flush()
 }
 
-fn end_at<E: Write>(errors: &mut E, bad_frame: Option<usize>) -> Ending
+fn end_at<E: ErrorStream>(errors: &mut E, bad_frame: Option<usize>) -> Ending
     ensures done { bad_frame ≡ None → result ≡ Ending.Done }
-    ensures bad { IfSome bad_frame (λ frame. ((result ≡ Ending.BadFrame) × Appends (E.contents errors.old) (E.contents errors.new) (bad_frame_text frame)) ⊎ (result ≡ Ending.Unprinted)) }
+    ensures bad { IfSome bad_frame (λ frame. ((result ≡ Ending.BadFrame) × GetsWhole (E.told errors.old) (E.told errors.new) (bad_frame_text frame)) ⊎ (result ≡ Ending.Unprinted)) }
 {
     match bad_frame {
         None => Ending::Done,
-        Some(frame) => match print_bad_frame(errors, frame) {
+        Some(frame) => match note_bad_frame(errors, frame) {
             Ok(()) => Ending::BadFrame,
             Err(_) => Ending::Unprinted,
         },
@@ -91,14 +94,14 @@ fn end_at<E: Write>(errors: &mut E, bad_frame: Option<usize>) -> Ending
 }
 
 /// Reads frames up to the first that doesn't parse, replays them and prints the replies.
-pub fn replay_frames<K: Keep, F: Files<K>, I: Read, O: Write, E: Write>(
+pub fn replay_frames<K: Keep, F: Files<K>, I: Read, O: Write, E: ErrorStream>(
     alloc: Global,
     files: &F,
     input: &mut I,
     output: &mut O,
     errors: &mut E,
 ) -> Ending
-    ensures { ReplaysFrames (I.remaining input.old) result (record { old = O.contents output.old; new = O.contents output.new }) (record { old = E.contents errors.old; new = E.contents errors.new }) }
+    ensures { ReplaysFrames (I.remaining input.old) result (stream (O.contents output.old) (O.contents output.new)) (error_stream (E.told errors.old) (E.told errors.new)) }
 {
     let Ok(replay) = answer_input::<K, F, I>(alloc, files, input) else {
         return refuse(output, errors, Cause::Input);
@@ -110,14 +113,14 @@ pub fn replay_frames<K: Keep, F: Files<K>, I: Read, O: Write, E: Write>(
 }
 
 /// As `replay_frames`. The result is the exit status.
-pub fn run_frames<K: Keep, F: Files<K>, I: Read, O: Write, E: Write>(
+pub fn run_frames<K: Keep, F: Files<K>, I: Read, O: Write, E: ErrorStream>(
     alloc: Global,
     files: &F,
     input: &mut I,
     output: &mut O,
     errors: &mut E,
 ) -> u8
-    ensures { (ending : Ending) × (result ≡ status_of ending) × ReplaysFrames (I.remaining input.old) ending (record { old = O.contents output.old; new = O.contents output.new }) (record { old = E.contents errors.old; new = E.contents errors.new }) }
+    ensures { (ending : Ending) × (result ≡ status_of ending) × ReplaysFrames (I.remaining input.old) ending (stream (O.contents output.old) (O.contents output.new)) (error_stream (E.told errors.old) (E.told errors.new)) }
 {
     replay_frames::<K, F, I, O, E>(alloc, files, input, output, errors).status()
 }

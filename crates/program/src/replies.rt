@@ -1,8 +1,9 @@
 //! What the program prints.
 ghost use Rattle.std.specs.Prelude.{OnOk};
 ghost use Rattle.std.specs.Io.KnownBytes.{Appends};
-ghost use Rattle.program.specs.Errors.{GetsFront, cause_line};
-ghost use Rattle.program.specs.Replies.{reply_frame, printed, bad_frame_text, answer_line, fault_lines};
+ghost use Rattle.program.specs.Errors.{cause_line};
+ghost use Rattle.program.specs.Replies.{reply_frame, printed, answer_line, fault_lines};
+ghost use Rattle.program.specs.Streams.{Tells};
 ghost use Rattle.program.specs.Totals.{sound_text, version_text};
 ghost use Rattle.program.specs.Outcomes.{stream, IsSaid, AnswersLine, TellsWord};
 ghost use Rattle.serve.specs.Service.{org_lines, token_lines};
@@ -10,6 +11,7 @@ ghost use Rattle.serve.specs.Service.{org_lines, token_lines};
 use crate::endings::Ending;
 use crate::errors::tell_cause;
 use crate::reasons::Cause;
+use crate::streams::ErrorStream;
 use crate::totals::{Totals, print_totals};
 use basis::{Bytes, Text};
 use machine::{AdminAnswer, OrgRow, TokenRow};
@@ -33,13 +35,6 @@ pub fn print_replies<W: Write>(output: &mut W, replies: &[Bytes]) -> io::Result<
         print_reply(output, reply.as_slice())?;
     }
     Ok(())
-}
-
-/// Prints the line about the frame that doesn't parse; `frame` is its place, from 1 on.
-pub fn print_bad_frame<W: Write>(errors: &mut W, frame: usize) -> io::Result<()>
-    ensures { OnOk result (Appends (W.contents errors.old) (W.contents errors.new) (bad_frame_text frame)) }
-{
-    writeln!(errors, "custody: bad frame {frame}")
 }
 
 /// Prints an answer of one line, and sends on what a buffer holds.
@@ -102,18 +97,22 @@ pub fn say<O: Write>(output: &mut O, ending: Ending) -> Ending
 }
 
 /// Says why on the error stream, and `refused down` on standard output.
-pub fn refuse<O: Write, E: Write>(output: &mut O, errors: &mut E, cause: Cause) -> Ending
+pub fn refuse<O: Write, E: ErrorStream>(output: &mut O, errors: &mut E, cause: Cause) -> Ending
     ensures said { IsSaid Ending.Down result (O.contents output.old) (O.contents output.new) }
-    ensures why { GetsFront (E.contents errors.old) (E.contents errors.new) (cause_line cause) }
+    ensures why { Tells (E.told errors.old) (E.told errors.new) (cause_line cause) }
 {
     tell_cause(errors, cause);
     say(output, Ending::Down)
 }
 
 /// Says why on the error stream, and `refused usage` on standard output.
-pub fn refuse_usage<O: Write, E: Write>(output: &mut O, errors: &mut E, cause: Cause) -> Ending
+pub fn refuse_usage<O: Write, E: ErrorStream>(
+    output: &mut O,
+    errors: &mut E,
+    cause: Cause,
+) -> Ending
     ensures said { IsSaid Ending.Usage result (O.contents output.old) (O.contents output.new) }
-    ensures why { GetsFront (E.contents errors.old) (E.contents errors.new) (cause_line cause) }
+    ensures why { Tells (E.told errors.old) (E.told errors.new) (cause_line cause) }
 {
     tell_cause(errors, cause);
     say(output, Ending::Usage)

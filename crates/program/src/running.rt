@@ -3,7 +3,7 @@ ghost use Rattle.std.specs.Prelude.{◌≡◌, ◌<◌, ℕ, List, length, Optio
 ghost use Rattle.program.specs.Endings.{status_of};
 ghost use Rattle.command_line.specs.Orders.{said_by};
 ghost use Rattle.command_line.specs.Words.{words_bytes, IsWhy, AskForHelp, AreNoCommand};
-ghost use Rattle.program.specs.Outcomes.{stream, Does, TellsVersion, RefusesWords, outside, Leaves, Runs, RunsOver, TellsEnd};
+ghost use Rattle.program.specs.Outcomes.{stream, error_stream, Does, TellsVersion, RefusesWords, outside, Leaves, Runs, RunsOver, TellsEnd};
 ghost use Rattle.program.specs.declared.endings.Ending.{Ending};
 
 use crate::checking::check;
@@ -16,6 +16,7 @@ use crate::reasons::Cause;
 use crate::replays::replay_frames;
 use crate::replies::{print_version, refuse};
 use crate::starting::serve_as_asked;
+use crate::streams::ErrorStream;
 use command_line::{Order, Unasked, read_words};
 use machine::Keep;
 use std::alloc::Global;
@@ -34,7 +35,7 @@ fn say_version<O: Write>(output: &mut O, schema: u64) -> Ending
     }
 }
 
-fn run_order<K: Keep, F: Files<K>, N: Connections, C: Clock, I: Read, O: Write, E: Write>(
+fn run_order<K: Keep, F: Files<K>, N: Connections, C: Clock, I: Read, O: Write, E: ErrorStream>(
     alloc: Global,
     files: &mut F,
     network: &mut N,
@@ -44,8 +45,8 @@ fn run_order<K: Keep, F: Files<K>, N: Connections, C: Clock, I: Read, O: Write, 
     output: &mut O,
     errors: &mut E,
 ) -> Ending
-    ensures does { Does F.newest (said_by order.entry) (I.remaining input.old) result (stream (O.contents output.old) (O.contents output.new)) (stream (E.contents errors.old) (E.contents errors.new)) }
-    ensures leaves { Leaves K.Keep F.Files N.Connections C.Clock N.Reader.Inlet N.Writer.Outlet (said_by order.entry) (I.remaining input.old) (outside files.old network.old clock.old) (outside files.new network.new clock.new) result (stream (O.contents output.old) (O.contents output.new)) (stream (E.contents errors.old) (E.contents errors.new)) }
+    ensures does { Does F.newest (said_by order.entry) (I.remaining input.old) result (stream (O.contents output.old) (O.contents output.new)) (error_stream (E.told errors.old) (E.told errors.new)) }
+    ensures leaves { Leaves K.Keep F.Files N.Connections C.Clock N.Reader.Inlet N.Writer.Outlet (said_by order.entry) (I.remaining input.old) (outside files.old network.old clock.old) (outside files.new network.new clock.new) result (stream (O.contents output.old) (O.contents output.new)) (error_stream (E.told errors.old) (E.told errors.new)) }
 {
     match order {
         Order::Carry { db, command } => carry_out(alloc, files, db, &command, output, errors),
@@ -70,8 +71,8 @@ fn run_order<K: Keep, F: Files<K>, N: Connections, C: Clock, I: Read, O: Write, 
     }
 }
 
-fn tell_help<E: Write>(errors: &mut E, help: &str) -> Ending
-    ensures { (words : List (List ℕ)) (output : Option (List ℕ)) → AskForHelp words → 0 < length help.now → RefusesWords words result (stream output output) (stream (E.contents errors.old) (E.contents errors.new)) }
+fn tell_help<E: ErrorStream>(errors: &mut E, help: &str) -> Ending
+    ensures { (words : List (List ℕ)) (output : Option (List ℕ)) → AskForHelp words → 0 < length help.now → RefusesWords words result (stream output output) (error_stream (E.told errors.old) (E.told errors.new)) }
 {
     match note(errors, help) {
         Ok(()) => Ending::Done,
@@ -79,14 +80,14 @@ fn tell_help<E: Write>(errors: &mut E, help: &str) -> Ending
     }
 }
 
-fn refuse_error<O: Write, E: Write>(output: &mut O, errors: &mut E, text: &str) -> Ending
-    ensures { (words : List (List ℕ)) → AreNoCommand words → 0 < length text.now → RefusesWords words result (stream (O.contents output.old) (O.contents output.new)) (stream (E.contents errors.old) (E.contents errors.new)) }
+fn refuse_error<O: Write, E: ErrorStream>(output: &mut O, errors: &mut E, text: &str) -> Ending
+    ensures { (words : List (List ℕ)) → AreNoCommand words → 0 < length text.now → RefusesWords words result (stream (O.contents output.old) (O.contents output.new)) (error_stream (E.told errors.old) (E.told errors.new)) }
 {
     say_why(output, errors, Ending::Usage, text)
 }
 
-fn refuse_words<O: Write, E: Write>(output: &mut O, errors: &mut E, why: Unasked) -> Ending
-    ensures { (words : List (List ℕ)) → IsWhy words why → RefusesWords words result (stream (O.contents output.old) (O.contents output.new)) (stream (E.contents errors.old) (E.contents errors.new)) }
+fn refuse_words<O: Write, E: ErrorStream>(output: &mut O, errors: &mut E, why: Unasked) -> Ending
+    ensures { (words : List (List ℕ)) → IsWhy words why → RefusesWords words result (stream (O.contents output.old) (O.contents output.new)) (error_stream (E.told errors.old) (E.told errors.new)) }
 {
     match why {
         Unasked::Help(help) => tell_help(errors, help.as_str()),
@@ -96,7 +97,7 @@ fn refuse_words<O: Write, E: Write>(output: &mut O, errors: &mut E, why: Unasked
     }
 }
 
-fn run<K: Keep, F: Files<K>, N: Connections, C: Clock, I: Read, O: Write, E: Write>(
+fn run<K: Keep, F: Files<K>, N: Connections, C: Clock, I: Read, O: Write, E: ErrorStream>(
     alloc: Global,
     files: &mut F,
     network: &mut N,
@@ -106,7 +107,7 @@ fn run<K: Keep, F: Files<K>, N: Connections, C: Clock, I: Read, O: Write, E: Wri
     output: &mut O,
     errors: &mut E,
 ) -> Ending
-    ensures { RunsOver K.Keep F.Files N.Connections C.Clock N.Reader.Inlet N.Writer.Outlet (words_bytes words.now) (I.remaining input.old) (outside files.old network.old clock.old) (outside files.new network.new clock.new) result (stream (O.contents output.old) (O.contents output.new)) (stream (E.contents errors.old) (E.contents errors.new)) }
+    ensures { RunsOver K.Keep F.Files N.Connections C.Clock N.Reader.Inlet N.Writer.Outlet (words_bytes words.now) (I.remaining input.old) (outside files.old network.old clock.old) (outside files.new network.new clock.new) result (stream (O.contents output.old) (O.contents output.new)) (error_stream (E.told errors.old) (E.told errors.new)) }
 {
     match read_words(alloc, words) {
         Ok(order) => run_order(alloc, files, network, clock, order, input, output, errors),
@@ -114,9 +115,9 @@ fn run<K: Keep, F: Files<K>, N: Connections, C: Clock, I: Read, O: Write, E: Wri
     }
 }
 
-// Where a stream took not all, the error stream is told so, as far as it takes that.
-fn tell_end<E: Write>(errors: &mut E, ending: Ending)
-    ensures { TellsEnd ending (stream (E.contents errors.old) (E.contents errors.new)) }
+// Where a stream took not all, the error stream is told so.
+fn tell_end<E: ErrorStream>(errors: &mut E, ending: Ending)
+    ensures { TellsEnd ending (error_stream (E.told errors.old) (E.told errors.new)) }
 {
     if ending == Ending::Unprinted {
         let _ = note(errors, UNPRINTED);
@@ -125,7 +126,7 @@ fn tell_end<E: Write>(errors: &mut E, ending: Ending)
 
 /// Runs the command that the words ask for; they come without the program's name. The result is the exit
 /// status.
-pub fn run_words<K: Keep, F: Files<K>, N: Connections, C: Clock, I: Read, O: Write, E: Write>(
+pub fn run_words<K: Keep, F: Files<K>, N: Connections, C: Clock, I: Read, O: Write, E: ErrorStream>(
     alloc: Global,
     files: &mut F,
     network: &mut N,
@@ -135,7 +136,7 @@ pub fn run_words<K: Keep, F: Files<K>, N: Connections, C: Clock, I: Read, O: Wri
     output: &mut O,
     errors: &mut E,
 ) -> u8
-    ensures { (ending : Ending) × (result ≡ status_of ending) × Runs K.Keep F.Files N.Connections C.Clock N.Reader.Inlet N.Writer.Outlet (words_bytes words.now) (I.remaining input.old) (outside files.old network.old clock.old) (outside files.new network.new clock.new) ending (stream (O.contents output.old) (O.contents output.new)) (stream (E.contents errors.old) (E.contents errors.new)) }
+    ensures { (ending : Ending) × (result ≡ status_of ending) × Runs K.Keep F.Files N.Connections C.Clock N.Reader.Inlet N.Writer.Outlet (words_bytes words.now) (I.remaining input.old) (outside files.old network.old clock.old) (outside files.new network.new clock.new) ending (stream (O.contents output.old) (O.contents output.new)) (error_stream (E.told errors.old) (E.told errors.new)) }
 {
     let ending = run(alloc, files, network, clock, words, input, output, errors);
     tell_end(errors, ending);

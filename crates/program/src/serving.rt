@@ -3,16 +3,17 @@
 ghost use Rattle.std.specs.Prelude.{◌≡◌, ◌++◌, ℕ, List, Ok, Some, IfOk, IfErr, IfSome, OnOk, true, false};
 ghost use Rattle.std.specs.Io.KnownBytes.{Appends, Consumes};
 ghost use Rattle.serve.specs.Exchanges.{Exchanges, ChangesAsTold};
-ghost use Rattle.wire.specs.Links.{Writes};
 ghost use Rattle.program.specs.Errors.{GetsConnectionLines, fault_text, down_line, fault_line};
 ghost use Rattle.program.specs.Serving.{listening_line, ListensAt, Serves, state, AcceptsNone, AnswersOne, Answers, Tends, AnswersNext, EndsEarly, AnswersCount, LogTellsChanges};
+ghost use Rattle.program.specs.Streams.{TellsBy};
 ghost use Rattle.program.specs.Inner.Serving.{TakesOne};
 
 use crate::endings::Ending;
-use crate::errors::{tell_cause, write_line};
+use crate::errors::{send_on, tell_cause, write_line};
 use crate::logs::{log_row, tells_act};
 use crate::outside::{Clock, Connections, Files};
 use crate::reasons::Cause;
+use crate::streams::ErrorStream;
 use basis::Moment;
 use basis::numbers::MAX_MOMENT;
 use command_line::timeouts::Timeouts;
@@ -36,8 +37,8 @@ fn fault_text(fault: LinkFault) -> &'static str
 
 const DOWN: &str = "memory or the store was refused, answered 503";
 
-fn tell_down<E: Write>(errors: &mut E, place: u64, is_down: bool) -> io::Result<()>
-    ensures { Writes (E.contents errors.old) (E.contents errors.new) (down_line place is_down) result }
+fn tell_down<E: ErrorStream>(errors: &mut E, place: u64, is_down: bool) -> io::Result<()>
+    ensures { TellsBy (E.told errors.old) (E.told errors.new) (down_line place is_down) result }
 {
     if is_down {
         write_line(errors, place, DOWN)
@@ -46,8 +47,12 @@ fn tell_down<E: Write>(errors: &mut E, place: u64, is_down: bool) -> io::Result<
     }
 }
 
-fn tell_fault<E: Write>(errors: &mut E, place: u64, ended: Result<(), LinkFault>) -> io::Result<()>
-    ensures { Writes (E.contents errors.old) (E.contents errors.new) (fault_line place ended) result }
+fn tell_fault<E: ErrorStream>(
+    errors: &mut E,
+    place: u64,
+    ended: Result<(), LinkFault>,
+) -> io::Result<()>
+    ensures { TellsBy (E.told errors.old) (E.told errors.new) (fault_line place ended) result }
 {
     match ended {
         Ok(()) => Ok(()),
@@ -55,24 +60,26 @@ fn tell_fault<E: Write>(errors: &mut E, place: u64, ended: Result<(), LinkFault>
     }
 }
 
-// What is told of a connection on the error stream, where there is something to tell.
-fn tell<E: Write>(
+fn write_lines<E: ErrorStream>(
     errors: &mut E,
     place: u64,
     ended: Result<(), LinkFault>,
     is_down: bool,
 ) -> io::Result<()>
-    ensures whole { OnOk result (Appends (E.contents errors.old) (E.contents errors.new) (down_line place is_down ++ fault_line place ended)) }
-    ensures front { GetsConnectionLines place is_down ended (E.contents errors.old) (E.contents errors.new) }
+    ensures { TellsBy (E.told errors.old) (E.told errors.new) (down_line place is_down ++ fault_line place ended) result }
 {
     match tell_down(errors, place, is_down) {
-        Ok(()) => {}
-        Err(error) => return Err(error),
-    }
-    match tell_fault(errors, place, ended) {
-        Ok(()) => errors.flush(),
+        Ok(()) => tell_fault(errors, place, ended),
         Err(error) => Err(error),
     }
+}
+
+// What is told of a connection on the error stream, where there is something to tell.
+fn tell<E: ErrorStream>(errors: &mut E, place: u64, ended: Result<(), LinkFault>, is_down: bool)
+    ensures { GetsConnectionLines place is_down ended (E.told errors.old) (E.told errors.new) }
+{
+    let written = write_lines(errors, place, ended, is_down);
+    let _ = send_on(errors, written);
 }
 
 fn exchange_one<K: Keep, I: Inlet, O: Outlet>(
@@ -97,7 +104,7 @@ fn exchange_one<K: Keep, I: Inlet, O: Outlet>(
 }
 
 // A connection is answered, told of and ended; the result is whether the log's line was taken.
-fn serve_one<K: Keep, N: Connections, O: Write, E: Write>(
+fn serve_one<K: Keep, N: Connections, O: Write, E: ErrorStream>(
     alloc: Global,
     service: &mut Service<K>,
     now: Moment,
@@ -115,12 +122,12 @@ fn serve_one<K: Keep, N: Connections, O: Write, E: Write>(
     ensures shield { K.shielded service.old.keep → K.shielded service.new.keep }
     ensures kept { K.clean service.new.keep → K.sound service.old.keep → K.sound service.new.keep }
     ensures takes { K.clean service.new.keep → K.sound service.old.keep → TakesOne (K.rows service.old.keep) (K.rows service.new.keep) }
-    ensures answers { AnswersOne K.Keep N.Connections N.Reader.Inlet N.Writer.Outlet logs place now service.new.was_down result reader writer network.old network.new service.old.keep service.new.keep (E.contents errors.old) (E.contents errors.new) (O.contents output.old) (O.contents output.new) }
+    ensures answers { AnswersOne K.Keep N.Connections N.Reader.Inlet N.Writer.Outlet logs place now service.new.was_down result reader writer network.old network.new service.old.keep service.new.keep (E.told errors.old) (E.told errors.new) (O.contents output.old) (O.contents output.new) }
 {
     let mut inlet = reader;
     let mut outlet = writer;
     let ended = exchange_one(alloc, service, now, &mut inlet, &mut outlet);
-    let _ = tell(errors, place, ended, service.was_down());
+    tell(errors, place, ended, service.was_down());
     let is_told = log_row(alloc, output, logs, place, ended, service.row());
     let was_whole = tells_act(service.row());
     network.finish(inlet, outlet, was_whole);
@@ -154,7 +161,7 @@ fn accept<N: Connections, C: Clock>(
 }
 
 // The next connection is accepted, answered and ended; the result is whether the log's line was taken.
-fn answer_next<K: Keep, N: Connections, C: Clock, O: Write, E: Write>(
+fn answer_next<K: Keep, N: Connections, C: Clock, O: Write, E: ErrorStream>(
     alloc: Global,
     network: &mut N,
     timeouts: &Timeouts,
@@ -169,8 +176,8 @@ fn answer_next<K: Keep, N: Connections, C: Clock, O: Write, E: Write>(
     ensures shield { K.shielded service.old.keep → K.shielded service.new.keep }
     ensures kept { K.clean service.new.keep → K.sound service.old.keep → K.sound service.new.keep }
     ensures takes { K.clean service.new.keep → K.sound service.old.keep → TakesOne (K.rows service.old.keep) (K.rows service.new.keep) }
-    ensures answers { IfOk result (λ is_told. (at : ℕ) × Answers K.Keep N.Connections C.Clock N.Reader.Inlet N.Writer.Outlet timeouts.now logs place at service.new.was_down is_told (state network.old clock.old service.old.keep (E.contents errors.old) (O.contents output.old)) (state network.new clock.new service.new.keep (E.contents errors.new) (O.contents output.new))) }
-    ensures refused { IfErr result (λ cause. AcceptsNone N.Connections C.Clock timeouts.now network.old network.new clock.old clock.new cause × (service.new.keep ≡ service.old.keep) × (E.contents errors.new ≡ E.contents errors.old) × (O.contents output.new ≡ O.contents output.old)) }
+    ensures answers { IfOk result (λ is_told. (at : ℕ) × Answers K.Keep N.Connections C.Clock N.Reader.Inlet N.Writer.Outlet timeouts.now logs place at service.new.was_down is_told (state network.old clock.old service.old.keep (E.told errors.old) (O.contents output.old)) (state network.new clock.new service.new.keep (E.told errors.new) (O.contents output.new))) }
+    ensures refused { IfErr result (λ cause. AcceptsNone N.Connections C.Clock timeouts.now network.old network.new clock.old clock.new cause × (service.new.keep ≡ service.old.keep) × (E.told errors.new ≡ E.told errors.old) × (O.contents output.new ≡ O.contents output.old)) }
 {
     let (reader, writer, now) = match accept(network, timeouts, clock) {
         Ok(found) => found,
@@ -197,7 +204,7 @@ fn tend<K: Keep, F: Files<K>>(files: &F, service: &mut Service<K>) -> bool
 }
 
 // The next connection is answered; or no further one is to be accepted, and this is why.
-fn serve_next<K: Keep, F: Files<K>, N: Connections, C: Clock, O: Write, E: Write>(
+fn serve_next<K: Keep, F: Files<K>, N: Connections, C: Clock, O: Write, E: ErrorStream>(
     alloc: Global,
     files: &F,
     network: &mut N,
@@ -213,8 +220,8 @@ fn serve_next<K: Keep, F: Files<K>, N: Connections, C: Clock, O: Write, E: Write
     ensures shield { K.shielded service.old.keep → K.shielded service.new.keep }
     ensures kept { K.clean service.new.keep → K.sound service.old.keep → K.sound service.new.keep }
     ensures takes { K.clean service.new.keep → K.sound service.old.keep → TakesOne (K.rows service.old.keep) (K.rows service.new.keep) }
-    ensures answers { OnOk result ((at : ℕ) × AnswersNext K.Keep F.Files N.Connections C.Clock N.Reader.Inlet N.Writer.Outlet timeouts.now logs place at false true (state network.old clock.old service.old.keep (E.contents errors.old) (O.contents output.old)) (state network.new clock.new service.new.keep (E.contents errors.new) (O.contents output.new))) }
-    ensures refused { IfErr result (EndsEarly K.Keep F.Files N.Connections C.Clock N.Reader.Inlet N.Writer.Outlet timeouts.now logs place (state network.old clock.old service.old.keep (E.contents errors.old) (O.contents output.old)) (state network.new clock.new service.new.keep (E.contents errors.new) (O.contents output.new))) }
+    ensures answers { OnOk result ((at : ℕ) × AnswersNext K.Keep F.Files N.Connections C.Clock N.Reader.Inlet N.Writer.Outlet timeouts.now logs place at false true (state network.old clock.old service.old.keep (E.told errors.old) (O.contents output.old)) (state network.new clock.new service.new.keep (E.told errors.new) (O.contents output.new))) }
+    ensures refused { IfErr result (EndsEarly K.Keep F.Files N.Connections C.Clock N.Reader.Inlet N.Writer.Outlet timeouts.now logs place (state network.old clock.old service.old.keep (E.told errors.old) (O.contents output.old)) (state network.new clock.new service.new.keep (E.told errors.new) (O.contents output.new))) }
 {
     let is_told = match answer_next(
         alloc, network, timeouts, service, clock, place, logs, output, errors,
@@ -237,7 +244,7 @@ fn serve_next<K: Keep, F: Files<K>, N: Connections, C: Clock, O: Write, E: Write
 /// answered by the 503, since memory or the store refused, is told of so, too. An accept that fails, a
 /// clock out of range, or a fault of the disk that has shut the store ends it, and a line says which. Where
 /// `logs` is true, standard output gets a line for each exchange; one that isn't taken whole ends it, too.
-pub fn serve_loop<K: Keep, F: Files<K>, N: Connections, C: Clock, O: Write, E: Write>(
+pub fn serve_loop<K: Keep, F: Files<K>, N: Connections, C: Clock, O: Write, E: ErrorStream>(
     alloc: Global,
     files: &F,
     network: &mut N,
@@ -254,7 +261,7 @@ pub fn serve_loop<K: Keep, F: Files<K>, N: Connections, C: Clock, O: Write, E: W
     ensures shield { K.shielded service.old.keep → K.shielded service.new.keep }
     ensures kept { K.clean service.new.keep → K.sound service.old.keep → K.sound service.new.keep }
     ensures serves { K.clean service.new.keep → K.sound service.old.keep → Serves count (K.rows service.old.keep) (K.rows service.new.keep) }
-    ensures answers { AnswersCount K.Keep F.Files N.Connections C.Clock N.Reader.Inlet N.Writer.Outlet port timeouts.now logs count (state network.old clock.old service.old.keep (E.contents errors.old) (O.contents output.old)) (state network.new clock.new service.new.keep (E.contents errors.new) (O.contents output.new)) result }
+    ensures answers { AnswersCount K.Keep F.Files N.Connections C.Clock N.Reader.Inlet N.Writer.Outlet port timeouts.now logs count (state network.old clock.old service.old.keep (E.told errors.old) (O.contents output.old)) (state network.new clock.new service.new.keep (E.told errors.new) (O.contents output.new)) result }
     ensures listens { ListensAt port logs result (O.contents output.old) (O.contents output.new) }
 {
     if print_listening(output, port).is_err() {

@@ -12,26 +12,27 @@ use Rattle.program.specs.declared.outside.Connections as connections
 use Rattle.program.specs.declared.outside.Files as files
 use Rattle.program.specs.declared.reasons.Cause.{Cause}
 use Rattle.program.specs.declared.totals.Looked.{Looked}
-use Rattle.program.specs.Outcomes.{Stream, Outside, stream, Says, GetsSome, SaysServed, LooksFor, Closes, TellsUnsound}
+use Rattle.program.specs.Outcomes.{Stream, Errors, Outside, error_stream, Says, GetsSome, SaysServed, LooksFor, Closes, TellsUnsound}
 use Rattle.program.specs.Serving.{Serves, state, AnswersAtPort}
+use Rattle.program.specs.Streams.{Told}
 
 -- the line of an ending on the standard output and why on the error stream, or a stream took not all
-abbrev pub IsSaidWhy : Ending → Ending → Stream → Stream → Type 0
+abbrev pub IsSaidWhy : Ending → Ending → Stream → Errors → Type 0
 IsSaidWhy e result output errors = ((result ≡ e) × Says e output × GetsSome errors) ⊎ (result ≡ Unprinted)
 
 -- a look found no fault (`true`); or it found some, or was refused, and the error stream is told so
-abbrev pub FindsNone : Cause → Result Looked Down → Bool → Stream → Type 0
+abbrev pub FindsNone : Cause → Result Looked Down → Bool → Errors → Type 0
 FindsNone why found true errors = ((looked : Looked) × (found ≡ Ok looked) × (looked.faults ≡ [])) × (errors.new ≡ errors.old)
 FindsNone why found false errors = TellsUnsound why found errors
 
 module _ {K F : Type 0} (k : keep.Ghosts K) (f : files.Ghosts F K) where
   -- faults were looked for in the tables of a store
-  abbrev pub LooksFirst : Cause → K → Bool → K → Stream → Type 0
+  abbrev pub LooksFirst : Cause → K → Bool → K → Errors → Type 0
   LooksFirst why opened is_sound before errors = LooksFor k f (λ found told. FindsNone why found is_sound told) opened before errors
 
 module _ {K F N C R W : Type 0} (k : keep.Ghosts K) (f : files.Ghosts F K) (n : connections.Ghosts N R W) (c : clock.Ghosts C) (i : inlet.Ghosts R) (o : outlet.Ghosts W) where
   -- connections are answered from a store that was opened, which is closed at this path then
-  pub record ServesOpened (path : List ℕ) (port : ℕ) (timeouts : Timeouts) (logs : Bool) (count : ℕ) (before : K) (old new : Outside F N C) (e : Ending) (output errors : Stream) : Type 0 where
+  pub record ServesOpened (path : List ℕ) (port : ℕ) (timeouts : Timeouts) (logs : Bool) (count : ℕ) (before : K) (old new : Outside F N C) (e : Ending) (output : Stream) (errors : Errors) : Type 0 where
     pub after : K
     pub so_far : k.clean after → k.clean before
     pub shield : k.shielded before → k.shielded after
@@ -39,7 +40,7 @@ module _ {K F N C R W : Type 0} (k : keep.Ghosts K) (f : files.Ghosts F K) (n : 
     pub serves : k.clean after → k.sound before → Serves count (k.rows before) (k.rows after)
     pub served : Ending
     pub told : Option (List ℕ)
-    pub lines : Option (List ℕ)
+    pub lines : Told
     pub answers : AnswersAtPort k f n c i o port timeouts logs count (state old.network old.clock before errors.old output.old) (state new.network new.clock after lines told) served
     pub says : SaysServed served e told output.new
-    pub closes : Closes k f path old.files new.files after (stream lines errors.new)
+    pub closes : Closes k f path old.files new.files after (error_stream lines errors.new)

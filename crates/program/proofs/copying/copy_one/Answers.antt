@@ -1,5 +1,5 @@
 use Rattle.std.proofs.Common.{List, ℕ, Option, inl, inr, subst}
-use Rattle.program.specs.Outcomes.{stream, HasFailed, IsCopied}
+use Rattle.program.specs.Outcomes.{stream, error_stream, HasFailed, IsCopied}
 use Rattle.program.proofs.CopyLemmas.{copied, copies_looked, copies_over}
 use Rattle.program.proofs.copying.copy_one.Goals as goal
 
@@ -10,7 +10,7 @@ pub returns-clause-copies : goal.returns-clause-copies
 returns-clause-copies g c =
     let rows = g.K.Keep.rows in
     let out = g.O.Write.contents in
-    let err = g.E.Write.contents in
+    let err = g.E.ErrorStream.told in
     let org = c.args.org.now in
     let source = c.in-Ok.stores.0 in
     let target = c.in-Ok.stores.1 in
@@ -19,7 +19,7 @@ returns-clause-copies g c =
     let said = c.say_copied-ending in
     let left = said.new.target in
     let fails = HasFailed g.K.Keep g.F.Files in
-    let told = stream (err c.open_both.new.errors) (err said.new.errors) in
+    let told = error_stream (err c.open_both.new.errors) (err said.new.errors) in
     inl (copies_over g.K.Keep g.F.Files c.args.from.now c.args.to.now (λ at from old new errors. IsCopied (fails at) org from old new said.result (stream (out c.args.output.now) (out said.new.output)) errors) fails
     c.args.files.now c.open_both.new.files c.close_both.new.files source c.copy-answered.new.from target left
     (err c.args.errors.now) (err c.open_both.new.errors) (err said.new.errors) (err c.close_both.new.errors) c.in-Ok.ensures.opened.0

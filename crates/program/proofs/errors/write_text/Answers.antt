@@ -1,12 +1,14 @@
-use Rattle.std.proofs.Common.{ℕ, ◌++◌, take, append_assoc, take-append-drop}
-use Rattle.wire.proofs.LinkLemmas.{Appends-then}
+use Rattle.program.proofs.ErrorLemmas.{took_more, took_part}
 use Rattle.program.proofs.errors.write_text.Goals as goal
 
 pub writing-preserved : goal.writing-preserved
 writing-preserved g c =
-    let n : ℕ = c.in-Ok.count in
-    let done = c.writing.invariant in (
-      done.0 ++ take n c.writing.rest.now,
-      rw (c.split_at.ensures.back, append_assoc, take-append-drop n c.writing.rest.now) done.1,
-      Appends-then _ _ _ done.0 (take n c.writing.rest.now) done.2 c.in-Ok.ensures.bytes,
-    )
+    let done = c.writing.invariant in
+    took_more (g.E.ErrorStream.told c.args.errors.now) (g.E.ErrorStream.told c.writing.errors) (g.E.ErrorStream.told c.write.new.self) c.args.text.now done.0 c.writing.rest.now _ c.in-Ok.count
+    done.1 done.2 c.in-Ok.ensures.bytes c.in-Ok.ensures.failures c.split_at.ensures.back
+
+pub returns-in-Err : goal.returns-in-Err
+returns-in-Err g c =
+    let done = c.writing.invariant in
+    took_part (g.E.ErrorStream.told c.args.errors.now) (g.E.ErrorStream.told c.writing.errors) (g.E.ErrorStream.told c.write.new.self) c.args.text.now done.0 c.writing.rest.now
+    done.1 done.2 c.in-Err.ensures.bytes c.in-Err.ensures.failures

@@ -3,8 +3,8 @@ use Rattle.program.proofs.ErrorLemmas.{wrote_first, wrote_then}
 use Rattle.program.proofs.errors.write_told.Goals as goal
 
 pub returns-in-Ok : goal.returns-in-Ok
-returns-in-Ok g c = wrote_then (g.E.Write.contents c.args.errors.now) (g.E.Write.contents c.write_text.new.errors) (g.E.Write.contents c.write_ended.new.errors)
+returns-in-Ok g c = wrote_then (g.E.ErrorStream.told c.args.errors.now) (g.E.ErrorStream.told c.write_text.new.errors) (g.E.ErrorStream.told c.write_ended.new.errors)
     (codes ": ") (codes ": ") (c.args.text.now ++ 10 ∷ []) c.write_ended.result refl c.in-Ok.ensures c.write_ended.ensures
 
 pub returns-in-Err : goal.returns-in-Err
-returns-in-Err g c = wrote_first (g.E.Write.contents c.args.errors.now) (g.E.Write.contents c.write_text.new.errors) (codes ": ") (codes ": ") (c.args.text.now ++ 10 ∷ []) refl c.in-Err.ensures
+returns-in-Err g c = wrote_first (g.E.ErrorStream.told c.args.errors.now) (g.E.ErrorStream.told c.write_text.new.errors) (codes ": ") (codes ": ") (c.args.text.now ++ 10 ∷ []) refl c.in-Err.ensures

@@ -3,3 +3,6 @@ use Rattle.program.proofs.running.run_order.Goals as goal
 
 pub returns-in-Carry-clause-leaves : goal.returns-in-Carry-clause-leaves
 returns-in-Carry-clause-leaves g c = rw c.in-Carry.is (c.carry_out.ensures.operates, (refl, refl))
+
+pub returns-in-Compact-clause-leaves : goal.returns-in-Compact-clause-leaves
+returns-in-Compact-clause-leaves g c = rw c.in-Compact.is (c.compact.ensures.copies, (refl, refl))

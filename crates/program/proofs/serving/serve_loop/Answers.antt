@@ -31,9 +31,9 @@ connections-preserved g c =
         so_far.0 ++ one.0 ∷ [],
         one_more so_far.0 one.0 c.connections.place so_far.1,
         answers_more g.K.Keep g.F.Files g.N.Connections g.C.Clock g.N.Reader.Inlet g.N.Writer.Outlet c.args.timeouts.now c.args.logs 1 (c.connections.place + 1) so_far.0 one.0
-            (state c.args.network.now c.args.clock.now c.args.service.now.keep (g.E.Write.contents c.args.errors.now) (g.O.Write.contents c.print_listening.new.output))
-            (state c.connections.network c.connections.clock c.connections.service.keep (g.E.Write.contents c.connections.errors) (g.O.Write.contents c.connections.output))
-            (state c.serve_next.new.network c.serve_next.new.clock c.serve_next.new.service.keep (g.E.Write.contents c.serve_next.new.errors) (g.O.Write.contents c.serve_next.new.output)) (let is = so_far.1 in omega arith) so_far.2 one.1,
+            (state c.args.network.now c.args.clock.now c.args.service.now.keep (g.E.ErrorStream.told c.args.errors.now) (g.O.Write.contents c.print_listening.new.output))
+            (state c.connections.network c.connections.clock c.connections.service.keep (g.E.ErrorStream.told c.connections.errors) (g.O.Write.contents c.connections.output))
+            (state c.serve_next.new.network c.serve_next.new.clock c.serve_next.new.service.keep (g.E.ErrorStream.told c.serve_next.new.errors) (g.O.Write.contents c.serve_next.new.output)) (let is = so_far.1 in omega arith) so_far.2 one.1,
       );
     }
 
@@ -48,8 +48,8 @@ returns-in-Err-clause-serves g c clean sound =
 pub returns-in-Err-clause-answers : goal.returns-in-Err-clause-answers
 returns-in-Err-clause-answers g c =
     let so_far = c.connections.invariant.answers in
-    let last = state c.connections.network c.connections.clock c.connections.service.keep (g.E.Write.contents c.connections.errors) (g.O.Write.contents c.connections.output) in
-    let new = state c.serve_next.new.network c.serve_next.new.clock c.serve_next.new.service.keep (g.E.Write.contents c.serve_next.new.errors) (g.O.Write.contents c.serve_next.new.output) in
+    let last = state c.connections.network c.connections.clock c.connections.service.keep (g.E.ErrorStream.told c.connections.errors) (g.O.Write.contents c.connections.output) in
+    let new = state c.serve_next.new.network c.serve_next.new.clock c.serve_next.new.service.keep (g.E.ErrorStream.told c.serve_next.new.errors) (g.O.Write.contents c.serve_next.new.output) in
     let next : c.connections.place + 1 ≡ suc (length so_far.0) = let is = so_far.1 in omega arith in (
       g.O.Write.contents c.print_listening.new.output,
       search rules,
@@ -58,7 +58,7 @@ returns-in-Err-clause-answers g c =
       subst (λ (n : ℕ). n < c.args.count) (sym so_far.1) c.connections-test.true,
       so_far.2,
       c.in-Err.cause,
-      g.E.Write.contents c.serve_next.new.errors,
+      g.E.ErrorStream.told c.serve_next.new.errors,
       subst (λ (n : ℕ). EndsEarly g.K.Keep g.F.Files g.N.Connections g.C.Clock g.N.Reader.Inlet g.N.Writer.Outlet c.args.timeouts.now c.args.logs n last new c.in-Err.cause) next c.in-Err.ensures.refused,
       c.tell_cause.ensures,
     )
@@ -67,9 +67,9 @@ pub returns-in-Err-clause-listens : goal.returns-in-Err-clause-listens
 returns-in-Err-clause-listens g c =
     let so_far = c.connections.invariant.answers in
     let heard = g.O.Write.contents c.print_listening.new.output in
-    let start = state c.args.network.now c.args.clock.now c.args.service.now.keep (g.E.Write.contents c.args.errors.now) heard in
-    let last = state c.connections.network c.connections.clock c.connections.service.keep (g.E.Write.contents c.connections.errors) (g.O.Write.contents c.connections.output) in
-    let new = state c.serve_next.new.network c.serve_next.new.clock c.serve_next.new.service.keep (g.E.Write.contents c.serve_next.new.errors) (g.O.Write.contents c.serve_next.new.output) in
+    let start = state c.args.network.now c.args.clock.now c.args.service.now.keep (g.E.ErrorStream.told c.args.errors.now) heard in
+    let last = state c.connections.network c.connections.clock c.connections.service.keep (g.E.ErrorStream.told c.connections.errors) (g.O.Write.contents c.connections.output) in
+    let new = state c.serve_next.new.network c.serve_next.new.clock c.serve_next.new.service.keep (g.E.ErrorStream.told c.serve_next.new.errors) (g.O.Write.contents c.serve_next.new.output) in
     heard_log c.args.logs (listening_line c.args.port) (g.O.Write.contents c.args.output.now) heard (g.O.Write.contents c.serve_next.new.output) (search rules)
     (grows_then c.args.logs heard (g.O.Write.contents c.connections.output) (g.O.Write.contents c.serve_next.new.output)
     (grows_all g.K.Keep g.F.Files g.N.Connections g.C.Clock g.N.Reader.Inlet g.N.Writer.Outlet c.args.timeouts.now c.args.logs 1 so_far.0 start last so_far.2)
@@ -79,7 +79,7 @@ pub returns-clause-listens : goal.returns-clause-listens
 returns-clause-listens g c =
     let so_far = c.connections.invariant.answers in
     let heard = g.O.Write.contents c.print_listening.new.output in
-    let start = state c.args.network.now c.args.clock.now c.args.service.now.keep (g.E.Write.contents c.args.errors.now) heard in
-    let new = state c.connections.network c.connections.clock c.connections.service.keep (g.E.Write.contents c.connections.errors) (g.O.Write.contents c.connections.output) in
+    let start = state c.args.network.now c.args.clock.now c.args.service.now.keep (g.E.ErrorStream.told c.args.errors.now) heard in
+    let new = state c.connections.network c.connections.clock c.connections.service.keep (g.E.ErrorStream.told c.connections.errors) (g.O.Write.contents c.connections.output) in
     heard_log c.args.logs (listening_line c.args.port) (g.O.Write.contents c.args.output.now) heard (g.O.Write.contents c.connections.output) (search rules)
     (grows_all g.K.Keep g.F.Files g.N.Connections g.C.Clock g.N.Reader.Inlet g.N.Writer.Outlet c.args.timeouts.now c.args.logs 1 so_far.0 start new so_far.2)

@@ -12,6 +12,6 @@ invariant-connections g l = record {
   serves : g.K.Keep.clean l.service.keep → g.K.Keep.sound l.fn.service.keep → ServesTo l.place (g.K.Keep.rows l.fn.service.keep) (g.K.Keep.rows l.service.keep);
   answers : (moments : List ℕ) × (length moments ≡ l.place)
       × AnswersAll g.K.Keep g.F.Files g.N.Connections g.C.Clock g.N.Reader.Inlet g.N.Writer.Outlet l.fn.timeouts l.fn.logs 1 moments
-      (state l.fn.network l.fn.clock l.fn.service.keep (g.E.Write.contents l.fn.errors) (g.O.Write.contents l.initial.output))
-      (state l.network l.clock l.service.keep (g.E.Write.contents l.errors) (g.O.Write.contents l.output));
+      (state l.fn.network l.fn.clock l.fn.service.keep (g.E.ErrorStream.told l.fn.errors) (g.O.Write.contents l.initial.output))
+      (state l.network l.clock l.service.keep (g.E.ErrorStream.told l.errors) (g.O.Write.contents l.output));
 }

@@ -1,7 +1,7 @@
 use Rattle.std.proofs.Common.{Bool, inl, inr, refl, subst}
 use Rattle.program.specs.declared.reasons.Cause.TheVariants.{Faults}
 use Rattle.program.specs.Inner.Outcomes.{LooksFirst}
-use Rattle.program.specs.Outcomes.{stream}
+use Rattle.program.specs.Outcomes.{error_stream}
 use Rattle.program.specs.declared.endings.Ending.TheVariants.{Down}
 use Rattle.program.specs.declared.outside.Opening.TheVariants.{Existing}
 use Rattle.program.proofs.OutcomeLemmas.{refused_by, refused_serving, said_behind}
@@ -9,13 +9,13 @@ use Rattle.program.proofs.OutsideLemmas.{serves_checked, opens_sound, looks_over
 use Rattle.program.proofs.starting.serve_checked.Goals as goal
 
 pub returns-in-Err-clause-line : goal.returns-in-Err-clause-line
-returns-in-Err-clause-line g c = refused_serving c.args.logs c.in-Err.ending _ _ (refused_by g.K.Keep g.F.Files c.args.db.now Existing c.args.files.now c.open_one.new.files c.in-Err.ending (g.O.Write.contents c.args.output.now) (g.O.Write.contents c.open_one.new.output) (g.E.Write.contents c.args.errors.now) (g.E.Write.contents c.open_one.new.errors) c.in-Err.ensures.refused)
+returns-in-Err-clause-line g c = refused_serving c.args.logs c.in-Err.ending _ _ (refused_by g.K.Keep g.F.Files c.args.db.now Existing c.args.files.now c.open_one.new.files c.in-Err.ending (g.O.Write.contents c.args.output.now) (g.O.Write.contents c.open_one.new.output) (g.E.ErrorStream.told c.args.errors.now) (g.E.ErrorStream.told c.open_one.new.errors) c.in-Err.ensures.refused)
 
 pub returns-then-look_first-clause-serves : goal.returns-then-look_first-clause-serves
 returns-then-look_first-clause-serves g c =
-    let err = g.E.Write.contents in
+    let err = g.E.ErrorStream.told in
     let out = g.O.Write.contents in
-    let look = subst (λ (is_sound : Bool). LooksFirst g.K.Keep g.F.Files Faults c.in-Ok.keep is_sound c.look_first.new.store (stream (err c.open_one.new.errors) (err c.look_first.new.errors))) c.if-look_first.true c.look_first.ensures in
+    let look = subst (λ (is_sound : Bool). LooksFirst g.K.Keep g.F.Files Faults c.in-Ok.keep is_sound c.look_first.new.store (error_stream (err c.open_one.new.errors) (err c.look_first.new.errors))) c.if-look_first.true c.look_first.ensures in
     inl (inl (serves_checked g.K.Keep g.F.Files g.N.Connections g.C.Clock g.N.Reader.Inlet g.N.Writer.Outlet
     c.args.db.now c.args.port c.args.timeouts.now c.args.logs c.args.count c.args.files.now c.open_one.new.files c.serve_opened.new.files
     c.args.network.now c.serve_opened.new.network c.args.clock.now c.serve_opened.new.clock c.look_first.new.store c.serve_opened.result
@@ -26,9 +26,9 @@ returns-then-look_first-clause-serves g c =
 
 pub returns-clause-serves : goal.returns-clause-serves
 returns-clause-serves g c =
-    let err = g.E.Write.contents in
+    let err = g.E.ErrorStream.told in
     let out = g.O.Write.contents in
-    let look = subst (λ (is_sound : Bool). LooksFirst g.K.Keep g.F.Files Faults c.in-Ok.keep is_sound c.look_first.new.store (stream (err c.open_one.new.errors) (err c.look_first.new.errors))) c.if-look_first.false c.look_first.ensures in
+    let look = subst (λ (is_sound : Bool). LooksFirst g.K.Keep g.F.Files Faults c.in-Ok.keep is_sound c.look_first.new.store (error_stream (err c.open_one.new.errors) (err c.look_first.new.errors))) c.if-look_first.false c.look_first.ensures in
     inl (inr (
       (
         looks_over g.K.Keep g.F.Files c.args.db.now Faults c.args.files.now c.open_one.new.files c.close_after.new.files c.in-Ok.keep c.look_first.new.store

@@ -1,0 +1,12 @@
+use Rattle.std.proofs.Common.{ℕ, ◌++◌, take, append_assoc, take-append-drop}
+use Rattle.wire.proofs.LinkLemmas.{Appends-then}
+use Rattle.program.proofs.logs.write_bytes.Goals as goal
+
+pub writing-preserved : goal.writing-preserved
+writing-preserved g c =
+    let n : ℕ = c.in-Ok.count in
+    let done = c.writing.invariant in (
+      done.0 ++ take n c.writing.rest.now,
+      rw (c.split_at.ensures.back, append_assoc, take-append-drop n c.writing.rest.now) done.1,
+      Appends-then _ _ _ done.0 (take n c.writing.rest.now) done.2 c.in-Ok.ensures.bytes,
+    )

@@ -1,0 +1,15 @@
+use Rattle.std.proofs.Common.{refl}
+use Rattle.program.specs.Errors.{down_line, fault_line}
+use Rattle.program.proofs.ErrorLemmas.{wrote_first, wrote_then}
+use Rattle.program.proofs.serving.write_lines.Goals as goal
+
+pub returns-in-Ok : goal.returns-in-Ok
+returns-in-Ok g c =
+    let first = down_line c.args.place c.args.is_down in
+    wrote_then (g.E.ErrorStream.told c.args.errors.now) (g.E.ErrorStream.told c.tell_down.new.errors) (g.E.ErrorStream.told c.tell_fault.new.errors)
+    first first (fault_line c.args.place c.args.ended) c.tell_fault.result refl c.in-Ok.ensures c.tell_fault.ensures
+
+pub returns-in-Err : goal.returns-in-Err
+returns-in-Err g c =
+    let first = down_line c.args.place c.args.is_down in
+    wrote_first (g.E.ErrorStream.told c.args.errors.now) (g.E.ErrorStream.told c.tell_down.new.errors) first first (fault_line c.args.place c.args.ended) refl c.in-Err.ensures

@@ -1,0 +1,41 @@
+-- The error stream: what it has, and how many calls on it have failed.
+use Rattle.std.specs.Prelude.{◌≡◌, ◌⊎◌, ◌++◌, ◌+◌, ◌^◌, ◌-◌, ℕ, List, Option, Result, Ok, Err, min}
+use Rattle.std.specs.Io.KnownBytes.{Appends}
+
+-- what the stream has, where that is known, and how many calls on it have failed
+pub record Told : Type 0 where
+  pub bytes : Option (List ℕ)
+  pub failures : ℕ
+
+abbrev pub as_told : Option (List ℕ) → ℕ → Told
+as_told bytes failures = record { bytes = bytes; failures = failures }
+
+-- one more; it is counted up to 2⁶⁴ - 1
+unfoldable pub one_more : ℕ → ℕ
+one_more failures = min (failures + 1) (2 ^ 64 - 1)
+
+-- how many calls have failed after this one
+abbrev pub failures_after : {T E : Type 0} → Result T E → ℕ → ℕ
+failures_after (Ok done) failures = failures
+failures_after (Err fault) failures = one_more failures
+
+-- the stream got the text, or a front of it
+abbrev pub GetsFront : Option (List ℕ) → Option (List ℕ) → List ℕ → Type 0
+GetsFront old new text = (front : List ℕ) × (rest : List ℕ) × (text ≡ front ++ rest) × Appends old new front
+
+-- no call on the error stream failed, and it got the whole text
+abbrev pub GetsWhole : Told → Told → List ℕ → Type 0
+GetsWhole old new text = Appends old.bytes new.bytes text × (new.failures ≡ old.failures)
+
+-- a call on the error stream failed, and it got the text, or a front of it
+abbrev pub GetsPart : Told → Told → List ℕ → Type 0
+GetsPart old new text = GetsFront old.bytes new.bytes text × (new.failures ≡ one_more old.failures)
+
+-- the error stream is told the text: it gets all of it, unless a call on it failed
+abbrev pub Tells : Told → Told → List ℕ → Type 0
+Tells old new text = GetsWhole old new text ⊎ GetsPart old new text
+
+-- the same, where the result says whether a call failed
+abbrev pub TellsBy : {T E : Type 0} → Told → Told → List ℕ → Result T E → Type 0
+TellsBy old new text (Ok done) = GetsWhole old new text
+TellsBy old new text (Err fault) = GetsPart old new text

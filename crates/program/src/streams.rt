@@ -1,0 +1,94 @@
+//! The error stream, which counts the calls on it that failed.
+ghost use Rattle.std.specs.Prelude.{◌≡◌, ◌<◌, length, true, Ok, IfOk, is_err};
+ghost use Rattle.std.specs.Io.{WritesAtMost};
+ghost use Rattle.std.specs.Io.KnownBytes.{WriteAppends, Keeps};
+ghost use Rattle.program.specs.Streams.{Told, as_told, one_more, failures_after};
+
+use std::io;
+use std::io::{ErrorKind, Write};
+
+/// What is told of errors, and of what an operator has to know, is written to it.
+pub trait ErrorStream {
+    // What it has, where that is known, and how many calls on it have failed.
+    ghost told: { Self → Told };
+
+    /// Of a text that isn't empty at least one byte is taken: where none is, the call fails.
+    fn write(&mut self, text: &[u8]) -> io::Result<usize>
+        ensures bound { WritesAtMost result text.now }
+        ensures bytes { WriteAppends (told self.old).bytes (told self.new).bytes result text.now }
+        ensures some { IfOk result (λ count. 0 < length text.now → 0 < count) }
+        ensures failures { (told self.new).failures ≡ failures_after result (told self.old).failures };
+
+    /// Sends on what a buffer holds.
+    fn flush(&mut self) -> io::Result<()>
+        ensures bytes { Keeps (told self.old).bytes (told self.new).bytes }
+        ensures failures { (told self.new).failures ≡ failures_after result (told self.old).failures };
+}
+
+/// A writer's answer to a text of this length: it failed, too, where it took nothing of a text that isn't empty.
+fn answer_to(answer: io::Result<usize>, length: usize) -> io::Result<usize>
+    ensures ok { IfOk result (λ count. answer ≡ Ok count) }
+    ensures some { IfOk result (λ count. 0 < length → 0 < count) }
+    ensures none { is_err result ≡ true → IfOk answer (λ count. count ≡ 0) }
+{
+    match answer {
+        Ok(0) if length > 0 => Err(io::Error::from(ErrorKind::WriteZero)),
+        Ok(count) => Ok(count),
+        Err(error) => Err(error),
+    }
+}
+
+#[tactic(auto, unfolding(crate::specs::Streams::one_more))]
+fn one_more(failures: u64) -> u64
+    ensures { result ≡ one_more failures }
+{
+    failures.saturating_add(1)
+}
+
+/// A writer of std, and how many calls on it have failed.
+#[derive(Drop)]
+pub struct Counted<W: Write> {
+    writer: W,
+    failures: u64,
+}
+
+impl<W: Write> Counted<W> {
+    pub fn new(writer: W) -> Counted<W>
+        ensures { ⟦<Counted<W> as ErrorStream>⟧.told result ≡ as_told (W.contents writer) 0 }
+    {
+        Counted {
+            writer,
+            failures: 0,
+        }
+    }
+
+    pub fn into_inner(self) -> W
+        ensures { W.contents result ≡ (⟦<Counted<W> as ErrorStream>⟧.told self).bytes }
+    {
+        self.writer
+    }
+}
+
+impl<W: Write> ErrorStream for Counted<W> {
+    ghost told = { λ s. as_told (W.contents s.writer) s.failures };
+
+    fn write(&mut self, text: &[u8]) -> io::Result<usize> {
+        match answer_to(self.writer.write(text), text.len()) {
+            Ok(count) => Ok(count),
+            Err(error) => {
+                self.failures = one_more(self.failures);
+                Err(error)
+            }
+        }
+    }
+
+    fn flush(&mut self) -> io::Result<()> {
+        match self.writer.flush() {
+            Ok(()) => Ok(()),
+            Err(error) => {
+                self.failures = one_more(self.failures);
+                Err(error)
+            }
+        }
+    }
+}
