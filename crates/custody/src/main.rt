@@ -4,8 +4,9 @@
 use program::endings::{Ending, unread};
 use program::reasons::Cause;
 use program::replies::{refuse, refuse_usage};
+use program::streams::Counted;
 use std::fs::{File, OpenOptions};
-use std::io::BufWriter;
+use std::io::{BufWriter, Stderr};
 use std::process::ExitCode;
 use std::{env, io};
 use system::run_here;
@@ -15,13 +16,23 @@ fn read_arguments(rt: &HostRuntime) -> io::Result<Vec<String>> {
     Ok(words)
 }
 
+fn error_stream(rt: &HostRuntime) -> Counted<Stderr> {
+    Counted::new(rt.stderr())
+}
+
 fn refuse_for(rt: &HostRuntime, cause: Cause) -> u8 {
-    refuse(&mut rt.stdout(), &mut rt.stderr(), cause).status()
+    refuse(&mut rt.stdout(), &mut error_stream(rt), cause).status()
 }
 
 fn run_buffered(rt: &HostRuntime, words: &[String]) -> u8 {
     match BufWriter::new(rt.alloc(), rt.stdout()) {
-        Ok(mut output) => run_here(rt, words, &mut rt.stdin(), &mut output, &mut rt.stderr()),
+        Ok(mut output) => run_here(
+            rt,
+            words,
+            &mut rt.stdin(),
+            &mut output,
+            &mut error_stream(rt),
+        ),
         Err(_) => refuse_for(rt, Cause::NoMemory),
     }
 }
@@ -31,7 +42,7 @@ fn run(rt: &HostRuntime) -> u8 {
         Ok(words) => run_buffered(rt, words.as_slice()),
         Err(error) => match unread(error.kind()) {
             Ending::Down => refuse_for(rt, Cause::NoMemory),
-            _ => refuse_usage(&mut rt.stdout(), &mut rt.stderr(), Cause::Encoding).status(),
+            _ => refuse_usage(&mut rt.stdout(), &mut error_stream(rt), Cause::Encoding).status(),
         },
     }
 }

@@ -10,6 +10,10 @@ use Rattle.sqlite_store.specs.Unopened.{state_of, StopsCreating}
 use Rattle.sqlite_store.specs.declared.error.OpenError.{OpenError}
 use Rattle.sqlite_store.specs.declared.error.OpenError.TheVariants.{OutOfMemory}
 use Rattle.sqlite_store.specs.declared.store.open.Unopened.{Unopened}
+use Rattle.sqlite_store.specs.declared.store.FileStore.{FileStore}
+use Rattle.sqlite_store.specs.FileStore.{view, is_shielded}
+use Rattle.sqlite.specs.Steps.{IsFresh}
+use Rattle.sqlite.specs.Files.{IsEmpty}
 
 -- They hold none, or one that has no table yet, in pages of which so many bytes are not their sum.
 abbrev pub MayBegin : ℕ → Image → Type 0
@@ -21,3 +25,10 @@ abbrev pub FailsToBegin : {D : Type 0} {g : Ghosts D} → ℕ → Image → Open
 FailsToBegin bytes image error None = error ≡ OutOfMemory
 FailsToBegin bytes image error (Some left) =
     IsTrue (state_of left).is_clean → (faults : ℕ) × FailsToOpen faults (state_of left).faults (StopsCreating left) (MayBegin (used_size bytes true) image) error
+
+-- A database was begun: the store was just opened, it has no tree with a row, and each of its pages ends with a sum.
+pub record IsBegun {D : Type 0} {g : Ghosts D} (store : FileStore D g) : Type 0 where
+  pub fresh : IsFresh (view store)
+  pub empty : IsEmpty (view store).trees
+  pub sums : (view store).has_sums ≡ true
+  pub guarded : is_shielded store

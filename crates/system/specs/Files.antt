@@ -1,5 +1,5 @@
 -- A store in a file: what it has once it is opened, and what its files hold once it is closed.
-use Rattle.std.specs.Prelude.{◌≡◌, ◌⊎◌, true, false, ℕ, List, Option, None}
+use Rattle.std.specs.Prelude.{◌≡◌, ◌⊎◌, true, false, ℕ, List, [], Option, None}
 use Rattle.sqlite_trees.specs.Tree.{Trees}
 use Rattle.sqlite_wal.specs.Recovery.{Image}
 use Rattle.sqlite_wal.specs.Files.{outcomes}
@@ -17,7 +17,7 @@ use Rattle.tables.specs.Versions.{HoldsSchema, schema_records}
 -- The database that a file and its log hold was found. Where it has one of our tables, it has all those of a version. Where
 -- they are those of this version, the store has its records, and is sound where the database is; of whatever version it is,
 -- sound as one of that, the store has the records that it denotes, and is sound. Where it has none of our tables, the store
--- has no organization, and is sound.
+-- has no organization, and is sound. So it is where the file was empty, whatever its log held: one was begun there.
 pub record OpensOn (image : Image) (rows : List ℕ → Option Organization) (IsSound : Type 0) : Type 0 where
   pub found : Database
   pub is : IsDatabase found
@@ -26,6 +26,7 @@ pub record OpensOn (image : Image) (rows : List ℕ → Option Organization) (Is
   pub there : newest_there found.schema ≡ true → ((org : List ℕ) → rows org ≡ records_of found org) × (IsSoundStore found → IsSound)
   pub climbed : (version : ℕ) → HoldsSchema version found → ((org : List ℕ) → rows org ≡ schema_records version found org) × IsSound
   pub fresh : any_there found.schema ≡ false → ((org : List ℕ) → rows org ≡ None) × IsSound
+  pub begun : image.db ≡ [] → ((org : List ℕ) → rows org ≡ None) × IsSound
 
 -- The database that a file and its log hold was found, and it had one of our tables.
 abbrev pub HadTables : Image → Type 0

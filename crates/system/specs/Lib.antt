@@ -1,4 +1,5 @@
 pub mod Begun
+pub mod Causes
 pub mod Clock
 pub mod Files
 pub mod Shields

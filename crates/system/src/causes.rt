@@ -1,11 +1,17 @@
 //! Why files aren't opened, in the program's words.
+ghost use Rattle.std.specs.Prelude.{◌≡◌, true};
+ghost use Rattle.system.specs.Causes.{system_cause, pair_cause, database_cause, is_open_cause};
+
 use program::reasons::Cause;
 use sqlite::{Error, ErrorCode};
 use sqlite_std_file::OpenError;
 use std::io::ErrorKind;
 
 /// Why the system refused a file.
-pub fn system_cause(kind: ErrorKind) -> Cause {
+pub fn system_cause(kind: ErrorKind) -> Cause
+    ensures cause { result ≡ system_cause kind }
+    ensures open { is_open_cause result ≡ true }
+{
     match kind {
         ErrorKind::PermissionDenied | ErrorKind::ReadOnlyFilesystem => Cause::NotPermitted,
         ErrorKind::Unsupported | ErrorKind::IsADirectory => Cause::NoFile,
@@ -17,7 +23,10 @@ pub fn system_cause(kind: ErrorKind) -> Cause {
 }
 
 /// Why a file and its log weren't had.
-pub fn pair_cause(error: OpenError) -> Cause {
+pub fn pair_cause(error: OpenError) -> Cause
+    ensures cause { result ≡ pair_cause error }
+    ensures open { is_open_cause result ≡ true }
+{
     match error {
         OpenError::Io(error) => system_cause(error.kind()),
         OpenError::OutOfMemory => Cause::NoMemory,
@@ -27,7 +36,10 @@ pub fn pair_cause(error: OpenError) -> Cause {
 }
 
 /// Why a database in files wasn't opened.
-pub fn database_cause(error: Error) -> Cause {
+pub fn database_cause(error: Error) -> Cause
+    ensures cause { result ≡ database_cause error }
+    ensures open { is_open_cause result ≡ true }
+{
     match error {
         Error::SqliteFailure(ErrorCode::OutOfMemory) => Cause::NoMemory,
         Error::SqliteFailure(ErrorCode::DiskFull) => Cause::NoRoom,

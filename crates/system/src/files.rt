@@ -1,5 +1,5 @@
 //! Databases in files.
-ghost use Rattle.std.specs.Prelude.{◌≡◌, true, false, not, ⊤, is_some, [], IfOk};
+ghost use Rattle.std.specs.Prelude.{◌≡◌, true, false, not, ⊤, is_some, [], IfOk, IfErr};
 ghost use Rattle.sqlite.specs.Held.{state};
 ghost use Rattle.tables.specs.Opening.{any_there};
 ghost use Rattle.sqlite_store.specs.FileStore.{view};
@@ -14,11 +14,13 @@ ghost use Rattle.tables.specs.Logs.{CopiesLog};
 ghost use Rattle.tables.specs.Opening.{IsFresh};
 ghost use Rattle.checks.specs.Standing.{HaveRows};
 ghost use Rattle.program.specs.Paths.{makes};
+ghost use Rattle.system.specs.Causes.{IsFileFault, is_open_cause};
 ghost use Rattle.system.specs.Files.{OpensOn, HadTables, IsClosedOn};
 ghost use Rattle.system.specs.Shields.{AreCleanOrCollided};
 ghost use Rattle.system.specs.Totals.{TellsOf, found_totals};
 
-use crate::causes::{database_cause, pair_cause, system_cause};
+use crate::causes::{pair_cause, system_cause};
+use crate::connecting::connect;
 use crate::copies::copy_between;
 use crate::lone_logs::admit;
 use crate::making::make;
@@ -63,11 +65,11 @@ fn is_any_readable(rt: &HostRuntime, path: &str) -> io::Result<bool> {
     Ok(is_readable(rt, real.as_str()) || is_readable(rt, log.as_str()))
 }
 
-/// Opens the database in a file. One that is made, where the file is empty, has SQLite's sums (cksumvfs): each page
-/// ends with one, and a page whose sum is wrong is refused. A database that is there has sums or none, as it was made.
+/// Opens the database in a file; where the file is empty one is begun there, if one is to be made.
 fn open_database<S: Start>(
     rt: &HostRuntime,
     path: &str,
+    opening: Opening,
     start: S,
 ) -> Result<Connection<FileStore<FileFrom<S>>>, Cause>
     ensures opened { IfOk result (λ conn. HasCleanDisk (file_state conn) → IsOpened conn) }
@@ -75,6 +77,7 @@ fn open_database<S: Start>(
     ensures guarded { IfOk result (λ conn. HasCleanDisk (file_state conn) → (file_state conn).IsShielded) }
     ensures sums { IfOk result (λ conn. HasCleanDisk (file_state conn) → IsBlankAs true (image_at S.Start) → (view conn.store).has_sums ≡ true) }
     ensures idle { IfOk result (λ conn. conn.in_transaction ≡ false) }
+    ensures why { IfErr result (λ cause. is_open_cause cause ≡ true) }
 {
     let options = match options(rt, path) {
         Ok(options) => options,
@@ -84,10 +87,7 @@ fn open_database<S: Start>(
         Ok(files) => files,
         Err(error) => return Err(pair_cause(error)),
     };
-    match Connection::open_files_with(rt.alloc(), files, options, true) {
-        Ok(conn) => Ok(conn),
-        Err((error, _)) => Err(database_cause(error)),
-    }
+    connect(rt.alloc(), files, options, opening != Opening::Existing)
 }
 
 /// The version that a row tells.
@@ -112,7 +112,9 @@ fn other_in<S: Alter>(conn: &mut Connection<S>) -> OtherSchema {
 }
 
 /// Why a database isn't one of ours.
-fn unopened_fault<S: Alter + Drop>(unopened: Unopened<S>) -> OpenFault {
+fn unopened_fault<S: Alter + Drop>(unopened: Unopened<S>) -> OpenFault
+    ensures { IsFileFault result }
+{
     let mut unopened = unopened;
     match unopened.fault {
         Fault::Schema => OpenFault::Schema(other_in(&mut unopened.conn)),
@@ -121,7 +123,9 @@ fn unopened_fault<S: Alter + Drop>(unopened: Unopened<S>) -> OpenFault {
 }
 
 // Why a file wasn't opened; for want of memory its size is told.
-fn opening_fault(cause: Cause, bytes: u64) -> OpenFault {
+fn opening_fault(cause: Cause, bytes: u64) -> OpenFault
+    ensures { is_open_cause cause ≡ true → IsFileFault result }
+{
     match cause {
         Cause::NoMemory => OpenFault::Memory(bytes),
         _ => OpenFault::Down(cause),
@@ -129,7 +133,9 @@ fn opening_fault(cause: Cause, bytes: u64) -> OpenFault {
 }
 
 // Makes the file, where one is to be made.
-fn make_for(rt: &HostRuntime, path: &str, opening: Opening) -> Result<(), Cause> {
+fn make_for(rt: &HostRuntime, path: &str, opening: Opening) -> Result<(), Cause>
+    ensures why { IfErr result (λ cause. is_open_cause cause ≡ true) }
+{
     admit(rt, path, opening)?;
     match opening {
         Opening::Existing => Ok(()),
@@ -150,7 +156,8 @@ fn admit_tables<S: Alter>(conn: &Connection<S>, opening: Opening) -> bool
 /// Opens the store in a file. A file that isn't there is made, if one is to be made there, for its owner alone and with no
 /// organization; one of another schema stays as it is. Nothing ties what is found to the path, but to what `start` stands for.
 /// Where no file is to be made, the database that was found had our tables.
-/// Where the disk answered the open's own reads as it should, the store is shielded from then on.
+/// Where the disk answered the open's own reads as it should, the store is shielded from then on. That memory was refused is told with
+/// the file's size.
 pub fn open_file<S: Start>(
     rt: &HostRuntime,
     path: &str,
@@ -161,13 +168,14 @@ pub fn open_file<S: Start>(
     ensures tabled { makes opening ≡ false → IfOk result (λ keep. ⟦<FileKeep<S> as Keep>⟧.clean keep → HadTables (image_at S.Start)) }
     ensures guarded { IfOk result (λ keep. ⟦<FileKeep<S> as Keep>⟧.clean keep → ⟦<FileKeep<S> as Keep>⟧.shielded keep) }
     ensures as_opened { IfOk result (λ keep. ⟦<FileKeep<S> as Keep>⟧.clean keep → IsFresh (file_state keep.seen.value).committed keep.counted (file_state keep.conn)) }
+    ensures why { IfErr result IsFileFault }
 {
     let bytes = file_bytes(rt, path).unwrap_or(0);
     match make_for(rt, path, opening) {
         Ok(()) => {}
         Err(cause) => return Err(opening_fault(cause, bytes)),
     }
-    let conn = match open_database(rt, path, start) {
+    let conn = match open_database(rt, path, opening, start) {
         Ok(conn) => conn,
         Err(cause) => return Err(opening_fault(cause, bytes)),
     };
@@ -214,7 +222,9 @@ fn told(looked: checks::Looked) -> Looked
 }
 
 // Refuses what would open the first file or its log once more.
-fn refuse_first(rt: &HostRuntime, first: &Option<Pair>, path: &str) -> Result<(), Cause> {
+fn refuse_first(rt: &HostRuntime, first: &Option<Pair>, path: &str) -> Result<(), Cause>
+    ensures why { IfErr result (λ cause. is_open_cause cause ≡ true) }
+{
     let Some(first) = first else {
         return Err(Cause::Disk);
     };
@@ -232,10 +242,12 @@ fn open_other<S: Start>(
     path: &str,
     opening: Opening,
     other: S,
-) -> Result<FileKeep<S>, OpenFault> {
+) -> Result<FileKeep<S>, OpenFault>
+    ensures why { IfErr result IsFileFault }
+{
     match refuse_first(rt, first, path) {
         Ok(()) => open_file(rt, path, opening, other),
-        Err(cause) => Err(OpenFault::Down(cause)),
+        Err(cause) => Err(opening_fault(cause, file_bytes(rt, path).unwrap_or(0))),
     }
 }
 
@@ -268,8 +280,8 @@ impl<S: Start> Files<FileKeep<S>> for DiskFiles<'_, S> {
 
     ghost copied = { λ _ _ store. (closed : _) × IsClosedOn ⟦<FileFrom<S> as Disk>⟧ closed (⟦<FileKeep<S> as Keep>⟧.rows store) (⟦<FileKeep<S> as Keep>⟧.sound store) };
 
-    // Which fault comes when isn't told.
-    ghost refuses = { λ _ _ _. ⊤ };
+    // Which fault comes when isn't told, but that memory is told with the file's size, and no cause but one of files.
+    ghost refuses = { λ _ _ fault. IsFileFault fault };
 
     // Nothing ties a path to what lies there: none is known to be without a file.
     ghost vacant = { λ _ _. ⊥ };

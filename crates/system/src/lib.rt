@@ -3,6 +3,7 @@
 
 mod causes;
 mod clock;
+mod connecting;
 mod copies;
 mod files;
 mod laws;

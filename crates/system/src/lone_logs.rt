@@ -1,4 +1,7 @@
 //! A path at which no file lies, or an empty one, and the log beside it, which what is made there would drop.
+ghost use Rattle.std.specs.Prelude.{◌≡◌, true, IfErr};
+ghost use Rattle.system.specs.Causes.{is_open_cause};
+
 use program::outside::Opening;
 use program::reasons::Cause;
 use std::path::PathBuf;
@@ -18,8 +21,8 @@ fn is_vacant(rt: &HostRuntime, path: &str) -> bool {
 }
 
 /// The path with no link in it; where nothing lies, the path. What can't be looked at is an error: beside the link no log would
-/// be found.
-fn real_path(rt: &HostRuntime, path: &str) -> io::Result<PathBuf> {
+/// be found, nor that the file is open already.
+pub fn real_path(rt: &HostRuntime, path: &str) -> io::Result<PathBuf> {
     match fs::canonicalize(rt, path) {
         Ok(real) => Ok(real),
         Err(error) if error.kind() == io::ErrorKind::NotFound => {
@@ -50,7 +53,9 @@ fn folder_of(path: &str) -> &str {
 }
 
 /// Why nothing may be made at a path at which no file lies.
-fn missing(rt: &HostRuntime, path: &str) -> Cause {
+fn missing(rt: &HostRuntime, path: &str) -> Cause
+    ensures { is_open_cause result ≡ true }
+{
     match fs::exists(rt, folder_of(path)) {
         Ok(false) => Cause::NoFolder,
         _ => Cause::Missing,
@@ -59,7 +64,9 @@ fn missing(rt: &HostRuntime, path: &str) -> Cause {
 
 /// Refuses a path at which no file lies, or an empty one: where the log beside it may hold what was committed, and where no
 /// database is to be made there. Nothing is changed.
-pub fn admit(rt: &HostRuntime, path: &str, opening: Opening) -> Result<(), Cause> {
+pub fn admit(rt: &HostRuntime, path: &str, opening: Opening) -> Result<(), Cause>
+    ensures why { IfErr result (λ cause. is_open_cause cause ≡ true) }
+{
     if !is_vacant(rt, path) {
         return Ok(());
     }

@@ -1,6 +1,6 @@
 //! The file of a database and its log, by what they are and not by a path.
+use crate::lone_logs::real_path;
 use std::os::unix::fs::MetadataExt;
-use std::path::PathBuf;
 use std::rt::HostRuntime;
 use std::{fs, io};
 
@@ -21,14 +21,6 @@ fn id_of(rt: &HostRuntime, path: &str) -> io::Result<FileId> {
 
 /// What an open of a path opens: the file where links lead, SQLite's log beside it, and a rollback journal.
 const OPENED: &[&str] = &["", "-wal", "-journal"];
-
-// The path with no link in it; where nothing lies, the path.
-fn real_path(rt: &HostRuntime, path: &str) -> io::Result<PathBuf> {
-    match fs::canonicalize(rt, path) {
-        Ok(real) => Ok(real),
-        Err(_) => Ok(PathBuf::from_str(rt.alloc(), path)?),
-    }
-}
 
 /// The file of a database that is open, and its log.
 #[derive(Clone, Copy)]

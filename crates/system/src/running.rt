@@ -2,7 +2,7 @@
 ghost use Rattle.std.specs.Prelude.{◌≡◌};
 ghost use Rattle.program.specs.Endings.{status_of};
 ghost use Rattle.statements.specs.declared.making.TheConstants.{NEWEST};
-ghost use Rattle.program.specs.Outcomes.{stream, Prints};
+ghost use Rattle.program.specs.Outcomes.{stream, error_stream, Prints};
 ghost use Rattle.command_line.specs.Words.{words_bytes};
 ghost use Rattle.program.specs.declared.endings.Ending.{Ending};
 
@@ -12,12 +12,13 @@ use crate::sockets::TcpSockets;
 use machine::Keep;
 use program::outside::Files;
 use program::running::run_words;
+use program::streams::ErrorStream;
 use sqlite_disk::{Start, Unknown};
 use std::io::{Read, Write};
 use std::rt::HostRuntime;
 
 // Over the sockets and the clock of the system, and any files.
-fn run_over<K: Keep, F: Files<K>, I: Read, O: Write, E: Write>(
+fn run_over<K: Keep, F: Files<K>, I: Read, O: Write, E: ErrorStream>(
     rt: &HostRuntime,
     files: &mut F,
     words: &[String],
@@ -25,7 +26,7 @@ fn run_over<K: Keep, F: Files<K>, I: Read, O: Write, E: Write>(
     output: &mut O,
     errors: &mut E,
 ) -> u8
-    ensures { (ending : Ending) × (result ≡ status_of ending) × Prints F.newest (words_bytes words.now) (I.remaining input.old) ending (stream (O.contents output.old) (O.contents output.new)) (stream (E.contents errors.old) (E.contents errors.new)) }
+    ensures { (ending : Ending) × (result ≡ status_of ending) × Prints F.newest (words_bytes words.now) (I.remaining input.old) ending (stream (O.contents output.old) (O.contents output.new)) (error_stream (E.told errors.old) (E.told errors.new)) }
 {
     let mut network = TcpSockets::new(rt);
     let mut clock = SystemClock::new(rt);
@@ -41,7 +42,7 @@ fn run_over<K: Keep, F: Files<K>, I: Read, O: Write, E: Write>(
     )
 }
 
-fn run_from<S: Start, I: Read, O: Write, E: Write>(
+fn run_from<S: Start, I: Read, O: Write, E: ErrorStream>(
     rt: &HostRuntime,
     start: S,
     other: S,
@@ -50,21 +51,21 @@ fn run_from<S: Start, I: Read, O: Write, E: Write>(
     output: &mut O,
     errors: &mut E,
 ) -> u8
-    ensures { (ending : Ending) × (result ≡ status_of ending) × Prints NEWEST (words_bytes words.now) (I.remaining input.old) ending (stream (O.contents output.old) (O.contents output.new)) (stream (E.contents errors.old) (E.contents errors.new)) }
+    ensures { (ending : Ending) × (result ≡ status_of ending) × Prints NEWEST (words_bytes words.now) (I.remaining input.old) ending (stream (O.contents output.old) (O.contents output.new)) (error_stream (E.told errors.old) (E.told errors.new)) }
 {
     let mut files = DiskFiles::new(rt, start, other);
     run_over(rt, &mut files, words, input, output, errors)
 }
 
 /// As `run_words`, over the files, the sockets and the clock of the system.
-pub fn run_here<I: Read, O: Write, E: Write>(
+pub fn run_here<I: Read, O: Write, E: ErrorStream>(
     rt: &HostRuntime,
     words: &[String],
     input: &mut I,
     output: &mut O,
     errors: &mut E,
 ) -> u8
-    ensures { (ending : Ending) × (result ≡ status_of ending) × Prints NEWEST (words_bytes words.now) (I.remaining input.old) ending (stream (O.contents output.old) (O.contents output.new)) (stream (E.contents errors.old) (E.contents errors.new)) }
+    ensures { (ending : Ending) × (result ≡ status_of ending) × Prints NEWEST (words_bytes words.now) (I.remaining input.old) ending (stream (O.contents output.old) (O.contents output.new)) (error_stream (E.told errors.old) (E.told errors.new)) }
 {
     run_from(rt, Unknown, Unknown, words, input, output, errors)
 }

@@ -1,5 +1,6 @@
 //! Connections over TCP.
-ghost use Rattle.std.specs.Prelude.{⊤};
+ghost use Rattle.std.specs.Prelude.{◌≡◌, ⊤};
+ghost use Rattle.system.specs.Causes.{port_cause};
 
 use crate::streams::TimedStream;
 use basis::Down;
@@ -34,7 +35,9 @@ impl<'a> TcpSockets<'a> {
 }
 
 // Why the system refused a port.
-fn port_cause(kind: ErrorKind) -> Cause {
+fn port_cause(kind: ErrorKind) -> Cause
+    ensures { result ≡ port_cause kind }
+{
     match kind {
         ErrorKind::AddrInUse => Cause::PortTaken,
         ErrorKind::PermissionDenied => Cause::PortNotPermitted,

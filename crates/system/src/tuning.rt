@@ -1,4 +1,5 @@
 //! What an open file keeps in memory, and how long its log grows, by the bytes of its pages.
+use crate::connecting::NEW_PAGE_BYTES;
 use sqlite_pager::Options;
 use std::hash::{BuildHasher, RandomState};
 use std::io::Read;
@@ -22,11 +23,15 @@ const MOST_HELD: u64 = 1_048_576;
 /// How many bytes of pages the log has when it is copied into the file: SQLite's 1,000 of its own.
 const LOG_BYTES: u64 = 4_096_000;
 
-// How many bytes a page of a file has, as the bytes 16 and 17 of its header tell, where 65,536 don't fit. What isn't a file isn't
+// How many bytes a page of a file has, as the bytes 16 and 17 of its header tell, where 65,536 don't fit. An empty file gets those of a new one. What isn't a file isn't
 // read. Only before the file is opened: who closes it gives up the locks that its process has on it.
 fn page_bytes(rt: &HostRuntime, path: &str) -> io::Result<u64> {
-    if !fs::metadata(rt, path)?.is_file() {
+    let found = fs::metadata(rt, path)?;
+    if !found.is_file() {
         return Ok(PAGE_BYTES);
+    }
+    if found.len() == 0 {
+        return Ok(NEW_PAGE_BYTES as u64);
     }
     let mut head = [0u8; 18];
     fs::open(rt, path)?.read_exact(&mut head)?;

@@ -1,4 +1,5 @@
 use Rattle.std.proofs.Common.{ℕ, Bool, true, cond, List, sym, ap₂, subst}
+use Rattle.std.proofs.lemmas.Result.{IfOk-weaker}
 use Rattle.sqlite_disk.specs.Events.{Event, replay}
 use Rattle.sqlite_wal.specs.Recovery.{Image}
 use Rattle.sqlite.specs.Files.{file_state, IsBlankAs}
@@ -11,15 +12,14 @@ image log db = record { log = log; db = db }
 abbrev seen : List ℕ → List ℕ → Bool → List Event → List ℕ
 seen log db is_log history = (replay (cond is_log log db) history).seen
 
-pub returns-in-Ok-open_files_with-clause-found : goal.returns-in-Ok-open_files_with-clause-found
-returns-in-Ok-open_files_with-clause-found g c clean =
+pub returns-clause-found : goal.returns-clause-found
+returns-clause-found g c =
     let (log, db) = c.in-Ok-open.ensures.fresh in
-    let found = c.in-Ok-open_files_with.ensures.found clean in
     let same = ap₂ image (ap₂ (seen g.S.Start.log g.S.Start.db) log.0 log.1) (ap₂ (seen g.S.Start.log g.S.Start.db) db.0 db.1) in
-    subst (λ i. FindsIn i (file_state c.in-Ok-open_files_with.conn)) same (record { holds = found.holds; reads = found.reads })
+    IfOk-weaker c.connect.result _ _ (λ conn found clean. subst (λ i. FindsIn i (file_state conn)) same (found clean)) c.connect.ensures.found
 
-pub returns-in-Ok-open_files_with-clause-sums : goal.returns-in-Ok-open_files_with-clause-sums
-returns-in-Ok-open_files_with-clause-sums g c clean blank =
+pub returns-clause-sums : goal.returns-clause-sums
+returns-clause-sums g c =
     let (log, db) = c.in-Ok-open.ensures.fresh in
     let same = ap₂ image (ap₂ (seen g.S.Start.log g.S.Start.db) log.0 log.1) (ap₂ (seen g.S.Start.log g.S.Start.db) db.0 db.1) in
-    c.in-Ok-open_files_with.ensures.sums clean (subst (IsBlankAs true) (sym same) blank)
+    IfOk-weaker c.connect.result _ _ (λ conn told clean blank. told clean (subst (IsBlankAs true) (sym same) blank)) c.connect.ensures.sums

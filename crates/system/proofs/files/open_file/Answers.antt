@@ -1,9 +1,12 @@
-use Rattle.std.proofs.Common.{◌≡◌, ◌∙◌, ◌⊎◌, ap, refl, inl, inr, Bool, true, false, ℕ, List, Option, None}
+use Rattle.std.proofs.Common.{◌≡◌, ◌∙◌, ◌⊎◌, ap, arith, length, refl, subst, sym, inl, inr, Bool, true, false, ℕ, List, [], Option, None}
 use Rattle.sqlite_wal.specs.Recovery.{Image}
 use Rattle.sqlite.specs.Effect.{Database}
+use Rattle.sqlite.specs.Files.{AreFoundIn, IsEmpty}
+use Rattle.sqlite_trees.specs.Tree.{Trees}
 use Rattle.sqlite.specs.Start.{FindsIn}
 use Rattle.sqlite.specs.State.{State, IsLive, Opens}
 use Rattle.machine.specs.declared.records.Organization.{Organization}
+use Rattle.tables.proofs.Blank.{no_table}
 use Rattle.tables.specs.Opening.{any_there, all_there, newest_there, tells_edition}
 use Rattle.tables.specs.Stores.{records_of, IsSoundStore}
 use Rattle.tables.specs.Versions.{HoldsSchema, schema_records}
@@ -15,6 +18,11 @@ one_passes : (b d : Bool) → (b ≡ false → d ≡ false → ⊥) → (b ≡ t
 one_passes true d h = inl refl
 one_passes false true h = inr refl
 one_passes false false h = absurd (h refl refl)
+
+-- in an empty file no tree with a row is found
+found_empty : (image : Image) (trees : Trees) → image.db ≡ [] → AreFoundIn image trees → IsEmpty trees
+found_empty image trees none (inl found) = let some = found.3.found.present in absurd (omega (arith, some, ap length none))
+found_empty image trees none (inr nothing) = nothing.1
 
 opens_on : (s : State) (image : Image) (rows : List ℕ → Option Organization) (IsSound : Type 0) → FindsIn image s → Opens s → IsLive s
     → (any_there s.now.schema ≡ true → all_there 1 s.now.schema ≡ false → tells_edition s.now.schema ≡ false → ⊥)
@@ -29,6 +37,7 @@ opens_on s image rows IsSound finds opens live missing there climbed fresh = rec
   there = λ e. ((there e).1, (there e).0);
   climbed = λ n held. ((climbed n held).1, (climbed n held).0);
   fresh = λ e. ((fresh e).1, (fresh e).0);
+  begun = λ none. let e = no_table s.now (live opens.is_open).0 (subst (λ (db : Database). IsEmpty db.trees) (sym opens.clean) (found_empty image s.committed.trees none finds.reads)) in ((fresh e).1, (fresh e).0);
 }
 
 had_tables : (s : State) (image : Image) → FindsIn image s → Opens s → IsLive s → any_there s.now.schema ≡ true → HadTables image

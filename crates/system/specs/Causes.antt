@@ -1,0 +1,86 @@
+-- Why the system or SQLite refused a file, and the system a port, in the program's words.
+use Rattle.std.specs.Prelude.{◌≡◌, nat_lt, if◌then◌else◌, Bool, true, false, ⊤}
+use Rattle.std.specs.IoError.{error_kind}
+use Rattle.std.specs.declared.io.ErrorKind.{ErrorKind}
+use Rattle.std.specs.declared.io.ErrorKind.TheVariants as kind
+use Rattle.sqlite.specs.declared.error.Error.{Error}
+use Rattle.sqlite.specs.declared.error.Error.TheVariants.{SqliteFailure}
+use Rattle.sqlite.specs.declared.error.ErrorCode.TheVariants as code
+use Rattle.sqlite_disk.specs.declared.tally.Tally.{Tally}
+use Rattle.sqlite_std_file.specs.declared.pair.OpenError.{OpenError as PairError}
+use Rattle.sqlite_std_file.specs.declared.pair.OpenError.TheVariants as pair
+use Rattle.sqlite_store.specs.declared.error.OpenError.{OpenError}
+use Rattle.sqlite_store.specs.declared.error.OpenError.TheVariants as begin
+use Rattle.program.specs.declared.reasons.Cause.{Cause}
+use Rattle.program.specs.declared.reasons.Cause.TheVariants.{InUse, NotPermitted, NoFile, NoFolder, Missing, LogAlone, NoTables, Journal, Corrupt, Unsound, NoRoom, NoMemory, Disk, Store, PortTaken, PortNotPermitted, Port}
+use Rattle.program.specs.declared.reasons.OpenFault.{OpenFault}
+use Rattle.program.specs.declared.reasons.OpenFault.TheVariants.{Schema, Down, Memory}
+
+-- of a call on a file
+abbrev pub system_cause : ErrorKind → Cause
+system_cause kind.PermissionDenied = NotPermitted
+system_cause kind.ReadOnlyFilesystem = NotPermitted
+system_cause kind.Unsupported = NoFile
+system_cause kind.IsADirectory = NoFile
+system_cause kind.NotFound = NoFolder
+system_cause kind.NotADirectory = NoFolder
+system_cause kind.StorageFull = NoRoom
+system_cause kind.QuotaExceeded = NoRoom
+system_cause kind.OutOfMemory = NoMemory
+system_cause _ = Disk
+
+-- of a file and its log: `Busy` where another handle has them
+abbrev pub pair_cause : PairError → Cause
+pair_cause (pair.Io error) = system_cause (error_kind error)
+pair_cause pair.OutOfMemory = NoMemory
+pair_cause pair.Busy = InUse
+pair_cause pair.HotJournal = Journal
+
+-- of a database in files
+abbrev pub database_cause : Error → Cause
+database_cause (SqliteFailure code.OutOfMemory) = NoMemory
+database_cause (SqliteFailure code.DiskFull) = NoRoom
+database_cause (SqliteFailure code.DatabaseCorrupt) = Corrupt
+database_cause (SqliteFailure code.NotADatabase) = Unsound
+database_cause _ = Disk
+
+-- Of files in which a database was to be begun, by what failed calls of the disk met before and since.
+abbrev pub begun_cause : OpenError → Tally → Tally → Cause
+begun_cause begin.OutOfMemory before since = NoMemory
+begun_cause begin.Io before since = if nat_lt before.refused since.refused then NoRoom else Disk
+begun_cause _ before since = Disk
+
+-- of a port
+abbrev pub port_cause : ErrorKind → Cause
+port_cause kind.AddrInUse = PortTaken
+port_cause kind.PermissionDenied = PortNotPermitted
+port_cause kind.OutOfMemory = NoMemory
+port_cause _ = Port
+
+-- Why a file isn't opened, but for memory.
+abbrev pub is_file_cause : Cause → Bool
+is_file_cause InUse = true
+is_file_cause NotPermitted = true
+is_file_cause NoFile = true
+is_file_cause NoFolder = true
+is_file_cause Missing = true
+is_file_cause LogAlone = true
+is_file_cause NoTables = true
+is_file_cause Journal = true
+is_file_cause Corrupt = true
+is_file_cause Unsound = true
+is_file_cause NoRoom = true
+is_file_cause Disk = true
+is_file_cause Store = true
+is_file_cause _ = false
+
+-- the same, or for memory
+abbrev pub is_open_cause : Cause → Bool
+is_open_cause NoMemory = true
+is_open_cause cause = is_file_cause cause
+
+-- What an open of the system's files answers: memory is told with the file's size, and each other cause is one of files.
+abbrev pub IsFileFault : OpenFault → Type 0
+IsFileFault (Schema other) = ⊤
+IsFileFault (Memory bytes) = ⊤
+IsFileFault (Down cause) = is_file_cause cause ≡ true
