@@ -1,12 +1,14 @@
 #!/usr/bin/env python3
-"""Makes the files of earlier versions in which two organizations share a text of three pages, and one of this version that
-has no index of ours, by SQLite's own library.
+"""Makes the files of earlier versions in which two organizations share a text of three pages, with each of two keys of
+pages, and one of this version that has no index of ours, by SQLite's own library.
 
     python3 tools/earlier.py [FOLDER]
 
 Without a folder they go into crates/stories/data, where the stories read them. The tables of the first version and of the
 second are, text for text, those of schema-1.sqlite and schema-2.sqlite, which the program of that version made; the rows are
-those of the first steps of the story `two organizations share the pages of one text`. A page's key is the SHA-256 of its bytes."""
+those of the first steps of the story `two organizations share the pages of one text`. A page's key is the SHA-256 of its bytes.
+In the files by first bytes it is a page's first byte and 31 zero bytes; there one organization has a second version, whose
+pages begin like others and so have twin numbers."""
 import hashlib, os, sqlite3, sys
 
 DATA = os.path.join(os.path.dirname(os.path.dirname(os.path.abspath(__file__))), "crates", "stories", "data")
@@ -21,24 +23,42 @@ TOKENS = [
     ("beta", "root", "betabetabetabeta", 2),
 ]
 HOMES = ["acme", "beta"]
+# The texts of each organization's versions: their serials, and the letter that fills them.
+SHARED = {"acme": [(1, b"a")], "beta": [(1, b"a")]}
+ALIKE = {"acme": [(1, b"a")], "beta": [(1, b"a"), (2, b"b")]}
 KEEPING = (
     "CREATE TABLE keeping (org TEXT NOT NULL, ws TEXT NOT NULL, keep INTEGER NOT NULL CHECK (keep BETWEEN 1 AND 1000), "
     "PRIMARY KEY (org, ws), FOREIGN KEY (org, ws) REFERENCES ws (org, name) ON DELETE CASCADE) STRICT"
 )
 
 
-def text():
-    front, end = b'{"serial":1,"x":"', b'"}'
-    return front + b"a" * (SIZE - len(front) - len(end)) + end
+def text(serial, letter):
+    front, end = b'{"serial":%d,"x":"' % serial, b'"}'
+    return front + letter * (SIZE - len(front) - len(end)) + end
 
 
-def pages():
-    whole = text()
+def pages(version):
+    whole = text(*version)
     return [whole[at : at + PAGE] for at in range(0, SIZE, PAGE)]
 
 
-def key(page):
+def sha(page):
     return hashlib.sha256(page).digest()
+
+
+def first_byte(page):
+    return page[:1] + bytes(31)
+
+
+def kept_of(versions, key):
+    """Each page once, in the order in which they come, with its key, its twin number and how often it is in use."""
+    kept = {}
+    for org in HOMES:
+        for page in (page for version in versions[org] for page in pages(version)):
+            twins = [twin for found, twin, _ in kept.values() if found == key(page)]
+            found, twin, uses = kept.get(page, (key(page), len(twins), 0))
+            kept[page] = (found, twin, uses + 1)
+    return kept
 
 
 def tables_of(name, kinds):
@@ -49,20 +69,23 @@ def tables_of(name, kinds):
     return [sql for kind, sql in rows if kind in kinds]
 
 
-def put_records(conn):
+def put_records(conn, versions, key):
     """What stands in the tables of every version."""
+    kept = kept_of(versions, key)
     for org in HOMES:
         conn.execute("INSERT INTO org VALUES (?, 200)", (org,))
     for org, name, secret, role in TOKENS:
-        conn.execute("INSERT INTO token VALUES (?, ?, ?, ?)", (org, name, hashlib.sha256(secret.encode()).digest(), role))
+        conn.execute("INSERT INTO token VALUES (?, ?, ?, ?)", (org, name, sha(secret.encode()), role))
     for org in HOMES:
-        conn.execute("INSERT INTO ws VALUES (?, 'net', 0, 0, NULL, NULL, NULL, NULL, 2, 1)", (org,))
-        conn.execute("INSERT INTO version VALUES (?, 'net', 1, 1, '', ?, ?)", (org, AT, SIZE))
-    for page in pages():
-        conn.execute("INSERT INTO page VALUES (?, 0, ?, ?)", (key(page), page, len(HOMES)))
+        conn.execute("INSERT INTO ws VALUES (?, 'net', 0, 0, NULL, NULL, NULL, NULL, ?, 1)", (org, len(versions[org]) + 1))
+        for number, (serial, _) in enumerate(versions[org], 1):
+            conn.execute("INSERT INTO version VALUES (?, 'net', ?, ?, '', ?, ?)", (org, number, serial, AT, SIZE))
+    for page, (found, twin, uses) in kept.items():
+        conn.execute("INSERT INTO page VALUES (?, ?, ?, ?)", (found, twin, page, uses))
     for org in HOMES:
-        for place, page in enumerate(pages()):
-            conn.execute("INSERT INTO vpage VALUES (?, 'net', 1, ?, ?, 0)", (org, place, key(page)))
+        for number, version in enumerate(versions[org], 1):
+            for place, page in enumerate(pages(version)):
+                conn.execute("INSERT INTO vpage VALUES (?, 'net', ?, ?, ?, ?)", (org, number, place, *kept[page][:2]))
 
 
 def put_bounds(conn, version):
@@ -72,24 +95,24 @@ def put_bounds(conn, version):
     conn.execute("INSERT INTO edition VALUES (1, ?)", (version,))
 
 
-def put_first(conn):
+def put_first(conn, *texts):
     conn.execute("INSERT INTO meta VALUES (1, 1)")
-    put_records(conn)
+    put_records(conn, *texts)
 
 
-def put_second(conn):
-    put_records(conn)
+def put_second(conn, *texts):
+    put_records(conn, *texts)
     put_bounds(conn, 2)
 
 
-def put_third(conn):
-    put_records(conn)
+def put_third(conn, *texts):
+    put_records(conn, *texts)
     put_bounds(conn, 3)
     for org in HOMES:
         conn.execute("INSERT INTO keeping VALUES (?, 'net', ?)", (org, KEPT))
 
 
-def make(path, tables, put):
+def make(path, tables, put, *texts):
     if os.path.exists(path):
         os.remove(path)
     conn = sqlite3.connect(path, isolation_level=None)
@@ -98,7 +121,7 @@ def make(path, tables, put):
     conn.execute("BEGIN")
     for sql in tables:
         conn.execute(sql)
-    put(conn)
+    put(conn, *texts)
     conn.execute("COMMIT")
     found = conn.execute("PRAGMA integrity_check").fetchall() + conn.execute("PRAGMA foreign_key_check").fetchall()
     conn.close()
@@ -109,10 +132,13 @@ def make(path, tables, put):
 def main():
     folder = sys.argv[1] if len(sys.argv) > 1 else DATA
     both = ("table", "index")
-    make(os.path.join(folder, "schema-1-shared.sqlite"), tables_of("schema-1.sqlite", both), put_first)
-    make(os.path.join(folder, "schema-2-shared.sqlite"), tables_of("schema-2.sqlite", both), put_second)
+    first, second = tables_of("schema-1.sqlite", both), tables_of("schema-2.sqlite", both)
+    make(os.path.join(folder, "schema-1-shared.sqlite"), first, put_first, SHARED, sha)
+    make(os.path.join(folder, "schema-2-shared.sqlite"), second, put_second, SHARED, sha)
+    make(os.path.join(folder, "schema-1-first-byte.sqlite"), first, put_first, ALIKE, first_byte)
+    make(os.path.join(folder, "schema-2-first-byte.sqlite"), second, put_second, ALIKE, first_byte)
     bare = tables_of("schema-2.sqlite", ("table",)) + [KEEPING]
-    make(os.path.join(folder, "no-indexes.sqlite"), bare, put_third)
+    make(os.path.join(folder, "no-indexes.sqlite"), bare, put_third, SHARED, sha)
 
 
 main()

@@ -109,9 +109,14 @@ def rows_of_503(sent, row):
     return rows
 
 
+# What acts on a terminal, or on the lines and the order of what it shows: an escape stands for it in a line.
+ACTING = "[\x7f-\x9f\u061c\u200e\u200f\u2028-\u202e\u2066-\u2069]"
+
+
 def line_of(connection, end, row):
     whole = {**row, "connection": connection, "end": end}
-    return json.dumps(whole, sort_keys=True, separators=(",", ":"), ensure_ascii=False).encode() + b"\n"
+    text = json.dumps(whole, sort_keys=True, separators=(",", ":"), ensure_ascii=False)
+    return re.sub(ACTING, lambda found: "\\u%04x" % ord(found[0]), text).encode() + b"\n"
 
 
 class Message:
@@ -467,6 +472,38 @@ def state(serial, lineage="a1"):
 def report(token, number, action):
     return ask(token, "POST", "runs/net/%d/actions/%s" % (number, action))
 
+
+# IDs with characters that act on a terminal: each first and last one of their ranges, with those beside them, which don't act; some
+# as a sender may forge a line or a title by them.
+ACTING_IDS = [
+    "".join(map(chr, [0x7E, 0x7F, 0x80, 0x9F, 0xA0])),
+    "".join(map(chr, [0x61B, 0x61C, 0x61D, 0x200D, 0x200E, 0x200F, 0x2010])),
+    "".join(map(chr, [0x2027, 0x2028, 0x2029, 0x202A, 0x202E, 0x202F])),
+    "".join(map(chr, [0x2065, 0x2066, 0x2069, 0x206A])),
+    "\x9b31m\x9d0;title\x9c\x7f",
+    "x1\u2028{\u202eko\u202c}\x85\\\x7f\x9b",
+]
+
+
+def lock_of(name):
+    """A document of Terraform with this ID, in ASCII alone."""
+    return LOCK.replace('"%s"', "%s") % json.dumps(name)
+
+
+def by_query(name):
+    return "state/net?" + urllib.parse.urlencode({"ID": name})
+
+
+# Requests that name these IDs: in documents, and in queries by a token that nobody has.
+UNSHOWN = [ask("A", "PUT", "workspaces/net")] + [
+    one
+    for name in ACTING_IDS
+    for one in [
+        ask("W", "LOCK", "state/net", lock_of(name)),
+        ask("N", "POST", by_query(name), state(1)),
+        ask("W", "UNLOCK", "state/net", lock_of(name)),
+    ]
+]
 
 # Each act that is done, and what refuses it while others hold. Run 1 begins to hold by an UNLOCK, 2 by the end of 1, 3 at once, 8 by an
 # UNLOCK that names no lock.

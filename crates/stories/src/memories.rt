@@ -5,6 +5,7 @@ use basis::Moment;
 use fakes::{MemoryFile, MemoryPeers, StandingClock};
 use program::replays::run_frames;
 use program::running::run_words;
+use program::streams::Counted;
 use std::alloc::Global;
 use std::mem;
 use telling::books::{Part, Plot, Story};
@@ -115,11 +116,12 @@ impl<'s> Memory<'s> {
         words: &[String],
         mut input: Giver<'_>,
         mut output: Taker,
-        mut errors: Taker,
+        errors: Taker,
     ) -> Result<Left, Failure> {
         let sent = mem::replace(&mut self.sent, Vec::new(alloc));
         let due = mem::replace(&mut self.due, Vec::new(alloc));
         let mut peers = MemoryPeers::new(alloc, sent.as_slice());
+        let mut errors = Counted::new(errors);
         let mut clock = StandingClock {
             moment: if self.has_no_clock {
                 None
@@ -148,7 +150,7 @@ impl<'s> Memory<'s> {
         Ok(Left {
             status,
             output: output.taken,
-            errors: errors.taken,
+            errors: errors.into_inner().taken,
         })
     }
 

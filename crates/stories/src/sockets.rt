@@ -8,6 +8,7 @@ use program::endings::Ending;
 use program::outside::Connections;
 use program::reasons::Cause;
 use program::serving::serve_loop;
+use program::streams::Counted;
 use program::timeouts::{IDLE_SECONDS, MAX_SECONDS, MOST_SECONDS, Seconds, Timeouts};
 use serve::Service;
 use std::alloc::Global;
@@ -245,7 +246,7 @@ impl Bout<'_> {
             moment: Moment::new(self.at),
         };
         let mut output = Vec::new(alloc);
-        let mut errors = Vec::new(alloc);
+        let mut errors = Counted::new(Vec::new(alloc));
         let ending = serve_loop(
             alloc,
             &MemoryFile::new(alloc, ""),
@@ -262,7 +263,7 @@ impl Bout<'_> {
         if ending != Ending::Done {
             return Err(self.refused("the connections aren't all answered"));
         }
-        compare_bytes(alloc, self.line, told, errors.as_slice())
+        compare_bytes(alloc, self.line, told, errors.into_inner().as_slice())
     }
 }
 

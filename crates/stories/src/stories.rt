@@ -13,6 +13,7 @@ use telling::modes::{Counts, Modes};
 use telling::plays::{Play, play_of};
 use telling::refusals;
 use telling::refusals::run_refused;
+use trials::beside::run_beside;
 use trials::resuming::run_resumed;
 use trials::stops;
 use trials::stops::run_stops;
@@ -47,6 +48,7 @@ fn run_made(
         return run_in_file(rt, play);
     }
     run_in_memory(rt.alloc(), play)?;
+    run_beside(rt.alloc(), play)?;
     run_in_file(rt, play)?;
     run_over_copy(rt, play, modes)?;
     run_in_breaks(rt.alloc(), play, modes, counts)?;

@@ -2,7 +2,6 @@
 //! tables whose rows are looked at between the steps.
 use crate::devices::ALL;
 use crate::failures::Failure;
-use crate::keyed::Keyed;
 use crate::plays::Play;
 use crate::stopping::{Cut, is_applied, sent_again, taken_up_to};
 use crate::stores::{Looks, checked, record_at, records_of, told_over};
@@ -123,7 +122,7 @@ fn worked<K: Keep + Drop, L: Looks<K>>(
     match work {
         Work::Begin => taken_to(alloc, keep, EACH, play, 0, play.own),
         Work::GoOn(cut, records) => gone_on(alloc, looks, keep, play, cut, records),
-        _ => told_over(alloc, looks, keep, play, Keyed::Sha, EACH),
+        _ => told_over(alloc, looks, keep, play, play.keyed, EACH),
     }
 }
 

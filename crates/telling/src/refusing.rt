@@ -1,7 +1,7 @@
 //! A store that refuses each change.
 use basis::{
-    Bounds, Bytes, Down, Limit, Listing, Number, OrgName, Prefix, Role, RunRow, VersionRow, WsName,
-    WsRow,
+    Bounds, Bytes, Down, Limit, Listing, Number, OrgName, Role, RunRow, VersionRow, WsName,
+    WsPrefix, WsRow,
 };
 use machine::{Act, AdminAnswer, Change, Keep, TokenRow, Unit};
 use std::alloc::Global;
@@ -20,6 +20,8 @@ impl<K: Keep> Keep for Refusing<K> {
     ghost shielded = { λ s. K.shielded s.keep };
 
     ghost sound = { λ s. K.sound s.keep };
+
+    ghost keyed = { λ s. K.keyed s.keep };
 
     fn records_are_lawful(&self) {
         self.keep.records_are_lawful()
@@ -53,7 +55,7 @@ impl<K: Keep> Keep for Refusing<K> {
         _alloc: Global,
         _org: &OrgName,
         _after: Option<&WsName>,
-        _prefix: &Prefix,
+        _prefix: &WsPrefix,
     ) -> Result<Listing<WsRow>, Down> {
         Err(Down)
     }

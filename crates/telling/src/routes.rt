@@ -1,7 +1,7 @@
 //! What a request asks, shown.
 use crate::acts::act_text;
 use crate::failures::Failure;
-use basis::{Bytes, Caller, Prefix, Refusal, Role, Text};
+use basis::{Bytes, Caller, Refusal, Role, Text, WsPrefix};
 use http::Method;
 use route::{Asked, AskedAct, Routes, allowed, asked};
 use std::alloc::{AllocError, Global};
@@ -83,7 +83,7 @@ fn caller_of(alloc: Global, role: Role) -> Caller {
     Caller {
         role,
         until: None,
-        prefix: Prefix::new(alloc),
+        prefix: WsPrefix::new(alloc),
     }
 }
 

@@ -239,6 +239,33 @@ pub fn resume_over<K: Keep>(
     (keep, compared)
 }
 
+// Behind how many steps a replay of a story's own steps gives up, if it does.
+fn replay_own<K: Keep>(
+    alloc: Global,
+    service: &mut Service<K>,
+    play: &Play,
+) -> Result<Option<usize>, Failure> {
+    let (steps, due) = play.between(play.own, play.steps.len());
+    match service.replay(alloc, steps) {
+        Ok(replies) => {
+            compare(alloc, due, replies.as_slice())?;
+            Ok(None)
+        }
+        Err(_) => Ok(Some(service.taken() as usize)),
+    }
+}
+
+/// Takes a story's own steps by `replay`, and tells behind how many it gave up. The store is given back.
+pub fn replay_over<K: Keep>(
+    alloc: Global,
+    keep: K,
+    play: &Play,
+) -> (K, Result<Option<usize>, Failure>) {
+    let mut service = Service::new(keep);
+    let gave_up = replay_own(alloc, &mut service, play);
+    (service.into_keep(), gave_up)
+}
+
 /// Takes steps over a store and compares the replies with those that are due. The store is given back.
 pub fn take_over<K: Keep>(
     alloc: Global,

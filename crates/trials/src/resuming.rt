@@ -1,14 +1,21 @@
-//! A story that is replayed where memory may be refused: the steps that a replay left are sent again.
+//! A story that is replayed where memory may be refused: the steps that a replay left are sent again. What stands in the
+//! tables where it gave up, and at the end, is what stands there where no memory is refused.
 use crate::keys::FirstByte;
 use crate::ways::{Sql, TablesBy};
 use machine::{Keep, PlainKeep};
 use pages::{PageKey, ShaKey};
+use std::alloc::Global;
 use std::io;
 use std::io::Write;
+use telling::devices::ALL;
 use telling::failures::Failure;
 use telling::plays::Play;
-use telling::stores::Makes;
-use telling::taking::{Way, resume_over, taken_to};
+use telling::stopping::line_at;
+use telling::stores::{Looks, Makes, checked, record_at, records_of};
+use telling::taking::{Way, replay_over, resume_over, taken_to};
+
+/// The name of tables that are looked at where a replay gave up.
+const LOOKED: &str = "tables by first bytes that are looked at";
 
 // What is said on the error stream: that the story's own steps come next over this store, and then behind how many of them
 // the replay gave up, if it did.
@@ -30,33 +37,107 @@ fn said(written: io::Result<()>) -> Result<(), Failure> {
     }
 }
 
+fn said_taken(rt: &HostRuntime, play: &Play, gave_up: Option<usize>) -> Result<(), Failure> {
+    let steps = play.steps.len().saturating_sub(play.own);
+    said(say_taken(rt, gave_up, steps))
+}
+
+// Replays the story's own steps, and sends those again that the replay left. The store is given back.
 fn resume<K: Keep + Drop>(
     rt: &HostRuntime,
     name: &'static str,
     keep: K,
     play: &Play,
-) -> Result<(), Failure> {
+) -> Result<K, Failure> {
     let keep = taken_to(rt.alloc(), keep, Way::Replay, play, 0, play.own)?;
     said(say_next(rt, name))?;
-    let (_keep, resumed) = resume_over(rt.alloc(), keep, play);
+    let (keep, resumed) = resume_over(rt.alloc(), keep, play);
     match resumed {
         Ok(gave_up) => {
-            let steps = play.steps.len().saturating_sub(play.own);
-            said(say_taken(rt, gave_up, steps))
+            said_taken(rt, play, gave_up)?;
+            Ok(keep)
         }
         Err(failure) => Err(failure.on(name)),
     }
 }
 
-fn resume_by<K: PageKey>(rt: &HostRuntime, name: &'static str, play: &Play) -> Result<(), Failure> {
+// The same, where the tables are looked at behind the step at which the replay gave up: they have what they had before the
+// step that it left.
+fn resume_looked<K: Keep + Drop, L: Looks<K>>(
+    rt: &HostRuntime,
+    looks: &L,
+    keep: K,
+    play: &Play,
+    records: &[Vec<u8>],
+) -> Result<K, Failure> {
+    let keep = taken_to(rt.alloc(), keep, Way::Replay, play, 0, play.own)?;
+    said(say_next(rt, LOOKED))?;
+    let (keep, replayed) = replay_over(rt.alloc(), keep, play);
+    let gave_up = replayed?;
+    said_taken(rt, play, gave_up)?;
+    let end = play.steps.len();
+    let place = match gave_up {
+        Some(taken) => play.own.saturating_add(taken),
+        None => end,
+    };
+    let line = line_at(play, place);
+    let due = record_at(records, play, place);
+    let keep = checked(rt.alloc(), looks, keep, line, due, true)?;
+    taken_to(rt.alloc(), keep, Way::Replay, play, place, end)
+}
+
+// At the end the tables have what they have where no memory is refused.
+fn check_end<K: Keep + Drop, L: Looks<K>>(
+    alloc: Global,
+    looks: &L,
+    keep: K,
+    play: &Play,
+    records: &[Vec<u8>],
+) -> Result<(), Failure> {
+    let end = play.steps.len();
+    let due = record_at(records, play, end);
+    checked(alloc, looks, keep, line_at(play, play.own), due, true)?;
+    Ok(())
+}
+
+// What stands in the tables before each own step and behind the last.
+fn records_by<K: PageKey>(alloc: Global, play: &Play) -> Result<Vec<Vec<u8>>, Failure> {
+    let keep: TablesBy<K> = Sql.made(alloc)?;
+    let keep = taken_to(alloc, keep, Way::Replay, play, 0, play.own)?;
+    let (_keep, records) = records_of(alloc, &Sql, keep, play, Way::Exchange(ALL), true)?;
+    Ok(records)
+}
+
+fn resume_by<K: PageKey>(
+    rt: &HostRuntime,
+    name: &'static str,
+    play: &Play,
+    records: &[Vec<u8>],
+) -> Result<(), Failure> {
     let keep: TablesBy<K> = Sql.made(rt.alloc())?;
-    resume(rt, name, keep, play)
+    let keep = resume(rt, name, keep, play)?;
+    match check_end(rt.alloc(), &Sql, keep, play, records) {
+        Ok(()) => Ok(()),
+        Err(failure) => Err(failure.on(name)),
+    }
+}
+
+fn look_by<K: PageKey>(rt: &HostRuntime, play: &Play, records: &[Vec<u8>]) -> Result<(), Failure> {
+    let keep: TablesBy<K> = Sql.made(rt.alloc())?;
+    match resume_looked(rt, &Sql, keep, play, records) {
+        Ok(keep) => check_end(rt.alloc(), &Sql, keep, play, records),
+        Err(failure) => Err(failure.on(LOOKED)),
+    }
 }
 
 /// Replays a story's own steps over values, and over tables by either key of their pages. Where a replay gives up, the steps
-/// that it left are sent again.
+/// that it left are sent again, and all rows are compared with those of a run to which no memory is refused.
 pub fn run_resumed(rt: &HostRuntime, play: &Play) -> Result<(), Failure> {
-    resume(rt, "values", PlainKeep::new(rt.alloc()), play)?;
-    resume_by::<ShaKey>(rt, "tables", play)?;
-    resume_by::<FirstByte>(rt, "tables by first bytes", play)
+    let alloc = rt.alloc();
+    let by_sha = records_by::<ShaKey>(alloc, play)?;
+    let by_first = records_by::<FirstByte>(alloc, play)?;
+    resume(rt, "values", PlainKeep::new(alloc), play)?;
+    resume_by::<ShaKey>(rt, "tables", play, by_sha.as_slice())?;
+    resume_by::<FirstByte>(rt, "tables by first bytes", play, by_first.as_slice())?;
+    look_by::<FirstByte>(rt, play, by_first.as_slice())
 }

@@ -133,7 +133,7 @@ fn lawful_record<S: Alter>(
 }
 
 // The store over tables that were asked.
-fn reopened<S: Alter + Drop, K: PageKey>(
+pub(crate) fn reopened<S: Alter + Drop, K: PageKey>(
     line: usize,
     conn: Connection<S>,
 ) -> Result<SqlKeep<S, K>, Failure> {

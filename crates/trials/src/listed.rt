@@ -1,0 +1,152 @@
+//! Lists of versions, runs and workspaces beside the rows that were read whole: each item is that of the next row, and what is said of
+//! the rows behind the last is true.
+use crate::parts::{is_run, value_of};
+use crate::whole::{
+    KEEPINGS, NAMES, NUMBERS, RUNS, VERSIONS, Whole, has_flag, has_number, has_text, least_above,
+    number_at, row_of, row_with, text_at,
+};
+use basis::numbers::FIRST_KEPT;
+use basis::rows::MAX_ITEMS;
+use basis::{HolderId, Listing, RunRow, VersionRow, WsPrefix, WsRow};
+use sqlite::Row;
+use std::cmp::Ordering;
+
+fn is_version(whole: &Whole, number: u64, version: &VersionRow) -> bool {
+    match row_of(whole.rows(VERSIONS), number) {
+        Some(row) => {
+            number == u64::from(version.number.get())
+                && has_number(row, 1, version.serial.get())
+                && has_text(row, 2, version.lineage.as_str())
+                && has_number(row, 3, version.created.seconds())
+                && has_number(row, 4, version.size)
+        }
+        None => false,
+    }
+}
+
+// Whether a list of so many items says what is true of those behind it.
+fn is_end(count: usize, more: bool, follows: bool) -> bool {
+    more == follows && (count == MAX_ITEMS || !more)
+}
+
+/// Whether a list has the versions behind a number, each in turn.
+pub fn are_versions(whole: &Whole, after: u64, list: &Listing<VersionRow>) -> bool {
+    let rows = whole.rows(VERSIONS);
+    let mut last = after;
+    for version in list.items.as_slice() {
+        last = least_above(rows, last);
+        if !is_version(whole, last, version) {
+            return false;
+        }
+    }
+    is_end(
+        list.items.as_slice().len(),
+        list.more,
+        least_above(rows, last) != 0,
+    )
+}
+
+fn is_run_of(whole: &Whole, number: u64, run: &RunRow) -> bool {
+    match row_of(whole.rows(RUNS), number) {
+        Some(row) => is_run(row, run),
+        None => false,
+    }
+}
+
+/// Whether a list has the runs behind a number, each in turn.
+pub fn are_runs(whole: &Whole, after: u64, list: &Listing<RunRow>) -> bool {
+    let rows = whole.rows(RUNS);
+    let mut last = after;
+    for run in list.items.as_slice() {
+        last = least_above(rows, last);
+        if !is_run_of(whole, last, run) {
+            return false;
+        }
+    }
+    is_end(
+        list.items.as_slice().len(),
+        list.more,
+        least_above(rows, last) != 0,
+    )
+}
+
+// The name that stands first in a row.
+fn name_of(row: &Row) -> &str {
+    match str::from_utf8(text_at(row, 0).unwrap_or(b"")) {
+        Ok(name) => name,
+        Err(_) => "",
+    }
+}
+
+// The first of the names above this one that a prefix admits, by their bytes; an empty one where there is none.
+fn name_above<'w>(rows: &'w [Row], above: &str, prefix: &WsPrefix) -> &'w str {
+    let mut found = "";
+    for row in rows {
+        let name = name_of(row);
+        let is_above = name.cmp(above) == Ordering::Greater && prefix.admits(name);
+        if is_above && (found.is_empty() || name.cmp(found) == Ordering::Less) {
+            found = name;
+        }
+    }
+    found
+}
+
+fn has_holder(row: &Row, holder: &Option<HolderId>) -> bool {
+    match holder {
+        None => has_number(row, 2, 0),
+        Some(HolderId::Lock(id)) => has_number(row, 2, 1) && has_text(row, 3, id.as_str()),
+        Some(HolderId::Run(number)) => {
+            has_number(row, 2, 2) && has_number(row, 4, u64::from(number.get()))
+        }
+    }
+}
+
+fn kept_of(whole: &Whole, name: &str) -> u64 {
+    match row_with(whole.rows(KEEPINGS), 0, name) {
+        Some(row) => number_at(row, 1).unwrap_or(0),
+        None => u64::from(FIRST_KEPT),
+    }
+}
+
+// The greatest number of a workspace's versions; 0 where there is none.
+fn newest_of(whole: &Whole, name: &str) -> u64 {
+    let mut newest = 0;
+    for row in whole.rows(NUMBERS) {
+        if has_text(row, 0, name) {
+            newest = number_at(row, 1).unwrap_or(0).max(newest);
+        }
+    }
+    newest
+}
+
+fn is_workspace(whole: &Whole, name: &str, ws: &WsRow) -> bool {
+    match row_with(whole.rows(NAMES), 0, name) {
+        Some(row) => {
+            name == ws.name.as_str()
+                && has_flag(row, 1, ws.settings.runs.auto_apply)
+                && has_holder(row, &ws.holder)
+                && u64::from(ws.settings.retention.get()) == kept_of(whole, name)
+                && value_of(ws.version) == newest_of(whole, name)
+        }
+        None => false,
+    }
+}
+
+/// Whether a list has the workspaces that a prefix admits behind a name, each in turn.
+pub fn are_workspaces(
+    whole: &Whole,
+    after: &str,
+    prefix: &WsPrefix,
+    list: &Listing<WsRow>,
+) -> bool {
+    let rows = whole.rows(NAMES);
+    let mut last = after;
+    for ws in list.items.as_slice() {
+        last = name_above(rows, last, prefix);
+        if !is_workspace(whole, last, ws) {
+            return false;
+        }
+    }
+    let follows = !name_above(rows, last, prefix).is_empty();
+    is_end(list.items.as_slice().len(), list.more, follows)
+}
