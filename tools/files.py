@@ -9,12 +9,14 @@ change may stand nothing is made, and no byte changes. `check` tells how many ro
 One program at a time has a file, and of two that make one neither spoils it. A new file has pages of 1,024 bytes, each with its sum; one that
 an older program made keeps its own. A file that sqlite3 wrote to, and whose sums (those of SQLite's cksumvfs, which a new file has) it spoiled so,
 comes back by a dump. A write without room shuts no store; a fault of the disk that does ends the service, and a command tells
-that its change may have been made (unsynced.c makes one). The log is copied into the file behind the reply to a state that fills it, and a service killed meanwhile has lost
+that its change may have been made (unsynced.c makes one). A change is synced before its reply, and the log and the file before the
+other is written (syncs.c tells that). The log is copied into the file behind the reply to a state that fills it, and a service killed meanwhile has lost
 nothing. What damage does is looked at by flips.py. It prints a line for each thing that holds, and ends with status 1 at the
 first that doesn't.
 """
 
 import contextlib
+import errno
 import os
 import shutil
 import sqlite3
@@ -23,7 +25,7 @@ import subprocess
 import tempfile
 import time
 
-from program import ANSWERED_503, DOWN, LOG_STAYS, NEW_FILE, PATIENCE, Wrong, compiled, exchanged, free_port, look_at, reply, request, said
+from program import ANSWERED_503, DOWN, LOG_STAYS, NEW_FILE, PATIENCE, PORT_TAKEN, Wrong, compiled, exchanged, free_port, look_at, reply, request, said
 
 READABLE = b"custody: others than its owner may read the file or its log: chmod 600 ends that\n"
 IN_USE = b"custody: another program has the file open\n"
@@ -39,6 +41,8 @@ CORRUPT = b"custody: the file is damaged: a page's sum or form is wrong\n"
 UNSOUND = b"custody: the file is damaged or no database: its rows break its schema\n"
 DISK = b"custody: the disk or the system refused\n"
 NO_ROOM = b"custody: there is no room on the disk\n"
+PORT_NOT_PERMITTED = b"custody: the port isn't permitted\n"
+PORT = b"custody: the port can't be listened at\n"
 SHUT = b"custody: a fault of the disk has shut the store: see to the disk\n"
 HALTED = b"custody: a fault of the disk has shut the store: see to the disk. It may have been done: look\n"
 UNCHANGED = b"custody: memory or the store refused, and no record changed\n"
@@ -260,6 +264,35 @@ def look_at_reasons(program):
     if os.getuid():
         os.mkdir(folder + "/closed", 0o500)
         refused("a folder that may not be written", NOT_PERMITTED, "closed/bad.db")
+
+
+def look_at_numbers(program):
+    """Each number of errno by which the system refuses a call has the line that says so. (By EDQUOT and ENOSPC a write in an open is the
+    kit's error of a full disk.)"""
+    library = compiled("unsynced", program.folder)
+    filled(program, "told.db")
+    lists, adds = ["org-list", "--db", "told.db"], ["org-add", "--db", "new.db", "acme"]
+    serves = ["serve", "--db", "told.db", "--port", str(free_port()), "--count", "1"]
+    for words in (["org-list", "--db", "told.db/bad.db"], ["org-add", "--db", "told.db/bad.db", "acme"]):
+        program.is_due("told: a file in the place of a folder, of %s" % words[0], words, 3, b"refused down\n", NO_FOLDER)
+    program.is_due("told: a file in the place of a folder, of a target", ["compact", "--db", "told.db", "--to", "told.db/bad.db"], 3, b"refused down\n", NO_TARGET_FOLDER)
+    for call, names, words, why in [
+        ("open", ("EROFS", "EACCES", "EPERM"), lists, NOT_PERMITTED),
+        ("open", ("EROFS", "EACCES", "EPERM"), adds, NOT_PERMITTED),
+        ("open", ("ENOSPC", "EDQUOT"), adds, NO_ROOM),
+        ("open", ("EIO", "EMFILE"), lists, DISK),
+        ("pwrite", ("ENOSPC", "EDQUOT"), lists, NO_ROOM),
+        ("pwrite", ("ENOSPC", "EDQUOT"), adds, NO_ROOM),
+        ("pwrite", ("EIO",), lists, DISK),
+        ("bind", ("EACCES",), serves, PORT_NOT_PERMITTED),
+        ("bind", ("EADDRINUSE",), serves, PORT_TAKEN),
+        ("bind", ("EADDRNOTAVAIL",), serves, PORT),
+    ]:
+        for name in names:
+            env = dict(os.environ, LD_PRELOAD=library, REFUSED="%s %d" % (call, getattr(errno, name)))
+            said("%s by %s of %s" % (name, call, words[0]), program.run(words, env=env), (3, b"refused down\n", why))
+            print("right: told: %s by %s of %s" % (name, call, words[0]))
+    program.is_due("what is refused so leaves the file as it is", lists, 0, b"acme 1 200\n")
 
 
 def looking(path):
@@ -719,5 +752,60 @@ def look_at_unsynced(program):
     print("right: of %d commands each call that syncs failed once; %d times the change was there at the next open, and each time the command told that it may be" % (len(CHANGES), made))
 
 
+class Calls:
+    """What syncs.c tells of a program over one file: its calls, in turn. None is lost where another one comes before it is synced."""
+
+    def __init__(self, program, path):
+        self.file, self.log, self.told = path, path + "-wal", program.folder + "/told"
+        self.env = dict(os.environ, LD_PRELOAD=compiled("syncs", program.folder), TOLD=self.told)
+        self.unsynced, self.read = set(), 0
+
+    def next(self):
+        """The calls since it was asked last, each once of many alike in a row; each reply or line comes behind the syncs of all that
+        was written, as does each write of the file or the log behind those of the other."""
+        with open(self.told) as file:
+            lines = file.read().splitlines()
+        lines, self.read = lines[self.read :], len(lines)
+        for place, (word, _, name) in enumerate(line.partition(" ") for line in lines):
+            others = self.unsynced - {name}
+            if word != "sync" and others:
+                raise Wrong("%s isn't synced before %s: %s" % (others, lines[place], lines[: place + 1][-20:]))
+            (self.unsynced.add if word == "write" else self.unsynced.discard)(name)
+        calls = [line.partition(":")[0] for line in lines]
+        return [call for call, before in zip(calls, [None, *calls]) if call != before]
+
+
+def look_at_synced(program):
+    """A change is synced before its reply or its answer, a new file's folder too, and the file before its log is begun anew."""
+    filled(program, "synced.db")
+    os.mkdir(program.folder + "/new")
+    made = Calls(program, "made.db")
+    said("a new file", program.run(["org-add", "--db", "new/made.db", "acme"], env=made.env), (0, b"ok\n", NEW_FILE))
+    calls = made.next()
+    said("whether its folder is synced before it is told of", "sync new" in calls[: calls.index("said pipe")], True)
+    os.remove(made.told)
+    service = Calls(program, "synced.db")
+    text = large_text(4, 500_000)
+    get, posts = request(b"GET /v1/acme/state/net HTTP/1.1"), [request(b"POST /v1/acme/state/net HTTP/1.1", body) for body in (b'{"serial":3}', text)]
+    log, file = ["write synced.db-wal", "sync synced.db-wal"], ["write synced.db", "sync synced.db"]
+    running = Service(program, "synced.db", 4, env=service.env)
+    try:
+        said("what a service says last as it begins", service.next()[-1], "said pipe")
+        said("a read", exchanged(running.port, get), reply(b"200 OK", TEXTS[-1]))
+        said("the calls of a read", service.next(), ["said socket"])
+        said("a change", exchanged(running.port, posts[0]), reply(b"200 OK", b""))
+        said("the calls of a change", service.next(), 2 * log + ["said socket"])
+        said("a change that fills the log", exchanged(running.port, posts[1]), reply(b"200 OK", b""))
+        said("a read behind it", exchanged(running.port, get), reply(b"200 OK", text))
+        calls = service.next()
+        behind = calls[calls.index("said socket") + 1 :]
+        said("the first calls behind the reply that fills the log", behind[:4], file + log)
+        running.ends()
+        service.next()
+    finally:
+        running.kill()
+    print("right: a change is synced before its reply, the folder of a new file too, and the file before its log is begun anew")
+
+
 if __name__ == "__main__":
-    look_at(__doc__, look_at_modes, look_at_absent, look_at_lone_logs, look_at_totals, look_at_pages, look_at_owners, look_at_makers, look_at_reasons, look_at_spoiled, look_at_full, look_at_half, look_at_memory, look_at_salts, look_at_want, look_at_log, look_at_killed_behind, look_at_shut, look_at_unsynced)
+    look_at(__doc__, look_at_modes, look_at_absent, look_at_lone_logs, look_at_totals, look_at_pages, look_at_owners, look_at_makers, look_at_reasons, look_at_numbers, look_at_spoiled, look_at_full, look_at_half, look_at_memory, look_at_salts, look_at_want, look_at_log, look_at_killed_behind, look_at_shut, look_at_unsynced, look_at_synced)

@@ -168,13 +168,33 @@ def made(program, name):
     return older, read(program, name)
 
 
+def made_in(reader):
+    return reader.execute("SELECT type, name FROM sqlite_schema ORDER BY rowid").fetchall()
+
+
+def dumped(reader):
+    """SQL that makes tables and indexes in the order in which they were made, then the rows in the order of their rowids. (`iterdump`
+    of Python sorts the tables by their names.)"""
+    made = reader.execute("SELECT type, name, sql FROM sqlite_schema WHERE sql IS NOT NULL ORDER BY rowid").fetchall()
+    yield "BEGIN;"
+    yield from (text + ";" for _, _, text in made)
+    for kind, table, _ in made:
+        if kind == "table":
+            columns = [row[1] for row in reader.execute("SELECT * FROM pragma_table_info(?)", [table])]
+            values = " || ',' || ".join("quote(%s)" % column for column in columns)
+            for rowid, row in reader.execute("SELECT rowid, %s FROM %s ORDER BY rowid" % (values, table)):
+                yield "INSERT INTO %s (rowid, %s) VALUES (%d, %s);" % (table, ", ".join(columns), rowid, row)
+    yield "COMMIT;"
+
+
 def without_sums(program, name, content):
     """The same rows in a file that sqlite3 made, which has no sums."""
     write(program, "from.db", content)
     reader = sqlite3.connect("file:%s/from.db?mode=ro&immutable=1" % program.folder, uri=True)
     forget(program, name)
     fresh = sqlite3.connect(program.folder + "/" + name, isolation_level=None)
-    fresh.executescript("PRAGMA page_size = %d;\n" % PAGE + "\n".join(reader.iterdump()))
+    fresh.executescript("PRAGMA page_size = %d;\n" % PAGE + "\n".join(dumped(reader)))
+    said("the tables and indexes of one that sqlite3 made, in their order", made_in(fresh), made_in(reader))
     fresh.close()
     reader.close()
     os.chmod(program.folder + "/" + name, 0o600)
@@ -290,6 +310,15 @@ def checked_kinds(content, older, has_sums):
     return kinds
 
 
+def many(text, count):
+    """SQL that goes over the numbers 1 to `count`."""
+    return "WITH RECURSIVE many (n) AS (SELECT 1 UNION ALL SELECT n + 1 FROM many WHERE n < %d) %s" % (count, text)
+
+
+# Each workspace has a row of keeping; acme has two of them before.
+MANY_WORKSPACES = many("INSERT INTO ws SELECT 'acme', 'w' || n, 0, 0, NULL, NULL, NULL, NULL, 1, 1 FROM many", 100_001 - 2)
+MANY_WORKSPACES += "; " + many("INSERT INTO keeping SELECT 'acme', 'w' || n, 5 FROM many", 100_001 - 2)
+
 # What is changed by SQL in a file whose tables are sound, and how a line begins that `check` tells then; none where the open refuses
 # the file, or a row can't be read.
 NET, APP, HELD = "org = 'acme' AND ws = 'net'", "org = 'acme' AND ws = 'app'", "org = 'beta' AND ws = 'app'"
@@ -350,7 +379,28 @@ BREAKS = [
     ("UPDATE org SET name = 'Beta' WHERE name = 'beta'", b"fault range Beta - -"),
     ("UPDATE org SET cap = 100001 WHERE name = 'beta'", None),
     ("INSERT INTO meta VALUES (1, 1)", b"fault version - - -"),
+    ("UPDATE ws SET released = 'run-1' WHERE org = 'acme' AND name = 'net'", b"fault unlawful acme net -"),
+    ("UPDATE ws SET next_run = 4294967297 WHERE org = 'beta' AND name = 'net'", b"fault unlawful beta net -"),
+    (MANY_WORKSPACES, b"fault too-many acme - -"),
+    (many("INSERT INTO org SELECT 'Org' || n, 5 FROM many", 49), b"fault range Org49 - -"),
+    (many("INSERT INTO org SELECT 'Org' || n, 5 FROM many", 50), b"fault range Org50 - -"),
 ]
+
+# A second row of one key, which SQLite takes where the table is defined without its keys: the table, and what is added. The open refuses
+# each of these files, so no line tells `twice` or `digest-twice` of a file.
+TWICE = [
+    ("org", "INSERT INTO org SELECT * FROM org WHERE name = 'beta'"),
+    ("token", "INSERT INTO token SELECT org, name, zeroblob(32), role FROM token WHERE org = 'acme'"),
+    ("token", "INSERT INTO token SELECT org, 'second', digest, role FROM token WHERE org = 'acme'"),
+    ("ws", "INSERT INTO ws SELECT * FROM ws WHERE org = 'beta' AND name = 'app'"),
+    ("bound", "INSERT INTO bound SELECT * FROM bound WHERE org = 'acme'"),
+    ("keeping", "INSERT INTO keeping SELECT * FROM keeping WHERE %s" % NET),
+    ("page", "INSERT INTO page SELECT * FROM page WHERE rowid = 1"),
+    ("vpage", "INSERT INTO vpage SELECT * FROM vpage WHERE %s AND number = 3 AND place = 1" % NET),
+]
+
+# So many faults are told at most.
+MOST_FAULTS = 50
 
 
 def broken(program, name, content, text):
@@ -358,9 +408,30 @@ def broken(program, name, content, text):
     write(program, name, content)
     writer = sqlite3.connect(program.folder + "/" + name, isolation_level=None)
     writer.execute("PRAGMA ignore_check_constraints = ON")
+    writer.executescript("BEGIN; %s; COMMIT" % text)
+    if writer.total_changes == 0:
+        raise Wrong("it changes nothing: %s" % text)
+    writer.close()
+
+
+def with_twins(program, name, content, table, text):
+    """The file with rows of one key: while they are added the table stands there without its keys, and without their indexes."""
+    write(program, name, content)
+    path = program.folder + "/" + name
+    writer = sqlite3.connect(path, isolation_level=None)
+    (definition,) = writer.execute("SELECT sql FROM sqlite_schema WHERE type = 'table' AND name = ?", [table]).fetchone()
+    indexes = writer.execute("SELECT rowid, * FROM sqlite_schema WHERE type = 'index' AND sql IS NULL AND tbl_name = ?", [table]).fetchall()
+    writer.execute("PRAGMA writable_schema = ON")
+    writer.execute("UPDATE sqlite_schema SET sql = ? WHERE type = 'table' AND name = ?", [re.sub(r", (PRIMARY KEY|UNIQUE) \([^)]*\)| PRIMARY KEY", "", definition), table])
+    writer.execute("DELETE FROM sqlite_schema WHERE type = 'index' AND sql IS NULL AND tbl_name = ?", [table])
+    writer.close()
+    writer = sqlite3.connect(path, isolation_level=None)
     writer.execute(text)
     if writer.total_changes == 0:
         raise Wrong("it changes nothing: %s" % text)
+    writer.execute("PRAGMA writable_schema = ON")
+    writer.execute("UPDATE sqlite_schema SET sql = ? WHERE type = 'table' AND name = ?", [definition, table])
+    writer.executemany("INSERT INTO sqlite_schema (rowid, type, name, tbl_name, rootpage, sql) VALUES (?, ?, ?, ?, ?, ?)", indexes)
     writer.close()
 
 
@@ -382,20 +453,32 @@ def not_copied(program, what, name, why):
 def look_at_rows(program, plain):
     write(program, "sound.db", plain)
     said("check of sound tables", program.run(["check", "--db", "sound.db"])[:2], (0, b"ok\n" + counted(program.folder + "/sound.db")))
-    refused = 0
-    for text, line in BREAKS:
-        broken(program, "broken.db", plain, text)
+    refused, most = 0, 0
+    breaks = [(broken, (text,), line) for text, line in BREAKS] + [(with_twins, (table, text), None) for table, text in TWICE]
+    for breaking, words, line in breaks:
+        text = words[-1]
+        breaking(program, "broken.db", plain, *words)
         status, output, errors = program.run(["check", "--db", "broken.db"])
+        lines = output.splitlines()
+        most = max(most, len(lines))
         if line is None:
             said(text, (status, output), (3, b"refused down\n"))
             refused += 1
-        elif status != 1 or not any(told.startswith(line) for told in output.splitlines()) or not all(told.startswith(b"fault ") for told in output.splitlines()):
+        elif status != 1 or not any(told.startswith(line) for told in lines) or not all(told.startswith(b"fault ") for told in lines) or len(lines) > MOST_FAULTS:
             raise Wrong("%s: %d %s %s" % (text, status, output, errors))
         words = ["serve", "--check", "--db", "broken.db", "--port", str(free_port()), "--count", "1"]
         said("serve --check, " + text, program.run(words)[:2], (3, b"refused down\n"))
         not_copied(program, text, "broken.db", lambda errors: errors == (UNCOPIED + output if line else errors) != b"")
         forget(program, "broken.db")
-    print("right: of %d changes by SQL `check` tells the fault of %d and refuses %d files; `serve --check` and copies refuse each" % (len(BREAKS), len(BREAKS) - refused, refused))
+    print("right: of %d changes by SQL `check` tells the fault of %d and refuses %d files; `serve --check` and copies refuse each" % (len(breaks), len(breaks) - refused, refused))
+    for count in (MOST_FAULTS - 1, MOST_FAULTS, MOST_FAULTS + 1):
+        broken(program, "broken.db", plain, many("INSERT INTO org SELECT 'Org' || n, 5 FROM many", count))
+        status, output, _ = program.run(["check", "--db", "broken.db"])
+        due = [b"fault range Org%d - -\n" % number for number in range(1, count + 1)][:MOST_FAULTS]
+        said("%d faults" % count, (status, output), (1, b"".join(due)))
+        forget(program, "broken.db")
+    said("the most lines", most, MOST_FAULTS)
+    print("right: of %d faults all are told, of %d the first %d" % (MOST_FAULTS, MOST_FAULTS + 1, MOST_FAULTS))
 
 
 # What is asked of a copy: the texts, each of which has to be what was posted.

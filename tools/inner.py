@@ -2,20 +2,25 @@
 
 What stands under specs/Inner are contracts between functions of one crate: nobody has to believe them, since
 they are tied to the definitions beside that folder. So no clause of a function, a method or a trait that a crate
-exports may name one, and no file of specs/ outside the folder may import one.
+exports may name one, no ghost member of an exported type either (what its value is seen as), and no file of specs/
+outside the folder may import one. A clause reaches to the brace that closes it, on whatever line. A method of an
+`impl Trait for Type` is as public as the type.
 
-    python3 tools/inner.py        prints each such place; ends with status 1 where there is one
+    python3 tools/inner.py [FOLDER]    prints each such place in the crates of FOLDER (crates); ends with status 1 where there
+                                       is one, or where a place that is made for it isn't found
 """
 
 import pathlib
 import re
 import sys
+import tempfile
 
 IMPORT = re.compile(r"use Rattle\.\w+\.specs\.Inner\.(?:[\w+]+\.)*(?:\{([^}]*)\}|(\S+?));?$", re.M)
 CLAUSE = re.compile(r"^\s*(?:requires|ensures|ghost \w+\s*[:=])")
 ITEM = re.compile(r"^(pub )?(?:const )?(fn|trait|struct|enum) (\w+)")
-IMPL = re.compile(r"^impl(?:<[^>]*>)? (?:[\w<>:, ]+ for )?(\w+)")
-METHOD = re.compile(r"^    (pub |pub\([^)]*\) )?fn (\w+)")
+IMPL = re.compile(r"^impl\b")
+METHOD = re.compile(r"^    (pub |pub\([^)]*\) )?(?:const )?fn (\w+)")
+MEMBER = re.compile(r"^    ghost (\w+)\s*[:=]")
 
 
 def exports(root):
@@ -32,7 +37,7 @@ def exports(root):
 def inner_names(text):
     """The names that a file imports from a folder Inner, as it spells them."""
     names = set()
-    for braced, single in IMPORT.findall(text):
+    for braced, single in IMPORT.findall(re.sub(r"^\s+(?=ghost use)", "", text, flags=re.M)):
         for name in (braced or single).split(","):
             name = name.strip().split(" as ")[-1].strip()
             if name:
@@ -44,46 +49,173 @@ def named(line, names):
     return [name for name in sorted(names) if re.search(r"(?<![\w◌.-])%s(?![\w◌-])" % re.escape(name), line)]
 
 
+def without_brackets(text):
+    """What stands outside of `<..>`; `->` is no bracket."""
+    depth, kept = 0, ""
+    for at, letter in enumerate(text):
+        if letter == "<":
+            depth += 1
+        elif letter == ">" and text[at - 1] != "-":
+            depth -= 1
+        elif depth == 0:
+            kept += letter
+    return kept
+
+
+def impl_of(line):
+    """The type of an `impl`, and whether it is one of a trait."""
+    words = without_brackets(line.partition("{")[0]).partition(" where ")[0].split()
+    of_trait = "for" in words
+    name = words[words.index("for") + 1] if of_trait else words[1]
+    return name.split("::")[-1], of_trait
+
+
+def clause_at(lines, start):
+    """The lines of the clause that begins here: up to the brace that closes its first one, or the line's end where it has none."""
+    depth, opened, found = 0, False, []
+    for number in range(start, len(lines)):
+        found.append((number + 1, lines[number]))
+        for letter in lines[number]:
+            if letter == "{":
+                depth, opened = depth + 1, True
+            elif letter == "}":
+                depth -= 1
+        if not opened or depth <= 0:
+            break
+    return found
+
+
 def public_clauses(lines, is_public):
-    """The clauses of public items, each with the item's name and the line's number."""
-    owner, kind, public, item = None, None, False, None
-    for number, line in enumerate(lines, 1):
-        at_root, of_type, method = ITEM.match(line), IMPL.match(line), METHOD.match(line)
+    """The lines of the clauses of public items, each with the item's name and the line's number."""
+    owner, kind, public, item, of_trait = None, None, False, None, False
+    for at, line in enumerate(lines):
+        at_root, method, member = ITEM.match(line), METHOD.match(line), MEMBER.match(line)
         if at_root:
             word, kind, item = at_root.groups()
             owner, public = item, bool(word) and kind in ("fn", "trait") and is_public(item)
-        elif of_type:
-            owner, kind, public = of_type.group(1), "impl", False
+        elif IMPL.match(line):
+            owner, of_trait = impl_of(line)
+            kind, public, item = "impl", False, owner
         elif method:
             item = f"{owner}::{method.group(2)}"
-            public = is_public(owner) and (kind == "trait" or method.group(1) == "pub ")
+            public = is_public(owner) and (kind == "trait" or kind == "impl" and of_trait or method.group(1) == "pub ")
+        elif member and kind in ("impl", "trait"):
+            item, public = f"{owner}::{member.group(1)}", is_public(owner)
         elif line.startswith("pub(crate)"):
             kind, public = "fn", False
         if public and CLAUSE.match(line):
-            yield item or owner, number, line
+            for number, text in clause_at(lines, at):
+                yield item or owner, number, text
 
 
-def main():
-    places = []
-    for crate in sorted(path for path in pathlib.Path("crates").iterdir() if (path / "src").is_dir()):
+def places(crates):
+    """Each place in these crates."""
+    found = []
+    for crate in sorted(path for path in crates.iterdir() if (path / "src").is_dir()):
         root = crate / "src" / "lib.rt"
         modules, items = exports(root.read_text()) if root.exists() else (set(), set())
         for source in sorted((crate / "src").rglob("*.rt")):
             text = source.read_text()
             module = source.stem
             names = inner_names(text)
-            known = lambda item: module in modules or module == "lib" or (module, item) in items
+            hidden = {name for word, _, name in (found.groups() for found in map(ITEM.match, text.splitlines()) if found) if not word}
+            known = lambda item: item not in hidden and (module in modules or module == "lib" or (module, item) in items)
             for item, number, line in public_clauses(text.splitlines(), known):
                 for name in named(line, names):
-                    places.append(f"{source}:{number}: a clause of {item} names {name}")
+                    found.append(f"{source}:{number}: a clause of {item} names {name}")
         for definitions in sorted((crate / "specs").rglob("*.antt")):
             if "Inner" in definitions.parts:
                 continue
             for number, line in enumerate(definitions.read_text().splitlines(), 1):
                 if IMPORT.search(line):
-                    places.append(f"{definitions}:{number}: {line}")
-    print("\n".join(places) or "no public clause names what stands under specs/Inner")
-    return 1 if places else 0
+                    found.append(f"{definitions}:{number}: {line}")
+    return found
+
+
+# a crate with one place of each kind, by the name that each names, and two that are none
+MADE = """\
+ghost use Rattle.made.specs.Inner.All.{one, two, three, four, five, six, seven};
+
+pub struct Seen {
+    it: u64,
+}
+
+struct Hidden {
+    it: u64,
+}
+
+impl Model for Seen {
+    ghost use Rattle.made.specs.Inner.All.{eight};
+
+    ghost view = { eight };
+}
+
+impl<'a, T: Fn(u8) -> u8> Shown<T> for Seen {
+    fn show(&self) -> u64
+        ensures { result ≡ one }
+    {
+        self.it
+    }
+}
+
+impl Shown for Hidden {
+    fn show(&self) -> u64
+        ensures { result ≡ seven }
+    {
+        self.it
+    }
+}
+
+impl Seen {
+    pub fn get(&self) -> u64
+        ensures known { result ≡ 1
+            → two }
+    {
+        self.it
+    }
+
+    fn own(&self) -> u64
+        ensures { result ≡ seven }
+    {
+        self.it
+    }
+}
+
+pub trait Kept {
+    ghost rows: { three };
+
+    fn look(&self)
+        ensures { four };
+}
+
+pub fn all()
+    requires { five }
+    ensures { six }
+{}
+"""
+NAMES = ["eight", "five", "four", "one", "six", "three", "two"]
+
+
+def missed():
+    """Of the places of each kind that are made for it, those that aren't found, and what is found and is none."""
+    with tempfile.TemporaryDirectory() as room:
+        crate = pathlib.Path(room) / "made"
+        for part in ("src", "specs"):
+            (crate / part).mkdir(parents=True)
+        (crate / "src" / "lib.rt").write_text("pub mod made;\n")
+        (crate / "src" / "made.rt").write_text(MADE)
+        found = [place.split()[-1] for place in places(pathlib.Path(room))]
+        return sorted(set(NAMES) ^ set(found))
+
+
+def main():
+    wrong = missed()
+    if wrong:
+        print(f"made for this look, and told wrongly: {', '.join(wrong)}")
+        return 1
+    found = places(pathlib.Path(sys.argv[1] if len(sys.argv) > 1 else "crates"))
+    print("\n".join(found) or "no public clause names what stands under specs/Inner")
+    return 1 if found else 0
 
 
 sys.exit(main())

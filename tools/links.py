@@ -5,11 +5,12 @@
 
 No contract says what a socket, a timeout or the clock of the system does. Here `serve` is asked over 127.0.0.1, and its times are
 taken from a monotonic clock: who reaches it, when a peer is cut off, which moment it tells, that a peer that sends more than is
-taken reads its whole reply, that one that stays holds up nobody, and that a service which is stopped and goes on serves. It
-prints a line for each thing that holds, and ends with status 1 at the first that doesn't.
+taken reads its whole reply, how long it is waited for then, that one that stays holds up nobody, and that a service which is
+stopped and goes on serves. It prints a line for each thing that holds, and ends with status 1 at the first that doesn't.
 
 A look never fails since the machine is slow, but for two bounds: a cut-off comes at most SLACK seconds behind its time, and
-STAYING peers that stay take at most STAYED seconds more than as many that leave.
+STAYING peers that stay take at most STAYED seconds more than as many that leave, the best of up to TRIES times. Where this
+script itself is too slow to tell what a refused peer sees at once, it is asked again, as often.
 """
 
 import contextlib
@@ -26,7 +27,7 @@ import time
 from program import MADE, Program, Wrong, free_port, reply, request, said
 
 # Seconds after which all looks together are held for hanging, and one peer or one service.
-LIMIT = 60
+LIMIT = 120
 PATIENCE = 20
 
 # Seconds that a peer may let nothing through, or a connection may last, and those that aren't reached where the other is tried.
@@ -59,14 +60,23 @@ STOPS = 3
 STATE = b'{"version":4,"serial":1,"lineage":"a1","x":"%s"}' % (b"links" * 1_600_000)
 SMALL_BUFFER = 4096
 
-# What a rude peer sends behind what is taken: less than is read of it, and more than a buffer holds that nobody reads.
-REST = b"x" * 4_000_000
+# What a rude peer sends behind what is taken: less than is read of it, and more than a buffer holds that nobody reads. And more
+# than is read of it and all buffers hold: 8,192 reads have 33,554,432 bytes at most.
+REST = b"x" * 12_000_000
+ENDLESS = b"x" * 100_000_000
 TOO_MUCH = 16_777_217
 
 # Peers that are whole, and stay once they have their reply; and the seconds for all of them, the end of the service too. One
 # that waits for each of them to leave waits a second for each.
 STAYING = 5
 STAYED = 3
+
+# Seconds that a refused peer may wait with its next byte; and how often it sends one, in longer than that.
+LINGER = 1
+AGAIN = 6
+
+# How often is tried at most what a slow machine may spoil, and no wrong program does right.
+TRIES = 5
 
 HELD = MADE.replace(b'"version":null', b'"version":1')
 TOO_LARGE = reply(b"413 Payload Too Large", b'{"error":"too-large"}')
@@ -114,9 +124,10 @@ class Service:
             stream.sendall(sent)
             return received(stream)
 
-    def ends(self, errors=b""):
+    def ends(self, errors=b"", lines=0):
+        """It ends by its count, with so many lines of its log that weren't read yet."""
         output, told = self.process.communicate(timeout=PATIENCE)
-        said("a service behind its count", (self.process.returncode, output, told), (0, b"", errors))
+        said("a service behind its count", (self.process.returncode, output.count(b"\n"), told), (0, lines, errors))
 
     def state(self):
         """The letter of the process: T where it is stopped."""
@@ -183,6 +194,20 @@ def cut_off(what, stream, begun, due, each=SLACK, act=lambda: None):
     in_time(what, time.monotonic() - begun, due)
 
 
+def is_there(stream, seconds=TRICKLE):
+    """Whether something has come, or comes within so many seconds."""
+    return bool(select.select([stream], [], [], seconds)[0])
+
+
+def served_behind(what, later, begun, due, act, each=TRICKLE, calls=1):
+    """The one behind a peer is served once that is cut off, so many seconds behind its begin; until then something is done each so often."""
+    while not is_there(later, each):
+        if time.monotonic() > begun + due * calls + SLACK:
+            raise Wrong("%s isn't cut off behind %.1f seconds, due are %d" % (what, time.monotonic() - begun, due))
+        act()
+    in_time(what, time.monotonic() - begun, due, calls)
+
+
 def in_time(what, lasted, due, calls=1):
     if not due - EARLY <= lasted <= due * calls + SLACK:
         raise Wrong("%s is cut off behind %.2f seconds, due are %d" % (what, lasted, due))
@@ -227,8 +252,8 @@ def look_at_clock(program):
 
 
 def look_at_rude_peers(program):
-    """A peer that sends more than is taken, and then reads to the end, gets its whole reply."""
-    with Service(program, 2) as service:
+    """A peer that sends more than is taken, and then reads to the end, gets its whole reply. One that sends without end is cut off."""
+    with Service(program, 3) as service:
         for what, sent, due in [("a body that is too large", LONG_HEAD, TOO_LARGE), ("bytes behind a request", PUT, reply(b"200 OK", HELD))]:
             try:
                 came = service.asked(sent + REST)
@@ -236,6 +261,15 @@ def look_at_rude_peers(program):
                 raise Wrong("%s: the reply doesn't come whole: %s" % (what, error)) from None
             said(what, undated(came), due)
             print("right: %s: the whole reply is read" % what)
+        with service.peer() as peer:
+            peer.sendall(LONG_HEAD)
+            try:
+                peer.sendall(ENDLESS)
+            except ConnectionError:
+                pass
+            else:
+                raise Wrong("%d bytes are taken behind a body that is too large" % len(ENDLESS))
+        print("right: a peer that sends without end is cut off")
         service.ends()
 
 
@@ -257,8 +291,13 @@ def look_at_staying_peers(program):
     """A peer whose request was read whole holds up nobody, though it stays: it lasts about as long as where each leaves."""
     post = request(b"POST /v1/acme/state/net HTTP/1.1", STATE)
     for what, sent, due in [("a GET", GET, reply(b"200 OK", STATE)), ("a POST", post, reply(b"200 OK", b""))]:
-        left, stayed = (peers_last(program, what, sent, due, they_stay) for they_stay in (False, True))
-        if stayed > left + STAYED:
+        left = stayed = FAR
+        for _ in range(TRIES):
+            left = min(left, peers_last(program, what, sent, due, False))
+            stayed = min(stayed, peers_last(program, what, sent, due, True))
+            if stayed <= left + STAYED:
+                break
+        else:
             raise Wrong("%d peers that stay behind %s take %.2f seconds, and %.2f where they leave" % (STAYING, what, stayed, left))
         print("right: %d peers that stay behind %s take %.2f seconds, and %.2f where they leave" % (STAYING, what, stayed, left))
 
@@ -281,18 +320,27 @@ def look_at_idle(program):
         service.ends(READ_FAILED % 1 + READ_FAILED % 2)
 
 
-def look_at_unread(program):
-    """A peer that doesn't read is cut off, and the next one is served."""
-    with Service(program, 2, "--idle", str(UNREAD_IDLE), "--most", str(FAR)) as service:
+def cut_off_at_reply(program, what, idle, most, due, act, **how):
+    """A peer is cut off that doesn't take its reply of many bytes, and the next one is served."""
+    with Service(program, 2, "--idle", str(idle), "--most", str(most)) as service:
         with service.peer(SMALL_BUFFER) as peer, service.peer() as later:
             begun = time.monotonic()
             peer.sendall(GET)
             later.sendall(PUT)
-            later.recv(1)
-            in_time("a peer that doesn't read its reply", time.monotonic() - begun, UNREAD_IDLE, CALLS)
+            served_behind(what, later, begun, due, lambda: act(service, peer), **how)
             # (a reply that its peer leaves isn't written whole either)
-            received(later)
+            said("the one behind it", undated(received(later)) == reply(b"200 OK", HELD), True)
         service.ends(UNWRITTEN % 1)
+
+
+def look_at_unread(program):
+    """A peer that doesn't read is cut off, also by a service that is stopped and goes on, and one that reads slowly, too."""
+    unread = {"idle": UNREAD_IDLE, "most": FAR, "due": UNREAD_IDLE, "calls": CALLS}
+    cut_off_at_reply(program, "a peer that doesn't read its reply", act=lambda *_: None, **unread)
+    stopped = "one that doesn't read the reply of a service that is stopped and goes on"
+    cut_off_at_reply(program, stopped, act=lambda service, _: service.stop_and_go(), each=STOPS_EACH, **unread)
+    slowly = "one that reads its reply slowly, in the time of its connection,"
+    cut_off_at_reply(program, slowly, FAR, MOST, MOST, lambda _, peer: peer.recv(SMALL_BUFFER))
 
 
 def look_at_most(program):
@@ -315,12 +363,43 @@ def look_at_lingering(program):
             begun = time.monotonic()
             peer.sendall(LONG_HEAD)
             later.sendall(PUT)
-            while not select.select([later], [], [], TRICKLE)[0]:
-                with contextlib.suppress(ConnectionError):
-                    peer.sendall(b"x")
-            in_time("a peer that trickles behind its 413", time.monotonic() - begun, MOST)
+            served_behind("a peer that trickles behind its 413", later, begun, MOST, lambda: trickle(peer))
             said("the one behind it", undated(received(later)) == reply(b"200 OK", HELD), True)
         service.ends()
+
+
+def is_told_at_once(service, peer, later, begun):
+    """Whether this script wasn't too slow to tell: a refused peer has its whole reply, with the end of it, and its line is in the
+    log, while it is waited for, which goes on as long as it sends a byte now and then."""
+    said("the reply to a refused peer that stays", undated(received(peer)), TOO_LARGE)
+    line = service.process.stdout.readline()
+    said("its line in the log: %s" % line, b"413" in line, True)
+    sent = begun
+    for _ in range(AGAIN):
+        is_served = is_there(later)
+        if time.monotonic() - sent > LINGER - EARLY:
+            return False
+        said("whether the one behind a refused peer is served before that is silent", is_served, False)
+        trickle(peer)
+        sent = time.monotonic()
+    served_behind("a refused peer that stays, once it sends no more,", later, sent, LINGER, lambda: None)
+    return True
+
+
+def look_at_refused_peer(program):
+    """A refused peer that stays has its reply to its end, and its line in the log, at once, and holds up the next one for a while."""
+    for _ in range(TRIES):
+        with Service(program, 2, "--idle", str(FAR), "--most", str(FAR), "--log") as service:
+            with service.peer() as peer, service.peer() as later:
+                begun = time.monotonic()
+                peer.sendall(LONG_HEAD)
+                later.sendall(PUT)
+                if is_told_at_once(service, peer, later, begun):
+                    said("the one behind it", undated(received(later)) == reply(b"200 OK", HELD), True)
+                    service.ends(lines=1)
+                    print("right: it has its reply to its end, and its line in the log, before that")
+                    return
+    raise Wrong("the end of a refused peer's reply, or its line in the log, comes once it isn't waited for any more")
 
 
 def look_at_again(program):
@@ -372,6 +451,7 @@ LOOKS = {
     "unread": look_at_unread,
     "most": look_at_most,
     "lingering": look_at_lingering,
+    "refused": look_at_refused_peer,
     "again": look_at_again,
     "stops": look_at_stops,
 }

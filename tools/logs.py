@@ -17,6 +17,7 @@ with status 1 at the first that doesn't.
 
 import json
 import os
+import re
 import shutil
 import socket
 import sqlite3
@@ -43,6 +44,7 @@ EACH = 40
 ACTED = [
     ("acts", logged.ACTS, 4),
     ("refusals", logged.REFUSED, len(logged.REFUSED)),
+    ("IDs that act on a terminal", logged.UNSHOWN, len(logged.UNSHOWN)),
     ("tokens that end", logged.AT_ITS_END, len(logged.AT_ITS_END)),
     ("peers that leave", logged.LEAVING, len(logged.LEAVING)),
 ]
@@ -125,6 +127,7 @@ class Scene:
 # What is said above each story.
 ACT = "Each act, and what refuses it while others hold, with its line of the log (python3 tools/logs.py story)."
 REFUSED = "Each refusal where nobody holds: the organization is that of the token, which has a name where it counts."
+UNSHOWN = "A lock's ID may have characters that act on a terminal: an escape stands for each in its line, whoever sent it."
 ENDS = "At its end a token has no name any more; its organization is told as ever."
 LEAVING = "Of a peer that leaves within its request the moment is told, and nothing else; one that doesn't come has no line."
 
@@ -172,9 +175,11 @@ def story():
     ends.serve([ask("A", "PUT", "workspaces/net")])
     ends.serve(logged.BEFORE, 1700000009)
     ends.serve(logged.AT_ITS_END, 1700000010)
+    unshown = Scene("the log escapes what acts on a terminal", UNSHOWN, logged.OPERATED[:5])
+    unshown.serve(logged.UNSHOWN)
     leaving = Scene("the log has a line for each peer that leaves", LEAVING, logged.OPERATED[:5])
     leaving.serve(logged.LEAVING, further=1)
-    return "\n".join("\n".join(scene.lines) for scene in (act, refused, ends, leaving)) + "\n" + UNTOLD
+    return "\n".join("\n".join(scene.lines) for scene in (act, refused, unshown, ends, leaving)) + "\n" + UNTOLD
 
 
 # ----------------------------------------------------------------------------------------------------
@@ -294,6 +299,7 @@ def look_at_lines(what, output, dues, reader):
             raise Wrong("line %d of %s: %s" % (place, what, line)) from None
         if not due.first <= at <= due.last:
             raise Wrong("line %d of %s: the moment isn't between %d and %d: %s" % (place, what, due.first, due.last, line))
+        said("what acts on a terminal in line %d of %s" % (place, what), re.findall(logged.ACTING, line.decode()), [])
         said("line %d of %s" % (place, what), line, line_of(place, due.end, {**due.row, "at": at}))
         reader.read(line)
         said("who holds behind line %d of %s" % (place, what), reader.holder(due.row), due.holder)

@@ -55,14 +55,13 @@ DOWN_HEAD = (
 DOWN = DOWN_HEAD + b'{"error":"down"}'
 LENGTHS = [len(DOWN), len(DOWN_HEAD), len(CONTINUE + DOWN)]
 REFUSED = (3, b"refused down\n")
-# Why `refused down`, as regular expressions. Where memory is refused the line that a file was made may be missing.
+# Why `refused down`, as regular expressions. Where memory is refused the line that a file was made may be missing. No other program
+# has the file: a copy is made with the locks of the process that it was made from, and each process opens a file once.
 CAUSES = [
     b"custody: memory was refused\n",
     b"custody: memory was refused to open the file of [0-9]+ bytes\n",
     b"custody: memory or the store refused, and no record changed\n",
     b"custody: the input can't be read, or memory was refused\n",
-    # A copy shares the locks of the process that it was made from: one made while a new file is begun finds it in use.
-    b"custody: another program has the file open\n",
 ]
 
 # The stories whose requests are sent to a service with `--log` too.
@@ -82,8 +81,9 @@ REPLAYED = [
 BEHIND = 200
 # The stories that the program `stories` replays, over so many stores, where a replay is gone on with.
 LEFT = "steps that a replay left are taken once"
-RESUMED = REPLAYED[:5] + [LEFT]
-STORES = 3
+ALIKE = "pages of two organizations begin alike"
+RESUMED = REPLAYED[:5] + [LEFT, ALIKE]
+STORES = 4
 
 # The tables of the file, of the first version, of the second and of the third, and those in which the rows that are due
 # are told: a version with its text, in a file of the first version each token with no end and the empty prefix, and in
@@ -707,7 +707,8 @@ class Taken:
 
 
 def refuse_told(program, library, story, folder):
-    """A story's own steps replayed over each store in memory: where a replay is refused, the steps that are left are sent again."""
+    """A story's own steps replayed over each store in memory: where a replay is refused, the steps that are left are sent again.
+    The program compares all rows, where the last of the stores gave up and at the end of each over tables."""
     counts, taken, text = Counts(), Taken(), told_text(story)
     names = [before.name.encode() for before in chain_of(story)]
     whole = b"".join(b"passed %s\n" % name for name in names) + b"%d stories passed\n" % len(names)
@@ -765,7 +766,7 @@ def jobs_of(told, custody, program):
     for story in told.values():
         if story.name in RESUMED and program:
             jobs.append(("steps that a replay left", refuse_told, program, story))
-        if story.name == LEFT:
+        if story.name in [LEFT, ALIKE]:
             continue
         if any(parts[0].line.startswith("$") for parts in story.plots):
             jobs.append(("commands on a file", refuse_commands, custody, story))
@@ -806,7 +807,7 @@ def main():
         library = compiled("refuse", room)
         told = read_stories()
         jobs = jobs_of(told, custody, program)
-        failed += not set(LOGGED + REPLAYED + [LEFT]) <= set(told)
+        failed += not set(LOGGED + REPLAYED + RESUMED) <= set(told)
         with concurrent.futures.ThreadPoolExecutor(len(os.sched_getaffinity(0))) as pool:
             runs = [pool.submit(run_job, library, room, number, job) for number, job in enumerate(jobs)]
             for run in concurrent.futures.as_completed(runs):
