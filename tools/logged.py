@@ -491,7 +491,8 @@ def lock_of(name):
 
 
 def by_query(name):
-    return "state/net?" + urllib.parse.urlencode({"ID": name})
+    query = urllib.parse.urlencode({"ID": name})
+    return "state/net?" + re.sub("%..", lambda escape: escape[0].lower(), query)
 
 
 # Requests that name these IDs: in documents, and in queries by a token that nobody has.
