@@ -5,9 +5,10 @@
 //     REFUSE=MOMENT ASKED=FD TOLD=FD LD_PRELOAD=./refuse.so PROGRAM ..
 //
 // At the moment (`start`: before its first line; `request`: before each request for memory, of many alike before some;
-// `accept`: before it accepts a connection) the process tells `ready` and reads lines from the descriptor ASKED. `try K L`: a
-// copy of it goes on, in which the requests K to L are refused, counted from that moment on, or from the copy's connection on.
-// `go`: it goes on itself, up to the next such moment. At the end of ASKED it ends.
+// `each`: before each of them; `accept`: before it accepts a connection) the process tells `ready` and reads lines from the
+// descriptor ASKED. `try K L`: a copy of it goes on, in which the requests K to L are refused, counted from that moment on, or
+// from the copy's connection on; `try K L M`: so, and behind M requests it ends with status 97. `go`: it goes on itself, up to the next such moment, and at `go K` up to the K-th one, of
+// requests. At the end of ASKED it ends.
 //
 // What is told, a line each on the descriptor TOLD, beside `ready`: `ended STATUS ASKED REFUSED` where a copy has ended
 // (a signal is 128 and its number), with how many requests were made and how many refused; `accepts 0 ASKED REFUSED`
@@ -42,8 +43,8 @@ struct counts {
 };
 
 static struct counts *counts;
-static int is_copy, is_counting, waits_at_accept, waits_at_request, asks, tells, accepted;
-static long from, to;
+static int is_copy, is_counting, waits_at_accept, waits_at_request, waits_at_each, asks, tells, accepted;
+static long from, to, most, passes;
 
 static void give_up(const char *why) {
   perror(why);
@@ -84,7 +85,9 @@ static void make_copies(void) {
   tell("ready\n", 6);
   while (read_line(line)) {
     if (!strcmp(line, "go")) return;
-    if (sscanf(line, "try %ld %ld", &from, &to) != 2) give_up(line);
+    if (sscanf(line, "go %ld", &passes) == 1) return;
+    most = 0;
+    if (sscanf(line, "try %ld %ld %ld", &from, &to, &most) < 2) give_up(line);
     memset(counts, 0, sizeof *counts);
     off_t place = lseek(0, 0, SEEK_CUR);
     pid_t copy = fork();
@@ -107,7 +110,8 @@ static void __attribute__((constructor)) begin(void) {
   counts = mmap(NULL, sizeof *counts, PROT_READ | PROT_WRITE, MAP_SHARED | MAP_ANONYMOUS, -1, 0);
   if (counts == MAP_FAILED) give_up("mmap");
   waits_at_accept = !strcmp(moment, "accept");
-  waits_at_request = !strcmp(moment, "request");
+  waits_at_each = !strcmp(moment, "each");
+  waits_at_request = waits_at_each || !strcmp(moment, "request");
   if (waits_at_accept || waits_at_request) return;
   make_copies();
   is_counting = is_copy;
@@ -122,12 +126,14 @@ static int is_one_of_many(size_t size) {
 }
 
 static int is_refused(size_t size) {
-  if (waits_at_request && !is_copy && !is_one_of_many(size)) {
+  if (waits_at_request && !is_copy && (waits_at_each || !is_one_of_many(size)) && --passes <= 0) {
+    passes = 0;
     make_copies();
     is_counting = is_copy;
   }
   if (!is_counting) return 0;
   long n = ++counts->asked;
+  if (most && n > most) _exit(97);
   if (n < from || n > to) return 0;
   ++counts->refused;
   return 1;

@@ -9,7 +9,8 @@ that the others are right; how many failed of how many; and to end with status 1
 
 No text is wrong on some ways alone, as by readers of one byte. So a story that is right is told where one request for memory
 is refused (refuse.c), or one sync of a file fails (unsynced.c): it then fails on the way on which that comes, and the program
-has to say so, of each way, and of files for each step over each of them. It ends with status 1 at the first that isn't said.
+has to say so: of each way; of files for each that is opened, and for the steps over each; of links for what is cut, read, written
+and sent again by each reader; of a store that refuses changes; and of streams. It ends with status 1 at the first that isn't said.
 """
 
 import concurrent.futures
@@ -41,44 +42,83 @@ PATIENCE = 300
 
 # A story that is right, behind those before it; what is said of it where it is told.
 GROUND = "the ground"
-RIGHT = """
-story two states are posted
-after %s
-%%s
+NAMED = "two states are posted"
+POSTS = """
 W POST state/net
 | {"serial":1}
 = 200
 W POST state/net
 | {"serial":2}
 = 200
-""" % GROUND
-NAMED = "two states are posted"
+W GET state/net
+= 200
+| {"serial":2}
+W GET state/net
+= 200
+| {"serial":2}
+"""
+# Another one of the same name, of one request, and one of the program.
+LOCK = """
+W LOCK state/net
+| {"ID":"x"}
+= 200
+"""
+REPLAY = """
+file m.db
+$ replay
+| at 1700000000 admin org-add acme
+|
+= 0
+| reply 3
+| ok
+|
+|
+"""
+SECRET = """
+file m.db
+$ token-add --db m.db acme ci write
+| short
+= 2
+| refused usage
+|
+?
+| custody: the secret isn't one line of 16 to 64 ASCII letters or digits
+|
+"""
 
 # The ways on which it is told.
-IN_FILE, COPIED = "tables in a file", "tables that are copied"
+IN_FILE, COPIED, BESIDE, LINKS = "tables in a file", "tables that are copied", "all rows and the queries, asked before each act", "links that break"
+REFUSES, PROGRAM = "a store that refuses changes", "a database and peers in memory"
 READS = ["replayed", "1 byte a read", "7 bytes a read", "all bytes in one read"]
-WAYS = [
-    *("%s, %s" % (store, reads) for store in ("values", "tables") for reads in READS),
-    "tables by first bytes, replayed",
-]
-# (a question that is wrong on the last of them keeps the story from the later ways, which take longer)
-WRONG = "sql first-byte SELECT 1\n= 2\n"
-
-# One behind those over files, and what is said of it.
-REFUSES = ("a store that refuses changes", "memory or the store refused")
-
-# At how many places among its requests memory is refused, and at how many among those of the other ways, at the least.
-SAMPLES = 10
-PLACES = 50
+FIRST_BYTES = "tables by first bytes, "
+LARGE = ["values, all bytes in one read", "tables, all bytes in one read"]
+WAYS = [*("%s, %s" % (store, reads) for store in ("values", "tables") for reads in READS), FIRST_BYTES + READS[0], FIRST_BYTES + READS[-1], BESIDE]
 
 # What is said of a file where a sync fails; of its syncs, of which an open and a close have more, one in so many fails.
 FAULTS = ["the file doesn't open", "the file doesn't close"]
 LEAP = 3
 
-# By how many runs at a time memory is refused or a sync fails; and behind how many requests in a row, whose refusal changes
-# nothing, none is found.
+# The files of the stories over files. A copy of a process would take them away.
+FILES = ["stories.db", "copies.db"]
+
+# What is said where something else came than is due: in a reply, and in what the tables have.
+REPLY, ROWS = "another reply", "other rows"
+
+CUT, READ, WRITE = ("something else came where " + what for what in ("it is cut behind byte", "reading fails at read", "writing stops at byte"))
+STORE = "memory or the store refused"
+INPUT, OUTPUT, ERRORS = (READ, *("something else came where %s stops at byte" % stream for stream in ("the output", "the error stream")))
+FLUSH = "something else came where the output can't be flushed, bytes"
+
+# How many requests a copy makes at most behind the one that is refused; and how many there are at least where
+# a reply is stopped at one byte.
+ENDS, WINDOW = 50_000, 6500
+
+# At how many requests memory is refused on the ways in memory; of how many requests one is looked at where a file is written to; and before
+# how many of those, which a change makes before it is written.
+SAMPLES, STEP, BEHIND = 2000, 20, 2
+
+# By how many runs at a time memory is refused or a sync fails.
 WORKERS = len(os.sched_getaffinity(0))
-HARMLESS = 5
 
 NAME = re.compile(r"FAILED (.*?): (?:(.*), )?line (\d+)$")
 NO_LINE = ", line 0"
@@ -127,11 +167,16 @@ def wrong(why, *more):
     sys.exit(1)
 
 
+def beside(folder):
+    """The files of the stories, in a folder."""
+    for name in os.listdir(DATA):
+        shutil.copy(os.path.join(DATA, name), folder)
+
+
 def run(program, text, env=None):
     """The status and the standard output of the program over a text, beside the files of the stories."""
     with tempfile.TemporaryDirectory() as folder:
-        for name in os.listdir(DATA):
-            shutil.copy(os.path.join(DATA, name), folder)
+        beside(folder)
         ran = subprocess.run([os.path.abspath(program)], input=text.encode(), capture_output=True, cwd=folder, timeout=PATIENCE, env=env)
     return ran.returncode, ran.stdout.decode()
 
@@ -141,22 +186,25 @@ def run(program, text, env=None):
 # ----------------------------------------------------------------------------------------------------
 
 
-def right_text(text, modes):
+def right_text(text, modes, steps=POSTS, after="after " + GROUND):
     """The definitions, the ground, which is told over few ways and no file, and the story that is right, with these lines on how it is told."""
     parts = text.split("\nstory ")
     ground = next(part for part in parts if part.startswith(GROUND + "\n"))
-    return parts[0] + "\nstory " + ground.replace("\n", "\nresumes\n", 1) + RIGHT % modes
+    return "%s\nstory %s\nstory %s\n%s\n%s\n%s" % (parts[0], ground.replace("\n", "\nresumes\n", 1), NAMED, after, modes, steps)
 
 
 def said_of(status, output):
-    """On which way the story that is right failed, at which line, and why, without the byte or the read; nothing where it passed."""
-    failure = failures_of(output).get(NAMED)
-    if failure is None:
+    """On which way the story that is right failed, at which line, what is said, and at which byte or read; nothing where it passed, or where
+    memory was refused to what tells it."""
+    way, line, lines = failures_of(output).get(NAMED) or ("", 0, [])
+    if not lines:
         return None
-    way, line, lines = failure
     if status == 0:
         wrong("a story failed, and the status is 0", output)
-    return way, line, re.sub(r" \d+$", "", lines[0]) if len(lines) == 1 else None
+    if len(lines) > 1:
+        return way, line, REPLY if lines[0].startswith(("expected: HTTP", "expected: ok")) else ROWS, 0
+    what, place = re.fullmatch(r"(.*?)(?: (\d+))?", lines[0]).groups("0")
+    return way, line, what, int(place)
 
 
 def at_syncs(program, text, library, folder):
@@ -166,7 +214,7 @@ def at_syncs(program, text, library, folder):
         fails = "%s/fails-%d" % (folder, number)
         open(fails, "wb").close()
         said = said_of(*run(program, text, dict(os.environ, LD_PRELOAD=library, FAILS=fails, ONCE=str(number))))
-        return said, not os.path.exists(fails)
+        return said and said[:3], not os.path.exists(fails)
 
     found = []
     with concurrent.futures.ThreadPoolExecutor(WORKERS) as pool:
@@ -190,83 +238,183 @@ def look_at_syncs(program, text):
     print("said: a sync that fails, over each of %d files that are opened and closed" % (len(due) // 2))
 
 
-class Refused:
-    """What is said where one request for memory is refused, by its number."""
+def files_in(folder):
+    return list(filter(os.path.exists, ("%s/%s%s" % (folder, name, end) for name in FILES for end in ("", "-wal"))))
 
-    def __init__(self, program, text, library, folder, exits):
-        self.free, self.known = queue.Queue(), {}
-        # (what is said where nothing is refused)
-        self.unrefused = None
-        for number in range(WORKERS):
-            place = "%s/%d" % (folder, number)
-            os.mkdir(place)
-            copies = exits.enter_context(refusals.Program(library, "start", [os.path.abspath(program)], place, text.encode()))
-            copies.await_ready()
-            self.free.put(copies)
 
-    def told(self, number):
-        """The same, and how many requests were made."""
-        copies = self.free.get()
-        copies.ask("try %d %d" % (number, number))
-        _, status, asked, _ = copies.counted()
-        output, _ = copies.said()
-        self.free.put(copies)
+class Asking:
+    """The program over a text, of which copies are made in which memory is refused."""
+
+    def __init__(self, program, library):
+        self.program, self.library = os.path.abspath(program), library
+
+    @contextlib.contextmanager
+    def told(self, text, moment):
+        with tempfile.TemporaryDirectory() as folder:
+            beside(folder)
+            with refusals.Program(self.library, moment, [self.program], folder, text.encode()) as run:
+                yield run, folder
+
+    def tried(self, run, number, most=0):
+        """What is said where this request is refused, and how many there were; behind so many the copy ends."""
+        run.ask("try %d %d %d" % (number, number, most))
+        _, status, asked, _ = run.counted()
+        output, _ = run.said()
         return said_of(status, output.decode()), asked
 
-    def at(self, number):
-        """What is said at this request, or at the next whose refusal changes something."""
-        for place in range(number, number + HARMLESS):
-            if place not in self.known:
-                self.known[place] = self.told(place)[0]
-            if self.known[place] not in (None, self.unrefused):
-                return self.known[place]
-        return None
+    def count(self, text):
+        """How many requests for memory are made. None is refused, and all passes."""
+        with self.told(text, "start") as (run, _):
+            run.await_ready()
+            said, asked = self.tried(run, 0)
+        if said:
+            wrong("no memory is refused, and the story failed", said)
+        return asked
 
-    def way_at(self, number):
-        said = self.at(number)
-        return said and said[0]
+    def said_at(self, text, numbers):
+        """What is said where each of these requests is refused, in their order, but where a file of the stories is there."""
 
-    def ways_between(self, first, last):
-        """The ways that are said from one request to another: where another one is said at either, of those between them, too."""
-        places = [*range(first, last, (last - first) // PLACES), last]
-        ways, pairs = set(), list(itertools.pairwise(places))
+        def of_each(numbers):
+            found, number = [], 1
+            with self.told(text, "each") as (run, folder):
+                for due in numbers:
+                    if not run.is_ready():
+                        break
+                    if due > number:
+                        run.ask("go %d" % (due - number))
+                        if not run.is_ready():
+                            break
+                    if not files_in(folder):
+                        found.append((due, self.tried(run, 1, ENDS)[0]))
+                        # (those that a copy has made by its end)
+                        for path in files_in(folder):
+                            os.remove(path)
+                    run.ask("go")
+                    number = due + 1
+            return found
+
         with concurrent.futures.ThreadPoolExecutor(WORKERS) as pool:
-            while pairs:
-                ends = dict(zip(pairs, pool.map(lambda pair: (self.way_at(pair[0]), self.way_at(pair[1])), pairs)))
-                ways.update(*ends.values())
-                apart = [pair for pair, (one, other) in ends.items() if one != other and pair[1] - pair[0] > 1]
-                pairs = [half for low, high in apart for half in ((low, (low + high) // 2), ((low + high) // 2, high))]
-        return ways
+            return sorted((one for found in pool.map(of_each, [numbers[place::WORKERS] for place in range(WORKERS)]) for one in found), key=lambda one: one[0])
+
+    def sayings(self, text, first, last, step):
+        """What is said, in the order of the requests that are refused: each so many behind the one before, and all between two at which another
+        thing is said."""
+        found = self.said_at(text, range(first, last, step))
+        tried, said = {number for number, _ in found}, [one for one in found if one[1]]
+        pairs = [(one, other) for (one, what), (other, then) in itertools.pairwise(said) if what[:3] != then[:3]]
+        between = [number for one, other in pairs for number in range(one + 1, other) if number not in tried]
+        return [said for _, said in sorted(found + self.said_at(text, between), key=lambda one: one[0]) if said]
+
+    def writes(self, text):
+        """The numbers of requests some of which stand before each write of a change to a file of the stories, in its transaction."""
+
+        def bytes_in(name):
+            try:
+                with open(name, "rb") as file:
+                    return file.read()
+            except FileNotFoundError:
+                return b""
+
+        found, held, number = set(), None, 1
+        with self.told(text, "each") as (run, folder):
+            names = ["%s/%s-wal" % (folder, name) for name in FILES]
+            while run.is_ready():
+                now = [bytes_in(name) for name in names]
+                if now != held:
+                    found.update(number - behind * STEP for behind in range(BEHIND, 0, -1))
+                held = now
+                run.ask("go %d" % STEP)
+                number += STEP
+        return sorted(found)[BEHIND:]
+
+    def sayings_at(self, text, numbers):
+        """What is said where each of these requests is refused, in their order."""
+        free = queue.Queue()
+        with contextlib.ExitStack() as exits:
+            for _ in range(WORKERS):
+                run, _ = exits.enter_context(self.told(text, "start"))
+                run.await_ready()
+                free.put(run)
+
+            def at(number):
+                run = free.get()
+                said, _ = self.tried(run, number)
+                free.put(run)
+                return said
+
+            with concurrent.futures.ThreadPoolExecutor(WORKERS) as pool:
+                return list(filter(None, pool.map(at, numbers)))
 
 
-@contextlib.contextmanager
-def refused_in(program, text, library):
-    """The story, told so, where memory is refused; what is said where none is; and how many requests are made."""
-    with tempfile.TemporaryDirectory() as folder, contextlib.ExitStack() as exits:
-        refused = Refused(program, text, library, folder, exits)
-        yield refused, *refused.told(0)
+def in_turn(said):
+    """Of equal things in a row one."""
+    return [one for one, _ in itertools.groupby(said)]
 
 
-def look_at_memory(program, text):
-    """The story fails on each way on which memory is refused."""
-    with tempfile.TemporaryDirectory() as folder:
-        library = compiled("refuse", folder)
-        with refused_in(program, right_text(text, "").partition("\nstory " + NAMED)[0], library) as (_, _, before):
-            pass
-        with refused_in(program, right_text(text, "") + WRONG, library) as (refused, said, asked):
-            refused.unrefused = said
-            ways = refused.ways_between(before, asked)
-        missing = [way for way in WAYS if way not in ways]
-        if missing or not said:
-            wrong("where memory is refused, nothing is said of a way", *missing)
-        with refused_in(program, right_text(text, ""), library) as (refused, said, least):
-            if said:
-                wrong("no memory is refused, and the story failed", said)
-        with refused_in(program, right_text(text, "links refused"), library) as (refused, _, asked):
-            found = {refused.at(number) for number in range(least, asked, (asked - least) // SAMPLES)}
-        if REFUSES not in {(way, why) for way, _, why in filter(None, found)}:
-            wrong("where memory is refused, this isn't said", REFUSES, *found)
-    print("said: memory that is refused, on %d ways" % (len(WAYS) + 1))
+def is_in_turn(what, came, due):
+    if came != due:
+        wrong("where memory is refused, something else is said: " + what, *map(str, [due, came]))
+    print("said: memory that is refused,", what)
+
+
+def on_ways(asking, told):
+    """The ways in memory on which the story fails, in turn."""
+    most = asking.count(told)
+    first = asking.count(told.partition("\nstory " + NAMED)[0])
+    said = asking.sayings(told, first, most, max(1, (most - first) // SAMPLES))
+    return in_turn(way for way, *_ in said if way and way != IN_FILE)
+
+
+def look_at_ways(asking, text):
+    """It fails on each way in memory; a large one on each of its ways."""
+    is_in_turn("on each of %d ways" % len(WAYS), on_ways(asking, right_text(text, "")), WAYS)
+    is_in_turn("on the ways of a large one", on_ways(asking, right_text(text, "large")), LARGE)
+
+
+def look_at_files(asking, text):
+    """A step fails over a file, over that opened again midway, before it is copied, over the copy, and over that of which it is."""
+    told = right_text(text, "copied")
+    came = asking.sayings_at(told, asking.writes(told))
+    lines = [told[: told.index(step)].count("\n") + 1 for step in ("A PUT", *re.findall(r"W POST.*\n.*", POSTS))]
+    said = in_turn((way, line) for way, line, what, _ in came if what == REPLY and line in lines)
+    due = [(IN_FILE, line) for line in lines] + [(COPIED, line) for line in lines + lines[1:]]
+    is_in_turn("over a file, that opened again, one before it is copied, its copy, and it", said, due)
+    large = right_text(text, "large")
+    said = {(way, what) for way, line, what, _ in asking.sayings_at(large, asking.writes(large)) if line in lines}
+    is_in_turn("over a file, of a large one", said, {(IN_FILE, REPLY)})
+
+
+def look_at_links(asking, text):
+    """It fails where its request is cut, where reads fail, and where it then comes whole, by each of three readers; where writing stops, by the
+    first, the second and the third reader, and where it comes again then, as in the tables; and over a store that refuses changes."""
+    first = asking.count(right_text(text, "", LOCK))
+
+    def said(modes, way, first, last, step, *whats):
+        told = asking.sayings(right_text(text, modes, LOCK), first, last, step)
+        return in_turn(what for on, _, what, _ in told if on == way and what in whats)
+
+    cut = said("links cut reads", LINKS, first, asking.count(right_text(text, "links cut reads", LOCK)), 11, CUT, READ, REPLY)
+    # (the only read of the third fails before memory is asked for)
+    is_in_turn("where a request is cut, where reading fails, and where it comes whole, by three readers", cut, [CUT, READ, REPLY, CUT, READ, REPLY, CUT, REPLY])
+    last = asking.count(right_text(text, "links writes again", LOCK))
+    for what, at, size, due in [
+        ("before the first byte", first + WINDOW, 2 * WINDOW, {ROWS, REPLY}),
+        ("by the second reader", (first + last) // 2, WINDOW, {WRITE, REPLY}),
+        ("before the last byte", last - WINDOW, WINDOW, {WRITE, REPLY}),
+    ]:
+        came = set(said("links writes again", LINKS, at, at + size, 23, WRITE, ROWS, REPLY))
+        is_in_turn("where writing stops and where it comes again then, " + what, came & due, due)
+    refused = said("links refused", REFUSES, first, asking.count(right_text(text, "links refused", LOCK)), 11, WRITE, STORE)
+    is_in_turn("over a store that refuses changes, and its bytes", refused, [STORE, WRITE, STORE])
+
+
+def look_at_streams(asking, text):
+    """The program's words fail where a read of the standard input fails, where an output stops, and where it can't be flushed."""
+    for what, steps, step, due in [("of a replay", REPLAY, 25, [INPUT, OUTPUT]), ("of words", SECRET, 5, 2 * [OUTPUT, ERRORS] + [FLUSH])]:
+        told = right_text(text, "links reads writes", steps, "")
+        first = asking.count(told.partition("\nstory " + NAMED)[0])
+        came = asking.sayings(told, first, asking.count(told), step)
+        is_in_turn("where streams break " + what, in_turn(said for way, _, said, _ in came if way == PROGRAM and said in {INPUT, OUTPUT, ERRORS, FLUSH}), due)
 
 
 def main(words):
@@ -299,7 +447,10 @@ def main(words):
         if came != (2, due + "\n"):
             wrong("a text that doesn't read", unread, due, str(came))
     look_at_syncs(words[0], text)
-    look_at_memory(words[0], text)
+    with tempfile.TemporaryDirectory() as folder:
+        asking = Asking(words[0], compiled("refuse", folder))
+        for look in (look_at_ways, look_at_files, look_at_links, look_at_streams):
+            look(asking, text)
     print("%d wrong stories and %d texts that don't read, each is said to be wrong" % (count, len(UNREAD)))
 
 
