@@ -399,6 +399,7 @@ def look_at_links(asking, text):
     last = asking.count(right_text(text, "links writes again", LOCK))
     for what, at, size, due in [
         ("before the first byte", first + WINDOW, 2 * WINDOW, {ROWS, REPLY}),
+        ("by the first reader", first + 16 * WINDOW, WINDOW, {WRITE, REPLY}),
         ("by the second reader", (first + last) // 2, WINDOW, {WRITE, REPLY}),
         ("before the last byte", last - WINDOW, WINDOW, {WRITE, REPLY}),
     ]:
