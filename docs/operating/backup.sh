@@ -1,5 +1,5 @@
 #!/bin/sh
-# Copies a database and its log into a new folder while the service that has them is paused.
+# Copies a database and its WAL into a new folder while their service is paused.
 #     backup.sh PID DATABASE FOLDER
 set -eu
 pid=$1 db=$2 to=$3
@@ -10,7 +10,7 @@ trap 'kill -CONT "$pid"' EXIT
 trap 'exit 1' HUP INT TERM
 kill -STOP "$pid"
 tries=0
-until [ "$(sed 's/.*) \(.\).*/\1/' "/proc/$pid/stat")" = T ]; do   # a system call under way ends first
+until [ "$(sed 's/.*) \(.\).*/\1/' "/proc/$pid/stat")" = T ]; do   # a system call in progress ends first
     tries=$((tries + 1))
     [ "$tries" -lt 500 ] || { echo "process $pid doesn't stop" >&2; exit 1; }
     sleep 0.02

@@ -10,7 +10,7 @@ ask() { # PATH [MORE OF CURL'S WORDS]
     printf 'header = "Authorization: Bearer %s"\n' "$TOKEN" |
         curl -sS -f --retry 6 --retry-connrefused -K - "$@" "$CUSTODY/$path"
 }
-serial() { sed -n 's/^  "serial": \([0-9]*\),$/\1/p' "$1"; }   # as Terraform prints it: the outermost member
+serial() { sed -n 's/^  "serial": \([0-9]*\),$/\1/p' "$1"; }   # as Terraform writes it: the outermost member
 
 trap 'rm -r "$work"' EXIT
 ask "state/$ws" -X LOCK -d "{\"ID\":\"$id\",\"Who\":\"rollback\",\"Created\":\"$(date -u +%FT%TZ)\"}"
