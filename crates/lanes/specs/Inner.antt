@@ -1,0 +1,2 @@
+-- Contracts between functions: nothing here has to be believed, since what it says of public calls is tied to the standard.
+pub mod Lanes
