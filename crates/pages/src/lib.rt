@@ -9,5 +9,5 @@ mod twins;
 
 pub use keys::{PageKey, ShaKey};
 pub use scans::heads;
-pub use store::{PageId, get, put, release, same};
+pub use store::{PageId, get, put_known, put_own, release, same};
 pub use twins::Twin;

@@ -174,14 +174,17 @@ fn alike(first: Option<FirstPage>) -> Option<PageUse>
     }
 }
 
-/// Puts a page under its own key.
-fn put_own<K: PageKey, S: Alter>(tx: &mut Transaction<'_, S>, page: &[u8]) -> Result<PageId, Error>
-    ensures { PutsUnder S.Store (K.key_of page.now) page.now tx.old tx.new result }
+/// Puts a page under its own key. Where its uses or its twin number would pass 9,223,372,036,854,775,807, it is an error.
+pub fn put_own<S: Alter>(
+    tx: &mut Transaction<'_, S>,
+    key: &[u8; 32],
+    page: &[u8],
+) -> Result<PageId, Error>
+    ensures { PutsUnder S.Store key.now page.now tx.old tx.new result }
 {
-    let key = K::key(page);
     let twin = put_under(tx, key.as_slice(), page)?;
     prove!(twin.get() <= MAX_TWIN);
-    Ok(PageId { key, twin })
+    Ok(PageId { key: *key, twin })
 }
 
 /// One use more of a page that is there under a known key.
@@ -199,7 +202,7 @@ fn use_known<S: Alter>(
 
 /// Puts a page under a known key, if the first page of that has its bytes, or else under its own.
 /// Comparing its bytes costs less than a key.
-fn put_known<K: PageKey, S: Alter>(
+pub fn put_known<K: PageKey, S: Alter>(
     tx: &mut Transaction<'_, S>,
     known: &[u8; 32],
     page: &[u8],
@@ -210,28 +213,14 @@ fn put_known<K: PageKey, S: Alter>(
     let first = first(tx, known.as_slice(), page)?;
     let found = alike(first);
     match found {
-        None => put_own::<K, S>(tx, page),
+        None => {
+            let key = K::key(page);
+            put_own(tx, &key, page)
+        }
         Some(found) => {
             prove!(found.twin.get() <= MAX_TWIN);
             use_known(tx, known, found)
         }
-    }
-}
-
-/// Puts a page into use once more, and keeps it if none with its bytes is kept.
-/// It is put under the known key, if the first page of that has its bytes, or under its own.
-/// Where its uses or its twin number would pass 9,223,372,036,854,775,807, it is an error.
-pub fn put<K: PageKey, S: Alter>(
-    tx: &mut Transaction<'_, S>,
-    known: Option<&[u8; 32]>,
-    page: &[u8],
-) -> Result<PageId, Error>
-    ensures puts { (key : List ℕ) × PutsUnder S.Store key page.now tx.old tx.new result }
-    ensures keyed { HasCleanDisk (state S.Store tx.new.conn.now) → IfOk result (λ id. (t : Tables) → Holds (state S.Store tx.old.conn.now).now t → IsKeyFor K.key_of page.now id.key t) }
-{
-    match known {
-        None => put_own::<K, S>(tx, page),
-        Some(known) => put_known::<K, S>(tx, known, page),
     }
 }
 

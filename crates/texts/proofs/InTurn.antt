@@ -85,6 +85,7 @@ module _ {S : Type 0} (g : Ghosts S) (sql : List ℕ) (params : Row) (old : Held
     mode = λ idle. idle;
     joins = λ query clean. tt;
     looks = λ query clean. (tt, nothing_more (state g old) (state g old) (as_it_is (state g old)));
+    was_open = λ query clean. tt;
     so_far = λ query clean. clean;
     shield = λ query s. s;
   })
@@ -96,6 +97,7 @@ module _ {S : Type 0} (g : Ghosts S) (sql : List ℕ) (params : Row) (old : Held
     mode = mode;
     joins = λ query clean. tt;
     looks = λ query clean. (tt, unchanged_keeps (state g old) (state g now) (failed_calm sql query params (state g old) (state g now) f (refused clean)));
+    was_open = λ query clean. tt;
     so_far = λ query. clean_before (state g old) (state g now) _ survives;
     shield = λ query. survives.shield;
   })
@@ -126,12 +128,13 @@ module _ {S : Type 0} (g : Ghosts S) (sql : List ℕ) (params : Row) (old : Held
       mode = mode_on;
       joins = λ query clean. tt;
       looks = λ query clean. (tt, nothing_more (state g old) (state g next) (looks_on same query clean));
+      was_open = λ query clean. tt;
       so_far = so_far_on;
       shield = shield_on;
     })
 
     pub joins_failed : (all : ℕ) (f : Error) (result : Result (List ℕ) Error) (end : Held S) → IsErr result → end ≡ next → (HasCleanDisk (state g next) → Fails (state g now) (state g next) ⊥ f ⊎ IsUnchanged (state g now) (state g next)) → JoinsRows g sql params all old end result
-    joins_failed all f result end err is kept = errs_at all result next end err is (λ e. record { mode = mode_on; joins = λ query clean. tt; looks = λ query clean. (tt, kept_failed f kept query clean); so_far = so_far_on; shield = shield_on })
+    joins_failed all f result end err is kept = errs_at all result next end err is (λ e. record { mode = mode_on; joins = λ query clean. tt; looks = λ query clean. (tt, kept_failed f kept query clean); was_open = λ query clean. tt; so_far = so_far_on; shield = shield_on })
 
     pub more_in_turn : (row : Row) → (HasCleanDisk (state g next) → Advances g now next (Some row)) → (HasCleanDisk (state g next) → IsUnchanged (state g now) (state g next))
         → (bytes longer : List ℕ) → column row 0 ≡ number places → column row 1 ≡ Blob bytes → longer ≡ text ++ bytes → TakesInTurn g sql params old next (places + 1) longer
@@ -155,6 +158,7 @@ module _ {S : Type 0} (g : Ghosts S) (sql : List ℕ) (params : Row) (old : Held
       mode = mode_on;
       joins = λ query clean. (so.rows, shown_on advances query clean, subst (λ (m : ℕ). AreInTurn so.rows m whole) last (subst (λ (b : List ℕ). AreInTurn so.rows places b) (sym is_text) so.in_turn));
       looks = λ query clean. (looks_on same query clean, tt);
+      was_open = λ query clean. (so.taken.given query (clean_on query clean)).1.0.was_open;
       so_far = so_far_on;
       shield = shield_on;
     })

@@ -1,6 +1,7 @@
 //! Texts of versions, kept as pages that they share.
 #![tactic(auto)]
 
+mod ahead;
 mod places;
 mod scans;
 mod texts;

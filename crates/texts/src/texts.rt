@@ -5,16 +5,18 @@ ghost use Rattle.sqlite.specs.Held.{state};
 ghost use Rattle.sqlite.specs.State.{HasCleanDisk};
 ghost use Rattle.statements.specs.Steps.{Equals, Steps, Tells, Sees};
 ghost use Rattle.statements.specs.Tables.{Tables, Holds};
-ghost use Rattle.pages.specs.Pages.{GetsBy};
+ghost use Rattle.pages.specs.Pages.{GetsBy, IsKeyFor, PutsUnder};
 ghost use Rattle.pages.specs.Inner.Calls.{OnlyLooks};
 ghost use Rattle.statements.specs.Rows.{number};
+ghost use Rattle.texts.specs.Inner.Ahead.{AreKeysOf};
 ghost use Rattle.texts.specs.Texts.{pages_for, piece_at, AddsText, text_removed, WereThere, AreThere, text_of, are_pieces};
 ghost use Rattle.texts.specs.Inner.Calls.{AddsPiece, name_in, released_by, WereReleased, is_piece_of};
 
+use crate::ahead::Ahead;
 use crate::places::{Place, add, all, find, find_inside, remove_all};
 use crate::whole::read_whole;
 use basis::{Bytes, Number};
-use pages::{PageId, PageKey, put, release, same};
+use pages::{PageId, PageKey, put_known, put_own, release, same};
 use sqlite::{Alter, Connection, Error, Row, Transaction};
 use statements::calls::Read;
 use std::alloc::Global;
@@ -33,7 +35,7 @@ fn pages_for(size: u64) -> u64
 }
 
 /// The piece of a text at a place.
-fn piece_at(text: &[u8], place: u64) -> &[u8]
+pub(crate) fn piece_at(text: &[u8], place: u64) -> &[u8]
     requires is_there { place * PAGE_BYTES ≤ length text.now }
     ensures { result.now ≡ piece_at text.now place }
 {
@@ -104,22 +106,55 @@ fn moved_after(moved: u64, found: &Option<PageId>, put: &PageId) -> u64 {
     }
 }
 
-/// Puts a piece of a version's text, at a place that has none. Nothing else adds a row to the table vpage.
+/// Puts the page of a text that has this number: under the known key, if the first page of that has its bytes, or under its own.
+/// Where more pages behind it are likely to need keys, theirs are made with its own.
+fn put_nth<K: PageKey, S: Alter>(
+    tx: &mut Transaction<'_, S>,
+    known: Option<&[u8; 32]>,
+    ahead: &mut Ahead,
+    text: &[u8],
+    nth: u64,
+    more: bool,
+) -> Result<PageId, Error>
+    requires is_there { nth * PAGE_BYTES ≤ length text.now }
+    requires known_ahead { AreKeysOf K.key_of text.now ahead.old }
+    ensures puts { (key : List ℕ) × PutsUnder S.Store key (piece_at text.now nth) tx.old tx.new result }
+    ensures keyed { HasCleanDisk (state S.Store tx.new.conn.now) → IfOk result (λ id. (t : Tables) → Holds (state S.Store tx.old.conn.now).now t → IsKeyFor K.key_of (piece_at text.now nth) id.key t) }
+    ensures known_ahead { AreKeysOf K.key_of text.now ahead.new }
+{
+    let piece = piece_at(text, nth);
+    match known {
+        None => {
+            let key = ahead.key::<K>(text, nth, more);
+            put_own(tx, &key, piece)
+        }
+        Some(known) => put_known::<K, S>(tx, known, piece),
+    }
+}
+
+/// Puts the page of a version's text that has this number, at a place that has none. Nothing else adds a row to the table vpage.
 /// It needs no key of its own where it is the piece at the same place of the version before.
-fn add_piece<K: PageKey, S: Alter>(
+fn add_nth<K: PageKey, S: Alter>(
     tx: &mut Transaction<'_, S>,
     org: &str,
     ws: &str,
     number: Number,
     before: &Option<Number>,
     place: Place,
-    piece: &[u8],
+    ahead: &mut Ahead,
+    text: &[u8],
+    nth: u64,
     moved: &mut u64,
 ) -> Result<(), Error>
-    ensures { (key : List ℕ) × AddsPiece S.Store K.key_of key org.now ws.now number place piece.now tx.old tx.new result }
+    requires is_there { nth * PAGE_BYTES ≤ length text.now }
+    requires known_ahead { AreKeysOf K.key_of text.now ahead.old }
+    ensures adds { (key : List ℕ) × AddsPiece S.Store K.key_of key org.now ws.now number place (piece_at text.now nth) tx.old tx.new result }
+    ensures known_ahead { AreKeysOf K.key_of text.now ahead.new }
 {
     let found = look_at(tx, org, ws, before, place, *moved)?;
-    let id = put::<K, S>(tx, key_in(&found), piece)?;
+    let known = ahead.or_known(nth, key_in(&found));
+    let more = before.is_none() || *moved > 1;
+    let id = put_nth::<K, S>(tx, known, ahead, text, nth, more)?;
     *moved = moved_after(*moved, &found, &id);
     add(tx, org, ws, number, place, id.key.as_slice(), id.twin)
 }
@@ -140,11 +175,13 @@ pub fn add_text<K: PageKey, S: Alter>(
     ensures shield { (state S.Store tx.old.conn.now).IsShielded → (state S.Store tx.new.conn.now).IsShielded }
 {
     let pages = pages_for(text.len() as u64);
+    let mut ahead = Ahead::new();
     let mut moved = 0;
     'places: for place in 0..pages {
-        let piece = piece_at(text, place);
         let at = Place::of_byte(place * PAGE_BYTES as u64);
-        add_piece::<K, S>(tx, org, ws, number, &before, at, piece, &mut moved)?;
+        add_nth::<K, S>(
+            tx, org, ws, number, &before, at, &mut ahead, text, place, &mut moved,
+        )?;
     }
     Ok(())
 }
@@ -216,6 +253,7 @@ pub fn text<S: Alter>(
 ) -> Result<Bytes, Error>
     ensures queries { Sees S.Store (Equals (text_of org.now ws.now number size)) conn.old conn.new result }
     ensures there { HasCleanDisk (state S.Store conn.new) → OnOk result ((t : Tables) → Holds (state S.Store conn.old).now t → AreThere org.now ws.now number (pages_for size) t) }
+    ensures was_open { HasCleanDisk (state S.Store conn.new) → OnOk result (IsTrue (state S.Store conn.old).is_open) }
 {
     read_whole(alloc, conn, org, ws, number, pages_for(size), size as usize)
 }

@@ -1,5 +1,5 @@
 //! A text is read by one query, whose rows are taken one at a time.
-ghost use Rattle.std.specs.Prelude.{◌≡◌, IfOk, OnOk, option_copied};
+ghost use Rattle.std.specs.Prelude.{◌≡◌, IsTrue, IfOk, OnOk, option_copied};
 ghost use Rattle.sqlite_value.specs.declared.value.Value.TheVariants.{Blob};
 ghost use Rattle.sqlite_value.specs.Order.{column};
 ghost use Rattle.sqlite.specs.Values.{bound};
@@ -80,6 +80,7 @@ pub(crate) fn read_whole<S: Alter>(
 ) -> Result<Bytes, Error>
     ensures queries { Sees S.Store (Equals (joined org.now ws.now number places)) conn.old conn.new result }
     ensures there { HasCleanDisk (state S.Store conn.new) → OnOk result ((t : Tables) → Holds (state S.Store conn.old).now t → AreThere org.now ws.now number places t) }
+    ensures was_open { HasCleanDisk (state S.Store conn.new) → OnOk result (IsTrue (state S.Store conn.old).is_open) }
 {
     let number = number.get();
     join_rows(

@@ -1,5 +1,5 @@
 -- What calls on one page of a text change and read.
-use Rattle.std.specs.Prelude.{◌≡◌, ◌<◌, ◌++◌, ℕ, zero, suc, ⊤, Bool, false, List, [], ◌∷◌, map, filter, slice_index_or, IsPermutation, Option, Some, IsSome, option_map, Result, IfOk, OnOk}
+use Rattle.std.specs.Prelude.{◌≡◌, ◌<◌, ◌++◌, ℕ, zero, suc, ⊤, Bool, false, List, [], ◌∷◌, map, filter, slice_index_or, IsPermutation, Option, Some, IsSome, IsTrue, option_map, Result, IfOk, OnOk}
 use Rattle.std.specs.List.{AllByRecursion}
 use Rattle.std.specs.Str.{bytes_eq}
 use Rattle.sqlite_value.specs.declared.value.Value.TheVariants.{Blob}
@@ -89,10 +89,11 @@ pub record AddsRow (row : Option Row) (place : ℕ) (before behind : List ℕ) :
   pub bytes_are : column one 1 ≡ Blob bytes
   pub grown : behind ≡ before ++ bytes
 
--- What joining all rows of a query promises: each shows the next place, they are so many, and the text is their bytes. A query leaves what there is.
+-- What joining all rows of a query promises: each shows the next place, they are so many, and the text is their bytes. A query leaves what there is, and only an open store answers it.
 pub record JoinsRows {S E : Type 0} (g : Ghosts S) (sql : List ℕ) (params : Row) (places : ℕ) (old new : Held S) (result : Result (List ℕ) E) : Type 0 where
   pub mode : old.in_transaction ≡ false → new.in_transaction ≡ false
   pub joins : IsQuery sql → HasCleanDisk (state g new) → IfOk result (λ text. (rows : List Row) × Shown sql params (state g old) (state g new) rows × AreInTurn rows places text)
   pub looks : IsQuery sql → OnlyLooks (state g old) (state g new) result
+  pub was_open : IsQuery sql → HasCleanDisk (state g new) → OnOk result (IsTrue (state g old).is_open)
   pub so_far : IsQuery sql → HasCleanDisk (state g new) → HasCleanDisk (state g old)
   pub shield : IsQuery sql → (state g old).IsShielded → (state g new).IsShielded

@@ -1,4 +1,4 @@
-use Rattle.std.proofs.Common.{Ok, ℕ, List, sym, ◌∙◌, subst, arith}
+use Rattle.std.proofs.Common.{Ok, ℕ, List, sym, subst, arith}
 use Rattle.sqlite.specs.declared.error.Error.{Error}
 use Rattle.pages.specs.Pages.{PutsUnder}
 use Rattle.pages.specs.declared.store.PageId.{PageId}
@@ -8,7 +8,7 @@ use Rattle.pages.proofs.store.put_own.Goals as goal
 pub returns : goal.returns
 returns g c =
     let page = c.args.page.now in
-    let id : PageId = record { key = c.key-key.result; twin = c.in_ok-twin.twin } in
+    let id : PageId = record { key = c.args.key.now; twin = c.in_ok-twin.twin } in
     let put = c.in_ok-twin.ensures in
-    subst (λ (key : List ℕ). PutsUnder {E = Error} g.S.Store key page c.args.tx.now c.put_under.new.tx (Ok id)) (c.as_slice.ensures ∙ c.key-key.ensures)
+    subst (λ (key : List ℕ). PutsUnder {E = Error} g.S.Store key page c.args.tx.now c.put_under.new.tx (Ok id)) c.as_slice.ensures
     (puts_under {E = Error} g.S.Store c.as_slice.result.now page c.args.tx.now c.put_under.new.tx (Ok id) (record { same_reference = put.steps.same_reference; changed = put.steps.changed; so_far = put.steps.so_far; shield = put.steps.shield }) (sym c.as_slice.ensures, omega (arith, c.get.ensures.value, c.get.ensures.most)) put.twin)

@@ -21,3 +21,6 @@ returns-clause-there g c clean =
     let new = state g.S.Store c.join_rows.new.conn in
     (whole_read old new c.args.org.now c.args.ws.now c.args.number c.args.places c.join_rows.result
     (rw (c.params-to_sql.ensures, c.params-to_sql-2.ensures, c.params-to_sql-3.ensures, c.get-number.ensures.value) at (c.join_rows.ensures.joins whole_is_query clean)) (c.join_rows.ensures.looks whole_is_query clean)).1
+
+pub returns-clause-was_open : goal.returns-clause-was_open
+returns-clause-was_open g c clean = c.join_rows.ensures.was_open whole_is_query clean

@@ -1,0 +1,82 @@
+//! The keys of a text's pages, made four at a time.
+ghost use Rattle.std.specs.Prelude.{◌≡◌, ◌≤◌, ◌<◌, ◌+◌, ◌*◌, ℕ, List, IsTrue, length};
+ghost use Rattle.texts.specs.Texts.{piece_at};
+ghost use Rattle.texts.specs.Inner.Ahead.{AreKeysOf};
+
+use crate::texts::{PAGE_BYTES, piece_at};
+use pages::PageKey;
+
+/// The keys of four pages of a text, from a place on, once they are made.
+#[derive(Clone, Copy)]
+pub(crate) struct Ahead {
+    keys: [[u8; 32]; 4],
+    from: u64,
+    is_made: bool,
+}
+
+/// The piece of a text at a place, which is empty behind the text's end.
+fn piece_behind(text: &[u8], place: u64) -> &[u8]
+    ensures { result.now ≡ piece_at text.now place }
+{
+    if place > text.len() as u64 / PAGE_BYTES as u64 {
+        return &[];
+    }
+    piece_at(text, place)
+}
+
+impl Ahead {
+    /// No key is made.
+    pub(crate) fn new() -> Ahead
+        ensures { (key_of : List ℕ → List ℕ) (text : List ℕ) → AreKeysOf key_of text result }
+    {
+        Ahead {
+            keys: [[0; 32]; 4],
+            from: 0,
+            is_made: false,
+        }
+    }
+
+    /// Whether the key of the page at a place is made.
+    fn has(&self, place: u64) -> bool
+        ensures made { IsTrue result → IsTrue self.now.is_made }
+        ensures there { IsTrue result → (self.now.from ≤ place) × (place < self.now.from + 4) }
+    {
+        self.is_made && place >= self.from && place - self.from < 4
+    }
+
+    /// The known key of a page, unless its own is made: then that costs nothing more.
+    pub(crate) fn or_known<'a>(
+        &self,
+        place: u64,
+        known: Option<&'a [u8; 32]>,
+    ) -> Option<&'a [u8; 32]> {
+        if self.has(place) { None } else { known }
+    }
+
+    /// The key of the page at a place. Those of the three behind it are made with it, where they are likely to be asked for
+    /// and two of them are there: four keys cost what two cost one by one.
+    pub(crate) fn key<K: PageKey>(&mut self, text: &[u8], place: u64, more: bool) -> [u8; 32]
+        requires is_there { place * PAGE_BYTES ≤ length text.now }
+        ensures key { AreKeysOf K.key_of text.now self.old → result ≡ K.key_of (piece_at text.now place) }
+        ensures made { AreKeysOf K.key_of text.now self.old → AreKeysOf K.key_of text.now self.new }
+    {
+        if self.has(place) {
+            return self.keys[(place - self.from) as usize];
+        }
+        let page = piece_at(text, place);
+        if !more {
+            return K::key(page);
+        }
+        let second = piece_behind(text, place + 1);
+        let third = piece_behind(text, place + 2);
+        if third.is_empty() {
+            return K::key(page);
+        }
+        let fourth = piece_behind(text, place + 3);
+        let keys = K::keys([page, second, third, fourth]);
+        self.keys = keys;
+        self.from = place;
+        self.is_made = true;
+        keys[0]
+    }
+}
