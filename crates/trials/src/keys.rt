@@ -17,4 +17,14 @@ impl PageKey for FirstByte {
         };
         key
     }
+
+    fn keys(pages: [&[u8]; 4]) -> [[u8; 32]; 4] {
+        let [first, second, third, fourth] = pages;
+        [
+            FirstByte::key(first),
+            FirstByte::key(second),
+            FirstByte::key(third),
+            FirstByte::key(fourth),
+        ]
+    }
 }
