@@ -23,6 +23,7 @@ pub mod RefusalLemmas
 pub mod VersionLemmas
 pub mod StayLemmas
 pub mod KeepLemmas
+pub mod LastingLemmas
 pub mod TokenLemmas
 pub mod QueueLemmas
 pub mod BookLemmas

@@ -3,7 +3,7 @@ ghost use Rattle.std.specs.Prelude.{◌≡◌, ◌≢◌, ℕ, List, Option, Som
 ghost use Rattle.std.specs.FinMap.{get};
 ghost use Rattle.machine.specs.Effects.{effect};
 ghost use Rattle.machine.specs.Laws.{AreLawful};
-ghost use Rattle.machine.specs.Keeping.{Looks};
+ghost use Rattle.machine.specs.Keeping.{Looks, Lasts};
 ghost use Rattle.machine.specs.Showing.{workspaces_after, versions_after, runs_after};
 ghost use Rattle.machine.specs.Tokens.{asker_of, org_added, org_limited, token_added, token_revoked, token_of, tokens_told, ListsOrganizations};
 ghost use Rattle.machine.specs.Removal.{org_removed};
@@ -92,12 +92,12 @@ pub trait Keep {
         org: &OrgName,
         digest: &[u8; 32],
     ) -> Result<Option<TokenRow>, Down>
-        ensures looks { Looks rows clean sound shielded self.old self.new }
+        ensures looks { Looks rows clean sound keyed shielded self.old self.new }
         ensures ok { clean self.new → sound self.old → IfOk result (λ row. row ≡ asker_of (rows self.old org.now) digest.now) };
 
     /// What a decision on the act needs of the workspace. The organization is there.
     fn unit(&mut self, alloc: Global, org: &OrgName, ws: &WsName, act: &Act) -> Result<Unit, Down>
-        ensures looks { Looks rows clean sound shielded self.old self.new }
+        ensures looks { Looks rows clean sound keyed shielded self.old self.new }
         ensures ok { clean self.new → sound self.old → IfOk result (λ unit. (o : AnyOrganization) → rows self.old org.now ≡ Some o
             → unit ≡ unit_of o ws.now act.now) };
 
@@ -109,7 +109,7 @@ pub trait Keep {
         ws: &WsName,
         n: Number,
     ) -> Result<Option<Bytes>, Down>
-        ensures looks { Looks rows clean sound shielded self.old self.new }
+        ensures looks { Looks rows clean sound keyed shielded self.old self.new }
         ensures ok { clean self.new → sound self.old → IfOk result (λ text. text ≡ version_text n (workspace_in (rows self.old org.now) ws.now)) };
 
     /// The organization's workspaces that a prefix admits, after a name, in the order of the names' bytes.
@@ -120,7 +120,7 @@ pub trait Keep {
         after: Option<&WsName>,
         prefix: &WsPrefix,
     ) -> Result<Listing<WsRow>, Down>
-        ensures looks { Looks rows clean sound shielded self.old self.new }
+        ensures looks { Looks rows clean sound keyed shielded self.old self.new }
         ensures ok { clean self.new → sound self.old → IfOk result (λ list. list ≡ workspaces_after (option_copied after.entry) prefix.now (rows self.old org.now)) };
 
     /// The versions kept of a workspace whose numbers are greater than this one.
@@ -131,7 +131,7 @@ pub trait Keep {
         ws: &WsName,
         after: u64,
     ) -> Result<Listing<VersionRow>, Down>
-        ensures looks { Looks rows clean sound shielded self.old self.new }
+        ensures looks { Looks rows clean sound keyed shielded self.old self.new }
         ensures ok { clean self.new → sound self.old → IfOk result (λ list. list ≡ versions_after after (workspace_in (rows self.old org.now) ws.now)) };
 
     /// The runs of a workspace whose numbers are greater than this one.
@@ -142,7 +142,7 @@ pub trait Keep {
         ws: &WsName,
         after: u64,
     ) -> Result<Listing<RunRow>, Down>
-        ensures looks { Looks rows clean sound shielded self.old self.new }
+        ensures looks { Looks rows clean sound keyed shielded self.old self.new }
         ensures ok { clean self.new → sound self.old → IfOk result (λ list. list ≡ runs_after after (workspace_in (rows self.old org.now) ws.now)) };
 
     /// Changes a workspace, in one transaction. The organization is there, and the change is due.
@@ -166,20 +166,14 @@ pub trait Keep {
 
     /// Adds an organization, with no token and no workspace.
     fn org_add(&mut self, alloc: Global, org: &OrgName, limit: Limit) -> Result<AdminAnswer, Down>
-        ensures so_far { clean self.new → clean self.old }
-        ensures shield { shielded self.old → shielded self.new }
-        ensures kept { clean self.new → sound self.old → sound self.new }
-        ensures keyed { clean self.new → sound self.old → keyed self.old → keyed self.new }
+        ensures lasts { Lasts clean sound keyed shielded self.old self.new }
         ensures own { clean self.new → sound self.old → IfOk result (λ answer. effect answer (rows self.new org.now) ≡ org_added limit (rows self.old org.now)) }
         ensures others { clean self.new → sound self.old → (o : List ℕ) → o ≢ org.now → rows self.new o ≡ rows self.old o }
         ensures err { clean self.new → OnErr result ((o : List ℕ) → rows self.new o ≡ rows self.old o) };
 
     /// Sets how many workspaces an organization may have. Those that it has stay, also where they are more.
     fn org_limit(&mut self, alloc: Global, org: &OrgName, limit: Limit) -> Result<AdminAnswer, Down>
-        ensures so_far { clean self.new → clean self.old }
-        ensures shield { shielded self.old → shielded self.new }
-        ensures kept { clean self.new → sound self.old → sound self.new }
-        ensures keyed { clean self.new → sound self.old → keyed self.old → keyed self.new }
+        ensures lasts { Lasts clean sound keyed shielded self.old self.new }
         ensures own { clean self.new → sound self.old → IfOk result (λ answer. effect answer (rows self.new org.now) ≡ org_limited limit (rows self.old org.now)) }
         ensures others { clean self.new → sound self.old → (o : List ℕ) → o ≢ org.now → rows self.new o ≡ rows self.old o }
         ensures err { clean self.new → OnErr result ((o : List ℕ) → rows self.new o ≡ rows self.old o) };
@@ -192,17 +186,14 @@ pub trait Keep {
         org: &OrgName,
         is_forced: bool,
     ) -> Result<AdminAnswer, Down>
-        ensures so_far { clean self.new → clean self.old }
-        ensures shield { shielded self.old → shielded self.new }
-        ensures kept { clean self.new → sound self.old → sound self.new }
-        ensures keyed { clean self.new → sound self.old → keyed self.old → keyed self.new }
+        ensures lasts { Lasts clean sound keyed shielded self.old self.new }
         ensures own { clean self.new → sound self.old → IfOk result (λ answer. effect answer (rows self.new org.now) ≡ org_removed is_forced (rows self.old org.now)) }
         ensures others { clean self.new → sound self.old → (o : List ℕ) → o ≢ org.now → rows self.new o ≡ rows self.old o }
         ensures err { clean self.new → OnErr result ((o : List ℕ) → rows self.new o ≡ rows self.old o) };
 
     /// All organizations, in the order of their names' bytes.
     fn org_list(&mut self, alloc: Global) -> Result<AdminAnswer, Down>
-        ensures looks { Looks rows clean sound shielded self.old self.new }
+        ensures looks { Looks rows clean sound keyed shielded self.old self.new }
         ensures ok { clean self.new → sound self.old → IfOk result (ListsOrganizations (rows self.old)) };
 
     /// Adds a token to an organization, with its end and the prefix of its workspaces.
@@ -215,10 +206,7 @@ pub trait Keep {
         digest: &[u8; 32],
         bounds: &Bounds,
     ) -> Result<AdminAnswer, Down>
-        ensures so_far { clean self.new → clean self.old }
-        ensures shield { shielded self.old → shielded self.new }
-        ensures kept { clean self.new → sound self.old → sound self.new }
-        ensures keyed { clean self.new → sound self.old → keyed self.old → keyed self.new }
+        ensures lasts { Lasts clean sound keyed shielded self.old self.new }
         ensures own { clean self.new → sound self.old → IfOk result (λ answer. effect answer (rows self.new org.now) ≡ token_added name.now (token_of digest.now role bounds.now) (rows self.old org.now)) }
         ensures others { clean self.new → sound self.old → (o : List ℕ) → o ≢ org.now → rows self.new o ≡ rows self.old o }
         ensures err { clean self.new → OnErr result ((o : List ℕ) → rows self.new o ≡ rows self.old o) };
@@ -230,16 +218,13 @@ pub trait Keep {
         org: &OrgName,
         name: &OrgName,
     ) -> Result<AdminAnswer, Down>
-        ensures so_far { clean self.new → clean self.old }
-        ensures shield { shielded self.old → shielded self.new }
-        ensures kept { clean self.new → sound self.old → sound self.new }
-        ensures keyed { clean self.new → sound self.old → keyed self.old → keyed self.new }
+        ensures lasts { Lasts clean sound keyed shielded self.old self.new }
         ensures own { clean self.new → sound self.old → IfOk result (λ answer. effect answer (rows self.new org.now) ≡ token_revoked name.now (rows self.old org.now)) }
         ensures others { clean self.new → sound self.old → (o : List ℕ) → o ≢ org.now → rows self.new o ≡ rows self.old o }
         ensures err { clean self.new → OnErr result ((o : List ℕ) → rows self.new o ≡ rows self.old o) };
 
     /// The tokens of an organization, in the order of their names' bytes.
     fn token_list(&mut self, alloc: Global, org: &OrgName) -> Result<AdminAnswer, Down>
-        ensures looks { Looks rows clean sound shielded self.old self.new }
+        ensures looks { Looks rows clean sound keyed shielded self.old self.new }
         ensures ok { clean self.new → sound self.old → IfOk result (λ answer. answer ≡ tokens_told (rows self.old org.now)) };
 }

@@ -44,7 +44,7 @@ pub fn known_caller<K: Keep>(
     at: Moment,
     asked: &Asked,
 ) -> Result<TokenRow, Refusal>
-    ensures looks { Looks K.rows K.clean K.sound K.shielded keep.old keep.new }
+    ensures looks { Looks K.rows K.clean K.sound K.keyed K.shielded keep.old keep.new }
     ensures ok { K.clean keep.new → K.sound keep.old → Follows result (row_known (K.rows keep.old asked.now.caller) at asked.now) }
 {
     let secret = secret_digest(&asked.secret);
@@ -139,7 +139,7 @@ fn look<K: Keep>(
     ws: &WsName,
     act: WsAct,
 ) -> Result<Unit, Down>
-    ensures looks { Looks K.rows K.clean K.sound K.shielded keep.old keep.new }
+    ensures looks { Looks K.rows K.clean K.sound K.keyed K.shielded keep.old keep.new }
     ensures ok { K.clean keep.new → K.sound keep.old → IfOk result (λ unit. (o : Organization) → K.rows keep.old org.now ≡ Some o
         → unit ≡ unit_of o ws.now (LookAct (named_by act))) }
 {
@@ -155,7 +155,7 @@ fn is_there<K: Keep>(
     ws: &WsName,
     act: WsAct,
 ) -> Result<bool, Down>
-    ensures looks { Looks K.rows K.clean K.sound K.shielded keep.old keep.new }
+    ensures looks { Looks K.rows K.clean K.sound K.keyed K.shielded keep.old keep.new }
     ensures ok { K.clean keep.new → K.sound keep.old → IsSome (K.rows keep.old org.now)
         → IfOk result (λ there. there ≡ is_there act (workspace_in (K.rows keep.old org.now) ws.now)) }
 {
@@ -171,7 +171,7 @@ fn is_found<K: Keep>(
     ws: &WsName,
     act: WsAct,
 ) -> Result<bool, Down>
-    ensures looks { Looks K.rows K.clean K.sound K.shielded keep.old keep.new }
+    ensures looks { Looks K.rows K.clean K.sound K.keyed K.shielded keep.old keep.new }
     ensures ok { K.clean keep.new → K.sound keep.old → IsSome (K.rows keep.old org.now)
         → IfOk result (λ found. found ≡ is_found (K.rows keep.old org.now) ws.now act) }
 {
@@ -195,7 +195,7 @@ pub fn missed<K: Keep>(
     asked: &AskedAct,
     refusal: Refusal,
 ) -> Refusal
-    ensures looks { Looks K.rows K.clean K.sound K.shielded keep.old keep.new }
+    ensures looks { Looks K.rows K.clean K.sound K.keyed K.shielded keep.old keep.new }
     ensures known { result ≢ Unavailable → refusal ≢ Unavailable }
     ensures ok { K.clean keep.new → K.sound keep.old → IsSome (K.rows keep.old org.now)
         → result ≢ Unavailable → result ≡ missed (K.rows keep.old org.now) asked.now refusal }

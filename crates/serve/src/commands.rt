@@ -1,5 +1,6 @@
 //! Operator's commands.
 ghost use Rattle.std.specs.Prelude.{◌≡◌, ℕ, IfOk, OnErr, length, ◌≤◌};
+ghost use Rattle.machine.specs.Keeping.{Lasts};
 ghost use Rattle.serve.specs.Asks.{commands};
 ghost use Rattle.serve.specs.Service.{Carries, Stays, IsAdminAnswer, org_lines, token_lines, admin_word, token_list_text};
 
@@ -71,9 +72,7 @@ pub fn admin_word(answer: &AdminAnswer) -> &'static [u8]
 
 /// Carries out an operator's command.
 pub fn command<K: Keep>(alloc: Global, keep: &mut K, command: &Admin) -> Result<AdminAnswer, Down>
-    ensures so_far { K.clean keep.new → K.clean keep.old }
-    ensures shield { K.shielded keep.old → K.shielded keep.new }
-    ensures kept { K.clean keep.new → K.sound keep.old → K.sound keep.new }
+    ensures lasts { Lasts K.clean K.sound K.keyed K.shielded keep.old keep.new }
     ensures ok { K.clean keep.new → K.sound keep.old → IfOk result (λ answer. (at : ℕ) → Carries (commands at command.now) (K.rows keep.old) (K.rows keep.new)
         × IsAdminAnswer (K.rows keep.old) command.now answer) }
     ensures err { K.clean keep.new → OnErr result (Stays (K.rows keep.old) (K.rows keep.new)) }

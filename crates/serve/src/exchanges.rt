@@ -3,6 +3,7 @@ ghost use Rattle.std.specs.Prelude.{◌≡◌, ◌↔◌, ℕ, List, ◌⊎◌, 
 ghost use Rattle.std.specs.Io.KnownBytes.{Consumes};
 ghost use Rattle.wire.specs.Links.{Writes};
 ghost use Rattle.wire.specs.Replies.{IsReplyText, unavailable_answer};
+ghost use Rattle.machine.specs.Keeping.{Lasts, LastsWhere};
 ghost use Rattle.serve.specs.Asks.{Ask};
 ghost use Rattle.serve.specs.Service.{Stays};
 ghost use Rattle.serve.specs.Exchanges.{Exchanges, ChangesAtMostOne, ChangesAsTold};
@@ -71,9 +72,7 @@ fn settle<K: Keep, O: Outlet>(
     down: &mut bool,
 ) -> Result<(), LinkFault>
     requires { O.broken outlet.old ≡ false }
-    ensures so_far { K.clean keep.new → K.clean keep.old }
-    ensures shield { K.shielded keep.old → K.shielded keep.new }
-    ensures kept { K.clean keep.new → K.sound keep.old → (ask : Ask) → IsPrepared (K.rows keep.old) ask prepared.now → K.sound keep.new }
+    ensures lasts { LastsWhere ((ask : Ask) × IsPrepared (K.rows keep.old) ask prepared.now) K.clean K.sound K.keyed K.shielded keep.old keep.new }
     ensures settled { K.clean keep.new → K.sound keep.old → Settles down.new prepared.now (K.rows keep.old) (K.rows keep.new) }
     ensures text { (text : List ℕ) × IsReplyText (due_reply down.new is_head prepared.now.reply) now text
         × Writes (O.written outlet.old) (O.written outlet.new) text result }
@@ -117,9 +116,7 @@ pub fn exchange<K: Keep, I: Inlet, O: Outlet>(
 ) -> Result<(), LinkFault>
     requires reads { I.broken inlet.old ≡ false }
     requires writes { O.broken outlet.old ≡ false }
-    ensures so_far { K.clean keep.new → K.clean keep.old }
-    ensures shield { K.shielded keep.old → K.shielded keep.new }
-    ensures kept { K.clean keep.new → K.sound keep.old → K.sound keep.new }
+    ensures lasts { Lasts K.clean K.sound K.keyed K.shielded keep.old keep.new }
     ensures told { K.clean keep.new → K.sound keep.old → (received : List ℕ) × Consumes (I.left inlet.old) (I.left inlet.new) received
         × Exchanges now received (I.left inlet.new) (K.rows keep.old) (K.rows keep.new) (O.written outlet.old) (O.written outlet.new) is_down.new row.new result }
     ensures stays { K.clean keep.new → (IsErrOf result LinkFault.Ended ⊎ (IsErrOf result LinkFault.Read ⊎ IsErrOf result LinkFault.Continue))

@@ -3,7 +3,7 @@ ghost use Rattle.std.specs.Prelude.{◌≡◌, ◌↔◌, Bool, None, Err, ◌�
 ghost use Rattle.wire.specs.declared.messages.WireFault.TheVariants.{Ended, Read, Continue};
 ghost use Rattle.route.specs.Asks.{asked_of};
 ghost use Rattle.serve.specs.Asks.{Ask, requests};
-ghost use Rattle.machine.specs.Keeping.{Looks};
+ghost use Rattle.machine.specs.Keeping.{Looks, Lasts, LastsWhere};
 ghost use Rattle.serve.specs.Inner.Prepared.{IsPrepared};
 ghost use Rattle.docs.specs.Bodies.{error_text};
 ghost use Rattle.wire.specs.Replies.{refused_answer};
@@ -90,7 +90,7 @@ fn answer_asked<K: Keep>(
     content_md5: &Option<Bytes>,
     body: Bytes,
 ) -> Result<Prepared, LogRow>
-    ensures looks { Looks K.rows K.clean K.sound K.shielded keep.old keep.new }
+    ensures looks { Looks K.rows K.clean K.sound K.keyed K.shielded keep.old keep.new }
     ensures ok { K.clean keep.new → K.sound keep.old → IfOk result (λ r. (awaited : Bool)
         → IsPrepared (K.rows keep.old) (requests at awaited asked content_md5.now body) r) }
     ensures logs { K.clean keep.new → K.sound keep.old → IfOk result (λ r. (awaited : Bool)
@@ -112,7 +112,7 @@ fn answer<K: Keep>(
     at: Moment,
     message: Message,
 ) -> Result<Prepared, LogRow>
-    ensures looks { Looks K.rows K.clean K.sound K.shielded keep.old keep.new }
+    ensures looks { Looks K.rows K.clean K.sound K.keyed K.shielded keep.old keep.new }
     ensures ok { K.clean keep.new → K.sound keep.old → IfOk result (λ r. (awaited : Bool)
         → IsPrepared (K.rows keep.old) (asked_by at awaited message (asked_of message)) r) }
     ensures logs { K.clean keep.new → K.sound keep.old → IfOk result (λ r. (awaited : Bool)
@@ -139,7 +139,7 @@ pub fn prepare<K: Keep>(
     at: Moment,
     read: Result<Message, WireFault>,
 ) -> Result<Result<Prepared, LogRow>, LinkFault>
-    ensures looks { Looks K.rows K.clean K.sound K.shielded keep.old keep.new }
+    ensures looks { Looks K.rows K.clean K.sound K.keyed K.shielded keep.old keep.new }
     ensures ok { K.clean keep.new → K.sound keep.old → IfOk result (λ ready. IfOk ready (λ r. PreparesFor at (K.rows keep.old) read r)) }
     ensures logs { K.clean keep.new → K.sound keep.old → IfOk result (λ ready. IfOk ready (λ r. LogsFor at (K.rows keep.old) read r.row)) }
     ensures down { K.clean keep.new → K.sound keep.old → IfOk result (λ ready. IfErr ready (λ row. LogsDownFor at (K.rows keep.old) read row)) }
@@ -161,9 +161,7 @@ pub fn prepare<K: Keep>(
 
 /// Makes the change that was prepared.
 pub fn commit<K: Keep>(alloc: Global, keep: &mut K, prepared: &Prepared) -> Result<(), Down>
-    ensures so_far { K.clean keep.new → K.clean keep.old }
-    ensures shield { K.shielded keep.old → K.shielded keep.new }
-    ensures kept { K.clean keep.new → K.sound keep.old → (ask : Ask) → IsPrepared (K.rows keep.old) ask prepared.now → K.sound keep.new }
+    ensures lasts { LastsWhere ((ask : Ask) × IsPrepared (K.rows keep.old) ask prepared.now) K.clean K.sound K.keyed K.shielded keep.old keep.new }
     ensures ok { K.clean keep.new → K.sound keep.old → OnOk result ((ask : Ask) → IsPrepared (K.rows keep.old) ask prepared.now
         → Carries ask (K.rows keep.old) (K.rows keep.new)) }
     ensures err { K.clean keep.new → OnErr result (Stays (K.rows keep.old) (K.rows keep.new)) }
@@ -184,9 +182,7 @@ pub fn take_request<K: Keep>(
     at: Moment,
     bytes: &[u8],
 ) -> Result<Bytes, Down>
-    ensures so_far { K.clean keep.new → K.clean keep.old }
-    ensures shield { K.shielded keep.old → K.shielded keep.new }
-    ensures kept { K.clean keep.new → K.sound keep.old → K.sound keep.new }
+    ensures lasts { Lasts K.clean K.sound K.keyed K.shielded keep.old keep.new }
     ensures ok { K.clean keep.new → K.sound keep.old → IfOk result (λ text. (ask : Ask) × Asks at bytes.now ask
         × Carries ask (K.rows keep.old) (K.rows keep.new) × IsSaidText (said_to (K.rows keep.old) ask) text) }
     ensures err { K.clean keep.new → OnErr result (Stays (K.rows keep.old) (K.rows keep.new)) }

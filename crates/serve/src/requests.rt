@@ -43,7 +43,7 @@ pub fn request<K: Keep>(
     content_md5: &Option<Bytes>,
     body: Bytes,
 ) -> Result<(Reply, Option<Change>, RowFacts), RowFacts>
-    ensures looks { Looks K.rows K.clean K.sound K.shielded keep.old keep.new }
+    ensures looks { Looks K.rows K.clean K.sound K.keyed K.shielded keep.old keep.new }
     ensures ok { K.clean keep.new → K.sound keep.old → IfOk result (λ p. Foresees (K.rows keep.old asked.now.caller) (workspace_named asked.now.act)
         (request_step (K.rows keep.old asked.now.caller) at asked.now content_md5.now body) p.0 p.1) }
     ensures facts { K.clean keep.new → K.sound keep.old → IfOk result (λ p. p.2 ≡ facts_of (K.rows keep.old asked.now.caller) at asked.now content_md5.now body) }
@@ -65,7 +65,7 @@ fn carry<K: Keep>(
     task: Task,
     token: Option<Text>,
 ) -> Result<(Reply, Option<Change>, RowFacts), RowFacts>
-    ensures looks { Looks K.rows K.clean K.sound K.shielded keep.old keep.new }
+    ensures looks { Looks K.rows K.clean K.sound K.keyed K.shielded keep.old keep.new }
     ensures ok { K.clean keep.new → K.sound keep.old → IfOk result (λ p. IsSome (K.rows keep.old org.now) → IsTaskInRange task
         → Foresees (K.rows keep.old org.now) (workspace_of_task task) (carried org.now at (K.rows keep.old org.now) (Ok task)) p.0 p.1) }
     ensures facts { K.clean keep.new → K.sound keep.old → IfOk result (λ p. IsSome (K.rows keep.old org.now)
@@ -110,7 +110,7 @@ fn checked<K: Keep>(
     body: Bytes,
     token: &mut Option<Text>,
 ) -> Result<Task, Refusal>
-    ensures looks { Looks K.rows K.clean K.sound K.shielded keep.old keep.new }
+    ensures looks { Looks K.rows K.clean K.sound K.keyed K.shielded keep.old keep.new }
     ensures ok { K.clean keep.new → K.sound keep.old → Stands result (K.rows keep.old asked.now.caller) at asked.now content_md5.now body }
     ensures range { IfOk result IsTaskInRange }
     ensures place { IfOk result (λ task. workspace_of_task task ≡ workspace_named asked.now.act) }
@@ -219,7 +219,7 @@ fn accepted_reply<K: Keep>(
     ws: &WsName,
     answer: Answer,
 ) -> Result<Reply, Down>
-    ensures looks { Looks K.rows K.clean K.sound K.shielded keep.old keep.new }
+    ensures looks { Looks K.rows K.clean K.sound K.keyed K.shielded keep.old keep.new }
     ensures ok { K.clean keep.new → K.sound keep.old → IfOk result (λ reply. reply
         ≡ answer_to org.now ws.now (answered answer (workspace_in (K.rows keep.old org.now) ws.now))) }
 {
@@ -244,7 +244,7 @@ fn list_versions<K: Keep>(
     ws: &WsName,
     after: u64,
 ) -> Result<Reply, Down>
-    ensures looks { Looks K.rows K.clean K.sound K.shielded keep.old keep.new }
+    ensures looks { Looks K.rows K.clean K.sound K.keyed K.shielded keep.old keep.new }
     ensures ok { K.clean keep.new → K.sound keep.old → IfOk result (λ reply. reply
         ≡ answer_to org.now ws.now (answered (ListedVersions after) (workspace_in (K.rows keep.old org.now) ws.now))) }
 {
@@ -259,7 +259,7 @@ fn list_runs<K: Keep>(
     ws: &WsName,
     after: u64,
 ) -> Result<Reply, Down>
-    ensures looks { Looks K.rows K.clean K.sound K.shielded keep.old keep.new }
+    ensures looks { Looks K.rows K.clean K.sound K.keyed K.shielded keep.old keep.new }
     ensures ok { K.clean keep.new → K.sound keep.old → IfOk result (λ reply. reply
         ≡ answer_to org.now ws.now (answered (ListedRuns after) (workspace_in (K.rows keep.old org.now) ws.now))) }
 {
@@ -284,7 +284,7 @@ fn list_workspaces<K: Keep>(
     after: &Option<WsName>,
     prefix: &WsPrefix,
 ) -> Result<Reply, Down>
-    ensures looks { Looks K.rows K.clean K.sound K.shielded keep.old keep.new }
+    ensures looks { Looks K.rows K.clean K.sound K.keyed K.shielded keep.old keep.new }
     ensures ok { K.clean keep.new → K.sound keep.old → IfOk result (λ reply. (at : ℕ)
         → Foresees (K.rows keep.old org.now) None (carried org.now at (K.rows keep.old org.now) (Ok (ListAll after.now prefix.now))) reply None) }
 {
@@ -300,7 +300,7 @@ fn perform<K: Keep>(
     org: &OrgName,
     task: Task,
 ) -> Result<(Reply, Option<Change>, Trace), Down>
-    ensures looks { Looks K.rows K.clean K.sound K.shielded keep.old keep.new }
+    ensures looks { Looks K.rows K.clean K.sound K.keyed K.shielded keep.old keep.new }
     ensures ok { K.clean keep.new → K.sound keep.old → IfOk result (λ p. IsSome (K.rows keep.old org.now) → IsTaskInRange task
         → Foresees (K.rows keep.old org.now) (workspace_of_task task) (carried org.now at (K.rows keep.old org.now) (Ok task)) p.0 p.1) }
     ensures traces { K.clean keep.new → K.sound keep.old → IfOk result (λ p. IsSome (K.rows keep.old org.now) → p.2 ≡ traced at (K.rows keep.old org.now) (Ok task)) }
@@ -323,7 +323,7 @@ fn answer_decision<K: Keep>(
     unit: &Unit,
     decision: Decision,
 ) -> Result<(Reply, Option<Change>), Down>
-    ensures looks { Looks K.rows K.clean K.sound K.shielded keep.old keep.new }
+    ensures looks { Looks K.rows K.clean K.sound K.keyed K.shielded keep.old keep.new }
     ensures ok { K.clean keep.new → K.sound keep.old → IfOk result (λ p. IsSome (K.rows keep.old org.now)
         → holder_in unit.now ≡ holder_of (workspace_in (K.rows keep.old org.now) ws.now)
         → ((o : Organization) → K.rows keep.old org.now ≡ Some o → ChangeIsDue (seen_in o ws.now) decision)
@@ -352,7 +352,7 @@ fn rule<K: Keep>(
     ws: &WsName,
     act: &Act,
 ) -> Result<(Reply, Option<Change>, Trace), Down>
-    ensures looks { Looks K.rows K.clean K.sound K.shielded keep.old keep.new }
+    ensures looks { Looks K.rows K.clean K.sound K.keyed K.shielded keep.old keep.new }
     ensures ok { K.clean keep.new → K.sound keep.old → IfOk result (λ p. IsSome (K.rows keep.old org.now) → IsInRange act.now
         → Foresees (K.rows keep.old org.now) (Some ws.now) (carried org.now at (K.rows keep.old org.now) (Ok (Carry ws.now act.now))) p.0 p.1) }
     ensures traces { K.clean keep.new → K.sound keep.old → IfOk result (λ p. IsSome (K.rows keep.old org.now) → p.2 ≡ traced at (K.rows keep.old org.now) (Ok (Carry ws.now act.now))) }

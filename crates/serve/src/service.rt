@@ -6,7 +6,7 @@ ghost use Rattle.serve.specs.Inner.Taking.{IsTaken, RunsTo};
 ghost use Rattle.serve.specs.Asks.{Ask, commands, unattributed, operator};
 ghost use Rattle.serve.specs.Service.{IsSaidText, Stays, Carries, said_to, AreAsked, IsAdminAnswer, ListsAll, IsListedBy, org_lines, token_list_text};
 ghost use Rattle.serve.specs.Inner.Taking.{IsOnOne};
-ghost use Rattle.machine.specs.Keeping.{Looks};
+ghost use Rattle.machine.specs.Keeping.{Looks, Lasts};
 ghost use Rattle.machine.specs.Tokens.{tokens_told};
 ghost use Rattle.machine.specs.declared.keeps.AdminAnswer.TheVariants.{Organizations};
 ghost use Rattle.machine.specs.declared.keeps.OrgRow.{OrgRow};
@@ -32,9 +32,7 @@ const MAX_ADMIN_WORD: usize = 15;
 
 /// A command on one organization is carried out once there is room for its word.
 fn take_word<K: Keep>(alloc: Global, keep: &mut K, asked: &Admin) -> Result<Bytes, Down>
-    ensures so_far { K.clean keep.new → K.clean keep.old }
-    ensures shield { K.shielded keep.old → K.shielded keep.new }
-    ensures kept { K.clean keep.new → K.sound keep.old → K.sound keep.new }
+    ensures lasts { Lasts K.clean K.sound K.keyed K.shielded keep.old keep.new }
     ensures ok { K.clean keep.new → K.sound keep.old → IfOk result (λ text. (at : ℕ) → Carries (commands at asked.now) (K.rows keep.old) (K.rows keep.new)
         × (IsOnOne asked.now → IsSaidText (said_to (K.rows keep.old) (commands at asked.now)) text)) }
     ensures err { K.clean keep.new → OnErr result (Stays (K.rows keep.old) (K.rows keep.new)) }
@@ -57,7 +55,7 @@ fn list_lines(alloc: Global, answer: &AdminAnswer) -> Result<Bytes, Down>
 
 /// The list of all organizations, which changes nothing.
 fn take_list<K: Keep>(alloc: Global, keep: &mut K) -> Result<Bytes, Down>
-    ensures looks { Looks K.rows K.clean K.sound K.shielded keep.old keep.new }
+    ensures looks { Looks K.rows K.clean K.sound K.keyed K.shielded keep.old keep.new }
     ensures ok { K.clean keep.new → K.sound keep.old → IfOk result (ListsAll (K.rows keep.old)) }
 {
     let answer = keep.org_list(alloc)?;
@@ -66,7 +64,7 @@ fn take_list<K: Keep>(alloc: Global, keep: &mut K) -> Result<Bytes, Down>
 
 /// The list of an organization's tokens, which changes nothing.
 fn take_tokens<K: Keep>(alloc: Global, keep: &mut K, org: &OrgName) -> Result<Bytes, Down>
-    ensures looks { Looks K.rows K.clean K.sound K.shielded keep.old keep.new }
+    ensures looks { Looks K.rows K.clean K.sound K.keyed K.shielded keep.old keep.new }
     ensures ok { K.clean keep.new → K.sound keep.old → IfOk result (λ text. text ≡ token_list_text (tokens_told (K.rows keep.old org.now))) }
 {
     let answer = keep.token_list(alloc, org)?;
@@ -74,9 +72,7 @@ fn take_tokens<K: Keep>(alloc: Global, keep: &mut K, org: &OrgName) -> Result<By
 }
 
 fn take_command<K: Keep>(alloc: Global, keep: &mut K, asked: &Admin) -> Result<Bytes, Down>
-    ensures so_far { K.clean keep.new → K.clean keep.old }
-    ensures shield { K.shielded keep.old → K.shielded keep.new }
-    ensures kept { K.clean keep.new → K.sound keep.old → K.sound keep.new }
+    ensures lasts { Lasts K.clean K.sound K.keyed K.shielded keep.old keep.new }
     ensures ok { K.clean keep.new → K.sound keep.old → IfOk result (λ text. (at : ℕ) → Carries (commands at asked.now) (K.rows keep.old) (K.rows keep.new)
         × IsSaidText (said_to (K.rows keep.old) (commands at asked.now)) text × IsListedBy (K.rows keep.old) asked.now text) }
     ensures err { K.clean keep.new → OnErr result (Stays (K.rows keep.old) (K.rows keep.new)) }
@@ -99,9 +95,7 @@ fn take_step<K: Keep>(
     routes: &Routes,
     step: &Step,
 ) -> Result<Bytes, Down>
-    ensures so_far { K.clean keep.new → K.clean keep.old }
-    ensures shield { K.shielded keep.old → K.shielded keep.new }
-    ensures kept { K.clean keep.new → K.sound keep.old → K.sound keep.new }
+    ensures lasts { Lasts K.clean K.sound K.keyed K.shielded keep.old keep.new }
     ensures ok { K.clean keep.new → K.sound keep.old → IfOk result (λ text. IsTaken step.now text (K.rows keep.old) (K.rows keep.new)) }
     ensures err { K.clean keep.new → OnErr result (Stays (K.rows keep.old) (K.rows keep.new)) }
 {
@@ -122,9 +116,7 @@ fn run<K: Keep>(
     steps: &[Step],
     taken: &mut u64,
 ) -> Result<Vec<Bytes>, Down>
-    ensures so_far { K.clean keep.new → K.clean keep.old }
-    ensures shield { K.shielded keep.old → K.shielded keep.new }
-    ensures kept { K.clean keep.new → K.sound keep.old → K.sound keep.new }
+    ensures lasts { Lasts K.clean K.sound K.keyed K.shielded keep.old keep.new }
     ensures one_each { IfOk result (λ replies. length replies.items ≡ length steps.now) }
     ensures most { taken.new ≤ length steps.now }
     ensures all { OnOk result (taken.new ≡ length steps.now) }
@@ -237,9 +229,7 @@ impl<K: Keep> Service<K> {
     ) -> Result<(), LinkFault>
         requires reads { I.broken inlet.old ≡ false }
         requires writes { O.broken outlet.old ≡ false }
-        ensures so_far { K.clean self.new.keep → K.clean self.old.keep }
-        ensures shield { K.shielded self.old.keep → K.shielded self.new.keep }
-        ensures kept { K.clean self.new.keep → K.sound self.old.keep → K.sound self.new.keep }
+        ensures lasts { Lasts K.clean K.sound K.keyed K.shielded self.old.keep self.new.keep }
         ensures told { K.clean self.new.keep → K.sound self.old.keep → (received : List ℕ) × Consumes (I.left inlet.old) (I.left inlet.new) received
             × Exchanges now received (I.left inlet.new) (K.rows self.old.keep) (K.rows self.new.keep) (O.written outlet.old) (O.written outlet.new) self.new.was_down self.new.row result }
 
@@ -280,9 +270,7 @@ impl<K: Keep> Service<K> {
 
     /// Carries out an operator's command. The list of all organizations is that of their records.
     pub fn admin(&mut self, alloc: Global, now: Moment, asked: &Admin) -> Result<AdminAnswer, Down>
-        ensures so_far { K.clean self.new.keep → K.clean self.old.keep }
-        ensures shield { K.shielded self.old.keep → K.shielded self.new.keep }
-        ensures kept { K.clean self.new.keep → K.sound self.old.keep → K.sound self.new.keep }
+        ensures lasts { Lasts K.clean K.sound K.keyed K.shielded self.old.keep self.new.keep }
         ensures ok { K.clean self.new.keep → K.sound self.old.keep → IfOk result (λ answer. Carries (commands now asked.now) (K.rows self.old.keep) (K.rows self.new.keep)
             × IsAdminAnswer (K.rows self.old.keep) asked.now answer) }
         ensures err { K.clean self.new.keep → OnErr result (Stays (K.rows self.old.keep) (K.rows self.new.keep)) }
@@ -294,9 +282,7 @@ impl<K: Keep> Service<K> {
     }
 
     fn run_all(&mut self, alloc: Global, steps: &[Step]) -> Result<Vec<Bytes>, Down>
-        ensures so_far { K.clean self.new.keep → K.clean self.old.keep }
-        ensures shield { K.shielded self.old.keep → K.shielded self.new.keep }
-        ensures kept { K.clean self.new.keep → K.sound self.old.keep → K.sound self.new.keep }
+        ensures lasts { Lasts K.clean K.sound K.keyed K.shielded self.old.keep self.new.keep }
         ensures one_each { IfOk result (λ replies. length replies.items ≡ length steps.now) }
         ensures most { self.new.taken ≤ length steps.now }
         ensures all { OnOk result (self.new.taken ≡ length steps.now) }
@@ -322,9 +308,7 @@ impl<K: Keep> Service<K> {
     /// each: empty for an unfinished message. The step that memory or the store refuses ends it with
     /// `Down`: it isn't taken, nor is any after it.
     pub fn replay(&mut self, alloc: Global, steps: &[Step]) -> Result<Vec<Bytes>, Down>
-        ensures so_far { K.clean self.new.keep → K.clean self.old.keep }
-        ensures shield { K.shielded self.old.keep → K.shielded self.new.keep }
-        ensures kept { K.clean self.new.keep → K.sound self.old.keep → K.sound self.new.keep }
+        ensures lasts { Lasts K.clean K.sound K.keyed K.shielded self.old.keep self.new.keep }
 
         // The steps taken ask something, each one thing (`one_asking`).
         ensures readings { K.clean self.new.keep → K.sound self.old.keep → (asked : List Ask) × AreAsked (take self.new.taken steps.now) asked }

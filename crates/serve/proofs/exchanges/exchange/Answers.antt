@@ -3,20 +3,19 @@ use Rattle.wire.specs.Replies.{IsReplyText, unavailable_answer}
 use Rattle.docs.specs.declared.logs.LogRow.{LogRow}
 use Rattle.serve.specs.Inner.Replying.{PreparesFor, LogsFor, LogsDownFor, due_reply, due_row}
 use Rattle.serve.specs.declared.prepared.Prepared.{Prepared}
+use Rattle.machine.proofs.LastingLemmas.{lasts_behind}
 use Rattle.serve.proofs.ExchangeLemmas.{AnswersRead, answered_read, asks_something, replied, replied_one, replied_told, silent_makes_nothing, stayed_told, refused_read, down_told, no_reply}
 use Rattle.serve.proofs.exchanges.exchange.Goals as goal
 
-pub returns-in-Ok-Ok-clause-kept : goal.returns-in-Ok-Ok-clause-kept
-returns-in-Ok-Ok-clause-kept g c = λ clean sound.
-    let before : g.K.Keep.clean c.prepare.new.keep = c.settle-result.ensures.so_far clean in
+pub returns-in-Ok-Ok-clause-lasts : goal.returns-in-Ok-Ok-clause-lasts
+returns-in-Ok-Ok-clause-lasts g c = lasts_behind c.args.keep.now c.prepare.new.keep c.settle-result.new.keep c.prepare.ensures.looks c.settle-result.ensures.lasts (λ before sound.
     let some : c.in-Ok-Ok.field-0 ≡ Ok c.in-Ok-Ok.ready = search rules in
     let ok = subst (λ (o : Result Prepared LogRow). IfOk o (λ r. PreparesFor c.args.now (g.K.Keep.rows c.args.keep.now) c.read_message-read.result r)) some (c.in-Ok-Ok.ensures.ok before sound) in
-    let a = asks_something c.args.now c.read_message-read.result (g.K.Keep.rows c.args.keep.now) (g.K.Keep.rows c.prepare.new.keep) c.in-Ok-Ok.ready (c.prepare.ensures.looks.same before) ok in
-    c.settle-result.ensures.kept clean (c.prepare.ensures.looks.kept before sound) a.0 a.1
+    asks_something c.args.now c.read_message-read.result (g.K.Keep.rows c.args.keep.now) (g.K.Keep.rows c.prepare.new.keep) c.in-Ok-Ok.ready (c.prepare.ensures.looks.same before) ok)
 
 pub returns-in-Ok-Ok-clause-told : goal.returns-in-Ok-Ok-clause-told
 returns-in-Ok-Ok-clause-told g c = λ clean sound.
-    let before : g.K.Keep.clean c.prepare.new.keep = c.settle-result.ensures.so_far clean in
+    let before : g.K.Keep.clean c.prepare.new.keep = c.settle-result.ensures.lasts.so_far clean in
     let some : c.in-Ok-Ok.field-0 ≡ Ok c.in-Ok-Ok.ready = search rules in
     let ok = subst (λ (o : Result Prepared LogRow). IfOk o (λ r. PreparesFor c.args.now (g.K.Keep.rows c.args.keep.now) c.read_message-read.result r)) some (c.in-Ok-Ok.ensures.ok before sound) in
     let logs = subst (λ (o : Result Prepared LogRow). IfOk o (λ r. LogsFor c.args.now (g.K.Keep.rows c.args.keep.now) c.read_message-read.result r.row)) some (c.in-Ok-Ok.ensures.logs before sound) in
@@ -56,7 +55,7 @@ pub returns-in-Ok-Ok-clause-changes : goal.returns-in-Ok-Ok-clause-changes
 returns-in-Ok-Ok-clause-changes g c = λ clean sound.
     replied_told (g.I.Inlet.left c.args.inlet.now) (g.I.Inlet.left c.read_message-read.new.inlet) c.args.now (g.K.Keep.rows c.args.keep.now) (g.K.Keep.rows c.settle-result.new.keep)
     (g.O.Outlet.written c.args.outlet.now) (g.O.Outlet.written c.settle-result.new.outlet) c.settle-result.new.down c.row_after.result c.settle-result.result
-    (c.records_are_lawful.ensures (c.prepare.ensures.looks.so_far (c.settle-result.ensures.so_far clean)) sound) (returns-in-Ok-Ok-clause-told g c clean sound) c.settle-result.ensures.fault
+    (c.records_are_lawful.ensures (c.prepare.ensures.looks.so_far (c.settle-result.ensures.lasts.so_far clean)) sound) (returns-in-Ok-Ok-clause-told g c clean sound) c.settle-result.ensures.fault
 
 pub returns-in-Ok-Err-clause-changes : goal.returns-in-Ok-Err-clause-changes
 returns-in-Ok-Err-clause-changes g c = λ clean sound.

@@ -2,30 +2,25 @@ use Rattle.std.proofs.Common.{◌≡◌, Some, Result, Ok, IfOk, ap, subst, ◌�
 use Rattle.docs.specs.declared.logs.LogRow.{LogRow}
 use Rattle.serve.specs.Inner.Replying.{PreparesFor, LogsFor}
 use Rattle.serve.specs.declared.prepared.Prepared.{Prepared}
+use Rattle.machine.proofs.LastingLemmas.{lasts_behind}
 use Rattle.serve.proofs.ExchangeLemmas.{input_read, input_answered, bytes_of, asks_something}
 use Rattle.serve.proofs.messages.take_request.Goals as goal
 
-pub returns-in_err-commit-clause-kept : goal.returns-in_err-commit-clause-kept
-returns-in_err-commit-clause-kept g c = λ clean sound.
-    let before : g.K.Keep.clean c.prepare.new.keep = c.commit.ensures.so_far clean in
-    let kept : g.K.Keep.sound c.prepare.new.keep = c.prepare.ensures.looks.kept before sound in
+pub returns-in_err-commit-clause-lasts : goal.returns-in_err-commit-clause-lasts
+returns-in_err-commit-clause-lasts g c = lasts_behind c.args.keep.now c.prepare.new.keep c.commit.new.keep c.prepare.ensures.looks c.commit.ensures.lasts (λ before sound.
     let some : c.in-Ok-Ok.field-0 ≡ Ok c.in-Ok-Ok.ready = search rules in
     let ok = subst (λ (o : Result Prepared LogRow). IfOk o (λ r. PreparesFor c.args.at (g.K.Keep.rows c.args.keep.now) c.read_message-read.result r)) some (c.in-Ok-Ok.ensures.ok before sound) in
-    let a = asks_something c.args.at c.read_message-read.result (g.K.Keep.rows c.args.keep.now) (g.K.Keep.rows c.prepare.new.keep) c.in-Ok-Ok.ready (c.prepare.ensures.looks.same before) ok in
-    c.commit.ensures.kept clean kept a.0 a.1
+    asks_something c.args.at c.read_message-read.result (g.K.Keep.rows c.args.keep.now) (g.K.Keep.rows c.prepare.new.keep) c.in-Ok-Ok.ready (c.prepare.ensures.looks.same before) ok)
 
-pub returns-clause-kept : goal.returns-clause-kept
-returns-clause-kept g c = λ clean sound.
-    let before : g.K.Keep.clean c.prepare.new.keep = c.commit.ensures.so_far clean in
-    let kept : g.K.Keep.sound c.prepare.new.keep = c.prepare.ensures.looks.kept before sound in
+pub returns-clause-lasts : goal.returns-clause-lasts
+returns-clause-lasts g c = lasts_behind c.args.keep.now c.prepare.new.keep c.commit.new.keep c.prepare.ensures.looks c.commit.ensures.lasts (λ before sound.
     let some : c.in-Ok-Ok.field-0 ≡ Ok c.in-Ok-Ok.ready = search rules in
     let ok = subst (λ (o : Result Prepared LogRow). IfOk o (λ r. PreparesFor c.args.at (g.K.Keep.rows c.args.keep.now) c.read_message-read.result r)) some (c.in-Ok-Ok.ensures.ok before sound) in
-    let a = asks_something c.args.at c.read_message-read.result (g.K.Keep.rows c.args.keep.now) (g.K.Keep.rows c.prepare.new.keep) c.in-Ok-Ok.ready (c.prepare.ensures.looks.same before) ok in
-    c.commit.ensures.kept clean kept a.0 a.1
+    asks_something c.args.at c.read_message-read.result (g.K.Keep.rows c.args.keep.now) (g.K.Keep.rows c.prepare.new.keep) c.in-Ok-Ok.ready (c.prepare.ensures.looks.same before) ok)
 
 pub returns-clause-ok : goal.returns-clause-ok
 returns-clause-ok g c = λ clean sound.
-    let before : g.K.Keep.clean c.prepare.new.keep = c.commit.ensures.so_far clean in
+    let before : g.K.Keep.clean c.prepare.new.keep = c.commit.ensures.lasts.so_far clean in
     let kept : g.K.Keep.sound c.prepare.new.keep = c.prepare.ensures.looks.kept before sound in
     let some : c.in-Ok-Ok.field-0 ≡ Ok c.in-Ok-Ok.ready = search rules in
     let ok = subst (λ (o : Result Prepared LogRow). IfOk o (λ r. PreparesFor c.args.at (g.K.Keep.rows c.args.keep.now) c.read_message-read.result r)) some (c.in-Ok-Ok.ensures.ok before sound) in

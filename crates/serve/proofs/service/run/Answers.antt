@@ -1,4 +1,5 @@
 use Rattle.std.proofs.Common.{◌≡◌, ◌++◌, ◌∷◌, [], List, ℕ, subst, sym, ◌∙◌, rules, arith, refl}
+use Rattle.machine.proofs.LastingLemmas.{lasts_still, lasts_then}
 use Rattle.serve.proofs.RunLemmas.{runs_none, step_more}
 use Rattle.serve.proofs.service.run.Goals as goal
 use Rattle.serve.specs.Inner.Taking.{RunsTo}
@@ -11,23 +12,21 @@ steps-init g c = record {
   count = refl;
   len = search rules;
   room = search rules;
-  so_far = λ clean. clean;
-  shield = λ is. is;
-  kept = λ clean sound. sound;
+  lasts = lasts_still c.args.keep.now;
   ran = λ clean sound. subst (λ (ts : List (List ℕ)). RunsTo [] (g.K.Keep.rows c.args.keep.now) (g.K.Keep.rows c.args.keep.now) ts) (sym c.in-Ok.ensures.items) (runs_none (g.K.Keep.rows c.args.keep.now));
 }
 
 pub steps-preserved : goal.steps-preserved
 steps-preserved g c =
     let pushed : c.push.new.self.items ≡ c.steps.replies.items ++ c.in_ok-reply.reply ∷ [] = search rules in
+    let before = c.steps.invariant.lasts in
+    let step = c.take_step.ensures.lasts in
     record {
       count = omega arith;
       len = search rules;
       room = search rules;
-      so_far = λ clean. c.steps.invariant.so_far (c.take_step.ensures.so_far clean);
-      shield = λ is. c.take_step.ensures.shield (c.steps.invariant.shield is);
-      kept = λ clean sound. c.take_step.ensures.kept clean (c.steps.invariant.kept (c.take_step.ensures.so_far clean) sound);
+      lasts = lasts_then c.args.keep.now c.steps.keep c.take_step.new.keep before step;
       ran = λ clean sound. step_more c.args.steps.now c.steps.step-index c.step-item.result (g.K.Keep.rows c.args.keep.now) (g.K.Keep.rows c.steps.keep) (g.K.Keep.rows c.take_step.new.keep)
           c.steps.replies.items c.push.new.self.items c.in_ok-reply.reply c.steps-test.true c.step-item.is (sym c.steps.replies.ok.0 ∙ c.steps.invariant.len) pushed
-          (c.steps.invariant.ran (c.take_step.ensures.so_far clean) sound) (c.in_ok-reply.ensures.ok clean (c.steps.invariant.kept (c.take_step.ensures.so_far clean) sound));
+          (c.steps.invariant.ran (step.so_far clean) sound) (c.in_ok-reply.ensures.ok clean (before.kept (step.so_far clean) sound));
     }

@@ -31,42 +31,42 @@ returns-clause-rows g c = λ clean sound asked are org.
 pub returns-clause-lock_periods : goal.returns-clause-lock_periods
 returns-clause-lock_periods g c = λ clean sound.
     let ran = c.run_all.ensures.ran clean sound in
-    book.of_each_book _ book.locks_keep_others_out _ (g.K.Keep.rows c.args.self.now.keep) (g.K.Keep.rows c.run_all.new.self.keep) ran.0 ran.1 (c.records_are_lawful.ensures (c.run_all.ensures.so_far clean) sound)
+    book.of_each_book _ book.locks_keep_others_out _ (g.K.Keep.rows c.args.self.now.keep) (g.K.Keep.rows c.run_all.new.self.keep) ran.0 ran.1 (c.records_are_lawful.ensures (c.run_all.ensures.lasts.so_far clean) sound)
 
 pub returns-clause-run_periods : goal.returns-clause-run_periods
 returns-clause-run_periods g c = λ clean sound.
     let ran = c.run_all.ensures.ran clean sound in
-    book.of_each_book _ book.runs_keep_others_out _ (g.K.Keep.rows c.args.self.now.keep) (g.K.Keep.rows c.run_all.new.self.keep) ran.0 ran.1 (c.records_are_lawful.ensures (c.run_all.ensures.so_far clean) sound)
+    book.of_each_book _ book.runs_keep_others_out _ (g.K.Keep.rows c.args.self.now.keep) (g.K.Keep.rows c.run_all.new.self.keep) ran.0 ran.1 (c.records_are_lawful.ensures (c.run_all.ensures.lasts.so_far clean) sound)
 
 pub returns-clause-unheld : goal.returns-clause-unheld
 returns-clause-unheld g c = λ clean sound.
     let ran = c.run_all.ensures.ran clean sound in
-    book.of_each_book _ book.no_id_where_nobody_holds _ (g.K.Keep.rows c.args.self.now.keep) (g.K.Keep.rows c.run_all.new.self.keep) ran.0 ran.1 (c.records_are_lawful.ensures (c.run_all.ensures.so_far clean) sound)
+    book.of_each_book _ book.no_id_where_nobody_holds _ (g.K.Keep.rows c.args.self.now.keep) (g.K.Keep.rows c.run_all.new.self.keep) ran.0 ran.1 (c.records_are_lawful.ensures (c.run_all.ensures.lasts.so_far clean) sound)
 
 pub returns-clause-lock_ends : goal.returns-clause-lock_ends
 returns-clause-lock_ends g c = λ clean sound.
     let ran = c.run_all.ensures.ran clean sound in
-    book.of_each_book _ book.locks_end_by_unlock _ (g.K.Keep.rows c.args.self.now.keep) (g.K.Keep.rows c.run_all.new.self.keep) ran.0 ran.1 (c.records_are_lawful.ensures (c.run_all.ensures.so_far clean) sound)
+    book.of_each_book _ book.locks_end_by_unlock _ (g.K.Keep.rows c.args.self.now.keep) (g.K.Keep.rows c.run_all.new.self.keep) ran.0 ran.1 (c.records_are_lawful.ensures (c.run_all.ensures.lasts.so_far clean) sound)
 
 pub returns-clause-one_active : goal.returns-clause-one_active
 returns-clause-one_active g c = λ clean sound.
     let ran = c.run_all.ensures.ran clean sound in
-    book.of_each_book _ book.one_run_is_active _ (g.K.Keep.rows c.args.self.now.keep) (g.K.Keep.rows c.run_all.new.self.keep) ran.0 ran.1 (c.records_are_lawful.ensures (c.run_all.ensures.so_far clean) sound)
+    book.of_each_book _ book.one_run_is_active _ (g.K.Keep.rows c.args.self.now.keep) (g.K.Keep.rows c.run_all.new.self.keep) ran.0 ran.1 (c.records_are_lawful.ensures (c.run_all.ensures.lasts.so_far clean) sound)
 
 pub returns-clause-starts_rise : goal.returns-clause-starts_rise
 returns-clause-starts_rise g c = λ clean sound.
     let ran = c.run_all.ensures.ran clean sound in
-    book.of_each_book _ book.runs_start_in_order _ (g.K.Keep.rows c.args.self.now.keep) (g.K.Keep.rows c.run_all.new.self.keep) ran.0 ran.1 (c.records_are_lawful.ensures (c.run_all.ensures.so_far clean) sound)
+    book.of_each_book _ book.runs_start_in_order _ (g.K.Keep.rows c.args.self.now.keep) (g.K.Keep.rows c.run_all.new.self.keep) ran.0 ran.1 (c.records_are_lawful.ensures (c.run_all.ensures.lasts.so_far clean) sound)
 
 pub returns-clause-repeats : goal.returns-clause-repeats
 returns-clause-repeats g c = λ clean sound.
     let ran = c.run_all.ensures.ran clean sound in
-    book.of_each_book _ book.repeats_leave_it _ (g.K.Keep.rows c.args.self.now.keep) (g.K.Keep.rows c.run_all.new.self.keep) ran.0 ran.1 (c.records_are_lawful.ensures (c.run_all.ensures.so_far clean) sound)
+    book.of_each_book _ book.repeats_leave_it _ (g.K.Keep.rows c.args.self.now.keep) (g.K.Keep.rows c.run_all.new.self.keep) ran.0 ran.1 (c.records_are_lawful.ensures (c.run_all.ensures.lasts.so_far clean) sound)
 
 pub returns-clause-done_once : goal.returns-clause-done_once
 returns-clause-done_once g c = λ clean sound.
     let ran = c.run_all.ensures.ran clean sound in
-    book.of_each_book _ book.done_once_is_done _ (g.K.Keep.rows c.args.self.now.keep) (g.K.Keep.rows c.run_all.new.self.keep) ran.0 ran.1 (c.records_are_lawful.ensures (c.run_all.ensures.so_far clean) sound)
+    book.of_each_book _ book.done_once_is_done _ (g.K.Keep.rows c.args.self.now.keep) (g.K.Keep.rows c.run_all.new.self.keep) ran.0 ran.1 (c.records_are_lawful.ensures (c.run_all.ensures.lasts.so_far clean) sound)
 
 pub returns-clause-absent_forms : goal.returns-clause-absent_forms
 returns-clause-absent_forms g c = λ clean sound.
