@@ -1,17 +1,16 @@
 -- From the rows that were read to the store that has them.
-use Rattle.std.proofs.Common.{◌≡◌, ◌==◌, true, ◌<◌, ◌≤◌, ◌+◌, ℕ, List, [], ◌∷◌, ◌++◌, map, take, get_or, length, Option, arith, refl, sym, ap, ◌∙◌, subst}
+use Rattle.std.proofs.Common.{◌≡◌, ◌==◌, true, ◌<◌, ◌≤◌, ◌+◌, ℕ, List, [], ◌∷◌, ◌++◌, map, take, get_or, length, arith, refl, sym, ap, ◌∙◌, subst}
 use Rattle.std.proofs.lemmas.Bool.{eqb-true}
 use Rattle.std.proofs.lemmas.List.{length-take-le, length-map}
 use Rattle.sqlite.specs.Effect.{Database}
 use Rattle.sqlite.specs.State.{State}
 use Rattle.statements.specs.Tables.{Tables, Holds, IsOurs, tables_of}
-use Rattle.tables.specs.Counting.{IsCounted}
-use Rattle.tables.specs.declared.counts.Counted.{Counted}
+use Rattle.tables.specs.Remembered.{IsRemembered}
+use Rattle.tables.specs.declared.memo.Memo.{Memo}
 use Rattle.tables.specs.Defined.{TellsTables as NamesTables}
 use Rattle.tables.specs.Opening.{IsFresh, IsSoundKeep}
 use Rattle.tables.specs.Scans.{AreRowsOf, ArePagesKeyed}
 use Rattle.tables.specs.Sound.{IsSound}
-use Rattle.tables.specs.Stores.{records_of}
 use Rattle.statements.specs.declared.rows.Rows.{Rows}
 use Rattle.checks.specs.declared.found.Fault.{Fault}
 use Rattle.checks.specs.declared.found.Found.{Found}
@@ -124,16 +123,19 @@ module _ (key_of : List ℕ → List ℕ) (old mid : Database) (others : List (L
     pub totals_told : (t : Tables) → Holds old t → AreTotalsOf t looked.totals
     totals_told t held = look.totals t (rows_read t held.rows)
 
-    -- a store as it was opened is sound where no fault is told
-    pub store_sound : (s : State) (seen : Database) (counted : Option Counted) → s.committed ≡ old
-        → looked.faults ≡ [] → IsFresh seen counted s → HaveRows seen (tables_of seen) → IsSoundKeep seen counted s
-    store_sound s seen counted is clean fresh held =
+    -- a store as it was opened is sound where no fault is told, and each page is under the key of its bytes
+    pub store_sound : (s : State) (seen : Database) (memo : Memo) → s.committed ≡ old
+        → looked.faults ≡ [] → IsFresh seen memo s → HaveRows seen (tables_of seen) → IsSoundKeep seen memo s × ArePagesKeyed key_of (tables_of seen)
+    store_sound s seen memo is clean fresh held =
         let there : HaveRows old (tables_of seen) = subst (λ (db : Database). HaveRows db (tables_of seen)) (sym fresh.committed ∙ is) held in
-        record {
-          store = record {
-            holds = record { ours = subst (λ (db : Database). IsOurs db.schema) (sym is ∙ fresh.committed) (tells.none.0 none); rows = held };
-            sound = (look.faults.holds clean key_of (tables_of seen) (rows_read (tables_of seen) there)).0;
-          };
-          counts = subst (IsCounted (records_of seen)) (sym fresh.uncounted) tt;
-          tied = λ is_open. fresh.committed;
-        }
+        let are = look.faults.holds clean key_of (tables_of seen) (rows_read (tables_of seen) there) in (
+          record {
+            store = record {
+              holds = record { ours = subst (λ (db : Database). IsOurs db.schema) (sym is ∙ fresh.committed) (tells.none.0 none); rows = held };
+              sound = are.0;
+            };
+            remembered = subst (IsRemembered (tables_of seen)) (sym fresh.forgotten) (record { counts = tt; sizes = tt; askers = tt });
+            tied = λ is_open. fresh.committed;
+          },
+          are.1,
+        )

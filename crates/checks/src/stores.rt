@@ -57,7 +57,7 @@ fn tell_tables<S: Alter, K: PageKey>(
     alloc: Global,
 ) -> Result<Items<Text>, Down>
     ensures told { HasCleanDisk (state S.Store keep.new.conn) → IfOk result (TellsTables (state S.Store keep.old.conn).committed (state S.Store keep.new.conn).committed) }
-    ensures looks { Looks ⟦<SqlKeep<S, K> as Keep>⟧.rows ⟦<SqlKeep<S, K> as Keep>⟧.clean ⟦<SqlKeep<S, K> as Keep>⟧.sound ⟦<SqlKeep<S, K> as Keep>⟧.shielded keep.old keep.new }
+    ensures looks { Looks ⟦<SqlKeep<S, K> as Keep>⟧.rows ⟦<SqlKeep<S, K> as Keep>⟧.clean ⟦<SqlKeep<S, K> as Keep>⟧.sound ⟦<SqlKeep<S, K> as Keep>⟧.keyed ⟦<SqlKeep<S, K> as Keep>⟧.shielded keep.old keep.new }
 {
     let names = keep.other_tables(alloc)?;
     let found = other_tables(alloc, names.as_slice())?;
@@ -70,7 +70,7 @@ fn look_at_rows<S: Alter, K: PageKey>(
     alloc: Global,
 ) -> Result<Looked, Down>
     ensures told { HasCleanDisk (state S.Store keep.new.conn) → IfOk result (LooksAtRows K.key_of (state S.Store keep.old.conn).committed) }
-    ensures looks { Looks ⟦<SqlKeep<S, K> as Keep>⟧.rows ⟦<SqlKeep<S, K> as Keep>⟧.clean ⟦<SqlKeep<S, K> as Keep>⟧.sound ⟦<SqlKeep<S, K> as Keep>⟧.shielded keep.old keep.new }
+    ensures looks { Looks ⟦<SqlKeep<S, K> as Keep>⟧.rows ⟦<SqlKeep<S, K> as Keep>⟧.clean ⟦<SqlKeep<S, K> as Keep>⟧.sound ⟦<SqlKeep<S, K> as Keep>⟧.keyed ⟦<SqlKeep<S, K> as Keep>⟧.shielded keep.old keep.new }
 {
     let rows = keep.scan(alloc)?;
     let totals = totals_of(&rows);
@@ -84,9 +84,9 @@ fn look_at_rows<S: Alter, K: PageKey>(
 pub fn check<S: Alter, K: PageKey>(keep: &mut SqlKeep<S, K>, alloc: Global) -> Result<Looked, Down>
     ensures decides { HasCleanDisk (state S.Store keep.new.conn) → IfOk result (λ looked. TellsStore K.key_of (state S.Store keep.old.conn).committed looked.faults) }
     ensures totals { HasCleanDisk (state S.Store keep.new.conn) → IfOk result (λ looked. (t : Tables) → Holds (state S.Store keep.old.conn).committed t → AreTotalsOf t looked.totals) }
-    ensures sound { HasCleanDisk (state S.Store keep.new.conn) → IfOk result (λ looked. looked.faults ≡ [] → IsFresh (state S.Store keep.old.seen.value).committed keep.old.counted (state S.Store keep.old.conn)
-        → HaveRows (state S.Store keep.old.seen.value).committed (tables_of (state S.Store keep.old.seen.value).committed) → ⟦<SqlKeep<S, K> as Keep>⟧.sound keep.old) }
-    ensures looks { Looks ⟦<SqlKeep<S, K> as Keep>⟧.rows ⟦<SqlKeep<S, K> as Keep>⟧.clean ⟦<SqlKeep<S, K> as Keep>⟧.sound ⟦<SqlKeep<S, K> as Keep>⟧.shielded keep.old keep.new }
+    ensures sound { HasCleanDisk (state S.Store keep.new.conn) → IfOk result (λ looked. looked.faults ≡ [] → IsFresh (state S.Store keep.old.seen.value).committed keep.old.memo (state S.Store keep.old.conn)
+        → HaveRows (state S.Store keep.old.seen.value).committed (tables_of (state S.Store keep.old.seen.value).committed) → ⟦<SqlKeep<S, K> as Keep>⟧.sound keep.old × ⟦<SqlKeep<S, K> as Keep>⟧.keyed keep.old) }
+    ensures looks { Looks ⟦<SqlKeep<S, K> as Keep>⟧.rows ⟦<SqlKeep<S, K> as Keep>⟧.clean ⟦<SqlKeep<S, K> as Keep>⟧.sound ⟦<SqlKeep<S, K> as Keep>⟧.keyed ⟦<SqlKeep<S, K> as Keep>⟧.shielded keep.old keep.new }
 {
     let others = tell_tables(keep, alloc)?;
     if !others.as_slice().is_empty() {

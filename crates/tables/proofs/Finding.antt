@@ -71,7 +71,7 @@ mapped : {A B C : Type 0} (f : A → B) (g : B → C) (o : Option A) → option_
 mapped f g None = refl
 mapped f g (Some a) = refl
 
-found_as : {A B : Type 0} (f : A → B) (o : Option A) → is_some (option_map f o) ≡ is_some o
+pub found_as : {A B : Type 0} (f : A → B) (o : Option A) → is_some (option_map f o) ≡ is_some o
 found_as f None = refl
 found_as f (Some a) = refl
 
@@ -349,6 +349,17 @@ module _ (t : Tables) (org ws : List ℕ) where
         sym (mapped (λ (x : Kept VersionRow). x.1.it) (λ (h : Head). h.number) (slice_get rows_back 0))
         ∙ mapped (λ (x : Kept VersionRow). version_at t org ws x.1.it) (λ (v : Version). v.number) (slice_get rows_back 0)
         ∙ ap (option_map (λ (v : Version). v.number)) newest_row
+
+    -- and it is the one of its number
+    pub newest_numbered : (h : Head) → newest_of org ws t ≡ Some h → version_of h.number (versions_at t org ws) ≡ Some (version_at t org ws h)
+    newest_numbered h e = by_row (slice_get rows_back 0) refl e
+      where
+        by_row : (r : Option (Kept VersionRow)) → slice_get rows_back 0 ≡ r → option_map (λ (x : Kept VersionRow). x.1.it) r ≡ Some h → version_of h.number (versions_at t org ws) ≡ Some (version_at t org ws h)
+        by_row None f is = absurd (let none : ⊥ = cc in none)
+        by_row (Some x) f is =
+            let same : x.1.it ≡ h = cc in
+            let last : newest (versions_at t org ws) ≡ Some (version_at t org ws x.1.it) = sym newest_row ∙ ap (option_map (λ (y : Kept VersionRow). version_at t org ws y.1.it)) f in
+            subst (λ (k : Head). version_of k.number (versions_at t org ws) ≡ Some (version_at t org ws k)) same (newest_is_last (versions_at t org ws) (version_at t org ws x.1.it) last)
 
     -- the text of the newest version is compared page by page, and one of another size isn't the asked one
     pub newest_unit_found : AreTexts t → (text : Option (List ℕ)) → newest_in text org ws t ≡ option_map (newest_unit text) (newest (versions_at t org ws))

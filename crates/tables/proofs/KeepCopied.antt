@@ -11,11 +11,13 @@ use Rattle.machine.specs.declared.records.Organization.{Organization}
 use Rattle.statements.specs.Tables.{Tables, Holds, tables_of}
 use Rattle.tables.specs.Copying.{IsCopied}
 use Rattle.tables.specs.Opening.{IsSoundKeep}
+use Rattle.tables.specs.Remembered.{nothing_kept}
 use Rattle.tables.specs.Records.{record_of}
 use Rattle.tables.specs.Stores.{records_of}
-use Rattle.tables.specs.declared.counts.Counted.{Counted}
+use Rattle.tables.specs.declared.memo.Memo.{Memo}
 use Rattle.tables.specs.Inner.Arrivals.{TakesFrom, TakesCommitted, Arrives, Brings, Copies, CommitsRelated}
 use Rattle.tables.specs.Inner.Steps.{IsSettled}
+use Rattle.tables.proofs.KeptInMemory.{nothing_is}
 use Rattle.tables.proofs.Databases.{store_by, records_by}
 use Rattle.tables.proofs.Managed.{record_there, record_missing}
 
@@ -79,7 +81,7 @@ module _ {T : Type 0} (h : Ghosts T) (org : List ℕ) (found there : Option ℕ)
 
 -- ---- the stores
 
-module _ {T : Type 0} (h : Ghosts T) {counted counted_there : Option Counted} (db source : Database) (a b : State) (p q : Held T) (s : IsSoundKeep db counted a) (there : IsSoundKeep source counted_there (state h p)) (org : List ℕ) (answer : AdminAnswer)
+module _ {T : Type 0} (h : Ghosts T) {memo memo_there : Memo} (db source : Database) (a b : State) (p q : Held T) (s : IsSoundKeep db memo a) (there : IsSoundKeep source memo_there (state h p)) (org : List ℕ) (answer : AdminAnswer)
     (m : CommitsRelated (TakesCommitted h (Copies answer org) p q) a b) (clean : HasCleanDisk (state h q)) where
   rows : (u : Tables) × Holds b.committed u × TakesCommitted h (Copies answer org) p q (tables_of db) u
   rows = m.rows (tables_of db) (subst (λ (d : Database). Holds d (tables_of db)) (sym (s.tied m.was_open)) s.store.holds)
@@ -89,8 +91,8 @@ module _ {T : Type 0} (h : Ghosts T) {counted counted_there : Option Counted} (d
       let look = rows.2 clean in
       look.1 (tables_of source) (subst (λ (d : Database). Holds d (tables_of source)) (sym (there.tied look.0)) there.store.holds) there.store.sound s.store.sound
 
-  pub copied_keeps : IsSoundKeep b.committed None b
-  copied_keeps = record { store = store_by b.committed rows.0 rows.1 arrives.sound; counts = tt; tied = λ _. refl }
+  pub copied_keeps : IsSoundKeep b.committed nothing_kept b
+  copied_keeps = record { store = store_by b.committed rows.0 rows.1 arrives.sound; remembered = nothing_is (tables_of b.committed); tied = λ _. refl }
 
   pub copied_own : IsCopied answer (records_of source org) (records_of db org) (records_of b.committed org)
   copied_own = subst (λ (r : Option Organization). IsCopied answer (records_of source org) (records_of db org) r) (sym (records_by b.committed rows.0 rows.1 org)) arrives.own

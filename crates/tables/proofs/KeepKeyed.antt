@@ -9,7 +9,7 @@ use Rattle.statements.specs.Tables.{Tables, Holds, tables_of}
 use Rattle.statements.proofs.Decoding.{tables-held}
 use Rattle.tables.specs.Opening.{IsSoundKeep}
 use Rattle.tables.specs.Scans.{ArePagesKeyed}
-use Rattle.tables.specs.declared.counts.Counted.{Counted}
+use Rattle.tables.specs.declared.memo.Memo.{Memo}
 use Rattle.tables.specs.Inner.Arrivals.{CommitsRelated}
 use Rattle.tables.specs.Inner.Keys.{KeepsKeys}
 use Rattle.tables.specs.Inner.Steps.{Commits, org_managed_by, org_managed, limit_managed_by, limit_managed, token_managed_by, token_managed, is_taken, revocation_managed_by, revocation_managed}
@@ -18,7 +18,7 @@ use Rattle.tables.specs.Inner.Steps.{Commits, org_managed_by, org_managed, limit
 pub keyed_held : (key_of : List ℕ → List ℕ) (db : Database) (t : Tables) → Holds db t → ArePagesKeyed key_of t → ArePagesKeyed key_of (tables_of db)
 keyed_held key_of db t holds keyed = subst (ArePagesKeyed key_of) (sym (tables-held db t holds)) keyed
 
-module _ (key_of : List ℕ → List ℕ) {counted : Option Counted} (db : Database) (a b : State) (s : IsSoundKeep db counted a) (keyed : ArePagesKeyed key_of (tables_of db)) where
+module _ (key_of : List ℕ → List ℕ) {memo : Memo} (db : Database) (a b : State) (s : IsSoundKeep db memo a) (keyed : ArePagesKeyed key_of (tables_of db)) where
   held : IsTrue a.is_open → Holds a.committed (tables_of db)
   held was = subst (λ (d : Database). Holds d (tables_of db)) (sym (s.tied was)) s.store.holds
 

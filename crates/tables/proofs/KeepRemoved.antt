@@ -13,16 +13,18 @@ use Rattle.statements.specs.Finds.{cap_of}
 use Rattle.statements.specs.Steps.{Equals, Queries, Sees, LeavesAsIs}
 use Rattle.statements.specs.Tables.{Tables, Holds, tables_of}
 use Rattle.tables.specs.Opening.{IsSoundKeep}
+use Rattle.tables.specs.Remembered.{nothing_kept}
 use Rattle.tables.specs.Scans.{ArePagesKeyed}
 use Rattle.tables.specs.Sound.{IsSound}
 use Rattle.tables.specs.Stores.{records_of}
 use Rattle.texts.proofs.Many.{sees_by}
-use Rattle.tables.specs.declared.counts.Counted.{Counted}
+use Rattle.tables.specs.declared.memo.Memo.{Memo}
 use Rattle.tables.specs.declared.departures.Possessions.{Possessions}
 use Rattle.tables.specs.Inner.Arrivals.{CommitsRelated}
 use Rattle.tables.specs.Inner.Copies.{AreMadeBy}
 use Rattle.tables.specs.Inner.Departures.{is_kept_back, all_gone_of, AreAllOf, Departs, Leaves}
 use Rattle.tables.specs.Inner.Steps.{IsSettled}
+use Rattle.tables.proofs.KeptInMemory.{nothing_is}
 use Rattle.tables.proofs.Databases.{store_by, records_by}
 use Rattle.tables.proofs.KeepFound.{seen_both}
 use Rattle.tables.proofs.KeepKeyed.{keyed_held}
@@ -86,15 +88,15 @@ module _ (is_forced : Bool) (org : List ℕ) (a b : State) (settled : IsSettled 
 
 -- ---- the store
 
-module _ {counted : Option Counted} (db : Database) (a b : State) (s : IsSoundKeep db counted a) (is_forced : Bool) (org : List ℕ) (answer : AdminAnswer) (m : CommitsRelated (Leaves answer is_forced org) a b) where
+module _ {memo : Memo} (db : Database) (a b : State) (s : IsSoundKeep db memo a) (is_forced : Bool) (org : List ℕ) (answer : AdminAnswer) (m : CommitsRelated (Leaves answer is_forced org) a b) where
   rows : (u : Tables) × Holds b.committed u × Leaves answer is_forced org (tables_of db) u
   rows = m.rows (tables_of db) (subst (λ (d : Database). Holds d (tables_of db)) (sym (s.tied m.was_open)) s.store.holds)
 
   departs : Departs answer is_forced org (tables_of db) rows.0
   departs = rows.2 s.store.sound
 
-  pub removed_keeps : IsSoundKeep b.committed None b
-  removed_keeps = record { store = store_by b.committed rows.0 rows.1 departs.sound; counts = tt; tied = λ _. refl }
+  pub removed_keeps : IsSoundKeep b.committed nothing_kept b
+  removed_keeps = record { store = store_by b.committed rows.0 rows.1 departs.sound; remembered = nothing_is (tables_of b.committed); tied = λ _. refl }
 
   pub removed_own : effect answer (records_of b.committed org) ≡ org_removed is_forced (records_of db org)
   removed_own = ap (effect answer) (records_by b.committed rows.0 rows.1 org) ∙ departs.own

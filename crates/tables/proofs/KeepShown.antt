@@ -15,7 +15,6 @@ use Rattle.machine.specs.Tokens as tokens
 use Rattle.machine.specs.Tokens.{asker_of, token_of}
 use Rattle.std.specs.FinMap.{get}
 use Rattle.machine.specs.declared.acts.Act.{Act}
-use Rattle.machine.specs.declared.acts.Unit.{Unit}
 use Rattle.machine.specs.declared.acts.Change.{Change}
 use Rattle.machine.specs.declared.records.Organization.{Organization}
 use Rattle.machine.specs.declared.keeps.AdminAnswer.{AdminAnswer}
@@ -40,25 +39,32 @@ use Rattle.machine.specs.Tokens.{AreOrganizations}
 use Rattle.machine.specs.declared.keeps.OrgRow.{OrgRow}
 use Rattle.statements.specs.Listings.{OrgsApart, TokensApart, WorkspacesApart, VersionsApart, RunsApart}
 use Rattle.tables.specs.Inner.Lists.{versions_listed_in, runs_listed_in, workspaces_listed_in, asker_in, tokens_told_in, organizations_listed_in}
-use Rattle.tables.specs.Inner.Units.{text_in, unit_in}
+use Rattle.tables.specs.Inner.Units.{unit_in}
 use Rattle.tables.specs.Stores.{records_of, IsSoundStore}
 use Rattle.tables.specs.Opening.{IsSoundKeep}
 use Rattle.tables.specs.declared.counts.Counted.{Counted}
-use Rattle.tables.specs.Counting.{IsCounted}
-use Rattle.tables.specs.Inner.Counting.{known_of, looked, changed_count}
+use Rattle.tables.specs.declared.askers.Asked.{Asked}
+use Rattle.tables.specs.declared.looks.Looked.{Looked}
+use Rattle.tables.specs.declared.memo.Memo.{Memo}
+use Rattle.tables.specs.declared.sizes.SizedVersion.{SizedVersion}
+use Rattle.tables.specs.Remembered.{IsRemembered, nothing_kept}
+use Rattle.tables.specs.Inner.Counting.{known_of, looked}
+use Rattle.tables.specs.Inner.Looks.{looked_in, text_by}
+use Rattle.tables.specs.Inner.Remembering.{size_kept, Notes, asker_kept, asker_noted, changed_memo}
 use Rattle.tables.proofs.Remembering.{known_is, kept_is, changed_is}
+use Rattle.tables.proofs.KeptInMemory.{nothing_is, noted_size, sized_text, kept_asker, noted_asker, same_asker}
 use Rattle.tables.specs.Inner.Steps.{Commits, org_managed_by, org_managed, limit_managed_by, limit_managed, token_managed_by, token_managed, revocation_managed_by, revocation_managed}
 use Rattle.tables.proofs.Managed.{asker_found, org_exists, token_absent, token_named, token_known}
 use Rattle.tables.proofs.Limits.{limit_absent, limit_done, limit_other, limit_keeps}
 use Rattle.tables.proofs.Revoking.{revoke_absent, revoke_done, revoke_other, revoke_keeps}
-use Rattle.tables.proofs.Finding.{unit_found, text_found}
+use Rattle.tables.proofs.Finding.{unit_found}
 use Rattle.tables.proofs.Listed.{workspaces_apart, versions_told, runs_told, versions_apart, runs_apart, no_versions_after, no_runs_after, workspaces_told}
 use Rattle.tables.proofs.OrgLists.{organizations_told}
 use Rattle.tables.proofs.TokenLists.{tokens_told}
 use Rattle.tables.proofs.Databases.{store_by, records_by}
 use Rattle.tables.proofs.Stores.{store_changed_own, store_changed_other, store_changed_keeps, store_org_done, store_org_other, store_org_keeps, store_token_done, store_token_other, store_token_keeps}
 
-module _ {counted : Option Counted} (db : Database) (a : State) (s : IsSoundKeep db counted a) where
+module _ {memo : Memo} (db : Database) (a : State) (s : IsSoundKeep db memo a) where
   abbrev now : Tables
   now = tables_of db
 
@@ -72,23 +78,46 @@ module _ {counted : Option Counted} (db : Database) (a : State) (s : IsSoundKeep
       → asker ≡ asker_of (records_of db org) digest
   asker_told org digest asker told = told.1 now (held told.0) ∙ asker_found now s.store.sound org digest
 
-  pub unit_told : (org ws : List ℕ) (act : Act) (need : Needed) → need ≡ needs act → (unit : Unit) → IsTrue a.is_open × ((t : Tables) → Holds a.committed t → unit ≡ unit_in need (known_of counted org) org ws t)
-      → (o : Organization) → records_of db org ≡ Some o → unit ≡ unit_of o ws act
-  unit_told org ws act need same unit told o there =
-      told.1 now (held told.0) ∙ ap (λ (n : Needed). unit_in n (known_of counted org) org ws now) same ∙ unit_found now s.store.sound org o ws act (known_of counted org) (known_is (records_of db) counted org s.counts o there) there
+  -- the token that is kept is who asks
+  pub asker_known : (org digest : List ℕ) (row : TokenRow) → asker_kept memo.asked org digest ≡ Some row → Some row ≡ asker_of (records_of db org) digest
+  asker_known org digest row kept = kept_asker now memo.asked org digest row s.remembered.askers kept
 
   -- what is kept in memory after it is so
-  pub unit_keeps : (b : State) (org ws : List ℕ) (act : Act) (need : Needed) → need ≡ needs act → (unit : Unit) → IsTrue a.is_open × ((t : Tables) → Holds a.committed t → unit ≡ unit_in need (known_of counted org) org ws t)
-      → KeepsCommit a b → (after : Option Counted) → IfSome after (λ kept. looked counted need.makes org ws unit ≡ Some kept) → IsSoundKeep db after b
-  unit_keeps b org ws act need same unit told stays after kept = record {
+  pub asker_keeps : (b : State) (org digest : List ℕ) (asker : Option TokenRow) → IsTrue a.is_open × ((t : Tables) → Holds a.committed t → asker ≡ asker_in org digest t) → KeepsCommit a b
+      → (asked : Option Asked) → IfSome asked (λ kept. asker_noted memo.asked org digest asker ≡ Some kept) → IsSoundKeep db (record memo { asked = asked }) b
+  asker_keeps b org digest asker told stays asked noted = record {
     store = s.store;
-    counts = kept_is (records_of db) counted after need.makes org ws act unit kept (ap (λ (n : Needed). n.makes) same) s.counts (unit_told org ws act need same unit told);
+    remembered = record {
+      counts = s.remembered.counts;
+      sizes = s.remembered.sizes;
+      askers = noted_asker now memo.asked asked org digest asker s.remembered.askers (asker_told org digest asker told) noted;
+    };
     tied = λ is. stays.committed is ∙ s.tied (stays.was_open is);
   }
 
-  pub text_told : (org ws : List ℕ) (n : ℕ) (text : Option (List ℕ)) → IsTrue a.is_open × ((t : Tables) → Holds a.committed t → text ≡ text_in org ws n t)
+  pub unit_told : (org ws : List ℕ) (act : Act) (need : Needed) → need ≡ needs act → (it : Looked) → IsTrue a.is_open × ((t : Tables) → Holds a.committed t → it ≡ looked_in need (known_of memo.counted org) org ws t)
+      → (o : Organization) → records_of db org ≡ Some o → it.unit ≡ unit_of o ws act
+  unit_told org ws act need same it told o there =
+      ap (λ (l : Looked). l.unit) (told.1 now (held told.0)) ∙ ap (λ (n : Needed). unit_in n (known_of memo.counted org) org ws now) same
+      ∙ unit_found now s.store.sound org o ws act (known_of memo.counted org) (known_is (records_of db) memo.counted org s.remembered.counts o there) there
+
+  -- what is kept in memory after it is so
+  pub unit_keeps : (b : State) (org ws : List ℕ) (act : Act) (need : Needed) → need ≡ needs act → (it : Looked) → IsTrue a.is_open × ((t : Tables) → Holds a.committed t → it ≡ looked_in need (known_of memo.counted org) org ws t)
+      → KeepsCommit a b → (after : Option Counted) → IfSome after (λ kept. looked memo.counted need.makes org ws it.unit ≡ Some kept)
+      → (sized : Option SizedVersion) → IfSome sized (Notes org ws it.size) → IsSoundKeep db (record { counted = after; sized = sized; asked = memo.asked }) b
+  unit_keeps b org ws act need same it told stays after kept sized notes = record {
+    store = s.store;
+    remembered = record {
+      counts = kept_is (records_of db) memo.counted after need.makes org ws act it.unit kept (ap (λ (n : Needed). n.makes) same) s.remembered.counts (unit_told org ws act need same it told);
+      sizes = noted_size now s.store.sound org ws need it.size sized (ap (λ (l : Looked). l.size) (told.1 now (held told.0))) notes;
+      askers = s.remembered.askers;
+    };
+    tied = λ is. stays.committed is ∙ s.tied (stays.was_open is);
+  }
+
+  pub text_told : (org ws : List ℕ) (n : ℕ) (text : Option (List ℕ)) → IsTrue a.is_open × ((t : Tables) → Holds a.committed t → text ≡ text_by (size_kept memo.sized org ws n) org ws n t)
       → text ≡ version_text n (workspace_in (records_of db org) ws)
-  text_told org ws n text told = told.1 now (held told.0) ∙ text_found now s.store.sound org ws n
+  text_told org ws n text told = told.1 now (held told.0) ∙ sized_text now s.store.sound org ws n memo.sized s.remembered.sizes
 
   -- ---- lists
 
@@ -133,10 +162,14 @@ module _ {counted : Option Counted} (db : Database) (a : State) (s : IsSoundKeep
       pub applied_other : (q : List ℕ) → q ≢ org → records_of b.committed q ≡ records_of db q
       applied_other q apart = store_changed_other db b.committed s.store keys org ws change moves takes q apart
 
-      pub applied_keeps : (o : Organization) → IsTrue (is_ws_name ws) → records_of db org ≡ Some o → IsDue (seen_in o ws) change → IsSoundKeep b.committed (changed_count counted org ws change.edit) b
+      pub applied_keeps : (o : Organization) → IsTrue (is_ws_name ws) → records_of db org ≡ Some o → IsDue (seen_in o ws) change → IsSoundKeep b.committed (changed_memo memo org ws change.edit) b
       applied_keeps o named there due = record {
         store = store_changed_keeps db b.committed s.store keys org ws change moves takes o named there due;
-        counts = changed_is (records_of db) (records_of b.committed) org ws change applied_other o there (applied_own o there due) counted s.counts;
+        remembered = record {
+          counts = changed_is (records_of db) (records_of b.committed) org ws change applied_other o there (applied_own o there due) memo.counted s.remembered.counts;
+          sizes = tt;
+          askers = same_asker now (tables_of b.committed) org ws change applied_other o there (applied_own o there due) memo.asked s.remembered.askers;
+        };
         tied = λ _. refl;
       }
 
@@ -149,16 +182,16 @@ module _ {counted : Option Counted} (db : Database) (a : State) (s : IsSoundKeep
           let same : edition_moved NEWEST now ≡ now = ap (λ es. record now { editions = es }) (ap (map (λ x. (x.0, NEWEST))) told ∙ sym told) in
           subst (Holds b.committed) same (done.rows now (held done.was_open))
 
-      retold_same : records_of b.committed ≡ records_of db
-      retold_same = ap record_of (tables-held b.committed now retold_holds)
+      retold_tables : tables_of b.committed ≡ now
+      retold_tables = tables-held b.committed now retold_holds
 
       pub retold_rows : (org : List ℕ) → records_of b.committed org ≡ records_of db org
-      retold_rows org = ap (λ rows. rows org) retold_same
+      retold_rows org = ap (λ (t : Tables). record_of t org) retold_tables
 
-      pub retold_keeps : IsSoundKeep b.committed counted b
+      pub retold_keeps : IsSoundKeep b.committed memo b
       retold_keeps = record {
         store = store_by b.committed now retold_holds s.store.sound;
-        counts = subst (λ rows. IsCounted rows counted) (sym retold_same) s.counts;
+        remembered = subst (λ (t : Tables). IsRemembered t memo) (sym retold_tables) s.remembered;
         tied = λ _. refl;
       }
 
@@ -189,8 +222,8 @@ module _ {counted : Option Counted} (db : Database) (a : State) (s : IsSoundKeep
           go None e = store_org_other db b.committed s.store org limit (at_all (org_row_added org limit) (org_left None e)) q apart
           go (Some cap) e = records_by b.committed now (org_left (Some cap) e) q
 
-      pub org_keeps : IsTrue (is_org_name org) → limit ≤ 100_000 → IsSoundKeep b.committed None b
-      org_keeps named most = record { store = go (cap_of org now) refl; counts = tt; tied = λ _. refl }
+      pub org_keeps : IsTrue (is_org_name org) → limit ≤ 100_000 → IsSoundKeep b.committed nothing_kept b
+      org_keeps named most = record { store = go (cap_of org now) refl; remembered = nothing_is (tables_of b.committed); tied = λ _. refl }
         where
           go : (c : Option ℕ) → cap_of org now ≡ c → IsSoundStore b.committed
           go None e = store_org_keeps db b.committed s.store org limit (at_all (org_row_added org limit) (org_left None e)) named most e
@@ -224,8 +257,8 @@ module _ {counted : Option Counted} (db : Database) (a : State) (s : IsSoundKeep
           go None e = records_by b.committed now (limit_by None e).1 q
           go (Some cap) e = records_by b.committed (org_capped org limit now) (limit_by (Some cap) e).1 q ∙ limit_other org limit now q apart
 
-      pub limit_stays_sound : limit ≤ 100_000 → IsSoundKeep b.committed None b
-      limit_stays_sound most = record { store = go (cap_of org now) refl; counts = tt; tied = λ _. refl }
+      pub limit_stays_sound : limit ≤ 100_000 → IsSoundKeep b.committed nothing_kept b
+      limit_stays_sound most = record { store = go (cap_of org now) refl; remembered = nothing_is (tables_of b.committed); tied = λ _. refl }
         where
           go : (c : Option ℕ) → cap_of org now ≡ c → IsSoundStore b.committed
           go None e = store_by b.committed now (limit_by None e).1 s.store.sound
@@ -256,8 +289,8 @@ module _ {counted : Option Counted} (db : Database) (a : State) (s : IsSoundKeep
           go None e = records_by b.committed now (revoke_by None e).1 q
           go (Some role) e = records_by b.committed (token_removed org name now) (revoke_by (Some role) e).1 q ∙ revoke_other org name now q apart
 
-      pub revoke_stays_sound : IsSoundKeep b.committed None b
-      revoke_stays_sound = record { store = go (role_of_name org name now) refl; counts = tt; tied = λ _. refl }
+      pub revoke_stays_sound : IsSoundKeep b.committed nothing_kept b
+      revoke_stays_sound = record { store = go (role_of_name org name now) refl; remembered = nothing_is (tables_of b.committed); tied = λ _. refl }
         where
           go : (r : Option Role) → role_of_name org name now ≡ r → IsSoundStore b.committed
           go None e = store_by b.committed now (revoke_by None e).1 s.store.sound
@@ -300,8 +333,8 @@ module _ {counted : Option Counted} (db : Database) (a : State) (s : IsSoundKeep
           go (Some cap) None (Some r) e f h = records_by b.committed now (told_by (Some cap) None (Some r) e f h).1 q
           go (Some cap) None None e f h = store_token_other db b.committed s.store org name digest role bounds (at_all (token_added org name digest role bounds.until bounds.prefix) (told_by (Some cap) None None e f h).1) q apart
 
-      pub token_keeps : IsTrue (is_org_name name) → length digest ≡ 32 → IfSome bounds.until IsMoment → IsTrue (is_prefix bounds.prefix) → IsSoundKeep b.committed None b
-      token_keeps named long ends begins = record { store = go (cap_of org now) (role_of_name org name now) (role_of_digest org digest now) refl refl refl; counts = tt; tied = λ _. refl }
+      pub token_keeps : IsTrue (is_org_name name) → length digest ≡ 32 → IfSome bounds.until IsMoment → IsTrue (is_prefix bounds.prefix) → IsSoundKeep b.committed nothing_kept b
+      token_keeps named long ends begins = record { store = go (cap_of org now) (role_of_name org name now) (role_of_digest org digest now) refl refl refl; remembered = nothing_is (tables_of b.committed); tied = λ _. refl }
         where
           go : (c : Option ℕ) (n d : Option Role) → cap_of org now ≡ c → role_of_name org name now ≡ n → role_of_digest org digest now ≡ d → IsSoundStore b.committed
           go None n d e f h = store_by b.committed now (told_by None n d e f h).1 s.store.sound

@@ -31,6 +31,7 @@ pub mod Parts
 pub mod Raising
 pub mod Ranks
 pub mod Remembering
+pub mod KeptInMemory
 pub mod Revoking
 pub mod Shut
 pub mod Filled

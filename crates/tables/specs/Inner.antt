@@ -8,6 +8,7 @@ pub mod Keys
 pub mod Lists
 pub mod Looks
 pub mod Making
+pub mod Remembering
 pub mod Scans
 pub mod Standing
 pub mod Steps

@@ -6,6 +6,7 @@ pub mod Laws
 pub mod Logs
 pub mod Opening
 pub mod Records
+pub mod Remembered
 pub mod Scans
 pub mod Sound
 pub mod Stores

@@ -18,23 +18,23 @@ use Rattle.statements.specs.Schema.{meta_table, version_table, edition_table}
 use Rattle.statements.specs.Rows.{Kept}
 use Rattle.statements.specs.Making.{HasMeta, told_schema_version, schema_version_in, HasEdition, edition_in}
 use Rattle.statements.specs.declared.making.TheConstants.{NEWEST}
-use Rattle.statements.specs.Tables.{Tables, HoldsIn, is_known, schema_tables, later_tables, our_tables}
-use Rattle.tables.specs.declared.counts.Counted.{Counted}
-use Rattle.tables.specs.Counting.{IsCounted}
-use Rattle.tables.specs.Stores.{records_of, IsSoundStore, is_in_schema}
+use Rattle.statements.specs.Tables.{Tables, HoldsIn, is_known, schema_tables, later_tables, our_tables, tables_of}
+use Rattle.tables.specs.declared.memo.Memo.{Memo}
+use Rattle.tables.specs.Remembered.{IsRemembered, nothing_kept}
+use Rattle.tables.specs.Stores.{IsSoundStore, is_in_schema}
 use Rattle.tables.specs.Versions.{Becomes, KeepsBeside}
 
 -- The database that was seen last is sound, and it is what the connection has committed, as long as no fault has shut it. What is kept in memory is
--- so of its records.
-pub record IsSoundKeep (seen : Database) (counted : Option Counted) (s : State) : Type 0 where
+-- so of its tables.
+pub record IsSoundKeep (seen : Database) (memo : Memo) (s : State) : Type 0 where
   pub store : IsSoundStore seen
-  pub counts : IsCounted (records_of seen) counted
+  pub remembered : IsRemembered (tables_of seen) memo
   pub tied : IsTrue s.is_open → s.committed ≡ seen
 
--- A store as it was opened: what it has seen is what its connection has committed, and it remembers no count.
-pub record IsFresh (seen : Database) (counted : Option Counted) (s : State) : Type 0 where
+-- A store as it was opened: what it has seen is what its connection has committed, and it remembers nothing.
+pub record IsFresh (seen : Database) (memo : Memo) (s : State) : Type 0 where
   pub committed : s.committed ≡ seen
-  pub uncounted : counted ≡ None
+  pub forgotten : memo ≡ nothing_kept
 
 -- whether one of our tables is there
 abbrev pub any_there : Schema → Bool

@@ -2,15 +2,18 @@
 #![tactic(auto)]
 
 mod arrivals;
+mod askers;
 mod copies;
 mod counts;
 mod departures;
 pub mod laws;
 mod listings;
 mod looks;
+mod memo;
 mod opening;
 mod operators;
 mod scans;
+mod sizes;
 mod steps;
 mod store;
 mod transactions;

@@ -1,5 +1,5 @@
 //! What is asked of the tables outside a transaction, by queries of one row each.
-ghost use Rattle.std.specs.Prelude.{◌≡◌, false, not, cond, is_some, option_copied, Option, IsSome, IfOk, OnOk, unwrap_or};
+ghost use Rattle.std.specs.Prelude.{◌≡◌, false, not, cond, is_some, option_copied, option_map, Option, Some, None, IsSome, IfOk, OnOk, unwrap_or};
 ghost use Rattle.basis.specs.declared.numbers.TheConstants.{FIRST_KEPT};
 ghost use Rattle.sqlite.specs.Held.{state};
 ghost use Rattle.sqlite.specs.State.{HasCleanDisk, IsUnchanged, KeepsCommit};
@@ -7,13 +7,15 @@ ghost use Rattle.statements.specs.Finds.{size_of, cap_of, workspaces_of, first_w
 ghost use Rattle.statements.specs.Steps.{Equals, Sees};
 ghost use Rattle.statements.specs.Tables.{Tables, Holds};
 ghost use Rattle.machine.specs.Needs.{needed_of};
+ghost use Rattle.machine.specs.declared.acts.Unit.TheVariants.{Absent};
+ghost use Rattle.texts.specs.Texts.{text_of};
 ghost use Rattle.machine.specs.Units.{if_needed};
 ghost use Rattle.tables.specs.Defined.{TellsTables};
 ghost use Rattle.tables.specs.Records.{caller_with, bounds_at, IsBound};
 ghost use Rattle.tables.specs.Inner.Lists.{asker_in};
 ghost use Rattle.tables.specs.Inner.Steps.{LooksAt};
-ghost use Rattle.tables.specs.Inner.Units.{holder_status_in, text_in, has_text, newest_by, newest_in, retention_in, number_before, has_version_in, number_behind, outgoing_in, keyed_run_in, asked_run_in, unit_in};
-ghost use Rattle.tables.specs.Inner.Looks.{absent_in, runs_in, around_in, unit_from, present_in};
+ghost use Rattle.tables.specs.Inner.Units.{holder_status_in, text_in, has_text, retention_in, number_before, has_version_in, number_behind, outgoing_in, keyed_run_in, asked_run_in};
+ghost use Rattle.tables.specs.Inner.Looks.{absent_in, runs_in, sized_by, sized_in, size_asked, around_in, unit_from, size_from, present_in, looked_in, text_by};
 
 use crate::transactions::assert_settled;
 use basis::{
@@ -27,6 +29,27 @@ use statements::rows::{NamedRole, Workspace as WorkspaceCells};
 use statements::{bounds, keepings, organizations, runs, tokens, versions, workspaces};
 use std::alloc::Global;
 
+/// A version by its number, and how many bytes its text has.
+#[derive(Drop)]
+pub(crate) struct VersionSize {
+    pub(crate) number: Number,
+    pub(crate) size: u64,
+}
+
+/// What a decision sees of a workspace, and the version of it that was looked at, if one was.
+#[derive(Drop)]
+pub(crate) struct Looked {
+    pub(crate) unit: Unit,
+    pub(crate) size: Option<VersionSize>,
+}
+
+/// What a decision needs of the newest version, and how many bytes its text has.
+#[derive(Drop)]
+struct SizedNewest {
+    newest: Newest,
+    size: u64,
+}
+
 /// What a decision needs of the runs of a workspace.
 #[derive(Drop)]
 struct RunsAround {
@@ -39,9 +62,9 @@ struct RunsAround {
 /// What a decision needs of a workspace besides its row.
 #[derive(Drop)]
 struct Surroundings {
-    newest: Option<Newest>,
+    newest: Option<SizedNewest>,
     outgoing: Option<Number>,
-    has_version: bool,
+    asked_version: Option<VersionSize>,
     runs: RunsAround,
 }
 
@@ -96,8 +119,8 @@ pub(crate) fn other_tables<S: Alter>(
     Ok(names)
 }
 
-/// The text of a version, if it is kept.
-pub(crate) fn text<S: Alter>(
+/// The text of a version whose size is looked up, if it is kept.
+fn text_found<S: Alter>(
     conn: &mut Connection<S>,
     alloc: Global,
     org: &str,
@@ -114,6 +137,47 @@ pub(crate) fn text<S: Alter>(
     match versions::size(conn, org, ws, number)? {
         None => Ok(None),
         Some(size) => Ok(Some(texts::text(alloc, conn, org, ws, number, size)?)),
+    }
+}
+
+/// The text of a version whose size is known.
+fn text_sized<S: Alter>(
+    conn: &mut Connection<S>,
+    alloc: Global,
+    org: &str,
+    ws: &str,
+    number: Number,
+    size: u64,
+) -> Result<Option<Bytes>, Error>
+    requires idle { conn.old.in_transaction ≡ false }
+    ensures idle { conn.new.in_transaction ≡ false }
+    ensures so_far { HasCleanDisk (state S.Store conn.new) → HasCleanDisk (state S.Store conn.old) }
+    ensures shield { (state S.Store conn.old).IsShielded → (state S.Store conn.new).IsShielded }
+    ensures looks { LooksAt (Equals (λ t. Some (text_of org.now ws.now number size t))) (state S.Store conn.old) (state S.Store conn.new) result }
+{
+    assert_settled(conn);
+    let text = texts::text(alloc, conn, org, ws, number, size)?;
+    Ok(Some(text))
+}
+
+/// The text of a version, if it is kept. Its size may be known.
+pub(crate) fn text<S: Alter>(
+    conn: &mut Connection<S>,
+    alloc: Global,
+    org: &str,
+    ws: &str,
+    number: Number,
+    known: Option<u64>,
+) -> Result<Option<Bytes>, Error>
+    requires idle { conn.old.in_transaction ≡ false }
+    ensures idle { conn.new.in_transaction ≡ false }
+    ensures so_far { HasCleanDisk (state S.Store conn.new) → HasCleanDisk (state S.Store conn.old) }
+    ensures shield { (state S.Store conn.old).IsShielded → (state S.Store conn.new).IsShielded }
+    ensures looks { LooksAt (Equals (text_by known org.now ws.now number)) (state S.Store conn.old) (state S.Store conn.new) result }
+{
+    match known {
+        None => text_found(conn, alloc, org, ws, number),
+        Some(size) => text_sized(conn, alloc, org, ws, number, size),
     }
 }
 
@@ -157,34 +221,37 @@ fn has_text<S: Alter>(
     }
 }
 
-/// What a decision needs of the newest version, from its row.
+/// What a decision needs of the newest version, and the size of its text, from its row.
 fn newest_as<S: Alter>(
     conn: &mut Connection<S>,
     org: &str,
     ws: &str,
     text: Option<&[u8]>,
     head: VersionRow,
-) -> Result<Newest, Error>
-    ensures looks { Sees S.Store (Equals (λ t. newest_by (option_copied text.entry) org.now ws.now t head)) conn.old conn.new result }
+) -> Result<SizedNewest, Error>
+    ensures looks { Sees S.Store (Equals (λ t. sized_by (option_copied text.entry) org.now ws.now t head)) conn.old conn.new result }
 {
     let is_same = has_text(conn, org, ws, text, &head)?;
-    Ok(Newest {
-        number: head.number,
-        serial: head.serial,
-        lineage: head.lineage,
-        is_same,
+    Ok(SizedNewest {
+        newest: Newest {
+            number: head.number,
+            serial: head.serial,
+            lineage: head.lineage,
+            is_same,
+        },
+        size: head.size,
     })
 }
 
-/// What a decision needs of the newest version, if there is one, where it is needed.
+/// What a decision needs of the newest version, and the size of its text, if there is one, where it is needed.
 fn newest<S: Alter>(
     conn: &mut Connection<S>,
     org: &str,
     ws: &str,
     needed: bool,
     text: Option<&[u8]>,
-) -> Result<Option<Newest>, Error>
-    ensures looks { Sees S.Store (Equals (λ t. if_needed needed (newest_in (option_copied text.entry) org.now ws.now t))) conn.old conn.new result }
+) -> Result<Option<SizedNewest>, Error>
+    ensures looks { Sees S.Store (Equals (λ t. if_needed needed (sized_in (option_copied text.entry) org.now ws.now t))) conn.old conn.new result }
 {
     if !needed {
         return Ok(None);
@@ -369,7 +436,37 @@ fn is_kept<S: Alter>(
     Ok(size.is_some())
 }
 
-/// Whether the version that is asked of is kept, if one is asked of.
+/// The version of a number, if it is kept.
+fn version_found<S: Alter>(
+    conn: &mut Connection<S>,
+    org: &str,
+    ws: &str,
+    number: Number,
+) -> Result<Option<VersionSize>, Error>
+    ensures looks { Sees S.Store (Equals (size_asked (Some number) org.now ws.now)) conn.old conn.new result }
+{
+    match versions::size(conn, org, ws, number)? {
+        None => Ok(None),
+        Some(size) => Ok(Some(VersionSize { number, size })),
+    }
+}
+
+/// The version that is asked of, if one is asked of and it is kept.
+fn asked_version<S: Alter>(
+    conn: &mut Connection<S>,
+    org: &str,
+    ws: &str,
+    number: Option<Number>,
+) -> Result<Option<VersionSize>, Error>
+    ensures looks { Sees S.Store (Equals (size_asked number org.now ws.now)) conn.old conn.new result }
+{
+    match number {
+        None => Ok(None),
+        Some(number) => version_found(conn, org, ws, number),
+    }
+}
+
+/// Whether a version is kept, if its number is one.
 fn has_version<S: Alter>(
     conn: &mut Connection<S>,
     org: &str,
@@ -412,27 +509,33 @@ fn limit<S: Alter>(conn: &mut Connection<S>, org: &str) -> Result<Limit, Error>
     Ok(allowed(cap))
 }
 
+fn absent_by(workspaces: u64, limit: Limit) -> Looked
+    ensures { result ≡ record { unit = Absent workspaces limit; size = None } }
+{
+    Looked {
+        unit: Unit::Absent {
+            workspaces: workspaces as usize,
+            limit,
+        },
+        size: None,
+    }
+}
+
 /// How many workspaces an organization has and how many it may have, where the act makes one.
 fn absent<S: Alter>(
     conn: &mut Connection<S>,
     org: &str,
     needs: &Needs<'_>,
     known: Option<u64>,
-) -> Result<Unit, Error>
+) -> Result<Looked, Error>
     ensures looks { Sees S.Store (Equals (absent_in (needed_of needs.now) known org.now)) conn.old conn.new result }
 {
     if !needs.makes {
-        return Ok(Unit::Absent {
-            workspaces: 0,
-            limit: Limit::none(),
-        });
+        return Ok(absent_by(0, Limit::none()));
     }
     let count = count(conn, org, known)?;
     let limit = limit(conn, org)?;
-    Ok(Unit::Absent {
-        workspaces: count as usize,
-        limit,
-    })
+    Ok(absent_by(count, limit))
 }
 
 /// The first run that waits, where it is needed.
@@ -509,21 +612,46 @@ fn around<S: Alter>(
         retention,
         workspace.next_version,
     )?;
-    let has_version = has_version(conn, org, ws, needs.version)?;
+    let asked_version = asked_version(conn, org, ws, needs.version)?;
     let runs = runs_around(conn, org, ws, needs, &workspace.holder)?;
     Ok(Surroundings {
         newest,
         outgoing,
-        has_version,
+        asked_version,
         runs,
     })
 }
 
-fn unit_by(retention: KeepCount, workspace: WorkspaceCells, around: Surroundings) -> WorkspaceUnit
+/// The version that was looked at: the newest one, or that which was asked of.
+fn size_by(newest: &Option<SizedNewest>, asked: Option<VersionSize>) -> Option<VersionSize>
+    ensures { result ≡ size_from newest.now asked }
+{
+    match newest {
+        None => asked,
+        Some(newest) => Some(VersionSize {
+            number: newest.newest.number,
+            size: newest.size,
+        }),
+    }
+}
+
+/// What a decision needs of the newest version.
+fn newest_alone(newest: Option<SizedNewest>) -> Option<Newest>
+    ensures { result ≡ option_map (λ n. n.newest) newest }
+{
+    match newest {
+        None => None,
+        Some(newest) => Some(newest.newest),
+    }
+}
+
+fn unit_by(retention: KeepCount, workspace: WorkspaceCells, around: Surroundings) -> Looked
     ensures { result ≡ unit_from retention workspace around }
 {
     let runs = around.runs;
-    WorkspaceUnit {
+    let has_version = around.asked_version.is_some();
+    let size = size_by(&around.newest, around.asked_version);
+    let unit = WorkspaceUnit {
         settings: Settings {
             runs: workspace.runs,
             retention,
@@ -533,12 +661,16 @@ fn unit_by(retention: KeepCount, workspace: WorkspaceCells, around: Surroundings
         released: workspace.released,
         next_version: workspace.next_version,
         next_run: workspace.next_run,
-        newest: around.newest,
+        newest: newest_alone(around.newest),
         outgoing: around.outgoing,
         first_waiting: runs.first_waiting,
-        has_version: around.has_version,
+        has_version,
         asked_run: runs.asked_run,
         open_runs: runs.open_runs as usize,
+    };
+    Looked {
+        unit: Unit::Present(unit),
+        size,
     }
 }
 
@@ -548,27 +680,28 @@ fn present<S: Alter>(
     ws: &str,
     needs: &Needs<'_>,
     workspace: WorkspaceCells,
-) -> Result<Unit, Error>
+) -> Result<Looked, Error>
     ensures looks { Sees S.Store (Equals (present_in (needed_of needs.now) org.now ws.now workspace)) conn.old conn.new result }
 {
     let retention = retention(conn, org, ws, needs.retention)?;
     let around = around(conn, org, ws, needs, retention, &workspace)?;
-    Ok(Unit::Present(unit_by(retention, workspace, around)))
+    Ok(unit_by(retention, workspace, around))
 }
 
-/// What a decision that needs so much sees of a workspace. How many its organization has may be known.
+/// What a decision that needs so much sees of a workspace, and the version that was looked at. How many workspaces
+/// its organization has may be known.
 pub(crate) fn unit<S: Alter>(
     conn: &mut Connection<S>,
     org: &str,
     ws: &str,
     needs: &Needs<'_>,
     known: Option<u64>,
-) -> Result<Unit, Error>
+) -> Result<Looked, Error>
     requires idle { conn.old.in_transaction ≡ false }
     ensures idle { conn.new.in_transaction ≡ false }
     ensures so_far { HasCleanDisk (state S.Store conn.new) → HasCleanDisk (state S.Store conn.old) }
     ensures shield { (state S.Store conn.old).IsShielded → (state S.Store conn.new).IsShielded }
-    ensures looks { LooksAt (Equals (unit_in (needed_of needs.now) known org.now ws.now)) (state S.Store conn.old) (state S.Store conn.new) result }
+    ensures looks { LooksAt (Equals (looked_in (needed_of needs.now) known org.now ws.now)) (state S.Store conn.old) (state S.Store conn.new) result }
 {
     assert_settled(conn);
     match workspaces::find(conn, org, ws)? {

@@ -9,7 +9,7 @@ ghost use Rattle.statements.specs.Tables.{Tables, Holds, HoldsIn, schema_tables,
 ghost use Rattle.tables.specs.Opening.{IsSoundKeep, IsFresh, any_there, all_there, newest_there, tells_edition, is_meta, is_edition, has_versions, TellsIn, ToldBy, IsOther, GivesBack};
 ghost use Rattle.basis.specs.Names.{is_prefix};
 ghost use Rattle.std.specs.FinMap.{get};
-ghost use Rattle.machine.specs.Keeping.{Looks};
+ghost use Rattle.machine.specs.Keeping.{Looks, Lasts, LastsWhere};
 ghost use Rattle.machine.specs.Records.{seen_in, placed};
 ghost use Rattle.machine.specs.Changes.{changed_by, IsDue};
 ghost use Rattle.machine.specs.declared.records.Organization.{Organization as AnyOrganization};
@@ -21,13 +21,13 @@ ghost use Rattle.tables.specs.Logs.{text_bytes, CopiesLog};
 ghost use Rattle.tables.specs.declared.store.TheConstants.{LONG_LOG};
 ghost use Rattle.tables.specs.Versions.{HoldsSchema, schema_records};
 
-use crate::counts::Counted;
+use crate::memo::Memo;
 use crate::opening::ready;
-use crate::{counts, listings, looks, operators, scans, transactions};
+use crate::{askers, counts, listings, looks, operators, scans, sizes, transactions};
 use basis::numbers::{MAX_LIMIT, MAX_MOMENT, MAX_NUMBER};
 use basis::{
-    Bounds, Bytes, Down, Items, Limit, Listing, Number, OrgName, Role, RunRow, Text, VersionRow,
-    WsName, WsPrefix, WsRow,
+    Bounds, Bytes, Down, Items, Limit, Listing, Look, Number, OrgName, Role, RunRow, Text,
+    VersionRow, WsName, WsPrefix, WsRow,
 };
 use machine::{Act, AdminAnswer, Change, Edit, Fault, Keep, TokenRow, Unit};
 use pages::PageKey;
@@ -35,6 +35,7 @@ use sqlite::{Alter, Connection, MemStore};
 use statements::rows::Rows;
 use std::alloc::Global;
 use std::marker::PhantomData;
+use std::mem;
 use std::snapshot::Snapshot;
 
 // A log is long once so many bytes of texts stand in it: with what stands beside them they are the 4,096,000 at which a write copies
@@ -47,8 +48,8 @@ pub struct SqlKeep<S: Alter, K: PageKey> {
     conn: Connection<S>,
     // The connection when its rows were seen last. A store that a fault of the disk has shut stands for those.
     seen: Snapshot<Connection<S>>,
-    // How many workspaces the organization has that made one last, so that they aren't counted again.
-    counted: Option<Counted>,
+    // What is kept of the rows, so that it isn't looked up again.
+    memo: Memo,
     // How many bytes of texts were written since the log was known to be copied.
     logged: u64,
     // what names the pages of texts
@@ -128,7 +129,7 @@ impl<S: Alter, K: PageKey> SqlKeep<S, K> {
         ensures older { any_there (state S.Store conn).now.schema ≡ true → has_versions (state S.Store conn).now.schema ≡ false
             → IfErr result (λ unopened. unopened.fault ≡ Fault.Schema) × IfOk result (λ _. ⊥) }
         ensures idle { IfErr result (λ unopened. unopened.conn.in_transaction ≡ false) }
-        ensures as_opened { IfOk result (λ keep. ⟦<SqlKeep<S, K> as Keep>⟧.clean keep → IsFresh (state S.Store keep.seen.value).committed keep.counted (state S.Store keep.conn)) }
+        ensures as_opened { IfOk result (λ keep. ⟦<SqlKeep<S, K> as Keep>⟧.clean keep → IsFresh (state S.Store keep.seen.value).committed keep.memo (state S.Store keep.conn)) }
     {
         match ready(&mut conn) {
             Ok(()) => {
@@ -136,7 +137,7 @@ impl<S: Alter, K: PageKey> SqlKeep<S, K> {
                 Ok(SqlKeep {
                     conn,
                     seen,
-                    counted: None,
+                    memo: Memo::new(),
                     logged: 0,
                     key: PhantomData,
                 })
@@ -148,7 +149,7 @@ impl<S: Alter, K: PageKey> SqlKeep<S, K> {
     /// Whether a fault of the disk has shut the store, so that it refuses each call; an error where memory was refused.
     pub fn is_shut(&mut self) -> Result<bool, Down>
         ensures told { HasCleanDisk (state S.Store self.new.conn) → IfOk result (λ is_shut. (state S.Store self.old.conn).is_open ≡ not is_shut) }
-        ensures looks { Looks ⟦<SqlKeep<S, K> as Keep>⟧.rows ⟦<SqlKeep<S, K> as Keep>⟧.clean ⟦<SqlKeep<S, K> as Keep>⟧.sound ⟦<SqlKeep<S, K> as Keep>⟧.shielded self.old self.new }
+        ensures looks { Looks ⟦<SqlKeep<S, K> as Keep>⟧.rows ⟦<SqlKeep<S, K> as Keep>⟧.clean ⟦<SqlKeep<S, K> as Keep>⟧.sound ⟦<SqlKeep<S, K> as Keep>⟧.keyed ⟦<SqlKeep<S, K> as Keep>⟧.shielded self.old self.new }
     {
         match looks::is_shut(&mut self.conn) {
             Ok(is_shut) => Ok(is_shut),
@@ -159,7 +160,7 @@ impl<S: Alter, K: PageKey> SqlKeep<S, K> {
     /// The names of our tables that don't stand in the database as they are defined. An error where memory or the store refused.
     pub fn other_tables(&mut self, alloc: Global) -> Result<Items<Text>, Down>
         ensures told { HasCleanDisk (state S.Store self.new.conn) → IfOk result (TellsTables (state S.Store self.old.conn) (state S.Store self.new.conn)) }
-        ensures looks { Looks ⟦<SqlKeep<S, K> as Keep>⟧.rows ⟦<SqlKeep<S, K> as Keep>⟧.clean ⟦<SqlKeep<S, K> as Keep>⟧.sound ⟦<SqlKeep<S, K> as Keep>⟧.shielded self.old self.new }
+        ensures looks { Looks ⟦<SqlKeep<S, K> as Keep>⟧.rows ⟦<SqlKeep<S, K> as Keep>⟧.clean ⟦<SqlKeep<S, K> as Keep>⟧.sound ⟦<SqlKeep<S, K> as Keep>⟧.keyed ⟦<SqlKeep<S, K> as Keep>⟧.shielded self.old self.new }
     {
         match looks::other_tables(&mut self.conn, alloc) {
             Ok(names) => Ok(names),
@@ -172,10 +173,7 @@ impl<S: Alter, K: PageKey> SqlKeep<S, K> {
     pub fn checkpoint(&mut self) -> Result<(), Down>
         ensures short { self.old.logged < LONG_LOG → result ≡ Ok tt }
         ensures log { CopiesLog self.old.logged self.new.logged self.old self.new }
-        ensures so_far { ⟦<SqlKeep<S, K> as Keep>⟧.clean self.new → ⟦<SqlKeep<S, K> as Keep>⟧.clean self.old }
-        ensures shield { ⟦<SqlKeep<S, K> as Keep>⟧.shielded self.old → ⟦<SqlKeep<S, K> as Keep>⟧.shielded self.new }
-        ensures kept { ⟦<SqlKeep<S, K> as Keep>⟧.clean self.new → ⟦<SqlKeep<S, K> as Keep>⟧.sound self.old → ⟦<SqlKeep<S, K> as Keep>⟧.sound self.new }
-        ensures keyed { ⟦<SqlKeep<S, K> as Keep>⟧.clean self.new → ⟦<SqlKeep<S, K> as Keep>⟧.sound self.old → ⟦<SqlKeep<S, K> as Keep>⟧.keyed self.old → ⟦<SqlKeep<S, K> as Keep>⟧.keyed self.new }
+        ensures lasts { Lasts ⟦<SqlKeep<S, K> as Keep>⟧.clean ⟦<SqlKeep<S, K> as Keep>⟧.sound ⟦<SqlKeep<S, K> as Keep>⟧.keyed ⟦<SqlKeep<S, K> as Keep>⟧.shielded self.old self.new }
         ensures same { ⟦<SqlKeep<S, K> as Keep>⟧.clean self.new → ⟦<SqlKeep<S, K> as Keep>⟧.sound self.old → (o : List ℕ) → ⟦<SqlKeep<S, K> as Keep>⟧.rows self.new o ≡ ⟦<SqlKeep<S, K> as Keep>⟧.rows self.old o }
     {
         if self.logged < LONG_LOG {
@@ -187,14 +185,17 @@ impl<S: Alter, K: PageKey> SqlKeep<S, K> {
                 self.seen = Snapshot::of(&self.conn);
                 Ok(())
             }
-            Err(_) => Err(Down),
+            Err(_) => {
+                self.memo = Memo::new();
+                Err(Down)
+            }
         }
     }
 
     /// The rows of all tables, each with its rowid; of pages their heads.
     pub fn scan(&mut self, alloc: Global) -> Result<Rows, Down>
         ensures told { HasCleanDisk (state S.Store self.new.conn) → IfOk result (λ rows. (t : Tables) → Holds (state S.Store self.old.conn).committed t → AreRowsOf K.key_of t rows) }
-        ensures looks { Looks ⟦<SqlKeep<S, K> as Keep>⟧.rows ⟦<SqlKeep<S, K> as Keep>⟧.clean ⟦<SqlKeep<S, K> as Keep>⟧.sound ⟦<SqlKeep<S, K> as Keep>⟧.shielded self.old self.new }
+        ensures looks { Looks ⟦<SqlKeep<S, K> as Keep>⟧.rows ⟦<SqlKeep<S, K> as Keep>⟧.clean ⟦<SqlKeep<S, K> as Keep>⟧.sound ⟦<SqlKeep<S, K> as Keep>⟧.keyed ⟦<SqlKeep<S, K> as Keep>⟧.shielded self.old self.new }
     {
         match scans::scan::<S, K>(&mut self.conn, alloc) {
             Ok(rows) => Ok(rows),
@@ -210,19 +211,15 @@ impl<S: Alter, K: PageKey> SqlKeep<S, K> {
         org: &OrgName,
         from: &mut SqlKeep<T, K>,
     ) -> Result<AdminAnswer, Down>
-        ensures source { Looks ⟦<SqlKeep<T, K> as Keep>⟧.rows ⟦<SqlKeep<T, K> as Keep>⟧.clean ⟦<SqlKeep<T, K> as Keep>⟧.sound ⟦<SqlKeep<T, K> as Keep>⟧.shielded from.old from.new }
-        ensures so_far { ⟦<SqlKeep<S, K> as Keep>⟧.clean self.new → ⟦<SqlKeep<S, K> as Keep>⟧.clean self.old }
-        ensures shield { ⟦<SqlKeep<S, K> as Keep>⟧.shielded self.old → ⟦<SqlKeep<S, K> as Keep>⟧.shielded self.new }
-        ensures kept { ⟦<SqlKeep<S, K> as Keep>⟧.clean self.new → ⟦<SqlKeep<S, K> as Keep>⟧.sound self.old → ⟦<SqlKeep<T, K> as Keep>⟧.clean from.new → ⟦<SqlKeep<T, K> as Keep>⟧.sound from.old
-            → ⟦<SqlKeep<S, K> as Keep>⟧.sound self.new }
-        ensures keyed { ⟦<SqlKeep<S, K> as Keep>⟧.clean self.new → ⟦<SqlKeep<S, K> as Keep>⟧.sound self.old → ⟦<SqlKeep<S, K> as Keep>⟧.keyed self.old → ⟦<SqlKeep<S, K> as Keep>⟧.keyed self.new }
+        ensures source { Looks ⟦<SqlKeep<T, K> as Keep>⟧.rows ⟦<SqlKeep<T, K> as Keep>⟧.clean ⟦<SqlKeep<T, K> as Keep>⟧.sound ⟦<SqlKeep<T, K> as Keep>⟧.keyed ⟦<SqlKeep<T, K> as Keep>⟧.shielded from.old from.new }
+        ensures lasts { LastsWhere (⟦<SqlKeep<T, K> as Keep>⟧.clean from.new × ⟦<SqlKeep<T, K> as Keep>⟧.sound from.old) ⟦<SqlKeep<S, K> as Keep>⟧.clean ⟦<SqlKeep<S, K> as Keep>⟧.sound ⟦<SqlKeep<S, K> as Keep>⟧.keyed ⟦<SqlKeep<S, K> as Keep>⟧.shielded self.old self.new }
         ensures own { ⟦<SqlKeep<S, K> as Keep>⟧.clean self.new → ⟦<SqlKeep<S, K> as Keep>⟧.sound self.old → ⟦<SqlKeep<T, K> as Keep>⟧.clean from.new → ⟦<SqlKeep<T, K> as Keep>⟧.sound from.old
             → IfOk result (λ answer. IsCopied answer (⟦<SqlKeep<T, K> as Keep>⟧.rows from.old org.now) (⟦<SqlKeep<S, K> as Keep>⟧.rows self.old org.now) (⟦<SqlKeep<S, K> as Keep>⟧.rows self.new org.now)) }
         ensures others { ⟦<SqlKeep<S, K> as Keep>⟧.clean self.new → ⟦<SqlKeep<S, K> as Keep>⟧.sound self.old → ⟦<SqlKeep<T, K> as Keep>⟧.clean from.new → ⟦<SqlKeep<T, K> as Keep>⟧.sound from.old
             → (o : List ℕ) → o ≢ org.now → ⟦<SqlKeep<S, K> as Keep>⟧.rows self.new o ≡ ⟦<SqlKeep<S, K> as Keep>⟧.rows self.old o }
         ensures err { ⟦<SqlKeep<S, K> as Keep>⟧.clean self.new → OnErr result ((o : List ℕ) → ⟦<SqlKeep<S, K> as Keep>⟧.rows self.new o ≡ ⟦<SqlKeep<S, K> as Keep>⟧.rows self.old o) }
     {
-        self.counted = None;
+        self.memo = Memo::new();
         match operators::copy::<T, K, S>(&mut self.conn, alloc, &mut from.conn, org.as_str()) {
             Ok(answer) => {
                 self.seen = Snapshot::of(&self.conn);
@@ -242,7 +239,7 @@ impl<S: Alter, K: PageKey> SqlKeep<S, K> {
         let SqlKeep {
             conn,
             seen: _,
-            counted: _,
+            memo: _,
             logged: _,
             key: _,
         } = self;
@@ -257,6 +254,15 @@ fn name_after(after: Option<&WsName>) -> &str
     match after {
         None => "",
         Some(name) => name.as_str(),
+    }
+}
+
+/// Whether a text is read of the version that an act looks at.
+fn reads_text(act: &Act) -> bool {
+    match act {
+        Act::Look(Look::State) => true,
+        Act::Look(Look::Version(_)) => true,
+        _ => false,
     }
 }
 
@@ -295,7 +301,7 @@ impl<S: Alter, K: PageKey> Keep for SqlKeep<S, K> {
 
     ghost shielded = { λ keep. (state S.Store keep.conn).IsShielded };
 
-    ghost sound = { λ keep. IsSoundKeep (state S.Store keep.seen.value).committed keep.counted (state S.Store keep.conn) };
+    ghost sound = { λ keep. IsSoundKeep (state S.Store keep.seen.value).committed keep.memo (state S.Store keep.conn) };
 
     ghost keyed = { λ keep. ArePagesKeyed K.key_of (tables_of (state S.Store keep.seen.value).committed) };
 
@@ -303,12 +309,19 @@ impl<S: Alter, K: PageKey> Keep for SqlKeep<S, K> {
 
     fn caller(
         &mut self,
-        _alloc: Global,
+        alloc: Global,
         org: &OrgName,
         digest: &[u8; 32],
     ) -> Result<Option<TokenRow>, Down> {
-        match looks::caller(&mut self.conn, org.as_str(), digest.as_slice()) {
-            Ok(asker) => Ok(asker),
+        let org = org.as_str();
+        if let Some(asker) = askers::known(&self.memo.asked, org, digest) {
+            return Ok(Some(asker));
+        }
+        match looks::caller(&mut self.conn, org, digest.as_slice()) {
+            Ok(asker) => {
+                askers::keep(&mut self.memo.asked, alloc, org, digest, &asker);
+                Ok(asker)
+            }
             Err(_) => Err(Down),
         }
     }
@@ -316,13 +329,24 @@ impl<S: Alter, K: PageKey> Keep for SqlKeep<S, K> {
     fn unit(&mut self, alloc: Global, org: &OrgName, ws: &WsName, act: &Act) -> Result<Unit, Down> {
         let needs = act.needs();
         let (org, ws) = (org.as_str(), ws.as_str());
-        let known = counts::known(&self.counted, org);
+        let known = counts::known(&self.memo.counted, org);
         match looks::unit(&mut self.conn, org, ws, &needs, known) {
-            Ok(unit) => {
-                counts::keep(&mut self.counted, alloc, org, ws, needs.makes, &unit);
-                Ok(unit)
+            Ok(looked) => {
+                counts::keep(
+                    &mut self.memo.counted,
+                    alloc,
+                    org,
+                    ws,
+                    needs.makes,
+                    &looked.unit,
+                );
+                self.memo.sized = sizes::note(alloc, org, ws, reads_text(act), &looked.size);
+                Ok(looked.unit)
             }
-            Err(_) => Err(Down),
+            Err(_) => {
+                self.memo = Memo::new();
+                Err(Down)
+            }
         }
     }
 
@@ -333,9 +357,14 @@ impl<S: Alter, K: PageKey> Keep for SqlKeep<S, K> {
         ws: &WsName,
         n: Number,
     ) -> Result<Option<Bytes>, Down> {
-        match looks::text(&mut self.conn, alloc, org.as_str(), ws.as_str(), n) {
+        let (org, ws) = (org.as_str(), ws.as_str());
+        let known = sizes::known(&self.memo.sized, org, ws, n);
+        match looks::text(&mut self.conn, alloc, org, ws, n, known) {
             Ok(text) => Ok(text),
-            Err(_) => Err(Down),
+            Err(_) => {
+                self.memo = Memo::new();
+                Err(Down)
+            }
         }
     }
 
@@ -349,7 +378,10 @@ impl<S: Alter, K: PageKey> Keep for SqlKeep<S, K> {
         let after = name_after(after);
         match listings::list_of_workspaces(&mut self.conn, alloc, org.as_str(), after, prefix) {
             Ok(list) => Ok(list),
-            Err(_) => Err(Down),
+            Err(_) => {
+                self.memo = Memo::new();
+                Err(Down)
+            }
         }
     }
 
@@ -372,7 +404,10 @@ impl<S: Alter, K: PageKey> Keep for SqlKeep<S, K> {
             after as u32,
         ) {
             Ok(list) => Ok(list),
-            Err(_) => Err(Down),
+            Err(_) => {
+                self.memo = Memo::new();
+                Err(Down)
+            }
         }
     }
 
@@ -395,7 +430,10 @@ impl<S: Alter, K: PageKey> Keep for SqlKeep<S, K> {
             after as u32,
         ) {
             Ok(list) => Ok(list),
-            Err(_) => Err(Down),
+            Err(_) => {
+                self.memo = Memo::new();
+                Err(Down)
+            }
         }
     }
 
@@ -419,11 +457,11 @@ impl<S: Alter, K: PageKey> Keep for SqlKeep<S, K> {
         ensures logged { OnOk result (self.new.logged ≡ min (self.old.logged + text_bytes change.now.edit) (2 ^ 64 - 1)) }
     {
         let (org, ws) = (org.as_str(), ws.as_str());
-        let counted = self.counted.take();
+        let memo = mem::replace(&mut self.memo, Memo::new());
         match transactions::change::<K, S>(&mut self.conn, org, ws, change) {
             Ok(()) => {
                 self.seen = Snapshot::of(&self.conn);
-                self.counted = counts::changed(counted, org, ws, change);
+                self.memo = memo.changed(org, ws, change);
                 self.logged = self.logged.saturating_add(text_bytes(&change.edit));
                 Ok(())
             }
@@ -438,7 +476,7 @@ impl<S: Alter, K: PageKey> Keep for SqlKeep<S, K> {
         limit: Limit,
     ) -> Result<AdminAnswer, Down> {
         prove!(limit.get() <= MAX_LIMIT);
-        self.counted = None;
+        self.memo = Memo::new();
         match operators::org_add(&mut self.conn, org.as_str(), limit) {
             Ok(answer) => {
                 self.seen = Snapshot::of(&self.conn);
@@ -455,7 +493,7 @@ impl<S: Alter, K: PageKey> Keep for SqlKeep<S, K> {
         limit: Limit,
     ) -> Result<AdminAnswer, Down> {
         prove!(limit.get() <= MAX_LIMIT);
-        self.counted = None;
+        self.memo = Memo::new();
         match operators::org_limit(&mut self.conn, org.as_str(), limit) {
             Ok(answer) => {
                 self.seen = Snapshot::of(&self.conn);
@@ -471,7 +509,7 @@ impl<S: Alter, K: PageKey> Keep for SqlKeep<S, K> {
         org: &OrgName,
         is_forced: bool,
     ) -> Result<AdminAnswer, Down> {
-        self.counted = None;
+        self.memo = Memo::new();
         match operators::org_remove(&mut self.conn, alloc, org.as_str(), is_forced) {
             Ok(answer) => {
                 self.seen = Snapshot::of(&self.conn);
@@ -494,7 +532,7 @@ impl<S: Alter, K: PageKey> Keep for SqlKeep<S, K> {
         org: &OrgName,
         name: &OrgName,
     ) -> Result<AdminAnswer, Down> {
-        self.counted = None;
+        self.memo = Memo::new();
         match operators::token_revoke(&mut self.conn, org.as_str(), name.as_str()) {
             Ok(answer) => {
                 self.seen = Snapshot::of(&self.conn);
@@ -516,7 +554,7 @@ impl<S: Alter, K: PageKey> Keep for SqlKeep<S, K> {
         assert_bounds(bounds);
         let digest = digest.as_slice();
         let (org, name) = (org.as_str(), name.as_str());
-        self.counted = None;
+        self.memo = Memo::new();
         match operators::token_add(&mut self.conn, org, name, role, digest, bounds) {
             Ok(answer) => {
                 self.seen = Snapshot::of(&self.conn);

@@ -36,4 +36,4 @@ returns-clause-sound g c clean =
     let none : c.in_ok-others.others ≡ [] = none_long c.in_ok-others.others (search rules) in
     let tells = c.in_ok-others.ensures.told (c.look_at_rows.ensures.looks.so_far clean) in
     IfOk-weaker c.look_at_rows.result _ _ (λ looked look. store_sound g.K.PageKey.key_of (state g.S.Store c.args.keep.now.conn).committed (state g.S.Store c.tell_tables.new.keep.conn).committed c.in_ok-others.others tells none looked look
-    (state g.S.Store c.args.keep.now.conn) (state g.S.Store c.args.keep.now.seen.value).committed c.args.keep.now.counted refl) (c.look_at_rows.ensures.told clean)
+    (state g.S.Store c.args.keep.now.conn) (state g.S.Store c.args.keep.now.seen.value).committed c.args.keep.now.memo refl) (c.look_at_rows.ensures.told clean)

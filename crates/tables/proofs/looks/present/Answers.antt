@@ -1,17 +1,16 @@
 use Rattle.std.proofs.Common.{ℕ}
 use Rattle.sqlite.specs.declared.error.Error.{Error}
 use Rattle.machine.specs.Needs.{needed_of}
-use Rattle.machine.specs.declared.acts.Unit.{Unit}
-use Rattle.machine.specs.declared.acts.Unit.TheVariants.{Present}
 use Rattle.statements.specs.declared.rows.Workspace.{Workspace as WorkspaceCells}
 use Rattle.tables.specs.Inner.Units.{retention_in}
 use Rattle.tables.specs.Inner.Looks.{around_in, unit_from}
+use Rattle.tables.specs.declared.looks.Looked.{Looked}
 use Rattle.tables.specs.declared.looks.Surroundings.{Surroundings}
 use Rattle.tables.proofs.KeepFound.{seen_by_first}
 use Rattle.tables.proofs.looks.present.Goals as goal
 
-make : WorkspaceCells → ℕ → Surroundings → Unit
-make w keep around = Present (unit_from keep w around)
+make : WorkspaceCells → ℕ → Surroundings → Looked
+make w keep around = unit_from keep w around
 
 pub returns : goal.returns
 unfolding make

@@ -4,7 +4,7 @@ use Rattle.tables.proofs.KeepKeyed.{keyed_related}
 use Rattle.tables.proofs.store.SqlKeepKeep.apply.Goals as goal
 
 pub returns-in-Ok-clause-kept : goal.returns-in-Ok-clause-kept
-returns-in-Ok-clause-kept g c = rw (c.of.ensures, c.changed.ensures, c.take-counted.ensures.value, c.as_str-org.ensures.text, c.as_str-ws.ensures.text) (λ clean sound o there due.
+returns-in-Ok-clause-kept g c = rw (c.of.ensures, c.changed.ensures, c.replace-memo.ensures.value, c.as_str-org.ensures.text, c.as_str-ws.ensures.text) (λ clean sound o there due.
     applied_keeps (state g.S.Store c.args.self.now.seen.value).committed (state g.S.Store c.args.self.now.conn) sound (state g.S.Store c.change.new.conn) c.in-Ok.ensures.done.0 c.args.org.now c.args.ws.now c.args.change.now
     (rw (c.as_str-org.ensures.text, c.as_str-ws.ensures.text) at (c.in-Ok.ensures.done.1 clean).0) o c.as_str-ws.ensures.fits there due)
 

@@ -1,0 +1,161 @@
+-- What is kept in memory of versions and tokens is so, and stays so.
+use Rattle.std.proofs.Common.{◌≡◌, ◌≢◌, ℕ, ◌==◌, ◌&&◌, Bool, true, false, cond, List, Option, Some, None, is_some, IfSome, option_map, refl, sym, ap, ◌∙◌, subst}
+use Rattle.std.specs.Str.{bytes_eq}
+use Rattle.std.specs.FinMap.{get}
+use Rattle.std.proofs.lemmas.Bool.{eqb-true}
+use Rattle.basis.specs.declared.rows.VersionRow.{VersionRow as Head}
+use Rattle.machine.specs.Changes.{changed_by}
+use Rattle.machine.specs.Needs.{Needed}
+use Rattle.machine.specs.Records.{workspace_in, placed}
+use Rattle.machine.specs.Tokens.{asker_of}
+use Rattle.machine.specs.Units.{version_text, if_needed}
+use Rattle.machine.specs.declared.acts.Change.{Change}
+use Rattle.machine.specs.declared.acts.Unit.TheVariants.{Present}
+use Rattle.machine.specs.declared.keeps.TokenRow.{TokenRow}
+use Rattle.machine.specs.declared.records.Organization.{Organization}
+use Rattle.machine.specs.declared.records.Version.{Version}
+use Rattle.statements.specs.Finds.{newest_of, size_of, workspace_of, first_waiting_of, open_runs_of}
+use Rattle.statements.specs.Tables.{Tables}
+use Rattle.statements.specs.declared.rows.Workspace.{Workspace as WorkspaceCells}
+use Rattle.texts.specs.Texts.{text_of}
+use Rattle.tables.specs.Records.{settings_of_cells, workspace_at, workspace_by, record_of}
+use Rattle.tables.specs.Remembered.{IsSize, IsAsker, IsRemembered, nothing_kept}
+use Rattle.tables.specs.Sound.{IsSound}
+use Rattle.tables.specs.Inner.Looks.{sized_by, sized_in, size_asked, size_from, size_seen, present_in, looked_at, text_by}
+use Rattle.tables.specs.Inner.Remembering.{size_kept, Notes, asker_kept, asker_noted}
+use Rattle.tables.specs.Inner.Units.{holder_status_in, newest_by, retention_in, has_version_in, outgoing_in, asked_run_in}
+use Rattle.tables.specs.declared.askers.Asked.{Asked}
+use Rattle.tables.specs.declared.looks.SizedNewest.{SizedNewest}
+use Rattle.tables.specs.declared.looks.VersionSize.{VersionSize}
+use Rattle.tables.specs.declared.sizes.SizedVersion.{SizedVersion}
+use Rattle.tables.proofs.Finding.{found_as, newest_numbered, seen_in_rows, text_found}
+use Rattle.tables.proofs.Names.{same_name, names_apart}
+
+-- where nothing is kept
+pub nothing_is : (t : Tables) → IsRemembered t nothing_kept
+nothing_is t = record { counts = tt; sizes = tt; askers = tt }
+
+-- ---- what was looked at
+
+module _ (need : Needed) (known : Option ℕ) (org ws : List ℕ) (t : Tables) (w : WorkspaceCells) where
+  newest_alone : (b : Bool) (o : Option Head) → option_map (λ (n : SizedNewest). n.newest) (if_needed b (option_map (sized_by need.text org ws t) o)) ≡ if_needed b (option_map (newest_by need.text org ws t) o)
+  newest_alone false o = refl
+  newest_alone true None = refl
+  newest_alone true (Some h) = refl
+
+  asked_there : (n : Option ℕ) → is_some (size_asked n org ws t) ≡ has_version_in n org ws t
+  asked_there None = refl
+  asked_there (Some n) = found_as (λ (size : ℕ). record { number = n; size = size }) (size_of org ws n t)
+
+  -- of a workspace that is there
+  pub present_looked : present_in need org ws w t ≡ looked_at need known org ws t (Some w)
+  present_looked = λ i. record {
+    unit = Present (record {
+      settings = settings_of_cells (retention_in need.retention org ws t) w;
+      holder = w.holder;
+      holder_status = if_needed need.holder_status (holder_status_in org ws w.holder t);
+      released = w.released;
+      next_version = w.next_version;
+      next_run = w.next_run;
+      newest = newest_alone need.newest (newest_of org ws t) i;
+      outgoing = outgoing_in need.outgoing (retention_in need.retention org ws t) w.next_version org ws t;
+      first_waiting = if_needed need.waiting (first_waiting_of org ws t);
+      has_version = asked_there need.version i;
+      asked_run = asked_run_in need.run need.key org ws t;
+      open_runs = cond need.open_runs (open_runs_of org ws t) 0;
+    });
+    size = size_from (if_needed need.newest (sized_in need.text org ws t)) (size_asked need.version org ws t);
+  }
+
+-- ---- the size of a text
+
+some_is : {X : Type 0} {x y : X} → ◌≡◌ {A = Option X} (Some x) (Some y) → x ≡ y
+some_is e = cc
+
+-- the text of a version is what stands in its pages, up to this size
+abbrev IsTextOf : Tables → List ℕ → List ℕ → ℕ → ℕ → Type 0
+IsTextOf t org ws n size = version_text n (workspace_in (record_of t org) ws) ≡ Some (text_of org ws n size t)
+
+module _ (t : Tables) (sound : IsSound t) (org ws : List ℕ) where
+  abbrev IsText : ℕ → ℕ → Type 0
+  IsText n size = IsTextOf t org ws n size
+
+  -- the version that was looked at has a text of its size
+  pub seen_size : (need : Needed) (v : VersionSize) → size_seen need org ws t (workspace_of org ws t) ≡ Some v → IsText v.number v.size
+  seen_size need v e = by_row (workspace_of org ws t) refl e
+    where
+      asked : (n : Option ℕ) → size_asked n org ws t ≡ Some v → IsText v.number v.size
+      asked None is = absurd (let none : ⊥ = cc in none)
+      asked (Some n) is = by_size (size_of org ws n t) refl is
+        where
+          by_size : (s : Option ℕ) → size_of org ws n t ≡ s → option_map (λ (size : ℕ). record { number = n; size = size }) s ≡ Some v → IsText v.number v.size
+          by_size None f is = absurd (let none : ⊥ = cc in none)
+          by_size (Some s) f is =
+              subst (λ (x : VersionSize). IsText x.number x.size) (some_is is) (sym (text_found t sound org ws n) ∙ ap (option_map (λ (size : ℕ). text_of org ws n size t)) f)
+
+      by_row : (r : Option WorkspaceCells) → workspace_of org ws t ≡ r → size_seen need org ws t r ≡ Some v → IsText v.number v.size
+      by_row None f is = absurd (let none : ⊥ = cc in none)
+      by_row (Some w) f is = by_newest need.newest (newest_of org ws t) refl is
+        where
+          stands : workspace_by t org ws ≡ Some (workspace_at t org ws w)
+          stands = ap (option_map (workspace_at t org ws)) f
+
+          by_newest : (b : Bool) (o : Option Head) → newest_of org ws t ≡ o → size_from (if_needed b (option_map (sized_by need.text org ws t) o)) (size_asked need.version org ws t) ≡ Some v → IsText v.number v.size
+          by_newest false o found is = asked need.version is
+          by_newest true None found is = asked need.version is
+          by_newest true (Some h) found is =
+              subst (λ (x : VersionSize). IsText x.number x.size) (some_is is)
+              (ap (version_text h.number) (seen_in_rows t sound org ws ∙ stands)
+              ∙ ap (option_map (λ (u : Version). u.text)) (newest_numbered t org ws w.next_version (sound.workspaces org ws _ stands).lawful.versions.rise h found))
+
+  -- so what is kept of it is so
+  pub noted_size : (need : Needed) (found : Option VersionSize) (kept : Option SizedVersion) → found ≡ size_seen need org ws t (workspace_of org ws t) → IfSome kept (Notes org ws found) → IfSome kept (IsSize t)
+  noted_size need found None is notes = tt
+  noted_size need None (Some k) is notes = absurd notes
+  noted_size need (Some v) (Some k) is notes = subst (IsSize t) (sym notes) (seen_size need v (sym is))
+
+  -- and the text that is read by it is that of the version
+  pub sized_text : (n : ℕ) (sized : Option SizedVersion) → IfSome sized (IsSize t) → text_by (size_kept sized org ws n) org ws n t ≡ version_text n (workspace_in (record_of t org) ws)
+  sized_text n None is = text_found t sound org ws n
+  sized_text n (Some s) is = by_name (bytes_eq s.org org) (bytes_eq s.ws ws) (s.number == n) refl refl refl
+    where
+      by_name : (a b c : Bool) → bytes_eq s.org org ≡ a → bytes_eq s.ws ws ≡ b → (s.number == n) ≡ c → text_by (cond ((a && b) && c) (Some s.size) None) org ws n t ≡ version_text n (workspace_in (record_of t org) ws)
+      by_name true true true e f g =
+          sym (subst (λ (m : ℕ). IsTextOf t org ws m s.size) (eqb-true s.number n g)
+          (subst (λ (w : List ℕ). IsTextOf t org w s.number s.size) (same_name s.ws ws f) (subst (λ (o : List ℕ). IsTextOf t o s.ws s.number s.size) (same_name s.org org e) is)))
+      by_name true true false e f g = text_found t sound org ws n
+      by_name true false c e f g = text_found t sound org ws n
+      by_name false b c e f g = text_found t sound org ws n
+
+-- ---- the token that asked
+
+-- what is kept of it is who asks
+pub kept_asker : (t : Tables) (asked : Option Asked) (org digest : List ℕ) (row : TokenRow) → IfSome asked (IsAsker t) → asker_kept asked org digest ≡ Some row → Some row ≡ asker_of (record_of t org) digest
+kept_asker t None org digest row is kept = absurd (let none : ⊥ = cc in none)
+kept_asker t (Some a) org digest row is kept = by_name (bytes_eq a.org org) (bytes_eq a.digest digest) refl refl kept
+  where
+    by_name : (b c : Bool) → bytes_eq a.org org ≡ b → bytes_eq a.digest digest ≡ c → cond (b && c) (Some a.row) None ≡ Some row → Some row ≡ asker_of (record_of t org) digest
+    by_name true true e f own = sym own ∙ sym is ∙ (λ i. asker_of (record_of t (same_name a.org org e i)) (same_name a.digest digest f i))
+    by_name true false e f own = absurd (let none : ⊥ = cc in none)
+    by_name false c e f own = absurd (let none : ⊥ = cc in none)
+
+-- after a look
+pub noted_asker : (t : Tables) (before after : Option Asked) (org digest : List ℕ) (found : Option TokenRow) → IfSome before (IsAsker t) → found ≡ asker_of (record_of t org) digest
+    → IfSome after (λ kept. asker_noted before org digest found ≡ Some kept) → IfSome after (IsAsker t)
+noted_asker t before None org digest found is told noted = tt
+noted_asker t before (Some a) org digest None is told noted = subst (λ (o : Option Asked). IfSome o (IsAsker t)) noted is
+noted_asker t before (Some a) org digest (Some row) is told noted = subst (IsAsker t) (some_is noted) (sym told)
+
+-- a workspace that changes changes no token
+module _ (t u : Tables) (org ws : List ℕ) (change : Change) (others : (q : List ℕ) → q ≢ org → record_of u q ≡ record_of t q) (o : Organization) (there : record_of t org ≡ Some o)
+    (own : record_of u org ≡ Some (placed o ws (changed_by change (get o.workspaces ws)))) where
+  pub same_asker : (asked : Option Asked) → IfSome asked (IsAsker t) → IfSome asked (IsAsker u)
+  same_asker None is = tt
+  same_asker (Some a) is = by_name (bytes_eq a.org org) refl
+    where
+      by_name : (b : Bool) → bytes_eq a.org org ≡ b → IsAsker u a
+      by_name false e = ap (λ (r : Option Organization). asker_of r a.digest) (others a.org (names_apart a.org org e)) ∙ is
+      by_name true e =
+          let name : a.org ≡ org = same_name a.org org e in
+          let before : asker_of (Some o) a.digest ≡ Some a.row = ap (λ (r : Option Organization). asker_of r a.digest) (sym there ∙ ap (record_of t) (sym name)) ∙ is in
+          ap (λ (r : Option Organization). asker_of r a.digest) (ap (record_of u) name ∙ own) ∙ before

@@ -1,0 +1,34 @@
+-- What is kept in memory of versions and tokens, and what becomes of it.
+use Rattle.std.specs.Prelude.{◌≡◌, ◌==◌, ◌&&◌, ℕ, cond, List, Option, Some, None}
+use Rattle.std.specs.Str.{bytes_eq}
+use Rattle.machine.specs.declared.acts.Edit.{Edit}
+use Rattle.machine.specs.declared.keeps.TokenRow.{TokenRow}
+use Rattle.tables.specs.Inner.Counting.{changed_count}
+use Rattle.tables.specs.declared.askers.Asked.{Asked}
+use Rattle.tables.specs.declared.looks.VersionSize.{VersionSize}
+use Rattle.tables.specs.declared.memo.Memo.{Memo}
+use Rattle.tables.specs.declared.sizes.SizedVersion.{SizedVersion}
+
+-- how many bytes the text of a version has, if that is kept
+abbrev pub size_kept : Option SizedVersion → List ℕ → List ℕ → ℕ → Option ℕ
+size_kept None org ws n = None
+size_kept (Some s) org ws n = cond ((bytes_eq s.org org && bytes_eq s.ws ws) && s.number == n) (Some s.size) None
+
+-- what is kept of a version that was found
+abbrev pub Notes : List ℕ → List ℕ → Option VersionSize → SizedVersion → Type 0
+Notes org ws None kept = ⊥
+Notes org ws (Some v) kept = kept ≡ record { org = org; ws = ws; number = v.number; size = v.size }
+
+-- who asks by a digest, if that is kept
+abbrev pub asker_kept : Option Asked → List ℕ → List ℕ → Option TokenRow
+asker_kept None org digest = None
+asker_kept (Some a) org digest = cond (bytes_eq a.org org && bytes_eq a.digest digest) (Some a.row) None
+
+-- after a look: the token that was found
+abbrev pub asker_noted : Option Asked → List ℕ → List ℕ → Option TokenRow → Option Asked
+asker_noted before org digest None = before
+asker_noted before org digest (Some row) = Some (record { org = org; digest = digest; row = row })
+
+-- after a workspace has changed
+abbrev pub changed_memo : Memo → List ℕ → List ℕ → Edit → Memo
+changed_memo memo org ws edit = record { counted = changed_count memo.counted org ws edit; sized = None; asked = memo.asked }

@@ -1,0 +1,71 @@
+//! The token that asked last, kept in memory, so that it isn't looked up each time.
+ghost use Rattle.std.specs.Prelude.{◌≡◌, Some, IfSome, IfOk};
+ghost use Rattle.tables.specs.Inner.Remembering.{asker_kept, asker_noted};
+
+use basis::{Down, Text};
+use machine::TokenRow;
+use std::alloc::Global;
+
+/// The token of an organization that has this digest, be it that it has ended.
+#[derive(Drop)]
+pub(crate) struct Asked {
+    org: Text,
+    digest: [u8; 32],
+    row: TokenRow,
+}
+
+fn copy_of(row: &TokenRow) -> Result<TokenRow, Down>
+    ensures { IfOk result (λ copy. copy ≡ row.now) }
+{
+    let name = row.name.clone()?;
+    let caller = row.caller.clone()?;
+    Ok(TokenRow { name, caller })
+}
+
+/// Who asks by the organization's token with this digest, if that is kept. For want of memory it isn't known.
+pub(crate) fn known(asked: &Option<Asked>, org: &str, digest: &[u8; 32]) -> Option<TokenRow>
+    ensures { IfSome result (λ row. asker_kept asked.now org.now digest.now ≡ Some row) }
+{
+    match asked {
+        None => None,
+        Some(asked) => {
+            if asked.org.as_str() == org && asked.digest.as_slice() == digest.as_slice() {
+                copy_of(&asked.row).ok()
+            } else {
+                None
+            }
+        }
+    }
+}
+
+fn note(alloc: Global, org: &str, digest: &[u8; 32], row: &TokenRow) -> Option<Asked>
+    ensures { IfSome result (λ kept. kept ≡ record { org = org.now; digest = digest.now; row = row.now }) }
+{
+    let Ok(org) = Text::copy_of(alloc, org) else {
+        return None;
+    };
+    let Ok(row) = copy_of(row) else {
+        return None;
+    };
+    Some(Asked {
+        org,
+        digest: *digest,
+        row,
+    })
+}
+
+/// Keeps the token that was found. For want of memory nothing is kept.
+pub(crate) fn keep(
+    asked: &mut Option<Asked>,
+    alloc: Global,
+    org: &str,
+    digest: &[u8; 32],
+    found: &Option<TokenRow>,
+)
+    ensures { IfSome asked.new (λ kept. asker_noted asked.old org.now digest.now found.now ≡ Some kept) }
+{
+    match found {
+        None => {}
+        Some(row) => *asked = note(alloc, org, digest, row),
+    }
+}
