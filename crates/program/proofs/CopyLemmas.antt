@@ -85,41 +85,49 @@ module _ {K : Type 0} (k : keep.Ghosts K) where
     so_far = copies.so_far;
     shield = copies.shield;
     kept = copies.kept;
+    keys = copies.keys;
     model = λ clean sound clean_source sound_source. means (k.rows a) (k.rows x) (k.rows y) (copies.model clean sound clean_source sound_source);
   }
 
   -- the target is looked at first, and more is known of its records then
-  pub copies_behind : (Q R : Records → Records → Records → Type 0) (a b x y z : K) → Looks k.rows k.clean k.sound k.shielded x y
+  pub copies_behind : (Q R : Records → Records → Records → Type 0) (a b x y z : K) → Looks k.rows k.clean k.sound k.keyed k.shielded x y
       → (k.clean y → k.sound x → (from new : Records) → Q from (k.rows x) new → R from (k.rows x) new) → CopiesBetween k Q a b y z → CopiesBetween k R a b x z
   copies_behind Q R a b x y z looks means copies = record {
     look = copies.look;
     so_far = λ clean. looks.so_far (copies.so_far clean);
     shield = λ shielded. copies.shield (looks.shield shielded);
     kept = λ clean sound clean_source sound_source. copies.kept clean (looks.kept (copies.so_far clean) sound) clean_source sound_source;
+    keys = λ clean sound clean_source sound_source keyed.
+        let before = copies.so_far clean in
+        copies.keys clean (looks.kept before sound) clean_source sound_source (looks.keys before sound keyed);
     model = λ clean sound clean_source sound_source. means (copies.so_far clean) sound (k.rows a) (k.rows z)
         (subst (λ (rows : Records). Q (k.rows a) rows (k.rows z)) (same_records (k.rows y) (k.rows x) (looks.same (copies.so_far clean)))
         (copies.model clean (looks.kept (copies.so_far clean) sound) clean_source sound_source));
   }
 
   -- the target is looked at behind the copies
-  pub copies_looked : (Q : Records → Records → Records → Type 0) (a b x y z : K) → CopiesBetween k Q a b x y → Looks k.rows k.clean k.sound k.shielded y z → CopiesBetween k Q a b x z
+  pub copies_looked : (Q : Records → Records → Records → Type 0) (a b x y z : K) → CopiesBetween k Q a b x y → Looks k.rows k.clean k.sound k.keyed k.shielded y z → CopiesBetween k Q a b x z
   copies_looked Q a b x y z copies looks = record {
     look = copies.look;
     so_far = λ clean. copies.so_far (looks.so_far clean);
     shield = λ shielded. looks.shield (copies.shield shielded);
     kept = λ clean sound clean_source sound_source. looks.kept clean (copies.kept (looks.so_far clean) sound clean_source sound_source);
+    keys = λ clean sound clean_source sound_source keyed.
+        let before = looks.so_far clean in
+        looks.keys clean (copies.kept before sound clean_source sound_source) (copies.keys before sound clean_source sound_source keyed);
     model = λ clean sound clean_source sound_source. subst (λ (rows : Records). Q (k.rows a) (k.rows x) rows) (sym (same_records (k.rows z) (k.rows y) (looks.same clean)))
         (copies.model (looks.so_far clean) sound clean_source sound_source);
   }
 
   -- the target is looked at, and nothing is copied
-  pub copies_none : (R : Records → Records → Records → Type 0) (a x y : K) → Looks k.rows k.clean k.sound k.shielded x y
+  pub copies_none : (R : Records → Records → Records → Type 0) (a x y : K) → Looks k.rows k.clean k.sound k.keyed k.shielded x y
       → (k.clean y → k.sound x → ((org : List ℕ) → k.rows y org ≡ k.rows x org) → (from : Records) → R from (k.rows x) (k.rows y)) → CopiesBetween k R a a x y
   copies_none R a x y looks means = record {
-    look = record { so_far = λ clean. clean; kept = λ clean sound. sound; shield = λ shielded. shielded; same = λ clean org. refl };
+    look = record { so_far = λ clean. clean; kept = λ clean sound. sound; keys = λ clean sound keyed. keyed; shield = λ shielded. shielded; same = λ clean org. refl };
     so_far = looks.so_far;
     shield = looks.shield;
     kept = λ clean sound clean_source sound_source. looks.kept clean sound;
+    keys = λ clean sound clean_source sound_source. looks.keys clean sound;
     model = λ clean sound clean_source sound_source. means clean sound (looks.same clean) (k.rows a);
   }
 

@@ -15,7 +15,7 @@ use Rattle.program.specs.declared.totals.Looked.{Looked}
 use Rattle.command_line.specs.declared.timeouts.Timeouts.{Timeouts}
 use Rattle.program.specs.Inner.Outcomes.{LooksFirst, ServesOpened}
 use Rattle.serve.specs.declared.steps.Admin.{Admin}
-use Rattle.machine.specs.Keeping.{Looks}
+use Rattle.machine.specs.Keeping.{Looks, Lasts}
 use Rattle.program.specs.Outcomes.{stream, error_stream, outside, TellsFound, opening_of, HasFailed, IsOperated, Operates, TellsCause, Opens, OpensSound, Closes, ServesFrom, ServesChecked, LooksOver, SaysServed, TellsUnsound}
 use Rattle.program.specs.Serving.{Serves, state, AnswersAtPort}
 use Rattle.program.specs.Streams.{Told}
@@ -26,15 +26,15 @@ same_records a b same = λ i org. same org i
 
 module _ {K F : Type 0} (k : keep.Ghosts K) (f : files.Ghosts F K) where
   none_found : (opened store : K) (found : Result Looked Down) (looked : Looked) → found ≡ Ok looked → looked.faults ≡ []
-      → IfOk found (λ looked. looked.faults ≡ [] → k.clean store → f.is_ours opened → k.sound opened) → k.clean store → f.is_ours opened → k.sound opened
-  none_found opened store found looked is none sound = subst (λ (r : Result Looked Down). IfOk r (λ looked. looked.faults ≡ [] → k.clean store → f.is_ours opened → k.sound opened)) is sound none
+      → IfOk found (λ looked. looked.faults ≡ [] → k.clean store → f.is_ours opened → k.sound opened × k.keyed opened) → k.clean store → f.is_ours opened → k.sound opened × k.keyed opened
+  none_found opened store found looked is none sound = subst (λ (r : Result Looked Down). IfOk r (λ looked. looked.faults ≡ [] → k.clean store → f.is_ours opened → k.sound opened × k.keyed opened)) is sound none
 
   -- a store is opened at a path, and a look finds no fault in its tables
   pub opens_sound : (path : List ℕ) (why : Cause) (old mid : F) (opened store : K) (before noted known : Told)
       → Opens k f path Existing old mid opened (error_stream before noted) → LooksFirst k f why opened true store (error_stream noted known)
       → OpensSound k f path old mid store (error_stream before known)
   opens_sound path why old mid opened store before noted known opens look =
-      let sound : k.clean store → f.is_ours opened → k.sound opened = none_found opened store look.result look.says.0.0 look.says.0.1 look.says.0.2 look.sound in
+      let sound : k.clean store → f.is_ours opened → k.sound opened × k.keyed opened = none_found opened store look.result look.says.0.0 look.says.0.1 look.says.0.2 look.sound in
       record {
         opened = opened;
         opens = subst (λ (e : Told). Opens k f path Existing old mid opened (error_stream before e)) (sym look.says.1) opens;
@@ -42,14 +42,15 @@ module _ {K F : Type 0} (k : keep.Ghosts K) (f : files.Ghosts F K) where
         looked = look.says.0.0;
         finds = subst (λ (r : Result Looked Down). f.finds opened r store) look.says.0.1 look.finds;
         none = look.says.0.2;
-        sound_ours = λ clean ours. (sound clean ours, look.look.kept clean (sound clean ours));
+        sound_ours = λ clean ours. let is = sound clean ours in (is.0, look.look.kept clean is.0);
+        keyed_ours = λ clean ours. let is = sound clean ours in (is.1, look.look.keys clean is.0 is.1);
       }
 
   -- a store is opened at a path, its tables are looked over, what is found is told, and it is closed there
   pub looks_at : (path : List ℕ) (old mid new : F) (opened store : K) (found : Result Looked Down) (e : Ending) (out heard said : Option (List ℕ)) (before noted told after : Told)
       → Opens k f path Existing old mid opened (error_stream before noted) → heard ≡ out
-      → Looks k.rows k.clean k.sound k.shielded opened store → f.finds opened found store
-      → IfOk found (λ looked. looked.faults ≡ [] → k.clean store → f.is_ours opened → k.sound opened)
+      → Looks k.rows k.clean k.sound k.keyed k.shielded opened store → f.finds opened found store
+      → IfOk found (λ looked. looked.faults ≡ [] → k.clean store → f.is_ours opened → k.sound opened × k.keyed opened)
       → TellsFound found e (stream heard said) (error_stream noted told) → Closes k f path mid new store (error_stream told after)
       → LooksOver k f path (λ found told. TellsFound found e (stream out said) told) old new (error_stream before after)
   looks_at path old mid new opened store found e out heard said before noted told after opens same look finds sound tells closes = record {
@@ -91,21 +92,19 @@ module _ {K F : Type 0} (k : keep.Ghosts K) (f : files.Ghosts F K) where
   -- a store is opened at a path, a command is carried out on it, and it is closed there
   pub operates : (path : List ℕ) (command : Admin) (old mid new : F) (before after : K) (e : Ending) (out heard said : Option (List ℕ)) (first noted told last : Told)
       → Opens k f path (opening_of command) old mid before (error_stream first noted) → heard ≡ out
-      → (k.clean after → k.clean before) → (k.shielded before → k.shielded after) → (k.clean after → k.sound before → k.sound after)
+      → Lasts k.clean k.sound k.keyed k.shielded before after
       → (k.clean after → k.sound before → IsOperated (HasFailed k f after) command (k.rows before) (k.rows after) e (stream heard said) (error_stream noted told))
       → (told ≡ noted) ⊎ ((why : Cause) × HasFailed k f after why × TellsCause why (error_stream noted told))
       → Closes k f path mid new after (error_stream told last)
       → Operates k f path command old new e (stream out said) (error_stream first last)
-  operates path command old mid new before after e out heard said first noted told last opens same so_far shield kept model why closes = record {
+  operates path command old mid new before after e out heard said first noted told last opens same lasts model why closes = record {
     before = before;
     after = after;
     worked = mid;
     noted = noted;
     told = told;
     opens = opens;
-    so_far = so_far;
-    shield = shield;
-    kept = kept;
+    lasts = lasts;
     model = λ clean sound. subst (λ (o : Option (List ℕ)). IsOperated (HasFailed k f after) command (k.rows before) (k.rows after) e (stream o said) (error_stream noted told)) same (model clean sound);
     why = why;
     closes = closes;
@@ -116,18 +115,16 @@ module _ {K F N C R W : Type 0} (k : keep.Ghosts K) (f : files.Ghosts F K) (n : 
   -- connections are answered from an opened store, and it is closed
   pub serves_opened : (path : List ℕ) (port : ℕ) (timeouts : Timeouts) (logs : Bool) (count : ℕ) (old new : F) (network network' : N) (time time' : C) (opened from to closed : K) (served e : Ending) (out told last : Option (List ℕ)) (before lines after : Told)
       → from ≡ opened → closed ≡ to
-      → (k.clean to → k.clean from) → (k.shielded from → k.shielded to) → (k.clean to → k.sound from → k.sound to)
+      → Lasts k.clean k.sound k.keyed k.shielded from to
       → (k.clean to → k.sound from → Serves count (k.rows from) (k.rows to))
       → AnswersAtPort k f n c i o port timeouts logs count (state network time from before out) (state network' time' to lines told) served
       → Closes k f path old new closed (error_stream lines after) → SaysServed served e told last
       → ServesOpened k f n c i o path port timeouts logs count opened (outside old network time) (outside new network' time') e (stream out last) (error_stream before after)
-  serves_opened path port timeouts logs count old new network network' time time' opened from to closed served e out told last before lines after begins ends so_far shield kept rows answers closes says =
+  serves_opened path port timeouts logs count old new network network' time time' opened from to closed served e out told last before lines after begins ends lasts rows answers closes says =
       subst (λ (s : K). ServesOpened k f n c i o path port timeouts logs count s (outside old network time) (outside new network' time') e (stream out last) (error_stream before after)) begins
       (record {
         after = to;
-        so_far = so_far;
-        shield = shield;
-        kept = kept;
+        lasts = lasts;
         serves = rows;
         served = served;
         told = told;
@@ -148,9 +145,7 @@ module _ {K F N C R W : Type 0} (k : keep.Ghosts K) (f : files.Ghosts F K) (n : 
     worked = mid;
     noted = noted;
     opens = opens;
-    so_far = from.so_far;
-    shield = from.shield;
-    kept = from.kept;
+    lasts = from.lasts;
     serves = from.serves;
     served = from.served;
     told = from.told;
@@ -172,13 +167,15 @@ module _ {K F N C R W : Type 0} (k : keep.Ghosts K) (f : files.Ghosts F K) (n : 
     worked = mid;
     noted = known;
     opens = opens;
-    so_far = from.so_far;
-    shield = from.shield;
-    kept = from.kept;
+    lasts = from.lasts;
     serves = from.serves;
-    sound_ours = λ clean ours. ((opens.sound_ours (from.so_far clean) ours).0, from.kept clean (opens.sound_ours (from.so_far clean) ours).1);
-    serves_ours = λ clean ours. subst (λ (rows : List ℕ → Option Organization). Serves count rows (k.rows from.after)) (same_records (k.rows store) (k.rows opens.opened) (opens.look.same (from.so_far clean)))
-        (from.serves clean (opens.sound_ours (from.so_far clean) ours).1);
+    sound_ours = λ clean ours. let is = opens.sound_ours (from.lasts.so_far clean) ours in (is.0, from.lasts.kept clean is.1);
+    keyed_ours = λ clean ours.
+        let before = from.lasts.so_far clean in
+        let is = opens.keyed_ours before ours in
+        (is.0, from.lasts.keys clean (opens.sound_ours before ours).1 is.1);
+    serves_ours = λ clean ours. subst (λ (rows : List ℕ → Option Organization). Serves count rows (k.rows from.after)) (same_records (k.rows store) (k.rows opens.opened) (opens.look.same (from.lasts.so_far clean)))
+        (from.serves clean (opens.sound_ours (from.lasts.so_far clean) ours).1);
     served = from.served;
     told = from.told;
     lines = from.lines;

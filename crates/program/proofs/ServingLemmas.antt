@@ -2,6 +2,7 @@
 use Rattle.std.proofs.Common.{◌≡◌, ◌∙◌, ◌≤◌, ◌+◌, ◌++◌, ◌∷◌, [], List, ℕ, Option, Result, Ok, Err, Bool, true, false, suc, length, refl, sym, subst, arith, inl, inr, ap}
 use Rattle.std.specs.Prelude.{◌⊎◌, IsErrOf}
 use Rattle.docs.specs.declared.logs.LogRow.{LogRow}
+use Rattle.machine.specs.Keeping.{Lasts}
 use Rattle.machine.specs.declared.records.Organization.{Organization}
 use Rattle.wire.specs.Links.{continue_if}
 use Rattle.serve.specs.declared.exchanges.LinkFault.{LinkFault}
@@ -101,13 +102,9 @@ serves_of count most old new le so_far = record {
 
 -- what is so once the store was tended
 module _ {K F : Type 0} (k : keep.Ghosts K) (f : files.Ghosts F K) where
-  pub tended_so_far : (is_down : Bool) (old : K) (is_shut : Bool) (new : K) → Tends k f is_down old is_shut new → k.clean new → k.clean old
-  tended_so_far true old is_shut new tends clean = tends.2.so_far clean
-  tended_so_far false old is_shut new tends clean = tends.2.so_far clean
-
-  pub tended_kept : (is_down : Bool) (old : K) (is_shut : Bool) (new : K) → Tends k f is_down old is_shut new → k.clean new → k.sound old → k.sound new
-  tended_kept true old is_shut new tends clean sound = tends.2.kept clean sound
-  tended_kept false old is_shut new tends clean sound = tends.2.kept clean sound
+  pub tended_lasts : (is_down : Bool) (old : K) (is_shut : Bool) (new : K) → Tends k f is_down old is_shut new → Lasts k.clean k.sound k.keyed k.shielded old new
+  tended_lasts true old is_shut new tends = let look = tends.2 in record { so_far = look.so_far; kept = look.kept; keys = look.keys; shield = look.shield }
+  tended_lasts false old is_shut new tends = let upkeep = tends.2 in record { so_far = upkeep.so_far; kept = upkeep.kept; keys = upkeep.keys; shield = upkeep.shield }
 
   pub tended_rows : (is_down : Bool) (old : K) (is_shut : Bool) (new : K) → Tends k f is_down old is_shut new → k.clean new → k.sound old → k.rows new ≡ k.rows old
   tended_rows true old is_shut new tends clean sound = λ i org. tends.2.same clean org i

@@ -58,10 +58,11 @@ lists_none (Tokens rows) = false
 module _ {K : Type 0} (k : keep.Ghosts K) where
   -- it was copied from one store to another, and this became of the records: where it was copied from each is as before
   pub record CopiesBetween (Becomes : (from old new : List ℕ → Option Organization) → Type 0) (source_before source_after target_before target_after : K) : Type 0 where
-    pub look : Looks k.rows k.clean k.sound k.shielded source_before source_after
+    pub look : Looks k.rows k.clean k.sound k.keyed k.shielded source_before source_after
     pub so_far : k.clean target_after → k.clean target_before
     pub shield : k.shielded target_before → k.shielded target_after
     pub kept : k.clean target_after → k.sound target_before → k.clean source_after → k.sound source_before → k.sound target_after
+    pub keys : k.clean target_after → k.sound target_before → k.clean source_after → k.sound source_before → k.keyed target_before → k.keyed target_after
     pub model : k.clean target_after → k.sound target_before → k.clean source_after → k.sound source_before
         → Becomes (k.rows source_before) (k.rows target_before) (k.rows target_after)
 

@@ -4,7 +4,7 @@
 use Rattle.std.specs.Prelude.{◌≡◌, ◌≢◌, ◌<◌, ◌⊎◌, ◌+◌, ◌++◌, ℕ, Bool, List, [], ◌∷◌, ⊤, Option, Some, None, IfSome, Result, Ok, Err, IfOk, true, false, length, is_some}
 use Rattle.std.specs.Io.KnownBytes.{Appends}
 use Rattle.basis.specs.declared.memory.Down.{Down}
-use Rattle.machine.specs.Keeping.{Looks}
+use Rattle.machine.specs.Keeping.{Looks, Lasts}
 use Rattle.machine.specs.declared.keeps.Keep as keep
 use Rattle.machine.specs.declared.keeps.OrgRow.{OrgRow}
 use Rattle.machine.specs.declared.keeps.TokenRow.{TokenRow}
@@ -399,9 +399,7 @@ module _ {K F : Type 0} (k : keep.Ghosts K) (f : files.Ghosts F K) where
     pub noted : Told
     pub told : Told
     pub opens : Opens path (opening_of command) old worked before (error_stream errors.old noted)
-    pub so_far : k.clean after → k.clean before
-    pub shield : k.shielded before → k.shielded after
-    pub kept : k.clean after → k.sound before → k.sound after
+    pub lasts : Lasts k.clean k.sound k.keyed k.shielded before after
     pub model : k.clean after → k.sound before
         → IsOperated (HasFailed after) command (k.rows before) (k.rows after) e output (error_stream noted told)
     pub why : (told ≡ noted) ⊎ ((why : Cause) × HasFailed after why × TellsCause why (error_stream noted told))
@@ -418,13 +416,13 @@ module _ {K F : Type 0} (k : keep.Ghosts K) (f : files.Ghosts F K) where
       ⊎ ((new ≡ old) × ((HasNoSecret input × RefusesUsage e output errors × Tells errors.old errors.new secret_line)
       ⊎ (RefusesDown e output × TellsCause cause.Input errors)))
 
-  -- the tables of a store were looked over: of what was found this is told. Where no fault was found the store is sound, if its tables are
-  -- defined as ours. Each record is as before
+  -- the tables of a store were looked over: of what was found this is told. Where no fault was found the store is sound and keyed, if its
+  -- tables are defined as ours. Each record is as before
   pub record LooksFor (IsTold : Result Looked Down → Errors → Type 0) (before after : K) (errors : Errors) : Type 0 where
-    pub look : Looks k.rows k.clean k.sound k.shielded before after
+    pub look : Looks k.rows k.clean k.sound k.keyed k.shielded before after
     pub result : Result Looked Down
     pub finds : f.finds before result after
-    pub sound : IfOk result (λ looked. looked.faults ≡ [] → k.clean after → f.is_ours before → k.sound before)
+    pub sound : IfOk result (λ looked. looked.faults ≡ [] → k.clean after → f.is_ours before → k.sound before × k.keyed before)
     pub says : IsTold result errors
 
   -- what lay at a path was looked over, which made no file. What the look left lies there now, each record as before, and nothing else
@@ -449,16 +447,17 @@ module _ {K F : Type 0} (k : keep.Ghosts K) (f : files.Ghosts F K) where
   abbrev pub RefusesUnsound : List ℕ → Cause → F → F → Ending → Stream → Errors → Type 0
   RefusesUnsound path why old new e output errors = LooksOver path (TellsUnsound why) old new errors × IsSaid ending.Down e output.old output.new
 
-  -- a store was opened at a path, which made no file, and a look over its tables found no fault: so it is sound, if its tables are
-  -- defined as ours
+  -- a store was opened at a path, which made no file, and a look over its tables found no fault: so it is sound and keyed, if its tables
+  -- are defined as ours
   pub record OpensSound (path : List ℕ) (old new : F) (store : K) (errors : Errors) : Type 0 where
     pub opened : K
     pub opens : Opens path opening.Existing old new opened errors
-    pub look : Looks k.rows k.clean k.sound k.shielded opened store
+    pub look : Looks k.rows k.clean k.sound k.keyed k.shielded opened store
     pub looked : Looked
     pub finds : f.finds opened (Ok looked) store
     pub none : looked.faults ≡ []
     pub sound_ours : k.clean store → f.is_ours opened → k.sound opened × k.sound store
+    pub keyed_ours : k.clean store → f.is_ours opened → k.keyed opened × k.keyed store
 
   -- what is copied isn't opened, or faults are found in its tables
   abbrev pub RefusesSource : List ℕ → F → F → Ending → Stream → Errors → Type 0
@@ -559,9 +558,7 @@ module _ {K F N C R W : Type 0} (k : keep.Ghosts K) (f : files.Ghosts F K) (n : 
     pub worked : F
     pub noted : Told
     pub opens : Opens k f path opening.Created old.files worked before (error_stream errors.old noted)
-    pub so_far : k.clean after → k.clean before
-    pub shield : k.shielded before → k.shielded after
-    pub kept : k.clean after → k.sound before → k.sound after
+    pub lasts : Lasts k.clean k.sound k.keyed k.shielded before after
     pub serves : k.clean after → k.sound before → Serves count (k.rows before) (k.rows after)
     pub served : Ending
     pub told : Option (List ℕ)
@@ -571,19 +568,18 @@ module _ {K F N C R W : Type 0} (k : keep.Ghosts K) (f : files.Ghosts F K) (n : 
     pub closes : Closes k f path worked new.files after (error_stream lines errors.new)
     pub others : OthersStay f.holds path old.files new.files
 
-  -- the same of a file that was there, behind a look for faults in its tables, which found none. So what is served is sound, if its
-  -- tables are defined as ours
+  -- the same of a file that was there, behind a look for faults in its tables, which found none. So what is served is sound and keyed, if
+  -- its tables are defined as ours
   pub record ServesChecked (path : List ℕ) (port : ℕ) (timeouts : Timeouts) (logs : Bool) (count : ℕ) (old new : Outside F N C) (e : Ending) (output : Stream) (errors : Errors) : Type 0 where
     pub before : K
     pub after : K
     pub worked : F
     pub noted : Told
     pub opens : OpensSound k f path old.files worked before (error_stream errors.old noted)
-    pub so_far : k.clean after → k.clean before
-    pub shield : k.shielded before → k.shielded after
-    pub kept : k.clean after → k.sound before → k.sound after
+    pub lasts : Lasts k.clean k.sound k.keyed k.shielded before after
     pub serves : k.clean after → k.sound before → Serves count (k.rows before) (k.rows after)
     pub sound_ours : k.clean after → f.is_ours opens.opened → k.sound opens.opened × k.sound after
+    pub keyed_ours : k.clean after → f.is_ours opens.opened → k.keyed opens.opened × k.keyed after
     pub serves_ours : k.clean after → f.is_ours opens.opened → Serves count (k.rows opens.opened) (k.rows after)
     pub served : Ending
     pub told : Option (List ℕ)

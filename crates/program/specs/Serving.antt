@@ -5,7 +5,7 @@ use Rattle.basis.specs.declared.memory.Down.{Down}
 use Rattle.docs.specs.declared.logs.LogRow.{LogRow}
 use Rattle.machine.specs.declared.keeps.Keep as keep
 use Rattle.machine.specs.declared.records.Organization.{Organization}
-use Rattle.machine.specs.Keeping.{Looks}
+use Rattle.machine.specs.Keeping.{Looks, Lasts}
 use Rattle.serve.specs.declared.exchanges.LinkFault.{LinkFault}
 use Rattle.serve.specs.declared.steps.Step.{Step}
 use Rattle.serve.specs.declared.steps.Step.TheVariants.{Request, Command}
@@ -75,9 +75,7 @@ module _ {K N R W : Type 0} (k : keep.Ghosts K) (n : connections.Ghosts N R W) (
     pub written : W
     pub result : Result (Unit {0}) LinkFault
     pub row : Option LogRow
-    pub so_far : k.clean store' → k.clean store
-    pub shield : k.shielded store → k.shielded store'
-    pub kept : k.clean store' → k.sound store → k.sound store'
+    pub lasts : Lasts k.clean k.sound k.keyed k.shielded store store'
     pub exchanges : k.clean store' → k.sound store → (received : List ℕ) × Consumes (i.left reader) (i.left read) received
         × Exchanges at received (i.left read) (k.rows store) (k.rows store') (o.written writer) (o.written written) is_down row result
     pub changes : k.clean store' → k.sound store → IfSome row (λ told. ChangesAsTold told (k.rows store) (k.rows store'))
@@ -89,8 +87,8 @@ module _ {K F : Type 0} (k : keep.Ghosts K) (f : files.Ghosts F K) where
   -- after the 503 the files are asked whether a fault of the disk has shut the store, and say so or not, or they are refused
   -- memory, which counts as not; after another reply they aren't asked, and copy the log where it is long
   abbrev pub Tends : Bool → K → Bool → K → Type 0
-  Tends true old is_shut new = (said : Result Bool Down) × f.shuts old said new × Looks k.rows k.clean k.sound k.shielded old new × MatchResult said (λ told. is_shut ≡ told) (λ down. is_shut ≡ false)
-  Tends false old is_shut new = (is_shut ≡ false) × f.checkpoints old new × Upkeep k.rows k.clean k.sound k.shielded old new
+  Tends true old is_shut new = (said : Result Bool Down) × f.shuts old said new × Looks k.rows k.clean k.sound k.keyed k.shielded old new × MatchResult said (λ told. is_shut ≡ told) (λ down. is_shut ≡ false)
+  Tends false old is_shut new = (is_shut ≡ false) × f.checkpoints old new × Upkeep k.rows k.clean k.sound k.keyed k.shielded old new
 
 module _ {K N C R W : Type 0} (k : keep.Ghosts K) (n : connections.Ghosts N R W) (c : clock.Ghosts C) (i : inlet.Ghosts R) (o : outlet.Ghosts W) where
   -- a connection is accepted with these timeouts, the clock tells this moment, and the connection is answered as that of

@@ -79,7 +79,7 @@ fn say_copied<K: Keep, F: Files<K>, O: Write, E: ErrorStream>(
     answered: &Result<AdminAnswer, Down>,
 ) -> Ending
     ensures line { AnswersLine result (stream (O.contents output.old) (O.contents output.new)) }
-    ensures looks { Looks K.rows K.clean K.sound K.shielded target.old target.new }
+    ensures looks { Looks K.rows K.clean K.sound K.keyed K.shielded target.old target.new }
     ensures tells { IfOk answered.now (λ answer. TellsWord answer result (stream (O.contents output.old) (O.contents output.new)) × (E.told errors.new ≡ E.told errors.old)) }
     ensures down { OnErr answered.now ((why : AnyCause) × HasFailed K.Keep F.Files target.new why × Refuses why result (stream (O.contents output.old) (O.contents output.new)) (error_stream (E.told errors.old) (E.told errors.new))) }
     ensures why { (E.told errors.new ≡ E.told errors.old) ⊎ ((why : AnyCause) × HasFailed K.Keep F.Files target.new why × TellsCause why (error_stream (E.told errors.old) (E.told errors.new))) }

@@ -2,7 +2,7 @@
 ghost use Rattle.std.specs.Prelude.{◌≡◌, ◌⊎◌, ◌<◌, IfOk, OnOk, IsErrOf, length};
 ghost use Rattle.program.specs.declared.reasons.Cause.{Cause as AnyCause};
 ghost use Rattle.command_line.specs.Orders.{with_secret};
-ghost use Rattle.machine.specs.Keeping.{Looks};
+ghost use Rattle.machine.specs.Keeping.{Looks, Lasts};
 ghost use Rattle.program.specs.Streams.{Tells};
 ghost use Rattle.program.specs.Outcomes.{stream, error_stream, AnswersLine, AnswersList, AnswersTokens, TellsList, TellsTokens, TellsAnswer, IsOperated, AnswersCommand, HasSecret, HasNoSecret, IsSecretOf, AddsToken, OperatesAt, AddsTokenAt, TellsCause, opening_of, FailsAs, HasFailed};
 ghost use Rattle.program.specs.Inner.Outcomes.{IsSaidWhy};
@@ -92,7 +92,7 @@ fn say_answer<O: Write>(output: &mut O, command: &Admin, answer: &AdminAnswer) -
 /// Why a store refused: a fault of the disk has shut it, so that a change that was under way may have been made; or it is open
 /// still, and no record changed; or memory was refused to that question, too.
 pub fn failure<K: Keep, F: Files<K>>(files: &F, store: &mut K) -> Cause
-    ensures looks { Looks K.rows K.clean K.sound K.shielded store.old store.new }
+    ensures looks { Looks K.rows K.clean K.sound K.keyed K.shielded store.old store.new }
     ensures fails { FailsAs K.Keep F.Files store.old store.new result }
 {
     match files.is_shut(store) {
@@ -112,9 +112,7 @@ fn operate<K: Keep, F: Files<K>, O: Write, E: ErrorStream>(
     output: &mut O,
     errors: &mut E,
 ) -> (Ending, K)
-    ensures so_far { K.clean result.1 → K.clean keep }
-    ensures shield { K.shielded keep → K.shielded result.1 }
-    ensures kept { K.clean result.1 → K.sound keep → K.sound result.1 }
+    ensures lasts { Lasts K.clean K.sound K.keyed K.shielded keep result.1 }
     ensures line { AnswersCommand command.now result.0 (stream (O.contents output.old) (O.contents output.new)) }
     ensures model { K.clean result.1 → K.sound keep → IsOperated (HasFailed K.Keep F.Files result.1) command.now (K.rows keep) (K.rows result.1) result.0 (stream (O.contents output.old) (O.contents output.new)) (error_stream (E.told errors.old) (E.told errors.new)) }
     ensures why { (E.told errors.new ≡ E.told errors.old) ⊎ ((why : AnyCause) × HasFailed K.Keep F.Files result.1 why × TellsCause why (error_stream (E.told errors.old) (E.told errors.new))) }

@@ -6,7 +6,7 @@ ghost use Rattle.command_line.specs.declared.timeouts.Timeouts.{Timeouts as AnyT
 ghost use Rattle.program.specs.declared.reasons.Cause.{Cause as AnyCause};
 ghost use Rattle.program.specs.declared.reasons.OpenFault.{OpenFault as AnyFault};
 ghost use Rattle.machine.specs.Effects.{effect};
-ghost use Rattle.machine.specs.Keeping.{Looks};
+ghost use Rattle.machine.specs.Keeping.{Looks, LastsWhere};
 ghost use Rattle.program.specs.Moves.{org_copied};
 ghost use Rattle.program.specs.Paths.{AllStay, OthersStay, LeavesVacant, makes};
 ghost use Rattle.program.specs.declared.totals.Looked.{Looked as AnyLooked};
@@ -100,20 +100,20 @@ pub trait Files<K: Keep> {
     /// Whether a fault of the disk has shut a store, so that it refuses each call; an error where memory was refused.
     fn is_shut(&self, store: &mut K) -> Result<bool, Down>
         ensures told { shuts store.old result store.new }
-        ensures looks { Looks K.rows K.clean K.sound K.shielded store.old store.new };
+        ensures looks { Looks K.rows K.clean K.sound K.keyed K.shielded store.old store.new };
 
     /// Copies the log of a store into its file where it is long, so that the next change needn't. No record of a sound
     /// store changes. An error where memory or the store refused.
     fn checkpoint(&self, store: &mut K) -> Result<(), Down>
         ensures done { checkpoints store.old store.new }
-        ensures upkeep { Upkeep K.rows K.clean K.sound K.shielded store.old store.new };
+        ensures upkeep { Upkeep K.rows K.clean K.sound K.keyed K.shielded store.old store.new };
 
     /// Looks over the tables of a store: a line for each fault, without its line feed, and 50 at most, and how many rows there
-    /// are. Where there is no fault the store is sound. An error where memory or the store refused.
+    /// are. Where there is no fault the store is sound and keyed. An error where memory or the store refused.
     fn check(&self, alloc: Global, store: &mut K) -> Result<Looked, Down>
         ensures found { finds store.old result store.new }
-        ensures looks { Looks K.rows K.clean K.sound K.shielded store.old store.new }
-        ensures sound { IfOk result (λ looked. looked.faults ≡ [] → K.clean store.new → is_ours store.old → K.sound store.old) };
+        ensures looks { Looks K.rows K.clean K.sound K.keyed K.shielded store.old store.new }
+        ensures sound { IfOk result (λ looked. looked.faults ≡ [] → K.clean store.new → is_ours store.old → K.sound store.old × K.keyed store.old) };
 
     /// Copies an organization from one store to another, in one transaction of the other. What each has of other
     /// organizations stays. An error where memory or a store refused.
@@ -124,10 +124,8 @@ pub trait Files<K: Keep> {
         from: &mut K,
         to: &mut K,
     ) -> Result<AdminAnswer, Down>
-        ensures source { Looks K.rows K.clean K.sound K.shielded from.old from.new }
-        ensures so_far { K.clean to.new → K.clean to.old }
-        ensures shield { K.shielded to.old → K.shielded to.new }
-        ensures kept { K.clean to.new → K.sound to.old → K.clean from.new → K.sound from.old → K.sound to.new }
+        ensures source { Looks K.rows K.clean K.sound K.keyed K.shielded from.old from.new }
+        ensures lasts { LastsWhere (K.clean from.new × K.sound from.old) K.clean K.sound K.keyed K.shielded to.old to.new }
         ensures own { K.clean to.new → K.sound to.old → K.clean from.new → K.sound from.old → IfOk result (λ answer. effect answer (K.rows to.new org.now) ≡ org_copied (K.rows from.old org.now) (K.rows to.old org.now)) }
         ensures others { K.clean to.new → K.sound to.old → K.clean from.new → K.sound from.old → (o : List ℕ) → o ≢ org.now → K.rows to.new o ≡ K.rows to.old o }
         ensures err { K.clean to.new → OnErr result ((o : List ℕ) → K.rows to.new o ≡ K.rows to.old o) };

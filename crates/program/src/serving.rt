@@ -2,6 +2,7 @@
 
 ghost use Rattle.std.specs.Prelude.{◌≡◌, ◌++◌, ℕ, List, Ok, Some, IfOk, IfErr, IfSome, OnOk, true, false};
 ghost use Rattle.std.specs.Io.KnownBytes.{Appends, Consumes};
+ghost use Rattle.machine.specs.Keeping.{Lasts};
 ghost use Rattle.serve.specs.Exchanges.{Exchanges, ChangesAsTold};
 ghost use Rattle.program.specs.Errors.{GetsConnectionLines, fault_text, down_line, fault_line};
 ghost use Rattle.program.specs.Serving.{listening_line, ListensAt, Serves, state, AcceptsNone, AnswersOne, Answers, Tends, AnswersNext, EndsEarly, AnswersCount, LogTellsChanges};
@@ -91,9 +92,7 @@ fn exchange_one<K: Keep, I: Inlet, O: Outlet>(
 ) -> Result<(), LinkFault>
     requires reads { I.broken inlet.old ≡ false }
     requires writes { O.broken outlet.old ≡ false }
-    ensures so_far { K.clean service.new.keep → K.clean service.old.keep }
-    ensures shield { K.shielded service.old.keep → K.shielded service.new.keep }
-    ensures kept { K.clean service.new.keep → K.sound service.old.keep → K.sound service.new.keep }
+    ensures lasts { Lasts K.clean K.sound K.keyed K.shielded service.old.keep service.new.keep }
     ensures takes { K.clean service.new.keep → K.sound service.old.keep → TakesOne (K.rows service.old.keep) (K.rows service.new.keep) }
     ensures told { K.clean service.new.keep → K.sound service.old.keep → (received : List ℕ) × Consumes (I.left inlet.old) (I.left inlet.new) received
         × Exchanges now received (I.left inlet.new) (K.rows service.old.keep) (K.rows service.new.keep) (O.written outlet.old) (O.written outlet.new) service.new.was_down service.new.row result }
@@ -118,9 +117,7 @@ fn serve_one<K: Keep, N: Connections, O: Write, E: ErrorStream>(
 ) -> bool
     requires reads { N.Reader.broken reader ≡ false }
     requires writes { N.Writer.broken writer ≡ false }
-    ensures so_far { K.clean service.new.keep → K.clean service.old.keep }
-    ensures shield { K.shielded service.old.keep → K.shielded service.new.keep }
-    ensures kept { K.clean service.new.keep → K.sound service.old.keep → K.sound service.new.keep }
+    ensures lasts { Lasts K.clean K.sound K.keyed K.shielded service.old.keep service.new.keep }
     ensures takes { K.clean service.new.keep → K.sound service.old.keep → TakesOne (K.rows service.old.keep) (K.rows service.new.keep) }
     ensures answers { AnswersOne K.Keep N.Connections N.Reader.Inlet N.Writer.Outlet logs place now service.new.was_down result reader writer network.old network.new service.old.keep service.new.keep (E.told errors.old) (E.told errors.new) (O.contents output.old) (O.contents output.new) }
 {
@@ -172,9 +169,7 @@ fn answer_next<K: Keep, N: Connections, C: Clock, O: Write, E: ErrorStream>(
     output: &mut O,
     errors: &mut E,
 ) -> Result<bool, Cause>
-    ensures so_far { K.clean service.new.keep → K.clean service.old.keep }
-    ensures shield { K.shielded service.old.keep → K.shielded service.new.keep }
-    ensures kept { K.clean service.new.keep → K.sound service.old.keep → K.sound service.new.keep }
+    ensures lasts { Lasts K.clean K.sound K.keyed K.shielded service.old.keep service.new.keep }
     ensures takes { K.clean service.new.keep → K.sound service.old.keep → TakesOne (K.rows service.old.keep) (K.rows service.new.keep) }
     ensures answers { IfOk result (λ is_told. (at : ℕ) × Answers K.Keep N.Connections C.Clock N.Reader.Inlet N.Writer.Outlet timeouts.now logs place at service.new.was_down is_told (state network.old clock.old service.old.keep (E.told errors.old) (O.contents output.old)) (state network.new clock.new service.new.keep (E.told errors.new) (O.contents output.new))) }
     ensures refused { IfErr result (λ cause. AcceptsNone N.Connections C.Clock timeouts.now network.old network.new clock.old clock.new cause × (service.new.keep ≡ service.old.keep) × (E.told errors.new ≡ E.told errors.old) × (O.contents output.new ≡ O.contents output.old)) }
@@ -216,9 +211,7 @@ fn serve_next<K: Keep, F: Files<K>, N: Connections, C: Clock, O: Write, E: Error
     output: &mut O,
     errors: &mut E,
 ) -> Result<(), Cause>
-    ensures so_far { K.clean service.new.keep → K.clean service.old.keep }
-    ensures shield { K.shielded service.old.keep → K.shielded service.new.keep }
-    ensures kept { K.clean service.new.keep → K.sound service.old.keep → K.sound service.new.keep }
+    ensures lasts { Lasts K.clean K.sound K.keyed K.shielded service.old.keep service.new.keep }
     ensures takes { K.clean service.new.keep → K.sound service.old.keep → TakesOne (K.rows service.old.keep) (K.rows service.new.keep) }
     ensures answers { OnOk result ((at : ℕ) × AnswersNext K.Keep F.Files N.Connections C.Clock N.Reader.Inlet N.Writer.Outlet timeouts.now logs place at false true (state network.old clock.old service.old.keep (E.told errors.old) (O.contents output.old)) (state network.new clock.new service.new.keep (E.told errors.new) (O.contents output.new))) }
     ensures refused { IfErr result (EndsEarly K.Keep F.Files N.Connections C.Clock N.Reader.Inlet N.Writer.Outlet timeouts.now logs place (state network.old clock.old service.old.keep (E.told errors.old) (O.contents output.old)) (state network.new clock.new service.new.keep (E.told errors.new) (O.contents output.new))) }
@@ -257,9 +250,7 @@ pub fn serve_loop<K: Keep, F: Files<K>, N: Connections, C: Clock, O: Write, E: E
     output: &mut O,
     errors: &mut E,
 ) -> Ending
-    ensures so_far { K.clean service.new.keep → K.clean service.old.keep }
-    ensures shield { K.shielded service.old.keep → K.shielded service.new.keep }
-    ensures kept { K.clean service.new.keep → K.sound service.old.keep → K.sound service.new.keep }
+    ensures lasts { Lasts K.clean K.sound K.keyed K.shielded service.old.keep service.new.keep }
     ensures serves { K.clean service.new.keep → K.sound service.old.keep → Serves count (K.rows service.old.keep) (K.rows service.new.keep) }
     ensures answers { AnswersCount K.Keep F.Files N.Connections C.Clock N.Reader.Inlet N.Writer.Outlet port timeouts.now logs count (state network.old clock.old service.old.keep (E.told errors.old) (O.contents output.old)) (state network.new clock.new service.new.keep (E.told errors.new) (O.contents output.new)) result }
     ensures listens { ListensAt port logs result (O.contents output.old) (O.contents output.new) }

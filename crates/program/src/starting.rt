@@ -1,5 +1,6 @@
 //! The command `serve`: a file is opened, connections are answered from it, and it is closed.
 ghost use Rattle.std.specs.Prelude.{◌≡◌, ◌≢◌, ◌⊎◌};
+ghost use Rattle.machine.specs.Keeping.{Lasts};
 ghost use Rattle.program.specs.Outcomes.{stream, error_stream, IsSaid, ServesAt, ServesFrom, ServesChecked, ServesAsAsked, RefusesUnsound, RefusesToOpen, outside, IsAlone, SaysServed};
 ghost use Rattle.program.specs.Inner.Outcomes.{ServesOpened};
 ghost use Rattle.program.specs.Serving.{Listens, Serves, state, AnswersAtPort};
@@ -33,9 +34,7 @@ fn serve_at<K: Keep, F: Files<K>, N: Connections, C: Clock, O: Write, E: ErrorSt
     output: &mut O,
     errors: &mut E,
 ) -> Ending
-    ensures so_far { K.clean service.new.keep → K.clean service.old.keep }
-    ensures shield { K.shielded service.old.keep → K.shielded service.new.keep }
-    ensures kept { K.clean service.new.keep → K.sound service.old.keep → K.sound service.new.keep }
+    ensures lasts { Lasts K.clean K.sound K.keyed K.shielded service.old.keep service.new.keep }
     ensures serves { K.clean service.new.keep → K.sound service.old.keep → Serves count (K.rows service.old.keep) (K.rows service.new.keep) }
     ensures listens { Listens logs result (O.contents output.old) (O.contents output.new) }
     ensures answers { AnswersAtPort K.Keep F.Files N.Connections C.Clock N.Reader.Inlet N.Writer.Outlet port timeouts.now logs count (state network.old clock.old service.old.keep (E.told errors.old) (O.contents output.old)) (state network.new clock.new service.new.keep (E.told errors.new) (O.contents output.new)) result }

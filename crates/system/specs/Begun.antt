@@ -1,12 +1,14 @@
 -- Files in which a database may be begun, and why none was.
 use Rattle.std.specs.Prelude.{◌≡◌, ◌⊎◌, ℕ, true, IsTrue, Option, Some, None}
 use Rattle.sqlite_disk.specs.declared.Disk.{Ghosts}
+use Rattle.sqlite_disk.specs.declared.tally.Tally.{Tally}
 use Rattle.sqlite_pages.specs.PageMap.{PageMap}
 use Rattle.sqlite_pool.specs.Opening.{IsBlankFile}
 use Rattle.sqlite_pool.specs.Stored.{used_size, Recovers}
+use Rattle.sqlite_wal.specs.Reads.{tally_of_files}
 use Rattle.sqlite_wal.specs.Recovery.{Image}
 use Rattle.sqlite_store.specs.Opening.{IsEmptyFile, FailsToOpen}
-use Rattle.sqlite_store.specs.Unopened.{state_of, StopsCreating}
+use Rattle.sqlite_store.specs.Unopened.{state_of, files_of, StopsCreating}
 use Rattle.sqlite_store.specs.declared.error.OpenError.{OpenError}
 use Rattle.sqlite_store.specs.declared.error.OpenError.TheVariants.{OutOfMemory}
 use Rattle.sqlite_store.specs.declared.store.open.Unopened.{Unopened}
@@ -32,3 +34,8 @@ pub record IsBegun {D : Type 0} {g : Ghosts D} (store : FileStore D g) : Type 0 
   pub empty : IsEmpty (view store).trees
   pub sums : (view store).has_sums ≡ true
   pub guarded : is_shielded store
+
+-- What failed calls of the disk have met in all, where none was begun: as before, where the files weren't looked at.
+abbrev pub tally_since : {D : Type 0} {g : Ghosts D} → Tally → Option (Unopened D g) → Tally
+tally_since before None = before
+tally_since {g = g} before (Some left) = tally_of_files g (files_of left)

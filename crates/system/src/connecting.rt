@@ -7,7 +7,7 @@ ghost use Rattle.sqlite_store.specs.FileStore.{state, view};
 ghost use Rattle.sqlite.specs.Files.{file_state, image_of, IsOpened, IsEmpty, IsBlankAs};
 ghost use Rattle.sqlite.specs.Start.{FindsIn};
 ghost use Rattle.sqlite.specs.State.{HasCleanDisk};
-ghost use Rattle.system.specs.Begun.{MayBegin, FailsToBegin, IsBegun};
+ghost use Rattle.system.specs.Begun.{MayBegin, FailsToBegin, IsBegun, tally_since};
 ghost use Rattle.system.specs.Causes.{begun_cause, is_open_cause};
 ghost use Rattle.system.specs.declared.connecting.TheConstants.{NEW_PAGE_BYTES};
 
@@ -37,7 +37,9 @@ pub fn begun_cause(error: OpenError, before: Tally, since: Tally) -> Cause
 }
 
 /// What the calls of the disk have met, where the files were looked at.
-pub fn tally_since<D: Disk + Drop>(before: Tally, left: Option<Unopened<D>>) -> Tally {
+pub fn tally_since<D: Disk + Drop>(before: Tally, left: Option<Unopened<D>>) -> Tally
+    ensures { result ≡ tally_since before left }
+{
     match left {
         None => before,
         Some(left) => left.tally(),

@@ -167,7 +167,7 @@ pub fn open_file<S: Start>(
     ensures opens { IfOk result (λ keep. ⟦<FileKeep<S> as Keep>⟧.clean keep → OpensOn (image_at S.Start) (⟦<FileKeep<S> as Keep>⟧.rows keep) (⟦<FileKeep<S> as Keep>⟧.sound keep)) }
     ensures tabled { makes opening ≡ false → IfOk result (λ keep. ⟦<FileKeep<S> as Keep>⟧.clean keep → HadTables (image_at S.Start)) }
     ensures guarded { IfOk result (λ keep. ⟦<FileKeep<S> as Keep>⟧.clean keep → ⟦<FileKeep<S> as Keep>⟧.shielded keep) }
-    ensures as_opened { IfOk result (λ keep. ⟦<FileKeep<S> as Keep>⟧.clean keep → IsFresh (file_state keep.seen.value).committed keep.counted (file_state keep.conn)) }
+    ensures as_opened { IfOk result (λ keep. ⟦<FileKeep<S> as Keep>⟧.clean keep → IsFresh (file_state keep.seen.value).committed keep.memo (file_state keep.conn)) }
     ensures why { IfErr result IsFileFault }
 {
     let bytes = file_bytes(rt, path).unwrap_or(0);
@@ -276,7 +276,7 @@ impl<'a, S: Start> DiskFiles<'a, S> {
 impl<S: Start> Files<FileKeep<S>> for DiskFiles<'_, S> {
     // Nothing ties what is found to the path: until a file is opened, whatever path it has, it is that of `start`. Of
     // what lies at paths afterwards, and so of a second file, nothing is said here.
-    ghost holds = { λ files _ store. is_some files.start ≡ true → ⟦<FileKeep<S> as Keep>⟧.clean store → OpensOn (image_at S.Start) (⟦<FileKeep<S> as Keep>⟧.rows store) (⟦<FileKeep<S> as Keep>⟧.sound store) × ⟦<FileKeep<S> as Keep>⟧.shielded store × IsFresh (file_state store.seen.value).committed store.counted (file_state store.conn) };
+    ghost holds = { λ files _ store. is_some files.start ≡ true → ⟦<FileKeep<S> as Keep>⟧.clean store → OpensOn (image_at S.Start) (⟦<FileKeep<S> as Keep>⟧.rows store) (⟦<FileKeep<S> as Keep>⟧.sound store) × ⟦<FileKeep<S> as Keep>⟧.shielded store × IsFresh (file_state store.seen.value).committed store.memo (file_state store.conn) };
 
     ghost copied = { λ _ _ store. (closed : _) × IsClosedOn ⟦<FileFrom<S> as Disk>⟧ closed (⟦<FileKeep<S> as Keep>⟧.rows store) (⟦<FileKeep<S> as Keep>⟧.sound store) };
 
@@ -309,7 +309,7 @@ impl<S: Start> Files<FileKeep<S>> for DiskFiles<'_, S> {
     ghost newest = { NEWEST };
 
     // The store is as it was opened, and the rows of our tables are those of values.
-    ghost is_ours = { λ store. IsFresh (file_state store.seen.value).committed store.counted (file_state store.conn) × HaveRows (file_state store.seen.value).committed (tables_of (file_state store.seen.value).committed) };
+    ghost is_ours = { λ store. IsFresh (file_state store.seen.value).committed store.memo (file_state store.conn) × HaveRows (file_state store.seen.value).committed (tables_of (file_state store.seen.value).committed) };
 
     // What can't be looked at counts as there: the open behind it tells why.
     fn is_absent(&self, path: &str) -> bool {

@@ -3,6 +3,7 @@ use Rattle.std.specs.Prelude.{◌≡◌, ◌⊎◌, ℕ, List, [], Bool, true, f
 use Rattle.basis.specs.declared.memory.Down.{Down}
 use Rattle.command_line.specs.declared.timeouts.Timeouts.{Timeouts}
 use Rattle.machine.specs.declared.keeps.Keep as keep
+use Rattle.machine.specs.Keeping.{Lasts}
 use Rattle.wire.specs.declared.devices.Inlet as inlet
 use Rattle.wire.specs.declared.devices.Outlet as outlet
 use Rattle.program.specs.declared.endings.Ending.{Ending}
@@ -34,9 +35,7 @@ module _ {K F N C R W : Type 0} (k : keep.Ghosts K) (f : files.Ghosts F K) (n : 
   -- connections are answered from a store that was opened, which is closed at this path then
   pub record ServesOpened (path : List ℕ) (port : ℕ) (timeouts : Timeouts) (logs : Bool) (count : ℕ) (before : K) (old new : Outside F N C) (e : Ending) (output : Stream) (errors : Errors) : Type 0 where
     pub after : K
-    pub so_far : k.clean after → k.clean before
-    pub shield : k.shielded before → k.shielded after
-    pub kept : k.clean after → k.sound before → k.sound after
+    pub lasts : Lasts k.clean k.sound k.keyed k.shielded before after
     pub serves : k.clean after → k.sound before → Serves count (k.rows before) (k.rows after)
     pub served : Ending
     pub told : Option (List ℕ)

@@ -26,9 +26,10 @@ returns-clause-copies g c =
     (copies_looked g.K.Keep _ source c.copy-answered.new.from target copied_to left
     (record {
       look = copy.source;
-      so_far = copy.so_far;
-      shield = copy.shield;
-      kept = copy.kept;
+      so_far = copy.lasts.so_far;
+      shield = copy.lasts.shield;
+      kept = λ clean sound clean_source sound_source. copy.lasts.kept clean sound (clean_source, sound_source);
+      keys = λ clean sound clean_source sound_source. copy.lasts.keys clean sound;
       model = λ clean sound clean_source sound_source.
           subst (λ (before : Option (List ℕ)). IsCopied (fails left) org (rows source) (rows target) (rows copied_to) said.result (stream before (out said.new.output)) told) c.in-Ok.ensures.opened.1
           (copied (fails left) org (rows source) (rows target) (rows copied_to) said.result (stream (out c.open_both.new.output) (out said.new.output)) told c.copy-answered.result

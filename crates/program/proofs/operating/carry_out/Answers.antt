@@ -23,4 +23,4 @@ returns-clause-operates g c =
     inl (operates g.K.Keep g.F.Files c.args.db.now c.args.command.now c.args.files.now c.open_one.new.files c.close_after.new.files c.in-Ok.store done.result.1 done.result.0
     (out c.args.output.now) (out c.open_one.new.output) (out done.new.output) (err c.args.errors.now) (err c.open_one.new.errors) (err done.new.errors) (err c.close_after.new.errors)
     (subst (λ (opening : Opening). Opens g.K.Keep g.F.Files c.args.db.now opening c.args.files.now c.open_one.new.files c.in-Ok.store (error_stream (err c.args.errors.now) (err c.open_one.new.errors))) c.opening_of.ensures c.in-Ok.ensures.opened.0)
-    c.in-Ok.ensures.opened.1 done.ensures.so_far done.ensures.shield done.ensures.kept done.ensures.model done.ensures.why c.close_after.ensures)
+    c.in-Ok.ensures.opened.1 done.ensures.lasts done.ensures.model done.ensures.why c.close_after.ensures)

@@ -1,4 +1,5 @@
 use Rattle.std.proofs.Common.{◌≡◌, ℕ, suc, length, ◌<◌, ◌+◌, arith, refl, sym, subst, ◌++◌, ◌∷◌, [], rules}
+use Rattle.machine.proofs.LastingLemmas.{lasts_still, lasts_then}
 use Rattle.program.specs.Serving.{state, EndsEarly, listening_line}
 use Rattle.program.proofs.ServingLemmas.{serves_none, serves_more, serves_of, answers_more, one_more}
 use Rattle.program.proofs.LogLemmas.{grows_then, grows_all, grows_early, heard_log}
@@ -9,9 +10,7 @@ returns-then-is_err-clause-serves g c clean sound = serves_of 0 c.args.count _ _
 
 pub connections-init : goal.connections-init
 connections-init g c = record {
-  so_far = λ clean. clean;
-  shield = λ is. is;
-  kept = λ clean sound. sound;
+  lasts = lasts_still c.args.service.now.keep;
   serves = λ clean sound. serves_none (g.K.Keep.rows c.args.service.now.keep);
   answers = ([], refl, refl);
 }
@@ -20,13 +19,12 @@ pub connections-preserved : goal.connections-preserved
 connections-preserved g c =
     let so_far = c.connections.invariant.answers in
     let one = c.in-Ok.ensures.answers in
+    let before = c.connections.invariant.lasts in
+    let next = c.in-Ok.ensures.lasts in
     record {
-      so_far = λ clean. c.connections.invariant.so_far (c.in-Ok.ensures.so_far clean);
-      shield = λ is. c.in-Ok.ensures.shield (c.connections.invariant.shield is);
-      kept = λ clean sound. c.in-Ok.ensures.kept clean (c.connections.invariant.kept (c.in-Ok.ensures.so_far clean) sound);
+      lasts = lasts_then c.args.service.now.keep c.connections.service.keep c.serve_next.new.service.keep before next;
       serves = λ clean sound. serves_more c.connections.place (g.K.Keep.rows c.args.service.now.keep) (g.K.Keep.rows c.connections.service.keep) (g.K.Keep.rows c.serve_next.new.service.keep)
-          (c.connections.invariant.serves (c.in-Ok.ensures.so_far clean) sound)
-          (c.in-Ok.ensures.takes clean (c.connections.invariant.kept (c.in-Ok.ensures.so_far clean) sound));
+          (c.connections.invariant.serves (next.so_far clean) sound) (c.in-Ok.ensures.takes clean (before.kept (next.so_far clean) sound));
       answers = (
         so_far.0 ++ one.0 ∷ [],
         one_more so_far.0 one.0 c.connections.place so_far.1,
@@ -40,10 +38,10 @@ connections-preserved g c =
 pub returns-in-Err-clause-serves : goal.returns-in-Err-clause-serves
 returns-in-Err-clause-serves g c clean sound =
     let so_far = c.connections.invariant in
-    let before = c.in-Err.ensures.so_far clean in
+    let before = c.in-Err.ensures.lasts.so_far clean in
     serves_of (c.connections.place + 1) c.args.count _ _ (let within = c.connections-test.true in omega arith)
     (serves_more c.connections.place (g.K.Keep.rows c.args.service.now.keep) (g.K.Keep.rows c.connections.service.keep) (g.K.Keep.rows c.serve_next.new.service.keep)
-    (so_far.serves before sound) (c.in-Err.ensures.takes clean (so_far.kept before sound)))
+    (so_far.serves before sound) (c.in-Err.ensures.takes clean (so_far.lasts.kept before sound)))
 
 pub returns-in-Err-clause-answers : goal.returns-in-Err-clause-answers
 returns-in-Err-clause-answers g c =

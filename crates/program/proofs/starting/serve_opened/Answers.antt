@@ -13,5 +13,5 @@ returns-clause-serves g c = serves_opened g.K.Keep g.F.Files g.N.Connections g.C
     (g.O.Write.contents c.args.output.now) (g.O.Write.contents c.serve_at-ending.new.output) (g.O.Write.contents c.say_served.new.output)
     (g.E.ErrorStream.told c.args.errors.now) (g.E.ErrorStream.told c.serve_at-ending.new.errors) (g.E.ErrorStream.told c.close_after.new.errors)
     c.new-service.ensures.keep c.into_keep-keep.ensures
-    c.serve_at-ending.ensures.so_far c.serve_at-ending.ensures.shield c.serve_at-ending.ensures.kept c.serve_at-ending.ensures.serves c.serve_at-ending.ensures.answers
+    c.serve_at-ending.ensures.lasts c.serve_at-ending.ensures.serves c.serve_at-ending.ensures.answers
     c.close_after.ensures c.say_served.ensures.says
