@@ -13,7 +13,7 @@ from building import TOP
 
 LIST, PICTURE = f"{TOP}/crates.txt", f"{TOP}/docs/crates.svg"
 PROGRAM, TESTS = "custody", "stories"
-WIDTH, BOX, TALL, STEP, GAP = 820, 178, 42, 78, 24
+WIDTH, BOX, TALL, STEP, GAP = 1_010, 178, 42, 78, 24
 COLORS = {True: ("#dbe9f4", "#1b6ca8"), False: ("#fdf1dc", "#d68910")}
 
 

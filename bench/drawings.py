@@ -45,7 +45,7 @@ POST = [
     ("tables", "apply", "one transaction begins"),
     ("statements", "add", "INSERT INTO version .."),
     ("texts", "add_text", "the text is cut into pages"),
-    ("pages", "put", "uses + 1, or a row"),
+    ("pages", "put_own", "uses + 1, or a row"),
     ("tables", "apply", "the transaction is committed and synced"),
     ("wire", "write_reply", "the reply is written"),
     ("docs", "write_log_line", "with --log: the line of this exchange"),
