@@ -60,15 +60,13 @@ setup() {
     esac
 }
 
-free_port() { python3 -c 'import socket; s = socket.socket(); s.bind(("127.0.0.1", 0)); print(s.getsockname()[1])'; }
-
 count=$(python3 "$here/load.py" --connections "$@")
 ports=()
 start() {
     local side=$1 command=$2 port tries=0
     mkdir "$work/$side"
     setup "$command" "$work/$side/custody.db" >"$work/$side/setup"
-    port=$(free_port)
+    port=$(python3 "$here/../tools/harness.py")
     (run serve "$command" --db "$work/$side/custody.db" --port "$port" --count "$count") >"$work/$side/out" &
     pids+=($!)
     ports+=("$port")

@@ -143,12 +143,6 @@ class Load:
         self.chance.choices([self.apply, self.plan, self.run, self.look], [5, 3, 1, 1])[0](ws)
 
 
-def resident(server):
-    """The memory of the process, in MB."""
-    with open(f"/proc/{server.process.pid}/status", encoding="utf-8") as it:
-        return next(int(line.split()[1]) / 1000 for line in it if line.startswith("VmRSS"))
-
-
 def middle(spans):
     return statistics.median(spans) * 1000 if spans else 0
 
@@ -159,7 +153,7 @@ def show(load, began):
     versions = sum(len(ws.versions) for ws in load.workspaces)
     file = os.path.getsize(server.path) / 1e6
     cells = [f"{load.count:,}", f"{time.perf_counter() - began:.0f}", f"{versions:,}", f"{pages:,}", f"{size / 1e6:.1f}", f"{file:.1f}",
-             f"{server.log():.1f}", f"{resident(server):.1f}", *(f"{middle(load.spent[kind]):.2f}" for kind in ("GET", "POST", "LOCK", "list"))]
+             f"{server.log():.1f}", f"{server.memory('VmRSS'):.1f}", *(f"{middle(load.spent[kind]):.2f}" for kind in ("GET", "POST", "LOCK", "list"))]
     print(f"| {' | '.join(cells)} |", flush=True)
     load.spent.clear()
 

@@ -33,6 +33,9 @@ import pages as texts
 from building import TOP
 from sums import put_sums
 
+sys.path.append(f"{TOP}/tools")
+from harness import free_port
+
 PROGRAM = f"{TOP}/crates/custody/out/custody"
 REFERENCE = f"{TOP}/bench/reference.py"
 SERVERS = {
@@ -49,10 +52,7 @@ class Server:
     """A server on a file."""
 
     def __init__(self, command, path):
-        with socket.socket() as free:
-            free.bind(("127.0.0.1", 0))
-            self.port = free.getsockname()[1]
-        self.path = path
+        self.path, self.port = path, free_port()
         start = time.perf_counter()
         words = [word.format(path=path, port=self.port) for word in command]
         self.process = subprocess.Popen(words, stdout=subprocess.PIPE)
@@ -71,10 +71,16 @@ class Server:
             spent = time.perf_counter() - start
         return spent, bytes(BUFFER[:size])
 
-    def memory(self):
-        """The most memory that the process had, in MB."""
+    def memory(self, field="VmHWM"):
+        """The most memory that the process had, in MB; with the field VmRSS, what it has."""
         with open(f"/proc/{self.process.pid}/status", encoding="utf-8") as it:
-            return next(int(line.split()[1]) / 1000 for line in it if line.startswith("VmHWM"))
+            return next(int(line.split()[1]) / 1000 for line in it if line.startswith(field))
+
+    def spent(self):
+        """The seconds of the processor that the process has taken."""
+        with open(f"/proc/{self.process.pid}/stat", encoding="utf-8") as it:
+            words = it.read().rpartition(")")[2].split()
+        return (int(words[11]) + int(words[12])) / os.sysconf("SC_CLK_TCK")
 
     def log(self):
         """The size of the log, in MB."""

@@ -25,19 +25,6 @@ STARTS, FEWER, SLOW = 9, 3, 1.0
 EACH = 90
 
 
-def spent(server):
-    """The seconds of the processor that the process has taken."""
-    with open(f"/proc/{server.process.pid}/stat", encoding="utf-8") as it:
-        words = it.read().rpartition(")")[2].split()
-    return (int(words[11]) + int(words[12])) / os.sysconf("SC_CLK_TCK")
-
-
-def resident(server):
-    """The memory that the process has, in MB."""
-    with open(f"/proc/{server.process.pid}/status", encoding="utf-8") as it:
-        return next(int(line.split()[1]) / 1000 for line in it if line.startswith("VmRSS"))
-
-
 def fill(path, megabytes):
     exchanges.admin(path, "org-add", "acme")
     exchanges.admin(path, "token-add", "acme", "root", "admin", fed=exchanges.SECRET.encode())
@@ -77,8 +64,8 @@ def measure(path):
     while len(waited) < (FEWER if waited and waited[0] > SLOW else STARTS):
         server = exchanges.Server(exchanges.SERVERS["program"], path)
         waited.append(server.opening)
-        took.append(spent(server))
-        most, left = max(most, server.memory()), resident(server)
+        took.append(server.spent())
+        most, left = max(most, server.memory()), server.memory("VmRSS")
         server.end()
     return statistics.median(waited), statistics.median(took), most, left
 

@@ -17,7 +17,6 @@ mean and processor time. Ends with status 1 where a reply was wrong. Nothing els
 import argparse
 import os
 import shutil
-import socket
 import statistics
 import subprocess
 import sys
@@ -27,6 +26,9 @@ import time
 import load
 
 BENCH = os.path.dirname(os.path.abspath(__file__))
+sys.path.append(f"{BENCH}/../tools")
+from harness import free_port
+
 SMALL = 100_000
 # what stands before the limit of a body in each reference, and the limit
 LIMITS = {"anchor.c": "BODY_MOST = {}", "baseline.py": "length > ({} if"}
@@ -69,9 +71,7 @@ class Side:
             self.run("org-add", "--db", path, "--limit", "100000", "acme")
             for name, role, token in TOKENS:
                 self.run("token-add", "--db", path, "acme", name, role, fed=token.partition(".")[2].encode())
-        with socket.socket() as free:
-            free.bind(("127.0.0.1", 0))
-            self.port = free.getsockname()[1]
+        self.port = free_port()
         words = [*self.command, "serve", "--db", path, "--port", str(self.port), "--count", "1000000"]
         self.process = subprocess.Popen(words, stdout=subprocess.PIPE)
         self.process.stdout.readline()

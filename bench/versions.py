@@ -19,24 +19,16 @@ from sums import put_sums
 KEPT = (1, 100, 1000)
 SIZE = 1000
 TURNS = 1000
-TICKS = os.sysconf("SC_CLK_TCK")
-
-
-def spent(server):
-    """The seconds of the processor that the server has taken."""
-    with open(f"/proc/{server.process.pid}/stat", encoding="utf-8") as it:
-        words = it.read().rpartition(")")[2].split()
-    return (int(words[11]) + int(words[12])) / TICKS
 
 
 def cost(server, requests, status):
     """The milliseconds of the processor that one of these requests takes."""
-    before = spent(server)
+    before = server.spent()
     for one in requests:
         reply = server.exchange(one)[1]
         if not reply.startswith(b"HTTP/1.1 %d " % status):
             raise SystemExit(reply.decode(errors="replace"))
-    return (spent(server) - before) * 1000 / len(requests)
+    return (server.spent() - before) * 1000 / len(requests)
 
 
 def measure(path, kept):

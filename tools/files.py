@@ -25,36 +25,24 @@ import subprocess
 import tempfile
 import time
 
-from program import ANSWERED_503, DOWN, LOG_STAYS, NEW_FILE, PATIENCE, PORT_TAKEN, Wrong, compiled, exchanged, free_port, look_at, reply, request, said
+from harness import ANSWERED_503, DISK, DOWN, IN_USE, LOG_ALONE, LOG_STAYS, NEW_FILE, PATIENCE, PORT_TAKEN, SECRET_FORM, SMALL_FILES, UNCHANGED, UNFINISHED
+from harness import GET, PUT, Service, Wrong, bytes_of, compiled, free_port, look_at, ok, post, request, said, small_files
 
 READABLE = b"custody: others than its owner may read the file or its log: chmod 600 ends that\n"
-IN_USE = b"custody: another program has the file open\n"
 NOT_PERMITTED = b"custody: the file or its folder may not be read and written\n"
 NO_FILE = b"custody: the path leads to no file, or to one with more than one hard link\n"
 NO_FOLDER = b"custody: the folder of --db's file isn't there\n"
 NO_TARGET_FOLDER = b"custody: the folder of --to's file isn't there\n"
 MISSING = b"custody: there is no file at the path, or an empty one: only org-add, serve without --check, and --to make one\n"
-LOG_ALONE = b"custody: the file is missing or empty, and the log beside it may hold changes: put the file back\n"
 NO_TABLES = b"custody: the file is a database without custody's tables\n"
 JOURNAL = b"custody: a rollback journal lies beside the file: open it with sqlite3 first\n"
 CORRUPT = b"custody: the file is damaged: a page's sum or form is wrong\n"
 UNSOUND = b"custody: the file is damaged or no database: its rows break its schema\n"
-DISK = b"custody: the disk or the system refused\n"
 NO_ROOM = b"custody: there is no room on the disk\n"
 PORT_NOT_PERMITTED = b"custody: the port isn't permitted\n"
 PORT = b"custody: the port can't be listened at\n"
 SHUT = b"custody: a fault of the disk has shut the store: see to the disk\n"
 HALTED = b"custody: a fault of the disk has shut the store: see to the disk. It may have been done: look\n"
-UNCHANGED = b"custody: memory or the store refused, and no record changed\n"
-UNFINISHED = b"custody: memory or a store refused before all was copied: delete the new file, and start again\n"
-
-
-def small_files(blocks):
-    """Runs the words behind it with files of at most so many blocks of 512 bytes, whose writes fail beyond that and don't end the program."""
-    return ["sh", "-c", f"trap '' XFSZ; ulimit -f {blocks}; exec \"$@\"", "sh"]
-
-
-SMALL_FILES = small_files(8)
 SECRET = b"adminadminadmin1\n"
 
 # The bytes of a page of a new file, those of one that an older program made, and those of a page's sum.
@@ -66,37 +54,15 @@ EMPTY_LOG = 41
 TEXTS = [b'{"serial":%d,"x":"%s"}' % (serial, b"%d " % serial * 9000) for serial in (1, 2)]
 
 
-class Service:
-    """A service over a file, ended by its count or killed."""
-
-    def __init__(self, program, path, count, *further, under=(), env=None):
-        self.port = free_port()
-        words = ["serve", "--db", path, "--port", str(self.port), "--count", str(count), *further]
-        self.process = program.start(words, subprocess.DEVNULL, under=under, env=env)
-        said("the line of a service", self.process.stdout.readline(), b"listening 127.0.0.1:%d\n" % self.port)
-
-    def left(self):
-        """Its status, and what came on both streams behind its first line, once it has ended."""
-        output, errors = self.process.communicate(timeout=PATIENCE)
-        return self.process.returncode, output, errors
-
-    def ends(self, status=0, output=b"", errors=b""):
-        said("how a service ends", self.left(), (status, output, errors))
-
-    def kill(self):
-        self.process.kill()
-        self.process.wait()
-
-
 def filled(program, path, told=NEW_FILE):
     """A file with an organization, a workspace and two versions of two pages; closed."""
     said("an organization", program.run(["org-add", "--db", path, "acme"]), (0, b"ok\n", told))
     said("a token", program.run(["token-add", "--db", path, "acme", "root", "admin"], SECRET), (0, b"ok\n", b""))
-    service = Service(program, path, 1 + len(TEXTS))
-    exchanged(service.port, request(b"PUT /v1/acme/workspaces/net HTTP/1.1"))
-    for text in TEXTS:
-        said("a state is posted", exchanged(service.port, request(b"POST /v1/acme/state/net HTTP/1.1", text)), reply(b"200 OK", b""))
-    service.ends()
+    with Service(program, path, 1 + len(TEXTS)) as service:
+        service.asked(PUT)
+        for text in TEXTS:
+            said("a state is posted", service.asked(post(text)), ok())
+        service.ends()
 
 
 def look_at_modes(program):
@@ -125,18 +91,15 @@ def look_at_modes(program):
 def look_at_owners(program):
     """One program at a time has the file."""
     filled(program, "one.db")
-    service = Service(program, "one.db", 2)
-    try:
-        before = open(program.folder + "/one.db", "rb").read()
+    with Service(program, "one.db", 2) as service:
+        before = bytes_of(program.folder + "/one.db")
         for words in (["org-list", "--db", "one.db"], ["org-add", "--db", "one.db", "beta"]):
             program.is_due("a second program is refused the file", words, 3, b"refused down\n", IN_USE)
         program.is_due("a second service, too", ["serve", "--db", "one.db", "--port", str(free_port()), "--count", "1"], 3, b"refused down\n", IN_USE)
-        said("the file", open(program.folder + "/one.db", "rb").read() == before, True)
+        said("the file", bytes_of(program.folder + "/one.db") == before, True)
         for _ in range(2):
-            said("the first goes on", exchanged(service.port, request(b"GET /v1/acme/state/net HTTP/1.1")), reply(b"200 OK", TEXTS[-1]))
+            said("the first goes on", service.asked(GET), ok(TEXTS[-1]))
         service.ends()
-    finally:
-        service.kill()
     program.is_due("and leaves it to the next", ["org-list", "--db", "one.db"], 0, b"acme 1 200\n")
 
 
@@ -158,8 +121,7 @@ def blank(size):
 
 def pages_of(path):
     """How many bytes a page of a closed file has, each of which ends with its sum."""
-    with open(path, "rb") as file:
-        content = file.read()
+    content = bytes_of(path)
     size = struct.unpack_from(">H", content, 16)[0]
     for start in range(0, len(content), size):
         body, tail = content[start : start + size - SUM_BYTES], content[start + size - SUM_BYTES : start + size]
@@ -206,21 +168,18 @@ def look_at_makers(program):
 
 def is_right(program, path):
     """Whether a service over the file gives the newest text and the one before it."""
-    service = Service(program, path, 2)
-    try:
-        newest = exchanged(service.port, request(b"GET /v1/acme/state/net HTTP/1.1"))
-        first = exchanged(service.port, request(b"GET /v1/acme/versions/net/1 HTTP/1.1"))
+    with Service(program, path, 2) as service:
+        newest = service.asked(GET)
+        first = service.asked(request(b"GET /v1/acme/versions/net/1 HTTP/1.1"))
         service.ends()
-    finally:
-        service.kill()
-    return (newest, first) == (reply(b"200 OK", TEXTS[1]), reply(b"200 OK", TEXTS[0]))
+    return (newest, first) == (ok(TEXTS[1]), ok(TEXTS[0]))
 
 
 def look_at_reasons(program):
     """A file that isn't opened is told why, and stays as it is."""
     filled(program, "good.db")
     folder, lists = program.folder, ["org-list", "--db", "bad.db"]
-    good = open(folder + "/good.db", "rb").read()
+    good = bytes_of(folder + "/good.db")
 
     def refused(what, why, path="bad.db"):
         program.is_due("told: %s" % what, ["org-list", "--db", path], 3, b"refused down\n", why)
@@ -250,7 +209,7 @@ def look_at_reasons(program):
         with open(folder + "/bad.db", "wb") as file:
             file.write(damaged)
         refused(what, why)
-        said("the file", open(folder + "/bad.db", "rb").read() == damaged, True)
+        said("the file", bytes_of(folder + "/bad.db") == damaged, True)
     os.remove(folder + "/bad.db")
     for blocks in (1, 8):
         ran = program.run(["org-add", "--db", "small.db", "acme"], under=small_files(blocks))
@@ -330,8 +289,7 @@ def all_in(folder):
             if os.path.islink(path):
                 found[path] = os.readlink(path)
             else:
-                with open(path, "rb") as file:
-                    content = file.read()
+                content = bytes_of(path)
                 found[path] = "an empty log" if name.endswith("-wal") and len(content) <= EMPTY_LOG else content
     return found
 
@@ -362,7 +320,7 @@ def look_at_absent(program):
             os.symlink(path, folder + "/a.db")
         refused_all(program, folder, "a file that is %s" % name, "a.db", looking, MISSING)
         for words, given, status, output, line in [
-            (["token-add", "--db", "a.db", "acme", "ci", "write"], b"short\n", 2, b"refused usage\n", b"custody: the secret isn't one line of 16 to 64 ASCII letters or digits\n"),
+            (["token-add", "--db", "a.db", "acme", "ci", "write"], b"short\n", 2, b"refused usage\n", SECRET_FORM),
             (["org-limit", "--db", "a.db", "acme", "x"], b"", 2, b"refused usage\n", b"custody: the value of N isn't of its form: 0 to 100000, without a leading zero\n"),
         ]:
             said("words and secret are judged first", program.run(words, given, under=["env", "-C", folder]), (status, output, line))
@@ -392,12 +350,9 @@ def logged_alone(program, name):
     filled(program, name + "/there/real.db")
     os.symlink("there/real.db", folder + "/link.db")
     texts = [large_text(serial, 6000) for serial in range(3, 8)]
-    service = Service(program, name + "/there/real.db", 1 + len(texts))
-    try:
+    with Service(program, name + "/there/real.db", 1 + len(texts)) as service:
         for text in texts:
-            said("a state is posted", exchanged(service.port, request(b"POST /v1/acme/state/net HTTP/1.1", text)), reply(b"200 OK", b""))
-    finally:
-        service.kill()
+            said("a state is posted", service.asked(post(text)), ok())
     said("whether they stand in the log", os.path.getsize(folder + "/there/real.db-wal") > sum(map(len, texts)), True)
     return folder, texts
 
@@ -421,13 +376,10 @@ def look_at_lone_logs(program):
     for path in ("there/real.db", "link.db", "there/../there/real.db"):
         refused_all(program, folder, "a log beside an empty file, by %s" % path, path, every, LOG_ALONE)
     os.rename(away, real)
-    service = Service(program, "lone/link.db", len(texts))
-    try:
+    with Service(program, "lone/link.db", len(texts)) as service:
         for number, text in enumerate(texts, 1 + len(TEXTS)):
-            said("a state that stood in the log", exchanged(service.port, request(b"GET /v1/acme/versions/net/%d HTTP/1.1" % number)), reply(b"200 OK", text))
+            said("a state that stood in the log", service.asked(request(b"GET /v1/acme/versions/net/%d HTTP/1.1" % number)), ok(text))
         service.ends()
-    finally:
-        service.kill()
     print("right: once the file is back beside its log, the %d states are there" % len(texts))
     # The least log in which a page may stand, and one of a byte less.
     for size, due in ((568, (3, b"refused down\n", LOG_ALONE)), (567, (0, b"ok\n", NEW_FILE))):
@@ -458,18 +410,15 @@ def look_at_totals(program):
     path, check = program.folder + "/many.db", ["check", "--db", "many.db"]
     filled(program, "many.db")
     program.is_due("of a small file the rows are told", check, 0, b"ok\n" + counted(path))
-    service = Service(program, "many.db", 3 * MANY + 1)
-    try:
+    with Service(program, "many.db", 3 * MANY + 1) as service:
         asked = [b"PUT /v1/acme/workspaces/w-%d HTTP/1.1" % number for number in range(MANY)]
         asked += [b"POST /v1/acme/runs/w-%d HTTP/1.1" % (number % 3) for number in range(MANY)]
         for line in asked:
-            said("a request", exchanged(service.port, request(line))[:12], b"HTTP/1.1 200")
-        said("more versions may be", exchanged(service.port, request(b"PUT /v1/acme/workspaces/net HTTP/1.1", b'{"keep_versions":1000}'))[:12], b"HTTP/1.1 200")
+            said("a request", service.asked(request(line))[:12], b"HTTP/1.1 200")
+        said("more versions may be", service.asked(request(b"PUT /v1/acme/workspaces/net HTTP/1.1", b'{"keep_versions":1000}'))[:12], b"HTTP/1.1 200")
         for number in range(MANY):
-            said("a state", exchanged(service.port, request(b"POST /v1/acme/state/net HTTP/1.1", b'{"serial":%d}' % (number + 3))), reply(b"200 OK", b""))
+            said("a state", service.asked(post(b'{"serial":%d}' % (number + 3))), ok())
         service.ends()
-    finally:
-        service.kill()
     for number in range(MANY):
         said("an organization", program.run(["org-add", "--db", "many.db", "o-%d" % number])[:2], (0, b"ok\n"))
     line = counted(path)
@@ -499,13 +448,12 @@ def look_at_spoiled(program):
     """sqlite3 reads such a file, and spoils it when it writes; a dump brings it back."""
     filled(program, "spoiled.db")
     path = program.folder + "/spoiled.db"
-    with open(path, "rb") as file:
-        before = file.read()
+    before = bytes_of(path)
     reader = sqlite3.connect("file:%s?mode=ro&immutable=1" % path, uri=True)
     said("SQLite's own library reads it", reader.execute("SELECT count(*) FROM version").fetchone(), (2,))
     said("and finds it whole", reader.execute("PRAGMA integrity_check").fetchone(), ("ok",))
     reader.close()
-    said("a file that is read as immutable", open(path, "rb").read() == before, True)
+    said("a file that is read as immutable", bytes_of(path) == before, True)
     writer = sqlite3.connect(path)
     writer.execute("UPDATE org SET cap = 7")
     writer.commit()
@@ -524,15 +472,12 @@ def look_at_spoiled(program):
 def look_at_full(program):
     """A write for which there is no room shuts no store: it is answered 503 and told, and the service goes on."""
     filled(program, "full.db")
-    service = Service(program, "full.db", 3, under=SMALL_FILES)
-    try:
-        get, post = request(b"GET /v1/acme/state/net HTTP/1.1"), request(b"POST /v1/acme/state/net HTTP/1.1", b'{"serial":3}')
-        said("the change for which there is no room", exchanged(service.port, post), DOWN)
-        said("a read after it", exchanged(service.port, get), reply(b"200 OK", TEXTS[-1]))
-        said("the change again", exchanged(service.port, post), DOWN)
+    with Service(program, "full.db", 3, under=SMALL_FILES) as service:
+        change = post(b'{"serial":3}')
+        said("the change for which there is no room", service.asked(change), DOWN)
+        said("a read after it", service.asked(GET), ok(TEXTS[-1]))
+        said("the change again", service.asked(change), DOWN)
         service.ends(0, b"", ANSWERED_503 % 1 + ANSWERED_503 % 3)
-    finally:
-        service.kill()
     said("what was acknowledged before it", is_right(program, "full.db"), True)
     print("right: a store for which there is no room goes on")
 
@@ -545,16 +490,13 @@ def large_text(serial, count):
 def look_at_half(program):
     """A change whose first pages are in the log, where there is no room for the others, leaves all as it was; the next one is made."""
     filled(program, "half.db")
-    service = Service(program, "half.db", 4, under=small_files(4096))
-    try:
-        get, text = request(b"GET /v1/acme/state/net HTTP/1.1"), b'{"serial":3}'
-        said("the change for which there is half of the room", exchanged(service.port, request(b"POST /v1/acme/state/net HTTP/1.1", large_text(3, 500_000))), DOWN)
-        said("a read after it", exchanged(service.port, get), reply(b"200 OK", TEXTS[-1]))
-        said("the next change", exchanged(service.port, request(b"POST /v1/acme/state/net HTTP/1.1", text)), reply(b"200 OK", b""))
-        said("a read of it", exchanged(service.port, get), reply(b"200 OK", text))
+    with Service(program, "half.db", 4, under=small_files(4096)) as service:
+        text = b'{"serial":3}'
+        said("the change for which there is half of the room", service.asked(post(large_text(3, 500_000))), DOWN)
+        said("a read after it", service.asked(GET), ok(TEXTS[-1]))
+        said("the next change", service.asked(post(text)), ok())
+        said("a read of it", service.asked(GET), ok(text))
         service.ends(0, b"", ANSWERED_503 % 1)
-    finally:
-        service.kill()
     said("no fault in the file", program.run(["check", "--db", "half.db"]), (0, b"ok\n" + counted(program.folder + "/half.db"), b""))
     print("right: a change for which there is half of the room leaves all as it was")
 
@@ -563,23 +505,20 @@ def look_at_memory(program):
     """A service has room for 20 MB of pages of its file, from the start; of the pages that a change writes it has 1 MB in memory, so
     that states of 4 MB take less than 13 MB beside."""
     filled(program, "memory.db")
-    service = Service(program, "memory.db", 5)
 
     def most():
         with open("/proc/%d/status" % service.process.pid, encoding="utf-8") as status:
             return next(int(line.split()[1]) * 1024 for line in status if line.startswith("VmHWM"))
 
-    try:
+    with Service(program, "memory.db", 5) as service:
         before = most()
         said("whether 20 MB of pages have room from the start", 20_480_000 < before < 32_000_000, True)
         for text in (large_text(3, 500_000), large_text(4, 500_000)):
-            said("a change", exchanged(service.port, request(b"POST /v1/acme/state/net HTTP/1.1", text)), reply(b"200 OK", b""))
-            said("a read", exchanged(service.port, request(b"GET /v1/acme/state/net HTTP/1.1")), reply(b"200 OK", text))
+            said("a change", service.asked(post(text)), ok())
+            said("a read", service.asked(GET), ok(text))
         said("whether states of 4 MB take less than 13 MB", most() - before < 13_000_000, True)
-        said("a last read", exchanged(service.port, request(b"GET /v1/acme/state/net HTTP/1.1")), reply(b"200 OK", text))
+        said("a last read", service.asked(GET), ok(text))
         service.ends()
-    finally:
-        service.kill()
     print("right: a service has room for 20 MB of pages, and states of 4 MB take less than 13 MB more")
 
 
@@ -588,8 +527,7 @@ def look_at_salts(program):
     salts = []
     for name in ("salt.db", "salts.db"):
         program.is_due("a file", ["org-add", "--db", name, "acme"], 0, b"ok\n", NEW_FILE)
-        with open(program.folder + "/" + name + "-wal", "rb") as file:
-            salts.append(file.read(32)[16:24])
+        salts.append(bytes_of(program.folder + "/" + name + "-wal")[16:24])
     said("whether two logs have different salts", salts[0] != salts[1], True)
     print("right: two files have logs of different salts")
 
@@ -608,17 +546,16 @@ def look_at_log(program):
     """The log is copied into the file behind the reply to a state of 4 MB, which fills it, once; where smaller states fill it, by the change behind
     its 4,000th page. A read tells that what is done behind the reply before it is done."""
     filled(program, "log.db")
-    service = Service(program, "log.db", 14)
 
     def read(text):
-        said("a read", exchanged(service.port, request(b"GET /v1/acme/state/net HTTP/1.1")), reply(b"200 OK", text))
+        said("a read", service.asked(GET), ok(text))
 
     def size_behind(text):
-        said("a change", exchanged(service.port, request(b"POST /v1/acme/state/net HTTP/1.1", text)), reply(b"200 OK", b""))
+        said("a change", service.asked(post(text)), ok())
         read(text)
         return os.path.getsize(program.folder + "/log.db")
 
-    try:
+    with Service(program, "log.db", 14) as service:
         before = os.path.getsize(program.folder + "/log.db")
         text = large_text(3, 500_000)
         after = size_behind(text)
@@ -633,8 +570,6 @@ def look_at_log(program):
         service.ends()
         with contextlib.closing(sqlite3.connect(program.folder + "/log.db")) as database:
             said("the row that is written for it", database.execute("SELECT rowid, version FROM edition").fetchall(), [(1, 3)])
-    finally:
-        service.kill()
     print("right: the log is copied into the file behind a reply where a state has filled it, else by the change behind its %dth page" % (4_096_000 // PAGE))
 
 
@@ -643,19 +578,13 @@ def look_at_killed_behind(program):
     filled(program, "behind.db")
     for serial, milliseconds in enumerate((0, 2, 4, 6, 8), 3):
         text = large_text(serial, 500_000)
-        service = Service(program, "behind.db", 2)
-        try:
-            said("a change", exchanged(service.port, request(b"POST /v1/acme/state/net HTTP/1.1", text)), reply(b"200 OK", b""))
+        with Service(program, "behind.db", 2) as service:
+            said("a change", service.asked(post(text)), ok())
             time.sleep(milliseconds / 1e3)
-        finally:
-            service.kill()
         said("no fault in the file behind it", program.run(["check", "--db", "behind.db"]), (0, b"ok\n" + counted(program.folder + "/behind.db"), b""))
-        service = Service(program, "behind.db", 1)
-        try:
-            said("a read behind it", exchanged(service.port, request(b"GET /v1/acme/state/net HTTP/1.1")), reply(b"200 OK", text))
+        with Service(program, "behind.db", 1) as service:
+            said("a read behind it", service.asked(GET), ok(text))
             service.ends()
-        finally:
-            service.kill()
     print("right: a service that is killed while its log is copied behind a reply has lost nothing")
 
 
@@ -663,15 +592,11 @@ def look_at_shut(program):
     """A fault of the disk that shuts the store ends the service, once that is answered and told; what was acknowledged stands there."""
     filled(program, "shut.db")
     fails = program.folder + "/fails"
-    service = Service(program, "shut.db", 4, env=dict(os.environ, LD_PRELOAD=compiled("unsynced", program.folder), FAILS=fails))
-    try:
-        get, post = request(b"GET /v1/acme/state/net HTTP/1.1"), request(b"POST /v1/acme/state/net HTTP/1.1", b'{"serial":3}')
-        said("before the fault", exchanged(service.port, get), reply(b"200 OK", TEXTS[-1]))
+    with Service(program, "shut.db", 4, env=dict(os.environ, LD_PRELOAD=compiled("unsynced", program.folder), FAILS=fails)) as service:
+        said("before the fault", service.asked(GET), ok(TEXTS[-1]))
         open(fails, "wb").close()
-        said("the change that isn't synced", exchanged(service.port, post), DOWN)
+        said("the change that isn't synced", service.asked(post(b'{"serial":3}')), DOWN)
         service.ends(3, b"refused down\n", ANSWERED_503 % 2 + SHUT + LOG_STAYS)
-    finally:
-        service.kill()
     print("right: a store that the disk has shut ends the service, which accepts no further connection")
     os.remove(fails)
     said("what was acknowledged before it", is_right(program, "shut.db"), True)
@@ -781,29 +706,25 @@ def look_at_synced(program):
     os.mkdir(program.folder + "/new")
     made = Calls(program, "made.db")
     said("a new file", program.run(["org-add", "--db", "new/made.db", "acme"], env=made.env), (0, b"ok\n", NEW_FILE))
-    calls = made.next()
-    said("whether its folder is synced before it is told of", "sync new" in calls[: calls.index("said pipe")], True)
+    told = made.next()
+    said("whether its folder is synced before it is told of", "sync new" in told[: told.index("said pipe")], True)
     os.remove(made.told)
-    service = Calls(program, "synced.db")
+    calls = Calls(program, "synced.db")
     text = large_text(4, 500_000)
-    get, posts = request(b"GET /v1/acme/state/net HTTP/1.1"), [request(b"POST /v1/acme/state/net HTTP/1.1", body) for body in (b'{"serial":3}', text)]
     log, file = ["write synced.db-wal", "sync synced.db-wal"], ["write synced.db", "sync synced.db"]
-    running = Service(program, "synced.db", 4, env=service.env)
-    try:
-        said("what a service says last as it begins", service.next()[-1], "said pipe")
-        said("a read", exchanged(running.port, get), reply(b"200 OK", TEXTS[-1]))
-        said("the calls of a read", service.next(), ["said socket"])
-        said("a change", exchanged(running.port, posts[0]), reply(b"200 OK", b""))
-        said("the calls of a change", service.next(), 2 * log + ["said socket"])
-        said("a change that fills the log", exchanged(running.port, posts[1]), reply(b"200 OK", b""))
-        said("a read behind it", exchanged(running.port, get), reply(b"200 OK", text))
-        calls = service.next()
-        behind = calls[calls.index("said socket") + 1 :]
+    with Service(program, "synced.db", 4, env=calls.env) as service:
+        said("what a service says last as it begins", calls.next()[-1], "said pipe")
+        said("a read", service.asked(GET), ok(TEXTS[-1]))
+        said("the calls of a read", calls.next(), ["said socket"])
+        said("a change", service.asked(post(b'{"serial":3}')), ok())
+        said("the calls of a change", calls.next(), 2 * log + ["said socket"])
+        said("a change that fills the log", service.asked(post(text)), ok())
+        said("a read behind it", service.asked(GET), ok(text))
+        told = calls.next()
+        behind = told[told.index("said socket") + 1 :]
         said("the first calls behind the reply that fills the log", behind[:4], file + log)
-        running.ends()
-        service.next()
-    finally:
-        running.kill()
+        service.ends()
+        calls.next()
     print("right: a change is synced before its reply, the folder of a new file too, and the file before its log is begun anew")
 
 

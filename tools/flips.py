@@ -24,12 +24,11 @@ It prints a line for each thing that holds or is counted, and ends with status 1
 import os
 import random
 import re
-import shutil
 import sqlite3
-import subprocess
 
+import harness
 from files import counted
-from program import DOWN, NEW_FILE, PATIENCE, Wrong, exchanged, free_port, look_at, reply, said
+from harness import DOWN, NEW_FILE, Wrong, bytes_of, free_port, look_at, ok, request, said
 
 SEED = 49
 FLIPS, PAGES, CUTS, COPIES = 300, 60, 30, 40
@@ -47,10 +46,7 @@ ORGS = sorted(SECRETS)
 
 
 def asking(org, method, path, body=b""):
-    head = [b"%s /v1/%s%s HTTP/1.1" % (method, org.encode(), path), b"Host: c", b"Authorization: Bearer %s.%s" % (org.encode(), SECRETS[org])]
-    if body:
-        head.append(b"Content-Length: %d" % len(body))
-    return b"\r\n".join(head) + b"\r\n\r\n" + body
+    return request(b"%s /v1/%s%s HTTP/1.1" % (method, org.encode(), path), body, b"%s.%s" % (org.encode(), SECRETS[org]))
 
 
 def state(serial, size):
@@ -81,62 +77,53 @@ QUESTIONS += [(org, b"GET", b"/%s/%s" % (kind, ws), b"") for org in ORGS for ws 
 QUESTIONS += [(org, b"GET", b"/versions/net/%d" % number, b"") for org in ORGS for number in (1, 2)]
 
 
-class Service:
-    """A service over a file, which answers so many connections, unless it refuses the file."""
+class Service(harness.Service):
+    """A service over a file that it may refuse."""
 
-    def __init__(self, program, path, count, more=()):
-        self.port = free_port()
-        words = ["serve", "--db", path, "--port", str(self.port), "--count", str(count), *more]
-        self.process = program.start(words, subprocess.DEVNULL)
-        self.is_refused = not self.process.stdout.readline().startswith(b"listening ")
+    def begins(self, line):
+        self.is_refused = not line.startswith(b"listening ")
 
-    def asked(self, question):
+    def answer(self, question):
         """The answer, or none where the service has ended."""
         try:
-            return exchanged(self.port, asking(*question))
+            return self.asked(asking(*question))
         except ConnectionError:
             return None
 
-    def ends(self, statuses):
-        status = self.process.wait(PATIENCE)
+    def ends_with(self, *statuses):
+        status, _, _ = self.left()
         if status not in statuses:
             raise Wrong("a service ended by status %s" % status)
-
-    def kill(self):
-        self.process.kill()
-        self.process.communicate()
 
 
 def answers(program, path, questions=QUESTIONS, more=()):
     """What a service over a file answers to each question, none where it refuses or has ended."""
-    service = Service(program, path, len(questions), more)
-    try:
+    with Service(program, path, len(questions), *more) as service:
         if service.is_refused:
-            service.ends([3])
+            service.ends_with(3)
             return [None] * len(questions)
-        came = [service.asked(question) for question in questions]
-        service.ends([0, 3])
-    finally:
-        service.kill()
+        came = [service.answer(question) for question in questions]
+        service.ends_with(0, 3)
     return came
 
 
+def accepted(service, question):
+    """A request that has to be acknowledged."""
+    came = service.answer(question)
+    if came is None or not came.startswith(b"HTTP/1.1 200 "):
+        raise Wrong("%s: %s" % (question[:3], came))
+
+
 def taken(program, path, asked):
-    """Requests that are all acknowledged; the service is killed behind the last one or ends."""
-    service = Service(program, path, len(asked))
-    try:
+    """Requests that are all acknowledged; the service ends by its count."""
+    with Service(program, path, len(asked)) as service:
         for question in asked:
-            came = service.asked(question)
-            if came is None or not came.startswith(b"HTTP/1.1 200 "):
-                raise Wrong("%s: %s" % (question[:3], came))
-        service.ends([0])
-    finally:
-        service.kill()
+            accepted(service, question)
+        service.ends_with(0)
 
 
 def read(program, name):
-    with open(program.folder + "/" + name, "rb") as file:
-        return file.read()
+    return bytes_of(program.folder + "/" + name)
 
 
 def write(program, name, content):
@@ -545,15 +532,10 @@ def logged(program, name):
     question = [("beta", b"GET", b"/state/net", b"")]
     made(program, name)
     seen = answers(program, name, question)
-    service = Service(program, name, 1 + 2 * len(LOGGED))
-    try:
+    with Service(program, name, 1 + 2 * len(LOGGED)) as service:
         for asked in LOGGED:
-            came = service.asked(asked)
-            if came is None or not came.startswith(b"HTTP/1.1 200 "):
-                raise Wrong("%s: %s" % (asked[:3], came))
-            seen.append(service.asked(question[0]))
-    finally:
-        service.kill()
+            accepted(service, asked)
+            seen.append(service.answer(question[0]))
     return read(program, name), read(program, name + "-wal"), seen
 
 
@@ -615,14 +597,11 @@ def look_at_open_files(program):
     taken(program, name, [("acme", b"PUT", place % b"workspaces", b"") for place in places])
     taken(program, name, [("acme", b"POST", place % b"state", text) for place, text in zip(places, due)])
     questions = [("acme", b"GET", place % b"state", b"") for place in places]
-    service = Service(program, name, WORKSPACES)
-    try:
+    with Service(program, name, WORKSPACES) as service:
         swap_beneath(program.folder + "/" + name, due)
-        came = [service.asked(question) for question in questions]
-        service.ends([0, 3])
-    finally:
-        service.kill()
-    right = sum(answer is not None and answer == reply(b"200 OK", text) for answer, text in zip(came, due))
+        came = [service.answer(question) for question in questions]
+        service.ends_with(0, 3)
+    right = sum(answer is not None and answer == ok(text) for answer, text in zip(came, due))
     refused = sum(answer in (None, DOWN) for answer in came)
     if right + refused < WORKSPACES or not refused:
         raise Wrong("pages swapped beneath a service: of %d states %d were answered rightly and %d by 503" % (WORKSPACES, right, refused))

@@ -14,7 +14,7 @@ import itertools
 import re
 import sqlite3
 
-from program import HERE, Wrong, look_at
+from harness import HERE, Wrong, look_at
 
 SOURCE = HERE + "/../crates/statements/src/making.rt"
 ORDER = ["META", "ORG", "TOKEN", "WS", "VERSION", "RUN", "RUN_INDEX", "PAGE", "VPAGE", "VPAGE_INDEX", "BOUND", "EDITION", "KEEPING"]

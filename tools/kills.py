@@ -12,19 +12,19 @@ The service has `--log`. Its lines have to be those of the acknowledged requests
 where they tell that the request under way was done, the next round has to find it done.
 """
 
+import atexit
 import http.client
 import json
 import os
 import random
 import shutil
-import signal
-import socket
 import sqlite3
 import subprocess
 import sys
-import tempfile
 import threading
 import time
+
+from harness import Program, Service, Wrong, bytes_of, said
 
 ORG, WS = "acme", "net"
 # The act of a request, as its line has it.
@@ -45,12 +45,6 @@ class Model:
 
     def seen(self):
         return self.state, self.holder, self.runs
-
-
-def free_port():
-    with socket.socket() as it:
-        it.bind(("127.0.0.1", 0))
-        return it.getsockname()[1]
 
 
 # How many connections the service has had.
@@ -77,24 +71,17 @@ def act_of(method, target):
 
 def told(path, first):
     """The acts, and the statuses of their replies, that the lines of a service tell behind so many connections."""
-    with open(path, "rb") as lines:
-        rows = [json.loads(line) for line in lines.read().split(b"\n")[1:-1]]
+    rows = [json.loads(line) for line in bytes_of(path).split(b"\n")[1:-1]]
     return [(row["act"], row["status"]) for row in rows if row["connection"] > first]
 
 
-def started(program, path, port, count, log):
+def started(program, path, log):
+    """A service whose lines go to the file `log`."""
     global made
-    made = 1
-    words = [program, "serve", "--db", path, "--port", str(port), "--count", str(count), "--log"]
-    with open(log, "wb") as lines:
-        service = subprocess.Popen(words, stdout=lines, stderr=subprocess.DEVNULL)
-    for _ in range(4000):
-        try:
-            socket.create_connection(("127.0.0.1", port), timeout=1).close()
-            return service
-        except OSError:
-            time.sleep(0.005)
-    sys.exit("the service never listened")
+    made = 0
+    service = Service(program, path, 1_000_000, "--log", lines=log, errors=subprocess.DEVNULL)
+    atexit.register(service.kill)
+    return service
 
 
 def requests(model, chance):
@@ -152,76 +139,77 @@ def sound(path, folder):
         sys.exit(f"SQLite's own library says {told}")
 
 
-def main():
-    program = os.path.abspath(sys.argv[1])
-    rounds = int(sys.argv[2]) if len(sys.argv) > 2 else 200
-    seed = int(sys.argv[3]) if len(sys.argv) > 3 else 1
-    chance = random.Random(seed)
+def look_at_kills(program, rounds, chance):
     acknowledged = under_way = applied = untold = 0
-    with tempfile.TemporaryDirectory() as folder:
-        path = folder + "/custody.db"
-        subprocess.run([program, "org-add", "--db", path, ORG], check=True, stdout=subprocess.DEVNULL)
-        for name, secret, role in (("root", ROOT, "admin"), ("ci", WRITER, "write")):
-            words = [program, "token-add", "--db", path, ORG, name, role]
-            subprocess.run(words, input=secret.encode() + b"\n", check=True, stdout=subprocess.DEVNULL)
-        port = free_port()
-        log = folder + "/log"
-        service = started(program, path, port, 1_000_000, log)
-        if ask(port, "PUT", f"/workspaces/{WS}", secret=ROOT)[0] != 200:
-            sys.exit("no workspace was made")
-        before, maybe = Model(), None
-        for at in range(rounds):
-            end = time.monotonic() + chance.random() * 0.15
-            killer = threading.Timer(max(end - time.monotonic(), 0), lambda: service.send_signal(signal.SIGKILL))
-            killer.start()
-            maybe, first, due = None, made, []
-            for method, target, body, after in requests(before, chance):
-                due.append((act_of(method, target), 200))
-                try:
-                    status, text = ask(port, method, target, body)
-                except (OSError, http.client.HTTPException):
-                    maybe = after
-                    under_way += 1
-                    break
-                if status != 200:
-                    sys.exit(f"round {at}: {method} {target} was answered {status} {text[:80]}")
-                acknowledged += 1
-                before = after
-            killer.join()
-            service.wait()
-            lines = told(log, first)
-            # (the last of these was under way)
-            if lines not in (due, due[:-1], due[:-2]):
-                sys.exit(f"round {at}: the log has {lines[-3:]} at its end, where {due[-3:]} were asked")
-            untold += len(lines) < len(due) - 1
-            done = lines == due
-            if at % 10 == 0:
-                sound(path, folder)
-            port = free_port()
-            service = started(program, path, port, 1_000_000, log)
-            seen, runs = looked_at(port)
-            if done and maybe and seen != maybe.seen():
-                sys.exit(f"round {at}: the log tells a change that wasn't made")
-            if maybe and seen == maybe.seen():
-                applied += seen != before.seen()
-                before = maybe
-            elif seen != before.seen():
-                sys.exit(f"round {at}: lost: {seen} where {before.seen()} was acknowledged")
-            # free what holds, so that the next round begins by a lock
-            if before.holder:
-                status, _ = ask(port, "UNLOCK", f"/state/{WS}", b"", secret=ROOT)
-                if status != 200:
-                    sys.exit(f"round {at}: the lock couldn't be freed: {status}")
-                before = before.copy()
-                before.holder = ""
-            for number in range(max(runs - 2, 1), runs + 1):
-                ask(port, "POST", f"/runs/{WS}/{number}/actions/unchanged")
-        service.send_signal(signal.SIGKILL)
-        service.wait()
-        sound(path, folder)
+    path, log = program.folder + "/custody.db", program.folder + "/log"
+    said("an organization", program.run(["org-add", "--db", path, ORG])[:2], (0, b"ok\n"))
+    for name, secret, role in (("root", ROOT, "admin"), ("ci", WRITER, "write")):
+        words = ["token-add", "--db", path, ORG, name, role]
+        said("a token", program.run(words, secret.encode() + b"\n")[:2], (0, b"ok\n"))
+    service = started(program, path, log)
+    if ask(service.port, "PUT", f"/workspaces/{WS}", secret=ROOT)[0] != 200:
+        sys.exit("no workspace was made")
+    before, maybe = Model(), None
+    for at in range(rounds):
+        end = time.monotonic() + chance.random() * 0.15
+        killer = threading.Timer(max(end - time.monotonic(), 0), service.process.kill)
+        killer.start()
+        maybe, first, due = None, made, []
+        for method, target, body, after in requests(before, chance):
+            due.append((act_of(method, target), 200))
+            try:
+                status, text = ask(service.port, method, target, body)
+            except (OSError, http.client.HTTPException):
+                maybe = after
+                under_way += 1
+                break
+            if status != 200:
+                sys.exit(f"round {at}: {method} {target} was answered {status} {text[:80]}")
+            acknowledged += 1
+            before = after
+        killer.join()
+        service.process.wait()
+        lines = told(log, first)
+        # (the last of these was under way)
+        if lines not in (due, due[:-1], due[:-2]):
+            sys.exit(f"round {at}: the log has {lines[-3:]} at its end, where {due[-3:]} were asked")
+        untold += len(lines) < len(due) - 1
+        done = lines == due
+        if at % 10 == 0:
+            sound(path, program.folder)
+        service = started(program, path, log)
+        seen, runs = looked_at(service.port)
+        if done and maybe and seen != maybe.seen():
+            sys.exit(f"round {at}: the log tells a change that wasn't made")
+        if maybe and seen == maybe.seen():
+            applied += seen != before.seen()
+            before = maybe
+        elif seen != before.seen():
+            sys.exit(f"round {at}: lost: {seen} where {before.seen()} was acknowledged")
+        # free what holds, so that the next round begins by a lock
+        if before.holder:
+            status, _ = ask(service.port, "UNLOCK", f"/state/{WS}", b"", secret=ROOT)
+            if status != 200:
+                sys.exit(f"round {at}: the lock couldn't be freed: {status}")
+            before = before.copy()
+            before.holder = ""
+        for number in range(max(runs - 2, 1), runs + 1):
+            ask(service.port, "POST", f"/runs/{WS}/{number}/actions/unchanged")
+    service.kill()
+    sound(path, program.folder)
     if acknowledged == 0:
         sys.exit(f"{rounds} kills, and no request was acknowledged: nothing is shown")
     print(f"{rounds} kills, {acknowledged} requests acknowledged and kept, {under_way} under way when the service was killed, {applied} of them applied; the last acknowledged has no line in {untold} rounds")
+
+
+def main():
+    rounds = int(sys.argv[2]) if len(sys.argv) > 2 else 200
+    seed = int(sys.argv[3]) if len(sys.argv) > 3 else 1
+    with Program(sys.argv[1]) as program:
+        try:
+            look_at_kills(program, rounds, random.Random(seed))
+        except Wrong as wrong:
+            sys.exit(str(wrong))
 
 
 if __name__ == "__main__":

@@ -14,21 +14,19 @@ script itself is too slow to tell what a refused peer sees at once, it is asked 
 """
 
 import contextlib
-import datetime
-import re
 import select
 import signal
 import socket
 import subprocess
 import sys
-import tempfile
 import time
 
-from program import MADE, Program, Wrong, free_port, reply, request, said
+import harness
+from harness import GET, MADE, PUT, READ_FAILED, SMALL_BUFFER, SOON, UNWRITTEN
+from harness import Program, Wrong, answered, moment_of, ok, post, received, reply, said, undated, wait_until
 
-# Seconds after which all looks together are held for hanging, and one peer or one service.
+# Seconds after which all looks together are held for hanging; for one peer or one service they are SOON.
 LIMIT = 120
-PATIENCE = 20
 
 # Seconds that a peer may let nothing through, or a connection may last, and those that aren't reached where the other is tried.
 IDLE = 2
@@ -56,9 +54,8 @@ SETTLED = 0.3
 # How often a service is stopped and goes on within one call that waits.
 STOPS = 3
 
-# A text that no buffers of a connection hold (what is sent has 4 MB at most), and the buffer of a peer that doesn't read.
+# A text that no buffers of a connection hold (what is sent has 4 MB at most).
 STATE = b'{"version":4,"serial":1,"lineage":"a1","x":"%s"}' % (b"links" * 1_600_000)
-SMALL_BUFFER = 4096
 
 # What a rude peer sends behind what is taken: less than is read of it, and more than a buffer holds that nobody reads. And more
 # than is read of it and all buffers hold: 8,192 reads have 33,554,432 bytes at most.
@@ -81,12 +78,7 @@ TRIES = 5
 HELD = MADE.replace(b'"version":null', b'"version":1')
 TOO_LARGE = reply(b"413 Payload Too Large", b'{"error":"too-large"}')
 
-GET = request(b"GET /v1/acme/state/net HTTP/1.1")
-PUT = request(b"PUT /v1/acme/workspaces/net HTTP/1.1")
-LONG_HEAD = request(b"POST /v1/acme/state/net HTTP/1.1").replace(b"\r\n\r\n", b"\r\nContent-Length: %d\r\n\r\n" % TOO_MUCH)
-DATE = re.compile(rb"\r\nDate: ([A-Z][a-z]{2}, \d\d [A-Z][a-z]{2} \d{4} \d\d:\d\d:\d\d GMT)\r\n")
-READ_FAILED = b"custody: connection %d: a read failed\n"
-UNWRITTEN = b"custody: connection %d: the reply could not be written whole\n"
+LONG_HEAD = post(b"").replace(b"\r\n\r\n", b"\r\nContent-Length: %d\r\n\r\n" % TOO_MUCH)
 
 
 # ----------------------------------------------------------------------------------------------------
@@ -94,40 +86,13 @@ UNWRITTEN = b"custody: connection %d: the reply could not be written whole\n"
 # ----------------------------------------------------------------------------------------------------
 
 
-class Service:
-    """A service over 127.0.0.1, which ends by its count."""
+class Service(harness.Service):
+    """A service over the file of these looks, whose peers leave behind it. It can be stopped, and goes on."""
+
+    patience, stays = SOON, True
 
     def __init__(self, program, count, *words, port=None):
-        self.port = port or free_port()
-        words = ["serve", "--db", "t.db", "--port", str(self.port), "--count", str(count), *words]
-        self.process = program.start(words, subprocess.DEVNULL)
-        said("the line of a service", self.process.stdout.readline(), b"listening 127.0.0.1:%d\n" % self.port)
-
-    def __enter__(self):
-        return self
-
-    def __exit__(self, *_):
-        self.process.kill()
-        self.process.wait()
-
-    def peer(self, buffer=None):
-        """A connection to it; of a peer that reads little with a small buffer."""
-        stream = socket.socket()
-        stream.settimeout(PATIENCE)
-        if buffer:
-            stream.setsockopt(socket.SOL_SOCKET, socket.SO_RCVBUF, buffer)
-        stream.connect(("127.0.0.1", self.port))
-        return stream
-
-    def asked(self, sent):
-        with self.peer() as stream:
-            stream.sendall(sent)
-            return received(stream)
-
-    def ends(self, errors=b"", lines=0):
-        """It ends by its count, with so many lines of its log that weren't read yet."""
-        output, told = self.process.communicate(timeout=PATIENCE)
-        said("a service behind its count", (self.process.returncode, output.count(b"\n"), told), (0, lines, errors))
+        super().__init__(program, "t.db", count, *words, port=port)
 
     def state(self):
         """The letter of the process: T where it is stopped."""
@@ -137,40 +102,9 @@ class Service:
     def stop_and_go(self):
         """It is stopped, and goes on: a call of the system that waits with a timeout is interrupted by that."""
         self.process.send_signal(signal.SIGSTOP)
-        wait_until(lambda: self.state() == "T")
+        wait_until(lambda: self.state() == "T", "a service doesn't stop")
         self.process.send_signal(signal.SIGCONT)
-        wait_until(lambda: self.state() != "T")
-
-
-def wait_until(holds):
-    end = time.monotonic() + PATIENCE
-    while not holds():
-        if time.monotonic() > end:
-            raise Wrong("a service doesn't stop, or doesn't go on")
-        time.sleep(0.005)
-
-
-def received(stream):
-    """What comes up to the end of the connection. One that is reset has no end."""
-    came = b""
-    while True:
-        piece = stream.recv(1 << 20)
-        if not piece:
-            return came
-        came += piece
-
-
-def undated(came):
-    return DATE.sub(b"\r\nDate: DATE\r\n", came, count=1)
-
-
-def moment_of(came):
-    """The moment that a reply tells, in seconds since 1970."""
-    found = DATE.search(came)
-    if not found:
-        raise Wrong("no date: %s" % came[:200])
-    told = datetime.datetime.strptime(found.group(1).decode(), "%a, %d %b %Y %H:%M:%S GMT")
-    return int(told.replace(tzinfo=datetime.timezone.utc).timestamp())
+        wait_until(lambda: self.state() != "T", "a service doesn't go on")
 
 
 def is_cut_off(stream, seconds):
@@ -224,15 +158,15 @@ def look_at_address(program):
     with socket.socket() as every:
         every.bind(("0.0.0.0", 0))
         every.listen()
-        socket.create_connection(("127.0.0.2", every.getsockname()[1]), PATIENCE).close()
+        socket.create_connection(("127.0.0.2", every.getsockname()[1]), SOON).close()
     with Service(program, 1) as service:
         try:
-            socket.create_connection(("127.0.0.2", service.port), PATIENCE).close()
+            socket.create_connection(("127.0.0.2", service.port), SOON).close()
         except ConnectionRefusedError:
             pass
         else:
             raise Wrong("a connection to 127.0.0.2 is accepted")
-        said("a reply at 127.0.0.1", undated(service.asked(PUT)), reply(b"200 OK", HELD))
+        said("a reply at 127.0.0.1", service.asked(PUT), ok(HELD))
         service.ends()
     print("right: a connection to another address of the machine is refused")
 
@@ -242,7 +176,7 @@ def look_at_clock(program):
     with Service(program, 2) as service:
         for _ in range(2):
             before = int(time.time())
-            told = moment_of(service.asked(GET))
+            told = moment_of(answered(service.port, GET, stays=True, patience=SOON))
             after = int(time.time())
             if not before <= told <= after:
                 raise Wrong("the moment %d is told between %d and %d" % (told, before, after))
@@ -254,12 +188,12 @@ def look_at_clock(program):
 def look_at_rude_peers(program):
     """A peer that sends more than is taken, and then reads to the end, gets its whole reply. One that sends without end is cut off."""
     with Service(program, 3) as service:
-        for what, sent, due in [("a body that is too large", LONG_HEAD, TOO_LARGE), ("bytes behind a request", PUT, reply(b"200 OK", HELD))]:
+        for what, sent, due in [("a body that is too large", LONG_HEAD, TOO_LARGE), ("bytes behind a request", PUT, ok(HELD))]:
             try:
                 came = service.asked(sent + REST)
             except ConnectionError as error:
                 raise Wrong("%s: the reply doesn't come whole: %s" % (what, error)) from None
-            said(what, undated(came), due)
+            said(what, came, due)
             print("right: %s: the whole reply is read" % what)
         with service.peer() as peer:
             peer.sendall(LONG_HEAD)
@@ -289,8 +223,7 @@ def peers_last(program, what, sent, due, they_stay):
 
 def look_at_staying_peers(program):
     """A peer whose request was read whole holds up nobody, though it stays: it lasts about as long as where each leaves."""
-    post = request(b"POST /v1/acme/state/net HTTP/1.1", STATE)
-    for what, sent, due in [("a GET", GET, reply(b"200 OK", STATE)), ("a POST", post, reply(b"200 OK", b""))]:
+    for what, sent, due in [("a GET", GET, ok(STATE)), ("a POST", post(STATE), ok())]:
         left = stayed = FAR
         for _ in range(TRIES):
             left = min(left, peers_last(program, what, sent, due, False))
@@ -315,9 +248,9 @@ def look_at_idle(program):
             for piece in range(PIECES):
                 peer.sendall(GET[len(GET) * piece // PIECES : len(GET) * (piece + 1) // PIECES])
                 time.sleep(PAUSE)
-            said("a peer that pauses", undated(received(peer)) == reply(b"200 OK", STATE), True)
+            said("a peer that pauses", undated(received(peer)) == ok(STATE), True)
         print("right: a peer that pauses for less is served")
-        service.ends(READ_FAILED % 1 + READ_FAILED % 2)
+        service.ends(errors=READ_FAILED % 1 + READ_FAILED % 2)
 
 
 def cut_off_at_reply(program, what, idle, most, due, act, **how):
@@ -329,8 +262,8 @@ def cut_off_at_reply(program, what, idle, most, due, act, **how):
             later.sendall(PUT)
             served_behind(what, later, begun, due, lambda: act(service, peer), **how)
             # (a reply that its peer leaves isn't written whole either)
-            said("the one behind it", undated(received(later)) == reply(b"200 OK", HELD), True)
-        service.ends(UNWRITTEN % 1)
+            said("the one behind it", undated(received(later)) == ok(HELD), True)
+        service.ends(errors=UNWRITTEN % 1)
 
 
 def look_at_unread(program):
@@ -353,7 +286,7 @@ def look_at_most(program):
         begun = time.monotonic()
         with service.peer() as peer:
             cut_off("a peer that says nothing, in the time of its connection,", peer, begun, MOST)
-        service.ends(READ_FAILED % 1 + READ_FAILED % 2)
+        service.ends(errors=READ_FAILED % 1 + READ_FAILED % 2)
 
 
 def look_at_lingering(program):
@@ -364,7 +297,7 @@ def look_at_lingering(program):
             peer.sendall(LONG_HEAD)
             later.sendall(PUT)
             served_behind("a peer that trickles behind its 413", later, begun, MOST, lambda: trickle(peer))
-            said("the one behind it", undated(received(later)) == reply(b"200 OK", HELD), True)
+            said("the one behind it", undated(received(later)) == ok(HELD), True)
         service.ends()
 
 
@@ -395,8 +328,9 @@ def look_at_refused_peer(program):
                 peer.sendall(LONG_HEAD)
                 later.sendall(PUT)
                 if is_told_at_once(service, peer, later, begun):
-                    said("the one behind it", undated(received(later)) == reply(b"200 OK", HELD), True)
-                    service.ends(lines=1)
+                    said("the one behind it", undated(received(later)) == ok(HELD), True)
+                    status, output, errors = service.left()
+                    said("a service behind its count", (status, output.count(b"\n"), errors), (0, 1, b""))
                     print("right: it has its reply to its end, and its line in the log, before that")
                     return
     raise Wrong("the end of a refused peer's reply, or its line in the log, comes once it isn't waited for any more")
@@ -405,10 +339,10 @@ def look_at_refused_peer(program):
 def look_at_again(program):
     """A service that ended is started again at its port at once, though connections that it closed aren't forgotten yet."""
     with Service(program, 1) as first:
-        said("a service", undated(first.asked(GET)) == reply(b"200 OK", STATE), True)
+        said("a service", first.asked(GET) == ok(STATE), True)
         first.ends()
     with Service(program, 1, port=first.port) as second:
-        said("the next one at its port", undated(second.asked(GET)) == reply(b"200 OK", STATE), True)
+        said("the next one at its port", second.asked(GET) == ok(STATE), True)
         second.ends()
     print("right: a service is started again at its port at once")
 
@@ -430,14 +364,14 @@ def look_at_stops(program):
                 time.sleep(SETTLED)
                 service.stop_and_go()
                 peer.sendall(GET[len(GET) * (piece + 1) // STOPS - 1 : len(GET) * (piece + 1) // STOPS])
-            said("a request that comes around stops", undated(received(peer)) == reply(b"200 OK", STATE), True)
+            said("a request that comes around stops", undated(received(peer)) == ok(STATE), True)
         print("right: a service that is stopped while a request comes answers it")
         with service.peer(SMALL_BUFFER) as peer:
             peer.sendall(GET)
             for _ in range(STOPS):
                 time.sleep(SETTLED)
                 service.stop_and_go()
-            said("a reply that goes out around stops", undated(received(peer)) == reply(b"200 OK", STATE), True)
+            said("a reply that goes out around stops", undated(received(peer)) == ok(STATE), True)
         print("right: and one that is stopped while a reply goes out writes it whole")
         service.ends()
 
@@ -463,9 +397,8 @@ def fill(program):
     added = program.run(["token-add", "--db", "t.db", "acme", "root", "admin"], b"adminadminadmin1\n")
     said("a token", added, (0, b"ok\n", b""))
     with Service(program, 2) as service:
-        said("a workspace is made", undated(service.asked(PUT)), reply(b"200 OK", MADE))
-        posted = service.asked(request(b"POST /v1/acme/state/net HTTP/1.1", STATE))
-        said("a state is posted", undated(posted), reply(b"200 OK", b""))
+        said("a workspace is made", service.asked(PUT), ok(MADE))
+        said("a state is posted", service.asked(post(STATE)), ok())
         service.ends()
 
 
@@ -478,8 +411,8 @@ def main(words):
         sys.exit(__doc__)
     signal.signal(signal.SIGALRM, too_long)
     signal.alarm(LIMIT)
-    with tempfile.TemporaryDirectory() as folder:
-        program, word = Program(words[0], folder), "begin"
+    with Program(words[0]) as program:
+        word = "begin"
         try:
             fill(program)
             for word, look in LOOKS.items():

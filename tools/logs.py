@@ -19,23 +19,18 @@ import json
 import os
 import re
 import shutil
-import socket
 import sqlite3
-import struct
-import subprocess
 import sys
 import time
 
 import history
 import logged
 import stories
-from files import SMALL_FILES, Service
-from links import READ_FAILED, SMALL_BUFFER, UNWRITTEN, moment_of, received, undated, wait_until
+from harness import ANSWERED_503, DOWN, LEFT_EARLY, NEW_FILE, PATIENCE, READ_FAILED, SMALL_BUFFER, SMALL_FILES, UNLOGGED, UNPRINTED, UNWRITTEN
+from harness import Service, Wrong, answered, bytes_of, closed_pipe, connected, free_port, look_at, moment_of, received, said, undated, wait_until
 from logged import ask, line_of, row_of
-from program import ANSWERED_503, DOWN, LEFT_EARLY, NEW_FILE, PATIENCE, UNPRINTED, Wrong, closed_pipe, free_port, look_at, said
 
 CONTINUE_UNWRITTEN = b"custody: connection %d: 100 Continue could not be written\n"
-UNLOGGED = b"custody: the exchange log could not be written, so nothing more is answered\n"
 NOT_ACCEPTED = "custody: a connection could not be accepted"
 LISTENING = "listening 127.0.0.1:8090"
 
@@ -309,14 +304,6 @@ def now():
     return int(time.time())
 
 
-def answered(port, sent):
-    """What a peer gets that sends these bytes and no more, with its date."""
-    with socket.create_connection(("127.0.0.1", port), PATIENCE) as stream:
-        stream.sendall(sent)
-        stream.shutdown(socket.SHUT_WR)
-        return received(stream)
-
-
 def like(reply):
     """A reply, with the same moment wherever a run or a version was made."""
     front, created, rest = reply.partition(b'"created":')
@@ -339,12 +326,9 @@ def exchange(port, custody, sent, due_reply=None):
 
 def served(program, path, what, custody, reader, requests):
     """A service with `--log` over a file answers these, with what a story says is due where it says so; then its lines are looked at."""
-    service = Service(program, path, len(requests), "--log")
-    try:
+    with Service(program, path, len(requests), "--log") as service:
         dues = [exchange(service.port, custody, sent, due) for sent, due in requests]
         status, output, errors = service.left()
-    finally:
-        service.kill()
     left = b"".join(LEFT_EARLY % place for place, due in enumerate(dues, 1) if due.end == "ended")
     said("how a service ends, with %s" % what, (status, errors), (0, left))
     look_at_lines(what, output, dues, reader)
@@ -414,10 +398,8 @@ def look_at_history(program):
 
 def reset(port, sent):
     """A peer that sends these bytes, and resets its connection."""
-    stream = socket.create_connection(("127.0.0.1", port), PATIENCE)
-    stream.sendall(sent)
-    stream.setsockopt(socket.SOL_SOCKET, socket.SO_LINGER, struct.pack("ii", 1, 0))
-    stream.close()
+    with connected(port, resets=True) as stream:
+        stream.sendall(sent)
 
 
 # Peers that have reset their connection before it is accepted, and how each ends: what it sent is read.
@@ -446,13 +428,10 @@ def due_of(custody, end, sent, first):
 def look_at_broken(program, path, custody, reader, send, each, *further):
     """A service whose links break as `send` has it, and give these lines; what was done is told, and what each fault is."""
     first = now()
-    service = Service(program, path, len(each), "--log", *further)
-    try:
+    with Service(program, path, len(each), "--log", *further) as service:
         send(service.port)
         dues = [due_of(custody, end, sent, first) for sent, end in each]
         status, output, errors = service.left()
-    finally:
-        service.kill()
     faults = b"".join(TOLD[due.end] % place for place, due in enumerate(dues, 1) if due.end != "ok")
     said("how a service ends whose links broke", (status, errors), (0, faults))
     look_at_lines("links that break", output, dues, reader)
@@ -462,7 +441,7 @@ def look_at_broken(program, path, custody, reader, send, each, *further):
 
 def send_and_reset(port):
     """Peers that reset their connection while another is waited for."""
-    with socket.create_connection(("127.0.0.1", port), PATIENCE) as waited:
+    with connected(port) as waited:
         waited.sendall(GET[:10])
         for sent, _ in RESET:
             reset(port, sent)
@@ -472,9 +451,7 @@ def send_and_reset(port):
 
 def send_and_wait(port):
     """A peer that doesn't read, and one behind it that does."""
-    with socket.socket() as deaf:
-        deaf.setsockopt(socket.SOL_SOCKET, socket.SO_RCVBUF, SMALL_BUFFER)
-        deaf.connect(("127.0.0.1", port))
+    with connected(port, buffer=SMALL_BUFFER) as deaf:
         deaf.sendall(GET_BIG)
         answered(port, GET)
 
@@ -491,16 +468,13 @@ def look_at_full(program):
     """A change for which there is no room: its line has the 503, and names what was asked, and no version."""
     custody, reader = begun(program, "full.db", logged.OPERATED)
     served(program, "full.db", "a state", custody, reader, [(ask("A", "PUT", "workspaces/net"), None), (logged.POST, None)])
-    service = Service(program, "full.db", 3, "--log", under=SMALL_FILES)
-    try:
+    with Service(program, "full.db", 3, "--log", under=SMALL_FILES) as service:
         dues = [exchange(service.port, custody, GET)]
         first = now()
         said("a change without room", undated(answered(service.port, ask("W", "POST", "state/net", logged.state(2)))), DOWN)
         asked = {"act": "update state", "organization": "acme", "workspace": "net", "token": "ci"}
         dues += [Due("ok", row_of(first, status=503, refusal="down", **asked), first, now()), exchange(service.port, custody, GET)]
         status, output, errors = service.left()
-    finally:
-        service.kill()
     said("how a service without room ends", (status, errors.startswith(ANSWERED_503 % 2)), (0, True))
     look_at_lines("a disk without room", output, dues, reader)
     look_at_tables(program, "full.db", reader)
@@ -510,13 +484,10 @@ def look_at_full(program):
 def look_at_silence(program):
     """Without `--log` the first line is all."""
     custody, _ = begun(program, "silent.db", logged.OPERATED)
-    service = Service(program, "silent.db", len(logged.ACTS))
-    try:
+    with Service(program, "silent.db", len(logged.ACTS)) as service:
         for sent in logged.ACTS:
             exchange(service.port, custody, sent)
         service.ends()
-    finally:
-        service.kill()
     print("right: without --log nothing more is printed")
 
 
@@ -532,16 +503,13 @@ def look_at_closed(program):
     """Nobody reads standard output any more: the next exchange is the last."""
     custody, reader = begun(program, "closed.db", logged.OPERATED)
     served(program, "closed.db", "a workspace", custody, reader, [(ask("A", "PUT", "workspaces/net"), None)])
-    service = Service(program, "closed.db", 4, "--log")
-    try:
+    with Service(program, "closed.db", 4, "--log") as service:
         due = exchange(service.port, custody, logged.POST)
         look_at_lines("a pipe", service.process.stdout.readline(), [due], reader)
         service.process.stdout.close()
         exchange(service.port, custody, GET)
         said("whether a further connection is refused", is_refused(service.port), True)
         said("how a service ends whose log nobody reads", (service.process.wait(PATIENCE), service.process.stderr.read()), (3, UNLOGGED + UNPRINTED))
-    finally:
-        service.kill()
     look_at_tables(program, "closed.db", reader)
     with closed_pipe() as pipe, open("/dev/full", "wb") as full:
         for output in (pipe, full):
@@ -554,32 +522,19 @@ def look_at_filled(program):
     """A file that takes no more ends within a line: those before it are whole."""
     custody, reader = begun(program, "filled.db", logged.OPERATED)
     served(program, "filled.db", "a workspace", custody, reader, [(ask("A", "PUT", "workspaces/net"), None)])
-    port, path = free_port(), program.folder + "/lines"
-    words = ["serve", "--db", "filled.db", "--port", str(port), "--count", str(MANY), "--log"]
-    first, dues = now(), []
-    with open(path, "wb") as lines:
-        process = program.start(words, subprocess.DEVNULL, lines, under=SMALL_FILES)
-    try:
-        wait_until(lambda: os.path.getsize(path))
+    first, path, dues = now(), program.folder + "/lines", []
+    with Service(program, "filled.db", MANY, "--log", lines=path, under=SMALL_FILES) as service:
         while os.path.getsize(path) < MOST_PRINTED:
-            dues.append(exchange(port, custody, GET))
-            wait_until(lambda: printed(path).count(b"\n") > len(dues) or os.path.getsize(path) >= MOST_PRINTED)
-        said("whether a further connection is refused", is_refused(port), True)
-        said("how a service ends whose log is full", (process.wait(PATIENCE), process.stderr.read()), (3, UNLOGGED + UNPRINTED))
-    finally:
-        process.kill()
-        process.wait()
-    *lines, front = printed(path).splitlines(keepends=True)
-    said("the first line", lines[0], b"listening 127.0.0.1:%d\n" % port)
+            dues.append(exchange(service.port, custody, GET))
+            wait_until(lambda: bytes_of(path).count(b"\n") > len(dues) or os.path.getsize(path) >= MOST_PRINTED, "a line isn't printed")
+        said("whether a further connection is refused", is_refused(service.port), True)
+        said("how a service ends whose log is full", (service.process.wait(PATIENCE), service.process.stderr.read()), (3, UNLOGGED + UNPRINTED))
+    *lines, front = bytes_of(path).splitlines(keepends=True)
+    said("the first line", lines[0], b"listening 127.0.0.1:%d\n" % service.port)
     look_at_lines("a full file", b"".join(lines[1:]), dues[:-1], reader)
     whole = [line_of(len(dues), dues[-1].end, {**dues[-1].row, "at": at}) for at in range(first, now() + 1)]
     said("whether a front of the next line stands there", any(line.startswith(front) and line != front for line in whole), True)
     print("right: a log that is full has %d whole lines and a front of the next, and the service ends with status 3" % len(lines[1:]))
-
-
-def printed(path):
-    with open(path, "rb") as file:
-        return file.read()
 
 
 LOOKS = [

@@ -27,13 +27,11 @@ import os
 import re
 import shutil
 import sqlite3
-import sys
 import tempfile
 
 import refusals
 import stories
-from files import IN_USE, LOG_ALONE, Service
-from program import NEW_FILE, Program, Wrong, compiled, exchanged, request, said
+from harness import DISK, IN_USE, LOG_ALONE, LOG_STAYS, NEW_FILE, UNFINISHED, Service, Wrong, bytes_of, compiled, look_at, request, said
 
 STORY = "a long history of two organizations that share texts"
 # How many requests stand between two files that are taken.
@@ -41,9 +39,8 @@ STRIDE = 10
 TOKEN = re.compile(rb"\r\nAuthorization: Bearer ([a-z0-9-]+)\.")
 CREATED = re.compile(rb'"created":(\d+)')
 KILLED = -9
-# (a file that memory didn't suffice to look at may be the one that is open: no other is opened then)
-UNSEEN = b"custody: the disk or the system refused\n"
-CAUSES = [*refusals.CAUSES, UNSEEN, b"custody: memory or a store refused before all was copied: delete the new file, and start again\n"]
+# (a file that memory didn't suffice to look at may be the one that is open: no other is opened then, and the system is said to refuse)
+CAUSES = [*refusals.CAUSES, DISK, UNFINISHED]
 # A page of a text whose uses are counted once more leaves the file's pages that its bytes were in; the next one takes them.
 MOST_FREE = 4
 # The tables, each with the column that names the organization; of a text its pages, with their bytes.
@@ -91,9 +88,7 @@ def look_at_form(what, path):
         said("pages of other uses in " + what, conn.execute(uses).fetchall(), [(0,)])
         ((free,),) = conn.execute("PRAGMA freelist_count")
     conn.close()
-    with open(path, "rb") as file:
-        head = file.read(100)
-    said("the bytes that each page keeps for its sum in " + what, head[20], 8)
+    said("the bytes that each page keeps for its sum in " + what, bytes_of(path)[20], 8)
     return free
 
 
@@ -115,13 +110,10 @@ def begin(program, path, words):
 
 
 def ask(program, path, requests):
-    service = Service(program, path, len(requests)) if requests else None
-    try:
-        replies = [exchanged(service.port, sent) for _, sent in requests]
-    except BaseException:
-        service.kill()
-        raise
-    if service:
+    if not requests:
+        return []
+    with Service(program, path, len(requests)) as service:
+        replies = [service.asked(sent) for _, sent in requests]
         service.ends()
     return replies
 
@@ -131,22 +123,22 @@ def small(program):
     words, requests = asked()
     path = program.folder + "/small.db"
     begin(program, path, [*words, "token-add --until 4000000000 --prefix ne acme ends write endsendsendsends"])
-    lock = b'{"ID":"held"}'
     texts = [b'{"serial":%d,"x":"%s"}' % (serial, b"x" * 20000) for serial in (1, 2)]
-    sent = [request(b"PUT /v1/acme/workspaces/%s HTTP/1.1" % name) for name in (b"net", b"app", b"old")]
-    sent += [request(b"POST /v1/acme/state/net HTTP/1.1", text) for text in texts]
-    sent += [request(b"LOCK /v1/acme/state/net HTTP/1.1", lock), request(b"UNLOCK /v1/acme/state/net HTTP/1.1", lock)]
-    sent += [request(b"POST /v1/acme/runs/app HTTP/1.1"), request(b"POST /v1/acme/runs/app/1/actions/fail HTTP/1.1"), request(b"POST /v1/acme/runs/app HTTP/1.1")]
-    sent += [request(b"POST /v1/acme/state/old HTTP/1.1", texts[0]), request(b"DELETE /v1/acme/state/old HTTP/1.1")]
-    sent += [request(b"LOCK /v1/acme/state/net HTTP/1.1", b'{"ID":"x9"}')]
-    for one, came in zip(sent, ask(program, path, [(b"acme", one.replace(b"adminadminadmin1", secret_of(words))) for one in sent])):
+    acts = [(b"PUT", b"workspaces/" + name, b"") for name in (b"net", b"app", b"old")]
+    acts += [(b"POST", b"state/net", text) for text in texts]
+    acts += [(method, b"state/net", b'{"ID":"held"}') for method in (b"LOCK", b"UNLOCK")]
+    acts += [(b"POST", b"runs/" + run, b"") for run in (b"app", b"app/1/actions/fail", b"app")]
+    acts += [(b"POST", b"state/old", texts[0]), (b"DELETE", b"state/old", b""), (b"LOCK", b"state/net", b'{"ID":"x9"}')]
+    sent = [by_admin(words, *act) for act in acts]
+    for one, came in zip(sent, ask(program, path, [(b"acme", one) for one in sent])):
         said("the reply to %s" % one[:60], came[:12], b"HTTP/1.1 200")
     return path
 
 
-def secret_of(words):
-    """The secret of an admin of acme."""
-    return next(line.split(" ")[4].encode() for line in words if line.startswith("token-add acme") and line.split(" ")[3] == "admin")
+def by_admin(words, method, path, body=b""):
+    """A request by an admin of acme, whom these words add."""
+    secret = next(line.split(" ")[4].encode() for line in words if line.startswith("token-add acme") and line.split(" ")[3] == "admin")
+    return request(b"%s /v1/acme/%s HTTP/1.1" % (method, path), body, b"acme." + secret)
 
 
 def masked(reply):
@@ -233,7 +225,7 @@ def look_at_targets(program, path):
     program.is_due("all are copied to a new file", compact, 0, b"ok\n", NEW_FILE)
     said("what it has", all_rows(new), first)
     words, _ = asked()
-    (came,) = ask(program, old, [(b"acme", request(b"PUT /v1/acme/workspaces/late HTTP/1.1").replace(b"adminadminadmin1", secret_of(words)))])
+    (came,) = ask(program, old, [(b"acme", by_admin(words, b"PUT", b"workspaces/late"))])
     said("a change behind it", came[:12], b"HTTP/1.1 200")
     program.is_due("a token is revoked", ["token-revoke", "--db", old, "acme", "ends"], 0, b"ok\n")
     program.is_due("an organization is removed", ["org-remove", "--db", old, "--force", "beta"], 0, b"ok\n")
@@ -346,9 +338,8 @@ def has_tables(path):
     """Whether a file has our tables: one that is being made has another first byte until it is whole."""
     if not os.path.exists(path):
         return False
-    with open(path, "rb") as file:
-        if file.read(16) != b"SQLite format 3\0":
-            return False
+    if not bytes_of(path).startswith(b"SQLite format 3\0"):
+        return False
     with opened(path) as conn:
         found = conn.execute("SELECT count(*) FROM sqlite_schema WHERE name = 'keeping'").fetchall()
     conn.close()
@@ -385,10 +376,10 @@ class Refused:
     def judge(self, status, out, errors):
         is_right = (status, out) == (0, b"ok\n")
         if not is_right and (status, out) != refusals.REFUSED:
-            raise refusals.Wrong("status %d, %s, %s" % (status, out, errors))
-        told = [line for line in errors.splitlines(True) if line not in (NEW_FILE, refusals.LOG_STAYS)]
+            raise Wrong("status %d, %s, %s" % (status, out, errors))
+        told = [line for line in errors.splitlines(True) if line not in (NEW_FILE, LOG_STAYS)]
         if len(told) != (0 if is_right else 1) or not all(refusals.is_cause(line, CAUSES) for line in told):
-            raise refusals.Wrong("after %s the error stream has %s" % (out, errors))
+            raise Wrong("after %s the error stream has %s" % (out, errors))
         found = self.files.bytes()
         if (is_right, found) not in self.good:
             self.look_at(is_right, found)
@@ -401,21 +392,18 @@ class Refused:
             left, came = self.files.copied(room, found)
             is_due = came == self.whole if is_right else all(self.before[org] == rows for org, rows in came.items())
             if left != self.before or not is_due or not is_right and self.is_one and came:
-                raise refusals.Wrong("the files have %s and %s" % (list(left), list(came)))
+                raise Wrong("the files have %s and %s" % (list(left), list(came)))
             if not is_right and came and not self.is_one:
                 if self.program.run(self.words, under=["env", "-C", room])[:2] != (1, b"refused exists\n"):
-                    raise refusals.Wrong("it goes on where an organization was copied")
+                    raise Wrong("it goes on where an organization was copied")
                 forget(room + "/to.db")
             if not is_right and self.program.run(self.words, under=["env", "-C", room])[:2] != (0, b"ok\n"):
-                raise refusals.Wrong("it isn't done again with memory")
+                raise Wrong("it isn't done again with memory")
 
     def refuse_each(self, library, counts):
         """Refuses each request for memory in turn, and gives how many there were."""
-        try:
-            with refusals.Program(library, "request", [self.program.path, *self.words], self.files.folder) as run:
-                return refusals.refuse_run(run, counts, self.judge, self.files)
-        except refusals.Wrong as wrong:
-            raise Wrong(wrong)
+        with refusals.Program(library, "request", [self.program.path, *self.words], self.files.folder) as run:
+            return refusals.refuse_run(run, counts, self.judge, self.files)
 
 
 def look_at_memory(program, path):
@@ -441,12 +429,9 @@ def look_at_lone_logs(program, path):
                     file.write(content)
 
             def judge(status, out, errors):
-                found = {}
-                for name in os.listdir(folder + "/there"):
-                    with open("%s/there/%s" % (folder, name), "rb") as file:
-                        found[name] = file.read()
+                found = {name: bytes_of("%s/there/%s" % (folder, name)) for name in os.listdir(folder + "/there")}
                 if (status, out) != refusals.REFUSED or found != due:
-                    raise refusals.Wrong("status %d, %s, %s, and there are %s" % (status, out, errors, {name: len(content) for name, content in found.items()}))
+                    raise Wrong("status %d, %s, %s, and there are %s" % (status, out, errors, {name: len(content) for name, content in found.items()}))
                 return errors == LOG_ALONE
 
             source = refusals.File(folder)
@@ -454,30 +439,18 @@ def look_at_lone_logs(program, path):
             try:
                 with refusals.Program(library, "request", [program.path, *words], folder) as run:
                     many = refusals.refuse_run(run, counts, judge, source)
-            except refusals.Wrong as wrong:
+            except Wrong as wrong:
                 raise Wrong("%s: %s" % (words[0], wrong)) from None
         print("right: %s beside a log behind a link to an empty file, with each of %d requests for memory refused" % (words[0], many))
 
 
-def main():
-    if len(sys.argv) != 2:
-        sys.exit(__doc__)
-    with tempfile.TemporaryDirectory() as folder:
-        program = Program(sys.argv[1], folder)
-        try:
-            path = look_at_history(program)
-            look_at_words(program, path)
-            some = small(program)
-            look_at_targets(program, some)
-            look_at_removals(program, some)
-            look_at_kills(program, some)
-            look_at_killed_removals(program, some)
-            look_at_memory(program, some)
-            look_at_lone_logs(program, some)
-        except Wrong as wrong:
-            print("WRONG:", wrong)
-            sys.exit(1)
+def look_at_all(program):
+    path = look_at_history(program)
+    look_at_words(program, path)
+    some = small(program)
+    for look in (look_at_targets, look_at_removals, look_at_kills, look_at_killed_removals, look_at_memory, look_at_lone_logs):
+        look(program, some)
 
 
 if __name__ == "__main__":
-    main()
+    look_at(__doc__, look_at_all)

@@ -24,7 +24,6 @@ import re
 import select
 import shutil
 import signal
-import socket
 import sqlite3
 import subprocess
 import sys
@@ -32,10 +31,8 @@ import tempfile
 
 import logged
 import stories
-from logs import UNLOGGED
-from program import ANSWERED_503, LOG_STAYS, NEW_FILE, compiled
+from harness import ANSWERED_503, HERE, LOG_STAYS, NEW_FILE, UNCHANGED, UNLOGGED, UNREAD, Wrong, answered, compiled
 
-HERE = os.path.dirname(os.path.abspath(__file__))
 TEXT = HERE + "/refusals.txt"
 # Seconds after which a program that says nothing is held for hanging.
 PATIENCE = 300
@@ -60,8 +57,8 @@ REFUSED = (3, b"refused down\n")
 CAUSES = [
     b"custody: memory was refused\n",
     b"custody: memory was refused to open the file of [0-9]+ bytes\n",
-    b"custody: memory or the store refused, and no record changed\n",
-    b"custody: the input can't be read, or memory was refused\n",
+    UNCHANGED,
+    UNREAD,
 ]
 
 # The stories whose requests are sent to a service with `--log` too.
@@ -102,10 +99,6 @@ TOLD = """
 """
 COLUMNS = {"org": "*", "token": "*", "bound": "*", "ws": "*", "keeping": "*", "version": "org, ws, number, serial, lineage, created", "run": "*"}
 PAGE = 16384
-
-
-class Wrong(Exception):
-    """What no run may do."""
 
 
 def is_cause(line, causes=CAUSES):
@@ -336,19 +329,8 @@ def is_over(met, is_right):
 
 
 def exchanged(port, sent):
-    """What a request gets."""
-    came = b""
-    with socket.socket() as stream:
-        stream.settimeout(PATIENCE)
-        stream.connect(("127.0.0.1", port))
-        # The end is a reset, after which the system keeps nothing of the connection.
-        stream.setsockopt(socket.SOL_SOCKET, socket.SO_LINGER, b"\1\0\0\0\0\0\0\0")
-        stream.sendall(sent)
-        while True:
-            piece = stream.recv(65536)
-            if not piece:
-                return came
-            came += piece
+    """What a request gets. The connection ends by a reset, after which the system keeps nothing of it."""
+    return answered(port, sent, stays=True, patience=PATIENCE, resets=True)
 
 
 class Asked:

@@ -25,9 +25,8 @@ import sys
 import tempfile
 
 import refusals
-from program import compiled
+from harness import HERE, compiled
 
-HERE = os.path.dirname(os.path.abspath(__file__))
 DATA = os.path.join(HERE, "..", "crates", "stories", "data")
 
 # Texts that don't read: the line that is told, and why.

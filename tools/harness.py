@@ -1,0 +1,306 @@
+#!/usr/bin/env python3
+"""Shared by the scripts that test the program `custody`: the program in a temporary folder, services, ports and requests.
+
+    python3 tools/harness.py    prints a free port
+
+A script passes its checks to `look_at`. `Program` runs a command, `Service` starts `serve`, and `Service.asked` sends one request on
+a connection of its own. `said` compares what came with what is due, and raises `Wrong` if they differ: then `look_at` prints both
+and ends the script with status 1.
+"""
+
+import contextlib
+import datetime
+import os
+import random
+import re
+import shutil
+import socket
+import sqlite3
+import struct
+import subprocess
+import sys
+import tempfile
+import time
+
+HERE = os.path.dirname(os.path.abspath(__file__))
+
+# Seconds after which a silent program or peer counts as hanging; and the same of what the scripts wait for in a loop.
+PATIENCE, SOON = 60, 20
+
+# The first port that a service may get, and how many are tried.
+FIRST_PORT, TRIED_PORTS = 10_000, 1000
+
+# The bytes that wait at a peer that doesn't read.
+SMALL_BUFFER = 4096
+
+# Lines of the error stream that several scripts expect.
+ANSWERED_503 = b"custody: connection %d: memory or the store was refused, answered 503\n"
+DISK = b"custody: the disk or the system refused\n"
+IN_USE = b"custody: another program has the file open\n"
+LEFT_EARLY = b"custody: connection %d: the peer closed before its request was whole\n"
+LOG_ALONE = b"custody: the file is missing or empty, and the log beside it may hold changes: put the file back\n"
+LOG_STAYS = b"custody: the log could not be copied into the file: keep the file and its log together\n"
+NEW_FILE = b"custody: there was no file at the path: a new one was made\n"
+PORT_TAKEN = b"custody: the port is taken\n"
+READ_FAILED = b"custody: connection %d: a read failed\n"
+SECRET_FORM = b"custody: the secret isn't one line of 16 to 64 ASCII letters or digits\n"
+UNCHANGED = b"custody: memory or the store refused, and no record changed\n"
+UNFINISHED = b"custody: memory or a store refused before all was copied: delete the new file, and start again\n"
+UNLOGGED = b"custody: the exchange log could not be written, so nothing more is answered\n"
+UNPRINTED = b"custody: standard output or error did not take all that was to be printed\n"
+UNREAD = b"custody: the input can't be read, or memory was refused\n"
+UNWRITTEN = b"custody: connection %d: the reply could not be written whole\n"
+
+
+# ----------------------------------------------------------------------------------------------------
+# Checks
+# ----------------------------------------------------------------------------------------------------
+
+
+class Wrong(Exception):
+    """What the program may not do."""
+
+
+def said(what, came, due):
+    if came != due:
+        raise Wrong("%s: expected %s, came %s" % (what, due, came))
+
+
+def wait_until(holds, else_wrong, seconds=SOON):
+    end = time.monotonic() + seconds
+    while not holds():
+        if time.monotonic() > end:
+            raise Wrong(else_wrong)
+        time.sleep(0.005)
+
+
+def look_at(doc, *looks):
+    """Makes these checks of the program that the script's one word names; ends with status 1 at the first thing that is wrong."""
+    if len(sys.argv) != 2:
+        sys.exit(doc)
+    with Program(sys.argv[1]) as program:
+        try:
+            for look in looks:
+                look(program)
+        except (Wrong, OSError, sqlite3.Error, subprocess.SubprocessError) as wrong:
+            print("WRONG:", wrong)
+            sys.exit(1)
+
+
+# ----------------------------------------------------------------------------------------------------
+# The program and its services
+# ----------------------------------------------------------------------------------------------------
+
+
+class Program:
+    """The program, in a temporary folder of its own."""
+
+    def __init__(self, path):
+        self.path, self.room = os.path.abspath(path), tempfile.TemporaryDirectory()
+        self.folder = self.room.name
+
+    def __enter__(self):
+        return self
+
+    def __exit__(self, *_):
+        self.room.cleanup()
+
+    def start(self, words, given=None, output=subprocess.PIPE, errors=subprocess.PIPE, under=(), env=None):
+        # (as a shell starts it: a write to a closed pipe is a signal, unless the program has it otherwise; `under` runs it)
+        return subprocess.Popen([*under, self.path, *words], stdin=given, stdout=output, stderr=errors, cwd=self.folder, restore_signals=True, env=env)
+
+    def run(self, words, given=b"", **streams):
+        """The status, and what came on both streams; None for a stream that goes elsewhere."""
+        process = self.start(words, subprocess.PIPE, **streams)
+        output, errors = process.communicate(given, PATIENCE)
+        return process.returncode, output, errors
+
+    def is_due(self, what, words, status, output, errors=b"", given=b""):
+        said(what, self.run(words, given), (status, output, errors))
+        print("right:", what)
+
+
+class Service:
+    """`serve` over a file, at a port of its own. It ends by its count (it has none if that is None), and is killed at the end of `with`.
+
+    If `lines` names a file, standard output goes there. `how` is passed to `Program.start`."""
+
+    # Seconds that its peers wait, and whether they leave their side of the connection open behind a request.
+    patience, stays = PATIENCE, False
+
+    def __init__(self, program, path, count, *words, port=None, lines=None, **how):
+        self.port = port or free_port()
+        ends = ["--unlimited"] if count is None else ["--count", str(count)]
+        words = ["serve", "--db", path, "--port", str(self.port), *ends, *words]
+        with open(lines, "wb") if lines else contextlib.nullcontext(subprocess.PIPE) as output:
+            self.process = program.start(words, subprocess.DEVNULL, output, **how)
+        try:
+            self.begins(first_line(lines) if lines else self.process.stdout.readline())
+        except BaseException:
+            self.kill()
+            raise
+
+    def begins(self, line):
+        said("the line of a service", line, b"listening 127.0.0.1:%d\n" % self.port)
+
+    def __enter__(self):
+        return self
+
+    def __exit__(self, *_):
+        with self.process:
+            self.process.kill()
+
+    def kill(self):
+        self.process.kill()
+        self.process.wait()
+
+    def left(self):
+        """Its status, and what came on both streams behind what was read of them, once it has ended."""
+        output, errors = self.process.communicate(timeout=self.patience)
+        return self.process.returncode, output, errors
+
+    def ends(self, status=0, output=b"", errors=b""):
+        said("how a service ends", self.left(), (status, output, errors))
+
+    def peer(self, buffer=None):
+        return connected(self.port, self.patience, buffer)
+
+    def asked(self, sent):
+        """The reply to a request, undated."""
+        return undated(answered(self.port, sent, stays=self.stays, patience=self.patience))
+
+
+def first_line(path):
+    """The first line that a process writes to a file."""
+    wait_until(lambda: b"\n" in bytes_of(path), "a service doesn't listen")
+    return bytes_of(path).splitlines(keepends=True)[0]
+
+
+def bytes_of(path):
+    with open(path, "rb") as file:
+        return file.read()
+
+
+def compiled(source, folder):
+    """A library of C that a program is started with, compiled into a folder."""
+    compiler = next(filter(None, map(shutil.which, ["cc", "gcc", "clang"])), None)
+    if not compiler:
+        sys.exit("no C compiler: one of cc, gcc and clang makes the library " + source)
+    library = "%s/%s.so" % (folder, source)
+    subprocess.run([compiler, "-O1", "-shared", "-fPIC", "-o", library, "%s/%s.c" % (HERE, source), "-ldl"], check=True)
+    return library
+
+
+def small_files(blocks):
+    """Runs the words behind it with files of at most so many blocks of 512 bytes, whose writes fail beyond that and don't end the program."""
+    return ["sh", "-c", f"trap '' XFSZ; ulimit -f {blocks}; exec \"$@\"", "sh"]
+
+
+SMALL_FILES = small_files(8)
+
+
+def closed_pipe():
+    """The end of a pipe that nobody reads."""
+    reads, writes = os.pipe()
+    os.close(reads)
+    return os.fdopen(writes, "wb", 0)
+
+
+# ----------------------------------------------------------------------------------------------------
+# Ports, requests and replies
+# ----------------------------------------------------------------------------------------------------
+
+
+def free_port():
+    """A port at which nobody listens, below the ephemeral ports: no connection gets it as its own end before the service listens."""
+    with open("/proc/sys/net/ipv4/ip_local_port_range", encoding="ascii") as limits:
+        end = int(limits.read().split()[0])
+    for _ in range(TRIED_PORTS):
+        port = random.SystemRandom().randrange(FIRST_PORT, end)
+        with socket.socket() as one, contextlib.suppress(OSError):
+            one.bind(("127.0.0.1", port))
+            return port
+    raise Wrong("no port from %d to %d is free" % (FIRST_PORT, end))
+
+
+def request(head, body=b"", token=b"acme.adminadminadmin1"):
+    lines = [head, b"Host: c", b"Authorization: Bearer " + token] + ([b"Content-Length: %d" % len(body)] if body else [])
+    return b"\r\n".join(lines) + b"\r\n\r\n" + body
+
+
+def reply(status, body):
+    """A reply, undated."""
+    kind = b"Content-Type: application/json\r\n" if body else b""
+    return (
+        b"HTTP/1.1 %s\r\nDate: DATE\r\nConnection: close\r\nCache-Control: private, no-store\r\n%sContent-Length: %d\r\n\r\n%s"
+        % (status, kind, len(body), body)
+    )
+
+
+def ok(body=b""):
+    return reply(b"200 OK", body)
+
+
+def post(state):
+    return request(b"POST /v1/acme/state/net HTTP/1.1", state)
+
+
+GET = request(b"GET /v1/acme/state/net HTTP/1.1")
+PUT = request(b"PUT /v1/acme/workspaces/net HTTP/1.1")
+# The body of the reply to PUT if there is no such workspace yet; the reply to any request if memory or the store refuses.
+MADE = b'{"auto_apply":false,"holder":null,"keep_versions":100,"name":"net","version":null}'
+DOWN = reply(b"503 Service Unavailable", b'{"error":"down"}')
+
+DATE = re.compile(rb"\r\nDate: ([A-Z][a-z]{2}, \d\d [A-Z][a-z]{2} \d{4} \d\d:\d\d:\d\d GMT)\r\n")
+
+
+def undated(came):
+    """A reply with the same text for every date of the right form."""
+    return DATE.sub(b"\r\nDate: DATE\r\n", came, count=1)
+
+
+def moment_of(came):
+    """The moment that a reply tells, in seconds since 1970."""
+    found = DATE.search(came)
+    if not found:
+        raise Wrong("no date: %s" % came[:200])
+    told = datetime.datetime.strptime(found.group(1).decode(), "%a, %d %b %Y %H:%M:%S GMT")
+    return int(told.replace(tzinfo=datetime.timezone.utc).timestamp())
+
+
+def connected(port, patience=PATIENCE, buffer=None, resets=False):
+    """A connection to a service: of a peer that reads into a buffer of this size; of one whose close is a reset, after which the
+    system keeps nothing of the connection."""
+    stream = socket.socket()
+    stream.settimeout(patience)
+    if buffer:
+        stream.setsockopt(socket.SOL_SOCKET, socket.SO_RCVBUF, buffer)
+    if resets:
+        stream.setsockopt(socket.SOL_SOCKET, socket.SO_LINGER, struct.pack("ii", 1, 0))
+    try:
+        stream.connect(("127.0.0.1", port))
+    except BaseException:
+        stream.close()
+        raise
+    return stream
+
+
+def received(stream):
+    """What comes up to the end of the connection. A reset is no end."""
+    pieces = []
+    while piece := stream.recv(65536):
+        pieces.append(piece)
+    return b"".join(pieces)
+
+
+def answered(port, sent, stays=False, **how):
+    """The reply to a request, with its date. The peer closes its side of the connection behind the request, unless it stays."""
+    with connected(port, **how) as stream:
+        stream.sendall(sent)
+        if not stays:
+            stream.shutdown(socket.SHUT_WR)
+        return received(stream)
+
+
+if __name__ == "__main__":
+    print(free_port())
