@@ -28,21 +28,21 @@ import time
 from harness import ANSWERED_503, DISK, DOWN, IN_USE, LOG_ALONE, LOG_STAYS, NEW_FILE, PATIENCE, PORT_TAKEN, SECRET_FORM, SMALL_FILES, UNCHANGED, UNFINISHED
 from harness import GET, PUT, Service, Wrong, bytes_of, compiled, free_port, look_at, ok, post, request, said, small_files
 
-READABLE = b"custody: others than its owner may read the file or its log: chmod 600 ends that\n"
-NOT_PERMITTED = b"custody: the file or its folder may not be read and written\n"
-NO_FILE = b"custody: the path leads to no file, or to one with more than one hard link\n"
-NO_FOLDER = b"custody: the folder of --db's file isn't there\n"
-NO_TARGET_FOLDER = b"custody: the folder of --to's file isn't there\n"
-MISSING = b"custody: there is no file at the path, or an empty one: only org-add, serve without --check, and --to make one\n"
+READABLE = b"custody: users other than its owner may read the file or its -wal: chmod 600 ends that\n"
+NOT_PERMITTED = b"custody: no permission to read and write the file or its folder\n"
+NO_FILE = b"custody: the path does not lead to a file, or the file has more than one hard link\n"
+NO_FOLDER = b"custody: the folder of the --db file does not exist\n"
+NO_TARGET_FOLDER = b"custody: the folder of the --to file does not exist\n"
+MISSING = b"custody: there is no file at the path, or it is empty; only org-add, serve without --check, and --to create one\n"
 NO_TABLES = b"custody: the file is a database without custody's tables\n"
-JOURNAL = b"custody: a rollback journal lies beside the file: open it with sqlite3 first\n"
-CORRUPT = b"custody: the file is damaged: a page's sum or form is wrong\n"
-UNSOUND = b"custody: the file is damaged or no database: its rows break its schema\n"
-NO_ROOM = b"custody: there is no room on the disk\n"
-PORT_NOT_PERMITTED = b"custody: the port isn't permitted\n"
-PORT = b"custody: the port can't be listened at\n"
-SHUT = b"custody: a fault of the disk has shut the store: see to the disk\n"
-HALTED = b"custody: a fault of the disk has shut the store: see to the disk. It may have been done: look\n"
+JOURNAL = b"custody: a rollback journal lies beside the file: open the file with sqlite3 first\n"
+CORRUPT = b"custody: the file is damaged: a page's checksum or format is wrong\n"
+UNSOUND = b"custody: the file is not a database, or it is damaged: its rows break its schema\n"
+NO_ROOM = b"custody: there is no space left on the disk\n"
+PORT_NOT_PERMITTED = b"custody: no permission to use the port\n"
+PORT = b"custody: could not listen on the port\n"
+SHUT = b"custody: a disk error closed the store: check the disk\n"
+HALTED = b"custody: a disk error closed the store: check the disk. The change may have been made: look before you repeat it\n"
 SECRET = b"adminadminadmin1\n"
 
 # The bytes of a page of a new file, those of one that an older program made, and those of a page's sum.
@@ -321,7 +321,7 @@ def look_at_absent(program):
         refused_all(program, folder, "a file that is %s" % name, "a.db", looking, MISSING)
         for words, given, status, output, line in [
             (["token-add", "--db", "a.db", "acme", "ci", "write"], b"short\n", 2, b"refused usage\n", SECRET_FORM),
-            (["org-limit", "--db", "a.db", "acme", "x"], b"", 2, b"refused usage\n", b"custody: the value of N isn't of its form: 0 to 100000, without a leading zero\n"),
+            (["org-limit", "--db", "a.db", "acme", "x"], b"", 2, b"refused usage\n", b"custody: the value of N must be 0 to 100000 without a leading zero\n"),
         ]:
             said("words and secret are judged first", program.run(words, given, under=["env", "-C", folder]), (status, output, line))
         # (a link to nothing is no place for a file)
@@ -535,7 +535,7 @@ def look_at_salts(program):
 def look_at_want(program):
     """An open for which there is too little memory tells how many bytes the file has."""
     program.is_due("a file", ["org-add", "--db", "w.db", "acme"], 0, b"ok\n", NEW_FILE)
-    due = (3, b"refused down\n", b"custody: memory was refused to open the file of %d bytes\n" % os.path.getsize(program.folder + "/w.db"))
+    due = (3, b"refused down\n", b"custody: out of memory while opening the file of %d bytes\n" % os.path.getsize(program.folder + "/w.db"))
     told = [program.run(["check", "--db", "w.db"], under=["prlimit", "--as=%d" % (mb << 20)]) for mb in range(60, 8, -2)]
     if due not in told:
         raise Wrong("where memory is short: %s" % told)

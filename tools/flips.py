@@ -34,7 +34,7 @@ SEED = 49
 FLIPS, PAGES, CUTS, COPIES = 300, 60, 30, 40
 
 # What the error stream tells first where nothing is copied.
-UNCOPIED = b"custody: the file's tables are not sound, so nothing is copied:\n"
+UNCOPIED = b"custody: the file's tables have faults, so nothing is copied:\n"
 
 # The bytes of a page, how many of them at its end are the sum, and where the header says so.
 PAGE = 1024

@@ -34,22 +34,22 @@ FIRST_PORT, TRIED_PORTS = 10_000, 1000
 SMALL_BUFFER = 4096
 
 # Lines of the error stream that several scripts expect.
-ANSWERED_503 = b"custody: connection %d: memory or the store was refused, answered 503\n"
-DISK = b"custody: the disk or the system refused\n"
+ANSWERED_503 = b"custody: connection %d: out of memory or the store failed; replied 503\n"
+DISK = b"custody: the disk or the system reported an error\n"
 IN_USE = b"custody: another program has the file open\n"
-LEFT_EARLY = b"custody: connection %d: the peer closed before its request was whole\n"
-LOG_ALONE = b"custody: the file is missing or empty, and the log beside it may hold changes: put the file back\n"
-LOG_STAYS = b"custody: the log could not be copied into the file: keep the file and its log together\n"
-NEW_FILE = b"custody: there was no file at the path: a new one was made\n"
-PORT_TAKEN = b"custody: the port is taken\n"
+LEFT_EARLY = b"custody: connection %d: the peer closed the connection before its request was complete\n"
+LOG_ALONE = b"custody: the file is missing or empty, and the -wal beside it may hold changes: put the file back\n"
+LOG_STAYS = b"custody: the WAL could not be copied into the file: keep the file and its -wal together\n"
+NEW_FILE = b"custody: there was no file at the path; a new one was created\n"
+PORT_TAKEN = b"custody: the port is in use\n"
 READ_FAILED = b"custody: connection %d: a read failed\n"
-SECRET_FORM = b"custody: the secret isn't one line of 16 to 64 ASCII letters or digits\n"
-UNCHANGED = b"custody: memory or the store refused, and no record changed\n"
-UNFINISHED = b"custody: memory or a store refused before all was copied: delete the new file, and start again\n"
-UNLOGGED = b"custody: the exchange log could not be written, so nothing more is answered\n"
-UNPRINTED = b"custody: standard output or error did not take all that was to be printed\n"
-UNREAD = b"custody: the input can't be read, or memory was refused\n"
-UNWRITTEN = b"custody: connection %d: the reply could not be written whole\n"
+SECRET_FORM = b"custody: the secret must be one line of 16 to 64 ASCII letters or digits\n"
+UNCHANGED = b"custody: out of memory or the store failed; no record was changed\n"
+UNFINISHED = b"custody: out of memory or a store failed before everything was copied: delete the new file and start again\n"
+UNLOGGED = b"custody: the exchange log could not be written, so the service stops\n"
+UNPRINTED = b"custody: not everything could be printed to standard output or standard error\n"
+UNREAD = b"custody: the input could not be read, or out of memory\n"
+UNWRITTEN = b"custody: connection %d: the reply could not be sent completely\n"
 
 
 # ----------------------------------------------------------------------------------------------------

@@ -30,7 +30,7 @@ from harness import ANSWERED_503, DOWN, LEFT_EARLY, NEW_FILE, PATIENCE, READ_FAI
 from harness import Service, Wrong, answered, bytes_of, closed_pipe, connected, free_port, look_at, moment_of, received, said, undated, wait_until
 from logged import ask, line_of, row_of
 
-CONTINUE_UNWRITTEN = b"custody: connection %d: 100 Continue could not be written\n"
+CONTINUE_UNWRITTEN = b"custody: connection %d: 100 Continue could not be sent\n"
 NOT_ACCEPTED = "custody: a connection could not be accepted"
 LISTENING = "listening 127.0.0.1:8090"
 
@@ -140,8 +140,8 @@ $ serve --db m.db --port 8090 --count 1 --log
 | listening 127.0.0.1:8090
 |
 ?
-| custody: there was no file at the path: a new one was made
-| custody: standard output or error did not take all that was to be printed
+| custody: there was no file at the path; a new one was created
+| custody: not everything could be printed to standard output or standard error
 |
 
 breaks clock
@@ -156,7 +156,7 @@ $ serve --db m.db --port 8090 --log --count 1
 | refused down
 |
 ?
-| custody: the clock can't be read, or is out of range
+| custody: the clock could not be read, or it is out of range
 |
 """
 

@@ -21,8 +21,8 @@ from harness import GET, PUT, Service, Wrong, answered, closed_pipe, free_port, 
 UNLIMITED = 1000
 
 FULL = "/dev/full"
-ENCODING = b"custody: an argument isn't UTF-8\n"
-ONE_OF = b"custody: serve takes one of --count N and --unlimited\n"
+ENCODING = b"custody: an argument is not UTF-8\n"
+ONE_OF = b"custody: serve needs either --count N or --unlimited\n"
 STATE = b'{"version":4,"serial":1,"lineage":"a1","x":"HTTP/1.1 503 is here"}'
 
 

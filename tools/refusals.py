@@ -55,8 +55,8 @@ REFUSED = (3, b"refused down\n")
 # Why `refused down`, as regular expressions. Where memory is refused the line that a file was made may be missing. No other program
 # has the file: a copy is made with the locks of the process that it was made from, and each process opens a file once.
 CAUSES = [
-    b"custody: memory was refused\n",
-    b"custody: memory was refused to open the file of [0-9]+ bytes\n",
+    b"custody: out of memory\n",
+    b"custody: out of memory while opening the file of [0-9]+ bytes\n",
     UNCHANGED,
     UNREAD,
 ]

@@ -81,7 +81,7 @@ $ token-add --db m.db acme ci write
 | refused usage
 |
 ?
-| custody: the secret isn't one line of 16 to 64 ASCII letters or digits
+| custody: the secret must be one line of 16 to 64 ASCII letters or digits
 |
 """
 

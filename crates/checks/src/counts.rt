@@ -14,7 +14,7 @@ use std::alloc::Global;
 /// One workspace more than any organization may have.
 const TOO_MANY: usize = MAX_LIMIT as usize + 1;
 
-/// Looks whether no organization has more workspaces than the greatest limit. One that has is told once.
+/// Checks that no organization has more workspaces than the greatest limit. Each that has is reported once.
 pub fn judge_counts(alloc: Global, wss: &[(i64, WsRow)], found: &mut Found) -> Result<(), Down>
     ensures { OnOk result (Judges (TooMany wss.now) (AreFew wss.now) found.old found.new) }
 {

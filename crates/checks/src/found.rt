@@ -5,49 +5,49 @@ ghost use Rattle.checks.specs.Judging.{IsClean, fault_of, Breaks, noted, Judges}
 use basis::{Down, Items, Text};
 use std::alloc::Global;
 
-/// The most faults that are told.
+/// The most faults that are reported.
 pub const MAX_FAULTS: usize = 50;
 
 /// What is wrong with a row, or with a page.
 #[derive(Clone, Copy, PartialEq, Eq)]
 pub enum FaultKind {
-    /// A table is missing, or defined otherwise than ours.
+    /// A table is missing, or defined differently from ours.
     Table,
-    /// The tables tell another version of the schema, or none.
+    /// The tables have another schema version, or none.
     Version,
-    /// There is another row of the same key.
+    /// Another row has the same key.
     Twice,
     /// Another token of the organization has the same digest.
     DigestTwice,
-    /// There is no row that it belongs to.
+    /// The row that it belongs to is missing.
     Ownerless,
-    /// A token has no row that says how far it reaches.
+    /// A token has no row in `bound`.
     Unbounded,
-    /// A workspace has no row that says how many versions it keeps.
+    /// A workspace has no row in `keeping`.
     Unkept,
     /// A name, limit, digest, end or prefix is out of range.
     Range,
-    /// The organization has more workspaces than any may have.
+    /// The organization has more workspaces than the greatest limit.
     TooMany,
-    /// The workspace, its holder or a number of it breaks the rules.
+    /// The workspace, its holder or one of its numbers breaks the rules.
     Unlawful,
-    /// Its versions break the rules: their numbers, how many there are, or a value of one.
+    /// Its versions break the rules: their numbers, their count, or a value of one.
     Versions,
-    /// Its runs break the rules: their numbers, statuses, keys, or who holds.
+    /// Its runs break the rules: their numbers, statuses, keys, or which one holds.
     Runs,
-    /// A version's text isn't whole: a page at some place is missing, or of another size.
+    /// A version's text is not complete: one of its pages is missing, or has another size.
     Text,
-    /// A page stands at a place that the text of its version doesn't have.
+    /// A row of `vpage` has a place that its version's text does not have.
     Place,
-    /// A page is named more or less often than it says.
+    /// A page's number of uses is not the number of rows that name it.
     Uses,
-    /// A page's key isn't that of its bytes.
+    /// A page's key is not that of its bytes.
     Key,
     /// Another page of the key has the same bytes.
     SamePage,
 }
 
-/// A fault, and where it was found; what isn't known is empty.
+/// A fault, and where it was found. What is not known is empty.
 #[derive(Drop)]
 pub struct Fault {
     pub kind: FaultKind,
@@ -87,7 +87,7 @@ impl Found {
         self.faults.as_slice()
     }
 
-    /// Whether as many faults were found as are told.
+    /// Whether the list of faults is full.
     pub fn is_full(&self) -> bool
         ensures { result ≡ nat_le MAX_FAULTS (length self.now.faults) }
     {

@@ -18,7 +18,8 @@ fn names(row: &(i64, VpageRow), head: &PageHead) -> bool
     row.1.key.as_slice() == head.key.as_slice() && row.1.twin == head.twin
 }
 
-/// Notes a fault of a page by the version of the first row that names it, if there is one. Once no more faults are told, none is looked for.
+/// Notes a fault of a page, with the version of the first row that names the page, if there is one. Once the list of faults is
+/// full, the version is not searched for.
 pub(crate) fn note_page(
     alloc: Global,
     kind: FaultKind,
@@ -41,7 +42,7 @@ pub(crate) fn note_page(
     found.note(alloc, kind, "", "", None)
 }
 
-/// Notes a page that is not in use, one whose key isn't that of its bytes, and one whose bytes another page of its key has.
+/// Notes a page that is not in use, has a key that is not that of its bytes, or has the same bytes as another page of its key.
 fn judge_head(
     alloc: Global,
     head: &PageHead,
@@ -62,7 +63,8 @@ fn judge_head(
     Ok(())
 }
 
-/// Notes each page that isn't in use, whose key isn't that of its bytes, or whose bytes another page of its key has.
+/// Notes every page that is not in use, has a key that is not that of its bytes, or has the same bytes as another page of its
+/// key.
 pub(crate) fn judge_heads(
     alloc: Global,
     heads: &[PageHead],

@@ -17,7 +17,7 @@ use statements::rows::{
 use std::alloc::Global;
 use std::collections::BTreeSet;
 
-/// What tells a row from the others of its table: up to two numbers, and the bytes of up to two columns.
+/// What identifies a row of its table: up to two numbers, and the bytes of up to two columns.
 #[derive(Clone, Copy, PartialEq, Eq, PartialOrd, Ord)]
 pub(crate) struct RowKey<'a> {
     pub(crate) place: u64,
@@ -41,7 +41,7 @@ impl<'a> Keys<'a> {
         }
     }
 
-    /// Adds a key, and says whether it is new.
+    /// Adds a key. Returns whether it is new.
     pub(crate) fn add(&mut self, key: RowKey<'a>) -> Result<bool, Down>
         ensures fresh { IfOk result (λ fresh. fresh ≡ not (has_key self.old key.entry.first.now key.entry.second.now key.entry.number key.entry.place)) }
         ensures added { OnOk result ((first second : List ℕ) (number place : ℕ) → has_key self.new first second number place ≡ (has_key self.old first second number place || is_key first second number place key.entry)) }
@@ -55,7 +55,7 @@ impl<'a> Keys<'a> {
         self.keys.contains(&key)
     }
 
-    /// Adds the key of these texts, and says whether it is new.
+    /// Adds the key of these texts. Returns whether it is new.
     pub(crate) fn add_texts(&mut self, first: &'a [u8], second: &'a [u8]) -> Result<bool, Down>
         ensures fresh { IfOk result (λ fresh. fresh ≡ not (has_key self.old first.now second.now 0 0)) }
         ensures added { OnOk result ((one two : List ℕ) → has_key self.new one two 0 0 ≡ (has_key self.old one two 0 0 || (bytes_eq first.now one && bytes_eq second.now two))) }

@@ -8,7 +8,7 @@ use basis::{Down, Text};
 use std::alloc::Global;
 
 impl FaultKind {
-    /// The word that tells it.
+    /// The word of a fault in its line.
     pub fn word(self) -> &'static str
         ensures { result.now ≡ fault_word self }
     {
@@ -34,7 +34,7 @@ impl FaultKind {
     }
 }
 
-/// A name, or a hyphen in place of what is none: a row may have any bytes there.
+/// A name, or a hyphen if the bytes of the row are not a valid name.
 fn name_or_hyphen(alloc: Global, name: &str) -> Result<&str, Down>
     ensures { IfOk result (λ text. text.now ≡ name_or_hyphen name.entry.now) }
 {
@@ -45,8 +45,8 @@ fn name_or_hyphen(alloc: Global, name: &str) -> Result<&str, Down>
     }
 }
 
-/// The line that tells a fault, without its line feed: `fault WORD ORG WS NUMBER`, a hyphen for what isn't known. A table's
-/// name, as a token's, stands in the place of WS.
+/// The line of a fault, without its line feed: `fault WORD ORG WS NUMBER`, with a hyphen for what is not known. The name of a
+/// table or of a token is in the place of WS.
 pub fn fault_line(alloc: Global, fault: &Fault) -> Result<Text, Down>
     ensures { IfOk result (λ line. line ≡ fault_line fault.now) }
 {

@@ -44,7 +44,7 @@ fn all_of_orgs<'a, R: Named>(
     Ok(())
 }
 
-/// Whether for each row there is another, among these, of its organization and name.
+/// Whether each row has a row of the same organization and name among these.
 fn all_among<'a, O: Named, R: Named>(
     alloc: Global,
     others: &'a [(i64, O)],
@@ -65,7 +65,7 @@ fn all_among<'a, O: Named, R: Named>(
     Ok(())
 }
 
-/// Whether each token has a row of bound.
+/// Whether each token has a row in `bound`.
 pub fn tokens_bound<'a>(
     alloc: Global,
     tokens: &'a [(i64, TokenRow)],
@@ -77,7 +77,7 @@ pub fn tokens_bound<'a>(
     all_among(alloc, bounds, tokens, FaultKind::Unbounded, found)
 }
 
-/// Whether each workspace has a row of keeping.
+/// Whether each workspace has a row in `keeping`.
 pub fn wss_kept<'a>(
     alloc: Global,
     wss: &'a [(i64, WsRow)],
@@ -89,7 +89,7 @@ pub fn wss_kept<'a>(
     all_among(alloc, keepings, wss, FaultKind::Unkept, found)
 }
 
-/// Whether each token is of an organization.
+/// Whether each token belongs to an organization.
 pub fn tokens_owned<'a>(
     alloc: Global,
     tokens: &'a [(i64, TokenRow)],
@@ -101,7 +101,7 @@ pub fn tokens_owned<'a>(
     all_of_orgs(alloc, orgs, tokens, found)
 }
 
-/// Whether each row of bound is of a token.
+/// Whether each row of `bound` belongs to a token.
 pub fn bounds_owned<'a>(
     alloc: Global,
     bounds: &'a [(i64, BoundRow)],
@@ -113,7 +113,7 @@ pub fn bounds_owned<'a>(
     all_among(alloc, tokens, bounds, FaultKind::Ownerless, found)
 }
 
-/// Whether each workspace is of an organization.
+/// Whether each workspace belongs to an organization.
 pub fn wss_owned<'a>(
     alloc: Global,
     wss: &'a [(i64, WsRow)],
@@ -125,7 +125,7 @@ pub fn wss_owned<'a>(
     all_of_orgs(alloc, orgs, wss, found)
 }
 
-/// Whether each row of keeping is of a workspace.
+/// Whether each row of `keeping` belongs to a workspace.
 pub fn keepings_owned<'a>(
     alloc: Global,
     keepings: &'a [(i64, KeepingRow)],
@@ -137,7 +137,7 @@ pub fn keepings_owned<'a>(
     all_among(alloc, wss, keepings, FaultKind::Ownerless, found)
 }
 
-/// Whether each version is of a workspace.
+/// Whether each version belongs to a workspace.
 pub fn versions_owned<'a>(
     alloc: Global,
     versions: &'a [(i64, VersionRow)],
@@ -149,7 +149,7 @@ pub fn versions_owned<'a>(
     all_among(alloc, wss, versions, FaultKind::Ownerless, found)
 }
 
-/// Whether each run is of a workspace.
+/// Whether each run belongs to a workspace.
 pub fn runs_owned<'a>(
     alloc: Global,
     runs: &'a [(i64, RunRow)],

@@ -23,7 +23,7 @@ use std::alloc::Global;
 use std::collections::BTreeMap;
 use texts::PAGE_BYTES;
 
-/// The key of a place of a version.
+/// The key of a place of a version's text.
 fn place_key<'a>(org: &'a Text, ws: &'a Text, number: u64, place: u64) -> RowKey<'a>
     ensures { IsKeyOf result org.now ws.now number place }
 {
@@ -47,7 +47,7 @@ fn page_key<'a>(key: &'a Bytes, twin: u64) -> RowKey<'a>
     }
 }
 
-/// How many pages a text of this size has.
+/// The number of pages of a text of this size.
 fn pages_of(size: u64) -> u64
     ensures { result ≡ pages_for size }
 {
@@ -57,7 +57,7 @@ fn pages_of(size: u64) -> u64
     (size - 1) / PAGE_BYTES as u64 + 1
 }
 
-/// How many bytes the piece at a place has, of a text of this size.
+/// The size in bytes of the page at a place of a text of this size.
 fn size_of_piece(size: u64, place: u64) -> u64
     requires { place < pages_for size }
     ensures { result ≡ piece_size size place }
@@ -86,7 +86,7 @@ fn sizes_of<'a>(
     Ok(sizes)
 }
 
-/// Whether the row stands at a place of a version that is there, below the number of its pages.
+/// Whether the row's version exists and has a page at the row's place.
 fn is_placed<'a>(sizes: &BTreeMap<RowKey<'a>, u64>, row: &'a VpageRow) -> bool
     ensures { (versions : List (Kept VersionRow)) → HasSizes versions sizes.now → (IsTrue result ↔ IsPlacedIn versions row.now) }
 {
@@ -96,7 +96,7 @@ fn is_placed<'a>(sizes: &BTreeMap<RowKey<'a>, u64>, row: &'a VpageRow) -> bool
     }
 }
 
-/// Notes a row that stands at no place of a version.
+/// Notes a row of `vpage` whose version has no such place.
 fn judge_place<'a>(
     alloc: Global,
     sizes: &BTreeMap<RowKey<'a>, u64>,
@@ -117,7 +117,7 @@ fn judge_place<'a>(
     )
 }
 
-/// Notes each row of vpage that stands at no place of a version.
+/// Notes every row of `vpage` whose version has no such place.
 pub(crate) fn judge_places<'a>(
     alloc: Global,
     versions: &'a [(i64, VersionRow)],
@@ -148,7 +148,7 @@ fn counts_of<'a>(
     Ok(counts)
 }
 
-/// Notes a page that rows name more or less often than it says.
+/// Notes a page whose number of uses is not the number of rows that name it.
 fn judge_count<'a>(
     alloc: Global,
     counts: &BTreeMap<RowKey<'a>, u64>,
@@ -165,7 +165,7 @@ fn judge_count<'a>(
     note_page(alloc, FaultKind::Uses, head, rows, found)
 }
 
-/// Notes each page that rows name more or less often than it says.
+/// Notes every page whose number of uses is not the number of rows that name it.
 pub(crate) fn judge_counts<'a>(
     alloc: Global,
     heads: &'a [PageHead],
@@ -195,7 +195,7 @@ fn page_sizes_of<'a>(
     Ok(sizes)
 }
 
-/// How many bytes the page has that the row names, if it is there.
+/// The size of the page that the row names, if there is such a page.
 fn page_size<'a>(sizes: &BTreeMap<RowKey<'a>, u64>, row: &'a VpageRow) -> Option<u64>
     ensures { (heads : List PageHead) → HasPageSizes heads sizes.now → result ≡ page_size_in row.now.key row.now.twin heads }
 {

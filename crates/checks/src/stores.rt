@@ -23,7 +23,7 @@ use statements::rows::Rows;
 use std::alloc::Global;
 use tables::SqlKeep;
 
-/// The lines that tell faults.
+/// The lines of faults.
 fn lines_of(alloc: Global, faults: &[Fault]) -> Result<Items<Text>, Down>
     ensures { IfOk result (λ lines. lines ≡ map fault_line faults.now) }
 {
@@ -34,7 +34,7 @@ fn lines_of(alloc: Global, faults: &[Fault]) -> Result<Items<Text>, Down>
     Ok(Items::new(lines))
 }
 
-/// The lines that tell the faults of these rows.
+/// The lines of the faults of these rows.
 fn tell(alloc: Global, rows: &Rows) -> Result<Items<Text>, Down>
     ensures { IfOk result (TellsFaults rows.now) }
 {
@@ -42,16 +42,16 @@ fn tell(alloc: Global, rows: &Rows) -> Result<Items<Text>, Down>
     lines_of(alloc, found.faults())
 }
 
-/// What a look at a store found.
+/// What a check of a store found.
 #[derive(Drop)]
 pub struct Looked {
-    /// A line for each fault, the first 50 of them.
+    /// One line per fault, at most 50.
     pub faults: Items<Text>,
-    /// How much stands in the tables. Where they aren't ours nothing is counted.
+    /// The numbers of rows. If the tables are not ours, nothing is counted.
     pub totals: Totals,
 }
 
-/// A line for each of our tables that doesn't stand in the database as it is defined.
+/// One line for each of our tables that is missing or defined differently.
 fn tell_tables<S: Alter, K: PageKey>(
     keep: &mut SqlKeep<S, K>,
     alloc: Global,
@@ -64,7 +64,7 @@ fn tell_tables<S: Alter, K: PageKey>(
     lines_of(alloc, found.faults())
 }
 
-/// A line for each fault of the rows, and how many rows there are.
+/// One line per fault of the rows, and the numbers of rows.
 fn look_at_rows<S: Alter, K: PageKey>(
     keep: &mut SqlKeep<S, K>,
     alloc: Global,
@@ -78,9 +78,9 @@ fn look_at_rows<S: Alter, K: PageKey>(
     Ok(Looked { faults, totals })
 }
 
-/// Looks for faults in a store: a line for each, the first 50 of them; none exactly where our tables stand in the database as
-/// they are defined, they are sound, and each page's key is that of its bytes. Where tables are defined otherwise they alone are
-/// told. And how much stands in the tables. An error where memory or the store refused.
+/// Checks a store. Returns one line per fault, at most 50, and the numbers of rows. There is no line exactly if our tables exist
+/// as they are defined, are sound, and each page's key is that of its bytes. If tables are defined differently, only they are
+/// reported. Fails if an allocation or the store fails.
 pub fn check<S: Alter, K: PageKey>(keep: &mut SqlKeep<S, K>, alloc: Global) -> Result<Looked, Down>
     ensures decides { HasCleanDisk (state S.Store keep.new.conn) → IfOk result (λ looked. TellsStore K.key_of (state S.Store keep.old.conn).committed looked.faults) }
     ensures totals { HasCleanDisk (state S.Store keep.new.conn) → IfOk result (λ looked. (t : Tables) → Holds (state S.Store keep.old.conn).committed t → AreTotalsOf t looked.totals) }

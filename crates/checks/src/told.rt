@@ -9,21 +9,21 @@ use basis::Down;
 use statements::making::NEWEST;
 use std::alloc::Global;
 
-/// Whether the rows of edition are the one that tells the newest version.
+/// Whether the rows of `edition` are the one with the newest version.
 fn is_newest(editions: &[(i64, u64)]) -> bool
     ensures { (result ≡ true) ↔ (editions.now ≡ (pos 1, NEWEST) ∷ []) }
 {
     editions.len() == 1 && editions[0].0 == 1 && editions[0].1 == NEWEST
 }
 
-/// Whether edition tells the newest version, and meta none.
+/// Whether `edition` has the newest version, and `meta` has none.
 fn is_told(editions: &[(i64, u64)], metas: &[(i64, u64)]) -> bool
     ensures { (result ≡ true) ↔ ((editions.now ≡ (pos 1, NEWEST) ∷ []) × (metas.now ≡ [])) }
 {
     is_newest(editions) && metas.is_empty()
 }
 
-/// Looks whether edition tells the newest version, and meta none.
+/// Checks that `edition` has the newest version, and `meta` has none.
 pub fn version_told(
     alloc: Global,
     editions: &[(i64, u64)],

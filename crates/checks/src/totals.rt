@@ -6,18 +6,18 @@ ghost use Rattle.checks.specs.Totals.{IsGreatest, made_at, AreTotalsOf};
 
 use statements::rows::{Rows, VersionRow};
 
-/// How many rows the tables have of each kind, and when the newest version was made.
+/// The numbers of rows of each kind, and when the newest version was created.
 #[derive(Clone, Copy)]
 pub struct Totals {
     pub organizations: u64,
     pub workspaces: u64,
     pub versions: u64,
     pub runs: u64,
-    /// The second in which the newest version was made, if there is a version.
+    /// When the newest version was created, in seconds since 1970, if there is a version.
     pub newest: Option<u64>,
 }
 
-/// What is told of tables that aren't ours.
+/// The totals of tables that are not ours.
 pub(crate) const NOTHING: Totals = Totals {
     organizations: 0,
     workspaces: 0,
@@ -26,7 +26,7 @@ pub(crate) const NOTHING: Totals = Totals {
     newest: None,
 };
 
-/// The greatest second, where one more comes.
+/// The later of two times, of which the first may be missing.
 fn later(newest: Option<u64>, second: u64) -> Option<u64>
     ensures { (xs : List ℕ) → IsGreatest xs newest → IsGreatest (xs ++ second ∷ []) result }
 {
@@ -42,7 +42,7 @@ fn later(newest: Option<u64>, second: u64) -> Option<u64>
     }
 }
 
-/// The second in which the newest version was made, if there is a version.
+/// When the newest version was created, in seconds since 1970, if there is a version.
 fn newest(versions: &[(i64, VersionRow)]) -> Option<u64>
     ensures { IsGreatest (map made_at versions.now) result }
 {

@@ -10,21 +10,21 @@ use Rattle.command_line.specs.declared.arguments.Argument.TheVariants as argumen
 
 -- what the error stream is told where the value of an argument isn't of its form
 abbrev pub form_line : Argument → List ℕ
-form_line argument.Command = codes "custody: the command isn't one of those that --help lists\n"
-form_line argument.Db = codes "custody: the value of --db is missing: the path of a file\n"
-form_line argument.To = codes "custody: the value of --to is missing: the path of a file\n"
-form_line argument.Org = codes "custody: the value of ORG isn't of its form: 1 to 40 of a-z, 0-9 and '-', the first a letter\n"
-form_line argument.Name = codes "custody: the value of NAME isn't of its form: 1 to 40 of a-z, 0-9 and '-', the first a letter\n"
-form_line argument.Role = codes "custody: the value of ROLE isn't of its form: read, write or admin\n"
-form_line argument.Limit = codes "custody: the value of --limit isn't of its form: 0 to 100000, without a leading zero\n"
-form_line argument.NewLimit = codes "custody: the value of N isn't of its form: 0 to 100000, without a leading zero\n"
-form_line argument.Until = codes "custody: the value of --until isn't of its form: 0 to 253402300799, without a leading zero\n"
-form_line argument.Prefix = codes "custody: the value of --prefix isn't of its form: 0 to 90 ASCII letters, digits, '-' and '_'\n"
-form_line argument.Port = codes "custody: the value of --port isn't of its form: 1 to 65535, without a leading zero\n"
-form_line argument.Counting = codes "custody: serve takes one of --count N and --unlimited\n"
-form_line argument.Count = codes "custody: the value of --count isn't of its form: 1 to 1000000, without a leading zero\n"
-form_line argument.Idle = codes "custody: the value of --idle isn't of its form: 1 to 3600, without a leading zero\n"
-form_line argument.Most = codes "custody: the value of --most isn't of its form: 1 to 3600, without a leading zero\n"
+form_line argument.Command = codes "custody: the command is not one that --help lists\n"
+form_line argument.Db = codes "custody: --db needs the path of a file\n"
+form_line argument.To = codes "custody: --to needs the path of a file\n"
+form_line argument.Org = codes "custody: the value of ORG must be 1 to 40 of a-z, 0-9 and '-', starting with a letter\n"
+form_line argument.Name = codes "custody: the value of NAME must be 1 to 40 of a-z, 0-9 and '-', starting with a letter\n"
+form_line argument.Role = codes "custody: the value of ROLE must be read, write or admin\n"
+form_line argument.Limit = codes "custody: the value of --limit must be 0 to 100000 without a leading zero\n"
+form_line argument.NewLimit = codes "custody: the value of N must be 0 to 100000 without a leading zero\n"
+form_line argument.Until = codes "custody: the value of --until must be 0 to 253402300799 without a leading zero\n"
+form_line argument.Prefix = codes "custody: the value of --prefix must be 0 to 90 ASCII letters, digits, '-' and '_'\n"
+form_line argument.Port = codes "custody: the value of --port must be 1 to 65535 without a leading zero\n"
+form_line argument.Counting = codes "custody: serve needs either --count N or --unlimited\n"
+form_line argument.Count = codes "custody: the value of --count must be 1 to 1000000 without a leading zero\n"
+form_line argument.Idle = codes "custody: the value of --idle must be 1 to 3600 without a leading zero\n"
+form_line argument.Most = codes "custody: the value of --most must be 1 to 3600 without a leading zero\n"
 
 -- one of two, and not both
 abbrev pub is_one_of : Bool → Bool → Bool

@@ -2,9 +2,8 @@
 ghost use Rattle.std.specs.Prelude.{◌≡◌, ◌<◌, length};
 ghost use Rattle.command_line.specs.Arguments.{form_line};
 
-/// An argument whose value has a form. `Limit` is `--limit` of `org-add`, and `NewLimit` is `N` of
-/// `org-limit`. `Counting` is the choice between `--count` and `--unlimited`. `clap` itself refuses words
-/// without `Command`, `Db` or `To`.
+/// An argument whose value can be invalid. `Limit` is `--limit` of `org-add`, and `NewLimit` is `N` of `org-limit`. `Counting` is
+/// the choice between `--count` and `--unlimited`. `clap` itself refuses words without `Command`, `Db` or `To`.
 #[derive(Clone, Copy)]
 pub enum Argument {
     Command,
@@ -25,48 +24,46 @@ pub enum Argument {
 }
 
 impl Argument {
-    /// The line on the error stream that says what its value has to be.
+    /// The line on the error stream that says what its value must be.
     pub fn line(self) -> &'static str
         ensures line { result.now ≡ form_line self }
         ensures some { 0 < length result.now }
     {
         match self {
-            Argument::Command => "custody: the command isn't one of those that --help lists\n",
-            Argument::Db => "custody: the value of --db is missing: the path of a file\n",
-            Argument::To => "custody: the value of --to is missing: the path of a file\n",
+            Argument::Command => "custody: the command is not one that --help lists\n",
+            Argument::Db => "custody: --db needs the path of a file\n",
+            Argument::To => "custody: --to needs the path of a file\n",
             Argument::Org => {
-                "custody: the value of ORG isn't of its form: 1 to 40 of a-z, 0-9 and '-', the first a letter\n"
+                "custody: the value of ORG must be 1 to 40 of a-z, 0-9 and '-', starting with a letter\n"
             }
             Argument::Name => {
-                "custody: the value of NAME isn't of its form: 1 to 40 of a-z, 0-9 and '-', the first a letter\n"
+                "custody: the value of NAME must be 1 to 40 of a-z, 0-9 and '-', starting with a letter\n"
             }
-            Argument::Role => {
-                "custody: the value of ROLE isn't of its form: read, write or admin\n"
-            }
+            Argument::Role => { "custody: the value of ROLE must be read, write or admin\n" }
             Argument::Limit => {
-                "custody: the value of --limit isn't of its form: 0 to 100000, without a leading zero\n"
+                "custody: the value of --limit must be 0 to 100000 without a leading zero\n"
             }
             Argument::NewLimit => {
-                "custody: the value of N isn't of its form: 0 to 100000, without a leading zero\n"
+                "custody: the value of N must be 0 to 100000 without a leading zero\n"
             }
             Argument::Until => {
-                "custody: the value of --until isn't of its form: 0 to 253402300799, without a leading zero\n"
+                "custody: the value of --until must be 0 to 253402300799 without a leading zero\n"
             }
             Argument::Prefix => {
-                "custody: the value of --prefix isn't of its form: 0 to 90 ASCII letters, digits, '-' and '_'\n"
+                "custody: the value of --prefix must be 0 to 90 ASCII letters, digits, '-' and '_'\n"
             }
             Argument::Port => {
-                "custody: the value of --port isn't of its form: 1 to 65535, without a leading zero\n"
+                "custody: the value of --port must be 1 to 65535 without a leading zero\n"
             }
-            Argument::Counting => "custody: serve takes one of --count N and --unlimited\n",
+            Argument::Counting => "custody: serve needs either --count N or --unlimited\n",
             Argument::Count => {
-                "custody: the value of --count isn't of its form: 1 to 1000000, without a leading zero\n"
+                "custody: the value of --count must be 1 to 1000000 without a leading zero\n"
             }
             Argument::Idle => {
-                "custody: the value of --idle isn't of its form: 1 to 3600, without a leading zero\n"
+                "custody: the value of --idle must be 1 to 3600 without a leading zero\n"
             }
             Argument::Most => {
-                "custody: the value of --most isn't of its form: 1 to 3600, without a leading zero\n"
+                "custody: the value of --most must be 1 to 3600 without a leading zero\n"
             }
         }
     }

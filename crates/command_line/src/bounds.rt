@@ -7,14 +7,14 @@ use basis::numbers::whole_number;
 use basis::{Bounds, Moment, Unfit, WsPrefix};
 use std::alloc::Global;
 
-/// The moment that a word writes.
+/// Reads a time in seconds since 1970.
 pub fn read_moment(word: &str) -> Option<Moment>
     ensures { result ≡ moment_of word.now }
 {
     whole_number(word).and_then(Moment::new)
 }
 
-/// The prefix that a word writes.
+/// Reads a prefix.
 pub fn read_prefix(alloc: Global, word: &str) -> Result<WsPrefix, Unfit>
     ensures ok { IfOk result (λ prefix. prefix_of word.now ≡ Some prefix) }
     ensures syntax { IsErrOf result Unfit.Syntax → prefix_of word.now ≡ None }
@@ -45,7 +45,7 @@ fn prefix_given(alloc: Global, value: Option<&str>) -> Result<WsPrefix, Unfit>
     }
 }
 
-/// The bounds that the values of two arguments give, each where it is wanted.
+/// The bounds of a token, from the values of `--until` and `--prefix`, each optional.
 pub fn give_bounds(
     alloc: Global,
     until: Option<&str>,

@@ -7,7 +7,7 @@ use basis::{Bounds, Limit, OrgName, Role, Secret, Unfit};
 use serve::Admin;
 use std::alloc::Global;
 
-/// The limit of workspaces that a word writes.
+/// Reads a limit of workspaces.
 pub fn read_limit(word: &str) -> Option<Limit>
     ensures { result ≡ limit_of word.now }
 {
@@ -16,7 +16,7 @@ pub fn read_limit(word: &str) -> Option<Limit>
     Limit::new(value)
 }
 
-/// The role that a word names.
+/// Reads a role.
 pub fn read_role(word: &str) -> Option<Role>
     ensures { result ≡ role_of word.now }
 {
@@ -92,7 +92,7 @@ pub fn token_list(alloc: Global, org: &str) -> Result<Admin, Unfit>
     Ok(Admin::TokenList { org })
 }
 
-/// The command that takes a token away.
+/// The command that revokes a token.
 pub fn token_revoke(alloc: Global, org: &str, name: &str) -> Result<Admin, Unfit>
     ensures ok { IfOk result (λ command. revoke_command org.now name.now ≡ Some command) }
     ensures syntax { IsErrOf result Unfit.Syntax → revoke_command org.now name.now ≡ None }

@@ -16,10 +16,10 @@ use crate::timeouts::MAX_SECONDS;
 use basis::{Down, OrgName, Unfit};
 use std::alloc::Global;
 
-/// Why a command's values ask for nothing.
+/// Why a command's values are not accepted.
 #[derive(Clone, Copy)]
 pub enum Unread {
-    /// The value of an argument isn't of its form.
+    /// The value of this argument is not valid.
     Value(Argument),
     Down,
 }
@@ -184,7 +184,7 @@ fn blamed(alloc: Global, command: &str, values: &Values<'_>) -> Unread
     }
 }
 
-/// What a command of this name asks for with these values, or which argument they don't fit.
+/// What a command of this name asks for with these values, or which argument is not valid.
 pub fn read_order<'a>(
     alloc: Global,
     command: &str,

@@ -18,13 +18,13 @@ use std::alloc::Global;
 /// The greatest TCP port.
 pub const MAX_PORT: u64 = 65_535;
 
-/// The most connections that `--count` may ask for.
+/// The greatest value of `--count`.
 pub const MAX_COUNT: u64 = 1_000_000;
 
-/// The connections that `--unlimited` asks for. A million a second use them up in half a million years.
+/// The number of connections that `--unlimited` stands for. At a million a second they last for half a million years.
 pub const UNLIMITED: u64 = u64::MAX;
 
-/// A token whose secret is to be read.
+/// A new token whose secret has not been read yet.
 #[derive(Drop)]
 pub struct NewToken {
     pub org: OrgName,
@@ -59,7 +59,7 @@ impl NewToken {
         })
     }
 
-    /// The command that adds the token with a secret.
+    /// The command that adds the token with this secret.
     pub fn with_secret(self, secret: Secret) -> Admin
         ensures { result ≡ with_secret self secret }
     {
@@ -79,30 +79,30 @@ impl NewToken {
     }
 }
 
-/// What the words ask for. The file of a database is named by its path.
+/// What the words ask for. A database file is named by its path.
 #[derive(Drop)]
 pub enum Order<'a> {
-    /// To carry out an operator's command on a file.
+    /// Carry out an operator's command on a file.
     Carry {
         db: &'a str,
         command: Admin,
     },
-    /// To add a token on a file, once its secret is read.
+    /// Add a token in a file, once its secret is read.
     AddToken {
         db: &'a str,
         token: NewToken,
     },
-    /// To look for faults in the tables of a file.
+    /// Check the tables of a file.
     Check {
         db: &'a str,
     },
-    /// To copy an organization from one file to another.
+    /// Copy an organization from one file to another.
     Copy {
         from: &'a str,
         to: &'a str,
         org: OrgName,
     },
-    /// To copy every organization from one file to another.
+    /// Copy every organization from one file to another.
     Compact {
         from: &'a str,
         to: &'a str,
@@ -119,15 +119,14 @@ pub enum Order<'a> {
         logs: bool,
         checks: bool,
     },
-    /// To answer frames over a database in memory.
+    /// Answer frames over a database in memory.
     Replay,
-    /// To print the version of the program.
+    /// Print the version of the program.
     Version,
 }
 
-/// The values that stand among the words, by the names of their arguments; none where there is none.
-/// `unlimited`, `logs`, `checks` and `forces` are whether `--unlimited`, `--log`, `--check` and `--force`
-/// are there.
+/// The values among the words, by argument; None if the argument is absent. `unlimited`, `logs`, `checks` and `forces` say
+/// whether `--unlimited`, `--log`, `--check` and `--force` are given.
 #[derive(Drop)]
 pub struct Values<'a> {
     pub db: Option<&'a str>,
@@ -183,7 +182,7 @@ fn flag_of(value: Option<&str>) -> bool
     }
 }
 
-/// The number that a word writes, where it is 1 to the most.
+/// Reads a number from 1 to `most`.
 pub fn number_up_to(value: &str, most: u64) -> Option<u64>
     ensures number { result ≡ option_and_then (within 1 most) (whole_of value.now) }
     ensures most { IfSome result (λ n. n ≤ most) }

@@ -5,16 +5,16 @@ ghost use Rattle.command_line.specs.declared.timeouts.TheConstants.{MAX_SECONDS}
 
 use std::marker::Model;
 
-/// The most seconds of a timeout.
+/// The longest timeout, in seconds.
 pub const MAX_SECONDS: u64 = 3_600;
 
-/// The seconds that one read or write of a connection waits, unless the words say otherwise.
+/// How long one read or write of a connection waits by default, in seconds.
 pub const IDLE_SECONDS: u64 = 10;
 
-/// The seconds that one exchange lasts, unless the words say otherwise.
+/// How long a connection lasts by default, in seconds.
 pub const MOST_SECONDS: u64 = 120;
 
-/// A time to wait, in whole seconds: 1 to 3,600.
+/// A timeout, in whole seconds: 1 to 3,600.
 #[derive(Clone, Copy)]
 pub struct Seconds {
     value: u64,
@@ -50,11 +50,11 @@ impl Seconds {
     }
 }
 
-/// How long a connection is waited for.
+/// The timeouts of a connection.
 #[derive(Clone, Copy)]
 pub struct Timeouts {
-    /// A read or a write that gets nothing through for so long has failed.
+    /// A read or a write that makes no progress for this long fails.
     pub idle: Seconds,
-    /// From the accept on: once this is over, each read and write fails.
+    /// The time since the accept after which every read and write fails.
     pub most: Seconds,
 }

@@ -17,14 +17,14 @@ use std::alloc::{AllocError, Global};
 /// The version of the program.
 pub const VERSION: &str = "1.0.0";
 
-/// Why the words ask for nothing that is carried out.
+/// Why the words ask for nothing to carry out.
 #[derive(Drop)]
 pub enum Unasked {
-    /// Help is asked for: this is its text.
+    /// They ask for help; this is its text.
     Help(String),
-    /// The words aren't those of a command: this text says which.
+    /// They are not those of a command; this text says why.
     Words(String),
-    /// The value of this argument isn't of its form.
+    /// The value of this argument is not valid.
     Value(Argument),
     Down,
 }
@@ -69,21 +69,21 @@ fn database<'a>(alloc: Global, help: &'a str) -> Arg<'a>
 fn target<'a>(alloc: Global) -> Arg<'a>
     ensures { IsArg result target }
 {
-    let help = "The target file. It is created if it doesn't exist";
+    let help = "The target file. Created if it does not exist";
     option(alloc, "to", true, "PATH", help)
 }
 
 fn organization<'a>(alloc: Global) -> Arg<'a>
     ensures { IsArg result organization }
 {
-    let help = "The organization: 1 to 40 of a-z, 0-9 and '-', the first a letter";
+    let help = "The organization's name: 1 to 40 of a-z, 0-9 and '-', starting with a letter";
     value(alloc, "org", "ORG", help)
 }
 
 fn token_name<'a>(alloc: Global) -> Arg<'a>
     ensures { IsArg result (value_rule (codes "name")) }
 {
-    let help = "The token's name: 1 to 40 of a-z, 0-9 and '-', the first a letter";
+    let help = "The token's name: 1 to 40 of a-z, 0-9 and '-', starting with a letter";
     value(alloc, "name", "NAME", help)
 }
 
@@ -115,8 +115,8 @@ fn with_command<'a>(
 fn org_add<'a>(alloc: Global) -> Result<Command<'a>, AllocError>
     ensures { IfOk result (λ command. IsCommand command org_add) }
 {
-    let file_help = "The database file. It is created if it doesn't exist";
-    let help = "How many workspaces it may have: 0 to 100000; 200 without";
+    let file_help = "The database file. Created if it does not exist";
+    let help = "How many workspaces it may have: 0 to 100000 [default: 200]";
     let bare = command(alloc, "org-add", "Adds an organization");
     let on_file = with_arg(bare, database(alloc, file_help));
     let limited = with_arg(on_file, option(alloc, "limit", false, "N", help));
@@ -127,7 +127,7 @@ fn org_limit<'a>(alloc: Global) -> Result<Command<'a>, AllocError>
     ensures { IfOk result (λ command. IsCommand command org_limit) }
 {
     let about = "Sets how many workspaces an organization may have";
-    let help = "How many workspaces it may have: 0 to 100000; what there is stays";
+    let help = "How many workspaces it may have: 0 to 100000. Existing ones stay";
     let bare = command(alloc, "org-limit", about);
     let on_file = with_arg(bare, database(alloc, OLD_FILE));
     let of_one = with_arg(on_file, organization(alloc));
@@ -138,7 +138,7 @@ fn org_copy<'a>(alloc: Global) -> Result<Command<'a>, AllocError>
     ensures { IfOk result (λ command. IsCommand command org_copy) }
 {
     let about =
-        "Checks the file's tables, then copies an organization, with all that it has, to another file";
+        "Checks the file's tables, then copies an organization and everything in it to another file";
     let bare = command(alloc, "org-copy", about);
     let on_file = with_arg(bare, database(alloc, OLD_FILE));
     let to_another = with_arg(on_file, target(alloc));
@@ -148,8 +148,8 @@ fn org_copy<'a>(alloc: Global) -> Result<Command<'a>, AllocError>
 fn org_remove<'a>(alloc: Global) -> Result<Command<'a>, AllocError>
     ensures { IfOk result (λ command. IsCommand command org_remove) }
 {
-    let about = "Removes an organization, with all that it has";
-    let help = "Also where a lock holds or a run is open";
+    let about = "Removes an organization and everything in it";
+    let help = "Remove it even if a workspace is locked or a run is open";
     let bare = command(alloc, "org-remove", about);
     let on_file = with_arg(bare, database(alloc, OLD_FILE));
     let forcing = with_arg(on_file, flag(alloc, "force", help));
@@ -159,7 +159,7 @@ fn org_remove<'a>(alloc: Global) -> Result<Command<'a>, AllocError>
 fn org_list<'a>(alloc: Global) -> Result<Command<'a>, AllocError>
     ensures { IfOk result (λ command. IsCommand command org_list) }
 {
-    let about = "Lists all organizations: a line `ORG WORKSPACES LIMIT` each";
+    let about = "Lists all organizations, one line each: ORG WORKSPACES LIMIT";
     let bare = command(alloc, "org-list", about);
     with_arg(bare, database(alloc, OLD_FILE))
 }
@@ -168,7 +168,7 @@ fn token_add<'a>(alloc: Global) -> Result<Command<'a>, AllocError>
     ensures { IfOk result (λ command. IsCommand command token_add) }
 {
     let about =
-        "Adds a token; its secret, 16 to 64 ASCII letters or digits, is the line of standard input";
+        "Adds a token. Its secret is read from standard input: one line of 16 to 64 ASCII letters or digits";
     let help = "What the token may do: read, write or admin";
     let bare = command(alloc, "token-add", about);
     let on_file = with_arg(bare, database(alloc, OLD_FILE));
@@ -185,9 +185,9 @@ fn with_bounds<'a>(
     ensures { (app : App) → IfOk bare.entry (λ it. IsCommand it app) → IfOk result (λ whole. IsCommand whole (with_bounds app)) }
 {
     let until_help =
-        "From this moment on the token doesn't count, in seconds since 1970: 0 to 253402300799; without, it doesn't end";
+        "When the token expires, in seconds since 1970-01-01 UTC: 0 to 253402300799 [default: never]";
     let prefix_help =
-        "The token counts for the workspaces whose names begin so: 0 to 90 ASCII letters, digits, '-' and '_'; without, for each";
+        "Only workspaces whose names start with this may be used: 0 to 90 ASCII letters, digits, '-' and '_' [default: all]";
     let ending = with_arg(bare, option(alloc, "until", false, "SECONDS", until_help));
     with_arg(ending, option(alloc, "prefix", false, "TEXT", prefix_help))
 }
@@ -196,7 +196,7 @@ fn token_list<'a>(alloc: Global) -> Result<Command<'a>, AllocError>
     ensures { IfOk result (λ command. IsCommand command token_list) }
 {
     let about =
-        "Lists an organization's tokens: a line `NAME ROLE UNTIL PREFIX` each, '-' for no end and for every workspace";
+        "Lists an organization's tokens, one line each: NAME ROLE UNTIL PREFIX. '-' stands for never, and for all workspaces";
     let bare = command(alloc, "token-list", about);
     let on_file = with_arg(bare, database(alloc, OLD_FILE));
     with_arg(on_file, organization(alloc))
@@ -205,7 +205,7 @@ fn token_list<'a>(alloc: Global) -> Result<Command<'a>, AllocError>
 fn token_revoke<'a>(alloc: Global) -> Result<Command<'a>, AllocError>
     ensures { IfOk result (λ command. IsCommand command token_revoke) }
 {
-    let bare = command(alloc, "token-revoke", "Takes a token away");
+    let bare = command(alloc, "token-revoke", "Revokes a token");
     let on_file = with_arg(bare, database(alloc, OLD_FILE));
     let of_one = with_arg(on_file, organization(alloc));
     with_arg(of_one, token_name(alloc))
@@ -214,9 +214,8 @@ fn token_revoke<'a>(alloc: Global) -> Result<Command<'a>, AllocError>
 fn serve<'a>(alloc: Global) -> Result<Command<'a>, AllocError>
     ensures { IfOk result (λ command. IsCommand command serve) }
 {
-    let about = "Answers Terraform and runners on the loopback address";
-    let file_help =
-        "The database file. It is created if it doesn't exist; with --check it must exist";
+    let about = "Serves Terraform and runners on 127.0.0.1";
+    let file_help = "The database file. Created if it does not exist; with --check it must exist";
     let port_help = "The TCP port of 127.0.0.1: 1 to 65535";
     let bare = command(alloc, "serve", about);
     let on_file = with_arg(bare, database(alloc, file_help));
@@ -233,9 +232,8 @@ fn with_counts<'a>(
 ) -> Result<Command<'a>, AllocError>
     ensures { (app : App) → IfOk bare.entry (λ it. IsCommand it app) → IfOk result (λ whole. IsCommand whole (with_counts app)) }
 {
-    let count_help =
-        "Answers this many connections, one after the other: 1 to 1000000. Give this or --unlimited";
-    let unlimited_help = "Answers connections without a limit. Give this or --count";
+    let count_help = "Stop after this many connections: 1 to 1000000. Give this or --unlimited";
+    let unlimited_help = "Serve any number of connections. Give this or --count";
     let counted = with_arg(bare, option(alloc, "count", false, "N", count_help));
     with_arg(counted, flag(alloc, "unlimited", unlimited_help))
 }
@@ -246,9 +244,8 @@ fn with_flags<'a>(
 ) -> Result<Command<'a>, AllocError>
     ensures { (app : App) → IfOk bare.entry (λ it. IsCommand it app) → IfOk result (λ whole. IsCommand whole (with_flags app)) }
 {
-    let log_help = "Prints a line of JSON for each exchange on standard output";
-    let check_help =
-        "Looks for faults in the file's tables first, and refuses to start if there are some";
+    let log_help = "Print one line of JSON per exchange to standard output";
+    let check_help = "Check the file's tables first, and refuse to start if they have faults";
     let logging = with_arg(bare, flag(alloc, "log", log_help));
     with_arg(logging, flag(alloc, "check", check_help))
 }
@@ -260,8 +257,8 @@ fn with_timeouts<'a>(
     ensures { (app : App) → IfOk bare.entry (λ it. IsCommand it app) → IfOk result (λ whole. IsCommand whole (with_timeouts app)) }
 {
     let idle_help =
-        "A read or a write that gets nothing through for so long ends its connection: 1 to 3600; 10 without";
-    let most_help = "A connection that lasts longer is ended: 1 to 3600; 120 without";
+        "Close a connection when a read or a write makes no progress for this long: 1 to 3600 [default: 10]";
+    let most_help = "Close a connection that lasts longer than this: 1 to 3600 [default: 120]";
     let waiting = with_arg(bare, option(alloc, "idle", false, "SECONDS", idle_help));
     with_arg(waiting, option(alloc, "most", false, "SECONDS", most_help))
 }
@@ -270,7 +267,7 @@ fn check<'a>(alloc: Global) -> Result<Command<'a>, AllocError>
     ensures { IfOk result (λ command. IsCommand command check) }
 {
     let about =
-        "Looks for faults in the file's tables: prints a line for each, 50 at most, or `ok` and the numbers of organizations, workspaces, versions and runs";
+        "Checks the file's tables. Prints one line per fault, at most 50, or `ok` and the numbers of organizations, workspaces, versions and runs";
     let bare = command(alloc, "check", about);
     with_arg(bare, database(alloc, OLD_FILE))
 }
@@ -279,7 +276,7 @@ fn compact<'a>(alloc: Global) -> Result<Command<'a>, AllocError>
     ensures { IfOk result (λ command. IsCommand command compact) }
 {
     let about =
-        "Checks the file's tables, then copies every organization to a new file; a target that has organizations is refused";
+        "Checks the file's tables, then copies every organization to a new file. Refuses a target that has organizations";
     let bare = command(alloc, "compact", about);
     let on_file = with_arg(bare, database(alloc, OLD_FILE));
     with_arg(on_file, target(alloc))
@@ -288,7 +285,7 @@ fn compact<'a>(alloc: Global) -> Result<Command<'a>, AllocError>
 fn replay<'a>(alloc: Global) -> Result<Command<'a>, AllocError>
     ensures { IfOk result (λ command. IsCommand command replay) }
 {
-    let about = "Answers frames of standard input over a database in memory";
+    let about = "Answers the frames on standard input over a database in memory";
     command(alloc, "replay", about)
 }
 
@@ -296,7 +293,7 @@ fn bare<'a>(alloc: Global) -> Result<Command<'a>, AllocError>
     ensures { IfOk result (λ whole. IsCommand whole bare) }
 {
     Command::new(alloc, "custody")
-        .about("Keeps Terraform state: who may change which state, and when")
+        .about("Keeps Terraform state and decides who may change which state, and when")
         .no_binary_name(true)
         .subcommand_required(true)
         .arg_required_else_help(true)
@@ -406,7 +403,7 @@ fn ordered<'a>(alloc: Global, matches: &ArgMatches<'a>) -> Result<Order<'a>, Unr
     }
 }
 
-/// What the words ask for; they come without the program's name.
+/// Reads the words, which come without the program's name.
 pub fn read_words<'a>(alloc: Global, words: &'a [String]) -> Result<Order<'a>, Unasked>
     ensures asked { IfOk result (λ order. asked_in (words_bytes words.entry.now) ≡ Some (said_by order)) }
     ensures why { IfErr result (IsWhy (words_bytes words.entry.now)) }

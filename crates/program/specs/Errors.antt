@@ -10,10 +10,10 @@ use Rattle.program.specs.Streams.{Told, Tells}
 
 -- what the fault of a link is called
 abbrev pub fault_text : LinkFault → List ℕ
-fault_text Ended = codes "the peer closed before its request was whole"
+fault_text Ended = codes "the peer closed the connection before its request was complete"
 fault_text Read = codes "a read failed"
-fault_text Continue = codes "100 Continue could not be written"
-fault_text Write = codes "the reply could not be written whole"
+fault_text Continue = codes "100 Continue could not be sent"
+fault_text Write = codes "the reply could not be sent completely"
 
 -- a line of the error stream on the connection of this number, from 1 on
 abbrev pub connection_line : ℕ → List ℕ → List ℕ
@@ -21,7 +21,7 @@ connection_line place text = codes "custody: connection " ++ decimal place ++ co
 
 -- the line on a connection that was answered by the 503 of memory or a store that refused (`true`); on another there is none
 abbrev pub down_line : ℕ → Bool → List ℕ
-down_line place true = connection_line place (codes "memory or the store was refused, answered 503")
+down_line place true = connection_line place (codes "out of memory or the store failed; replied 503")
 down_line place false = []
 
 -- the line on a connection that ended by a fault of its link; on another there is none
@@ -36,70 +36,70 @@ GetsConnectionLines place is_down result old new = Tells old new (down_line plac
 
 -- what is told where the log of a file stays beside it
 abbrev pub log_line : List ℕ
-log_line = codes "custody: the log could not be copied into the file: keep the file and its log together\n"
+log_line = codes "custody: the WAL could not be copied into the file: keep the file and its -wal together\n"
 
 -- what is told where others than its owner may read a file or its log
 abbrev pub readers_line : List ℕ
-readers_line = codes "custody: others than its owner may read the file or its log: chmod 600 ends that\n"
+readers_line = codes "custody: users other than its owner may read the file or its -wal: chmod 600 ends that\n"
 
 -- what is told where a secret doesn't read
 abbrev pub secret_line : List ℕ
-secret_line = codes "custody: the secret isn't one line of 16 to 64 ASCII letters or digits\n"
+secret_line = codes "custody: the secret must be one line of 16 to 64 ASCII letters or digits\n"
 
 -- what is told where no file lay at a path, and one was made
 abbrev pub new_line : List ℕ
-new_line = codes "custody: there was no file at the path: a new one was made\n"
+new_line = codes "custody: there was no file at the path; a new one was created\n"
 
 -- why `refused down`: one line for each cause
 abbrev pub cause_line : Cause → List ℕ
 cause_line InUse = codes "custody: another program has the file open\n"
-cause_line NotPermitted = codes "custody: the file or its folder may not be read and written\n"
-cause_line NoFile = codes "custody: the path leads to no file, or to one with more than one hard link\n"
-cause_line NoFolder = codes "custody: the folder of --db's file isn't there\n"
-cause_line NoTargetFolder = codes "custody: the folder of --to's file isn't there\n"
-cause_line Missing = codes "custody: there is no file at the path, or an empty one: only org-add, serve without --check, and --to make one\n"
-cause_line LogAlone = codes "custody: the file is missing or empty, and the log beside it may hold changes: put the file back\n"
+cause_line NotPermitted = codes "custody: no permission to read and write the file or its folder\n"
+cause_line NoFile = codes "custody: the path does not lead to a file, or the file has more than one hard link\n"
+cause_line NoFolder = codes "custody: the folder of the --db file does not exist\n"
+cause_line NoTargetFolder = codes "custody: the folder of the --to file does not exist\n"
+cause_line Missing = codes "custody: there is no file at the path, or it is empty; only org-add, serve without --check, and --to create one\n"
+cause_line LogAlone = codes "custody: the file is missing or empty, and the -wal beside it may hold changes: put the file back\n"
 cause_line NoTables = codes "custody: the file is a database without custody's tables\n"
-cause_line Journal = codes "custody: a rollback journal lies beside the file: open it with sqlite3 first\n"
-cause_line Corrupt = codes "custody: the file is damaged: a page's sum or form is wrong\n"
-cause_line Unsound = codes "custody: the file is damaged or no database: its rows break its schema\n"
-cause_line NoRoom = codes "custody: there is no room on the disk\n"
-cause_line NoMemory = codes "custody: memory was refused\n"
-cause_line Disk = codes "custody: the disk or the system refused\n"
-cause_line Store = codes "custody: memory or the store refused, and no record changed\n"
-cause_line Unfinished = codes "custody: memory or a store refused before all was copied: delete the new file, and start again\n"
-cause_line Shut = codes "custody: a fault of the disk has shut the store: see to the disk\n"
-cause_line Halted = codes "custody: a fault of the disk has shut the store: see to the disk. It may have been done: look\n"
-cause_line Unknown = codes "custody: memory or the store refused. It may have been done: look\n"
-cause_line Input = codes "custody: the input can't be read, or memory was refused\n"
-cause_line PortTaken = codes "custody: the port is taken\n"
-cause_line PortNotPermitted = codes "custody: the port isn't permitted\n"
-cause_line Port = codes "custody: the port can't be listened at\n"
+cause_line Journal = codes "custody: a rollback journal lies beside the file: open the file with sqlite3 first\n"
+cause_line Corrupt = codes "custody: the file is damaged: a page's checksum or format is wrong\n"
+cause_line Unsound = codes "custody: the file is not a database, or it is damaged: its rows break its schema\n"
+cause_line NoRoom = codes "custody: there is no space left on the disk\n"
+cause_line NoMemory = codes "custody: out of memory\n"
+cause_line Disk = codes "custody: the disk or the system reported an error\n"
+cause_line Store = codes "custody: out of memory or the store failed; no record was changed\n"
+cause_line Unfinished = codes "custody: out of memory or a store failed before everything was copied: delete the new file and start again\n"
+cause_line Shut = codes "custody: a disk error closed the store: check the disk\n"
+cause_line Halted = codes "custody: a disk error closed the store: check the disk. The change may have been made: look before you repeat it\n"
+cause_line Unknown = codes "custody: out of memory or the store failed. The change may have been made: look before you repeat it\n"
+cause_line Input = codes "custody: the input could not be read, or out of memory\n"
+cause_line PortTaken = codes "custody: the port is in use\n"
+cause_line PortNotPermitted = codes "custody: no permission to use the port\n"
+cause_line Port = codes "custody: could not listen on the port\n"
 cause_line Accept = codes "custody: a connection could not be accepted\n"
-cause_line Clock = codes "custody: the clock can't be read, or is out of range\n"
-cause_line Log = codes "custody: the exchange log could not be written, so nothing more is answered\n"
-cause_line Faults = codes "custody: the file's tables are not sound, so nothing is answered:\n"
-cause_line SourceFaults = codes "custody: the file's tables are not sound, so nothing is copied:\n"
-cause_line Encoding = codes "custody: an argument isn't UTF-8\n"
-cause_line NoNull = codes "custody: a standard stream is closed, and /dev/null can't be opened\n"
+cause_line Clock = codes "custody: the clock could not be read, or it is out of range\n"
+cause_line Log = codes "custody: the exchange log could not be written, so the service stops\n"
+cause_line Faults = codes "custody: the file's tables have faults, so the service does not start:\n"
+cause_line SourceFaults = codes "custody: the file's tables have faults, so nothing is copied:\n"
+cause_line Encoding = codes "custody: an argument is not UTF-8\n"
+cause_line NoNull = codes "custody: a standard stream is closed, and /dev/null could not be opened\n"
 
 -- what is told where memory was refused to open a file of so many bytes
 abbrev pub memory_line : ℕ → List ℕ
-memory_line bytes = codes "custody: memory was refused to open the file of " ++ (decimal bytes ++ codes " bytes\n")
+memory_line bytes = codes "custody: out of memory while opening the file of " ++ (decimal bytes ++ codes " bytes\n")
 
 -- what is told where standard output or error took not all that was to be printed
 abbrev pub unprinted_line : List ℕ
-unprinted_line = codes "custody: standard output or error did not take all that was to be printed\n"
+unprinted_line = codes "custody: not everything could be printed to standard output or standard error\n"
 
 -- how the line on a version ends
 abbrev pub version_end : List ℕ
-version_end = codes " of the schema: it isn't known here, or its tables are others\n"
+version_end = codes " of the schema, which this program does not know, or its tables are different\n"
 
 -- the line on a file that tells this version, which isn't known, or has other tables
 abbrev pub version_line : ℕ → List ℕ
-version_line version = codes "custody: the file tells version " ++ (decimal version ++ version_end)
+version_line version = codes "custody: the file has version " ++ (decimal version ++ version_end)
 
 -- why `refused schema`
 abbrev pub other_line : OtherSchema → List ℕ
 other_line (Version version) = version_line version
-other_line Untold = codes "custody: tables in the file have names of this schema, and none tells its version\n"
+other_line Untold = codes "custody: the file has tables with this schema's names, but no schema version\n"

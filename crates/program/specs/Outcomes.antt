@@ -416,8 +416,8 @@ module _ {K F : Type 0} (k : keep.Ghosts K) (f : files.Ghosts F K) where
       ⊎ ((new ≡ old) × ((HasNoSecret input × RefusesUsage e output errors × Tells errors.old errors.new secret_line)
       ⊎ (RefusesDown e output × TellsCause cause.Input errors)))
 
-  -- the tables of a store were looked over: of what was found this is told. Where no fault was found the store is sound and keyed, if its
-  -- tables are defined as ours. Each record is as before
+  -- the tables of a store were checked, and this is reported of what was found. If there was no fault and the store `is_ours`, it is sound and
+  -- keyed. Each record is as before
   pub record LooksFor (IsTold : Result Looked Down → Errors → Type 0) (before after : K) (errors : Errors) : Type 0 where
     pub look : Looks k.rows k.clean k.sound k.keyed k.shielded before after
     pub result : Result Looked Down
@@ -499,8 +499,8 @@ module _ {K F : Type 0} (k : keep.Ghosts K) (f : files.Ghosts F K) where
       ((from ≡ to) × (new ≡ old) × Refuses cause.InUse e output errors)
       ⊎ (((from ≢ to) × RefusesSource from old new e output errors) ⊎ RefusesSecond from to old new e output errors)
 
-  -- it was copied from what lay at one path, without a fault, to what lay at another, and this became of the records, where the first's
-  -- tables are defined as ours. What that left lies there now, and nothing else changed
+  -- it was copied from the store at one path, whose tables have no fault, to the store at another, and this became of the records, if the first
+  -- `is_ours`. What that left lies there now, and nothing else changed
   pub record CopiesOver (from to : List ℕ) (Becomes : K → (from old new : List ℕ → Option Organization) → Errors → Type 0) (Fails : K → Cause → Type 0) (old new : F) (errors : Errors) : Type 0 where
     pub source_before : K
     pub source_after : K
@@ -568,8 +568,8 @@ module _ {K F N C R W : Type 0} (k : keep.Ghosts K) (f : files.Ghosts F K) (n : 
     pub closes : Closes k f path worked new.files after (error_stream lines errors.new)
     pub others : OthersStay f.holds path old.files new.files
 
-  -- the same of a file that was there, behind a look for faults in its tables, which found none. So what is served is sound and keyed, if
-  -- its tables are defined as ours
+  -- the same of a file that was there, after a check of its tables, which found no fault. So what is served is sound and keyed, if the store
+  -- `is_ours`
   pub record ServesChecked (path : List ℕ) (port : ℕ) (timeouts : Timeouts) (logs : Bool) (count : ℕ) (old new : Outside F N C) (e : Ending) (output : Stream) (errors : Errors) : Type 0 where
     pub before : K
     pub after : K

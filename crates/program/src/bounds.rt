@@ -58,8 +58,7 @@ fn both_bounds(alloc: Global, first: &str, second: &str) -> Result<Bounds, Unfit
     }
 }
 
-/// The bounds that the words of a frame write behind a secret: `until=SECONDS` and `prefix=TEXT`, in this
-/// order, each where it is wanted.
+/// The bounds that a frame may give after a secret: `until=SECONDS` and `prefix=TEXT`, in this order, each optional.
 pub fn read_bounds(alloc: Global, words: &[&str]) -> Result<Bounds, Unfit>
     ensures ok { IfOk result (λ bounds. bounds_of (bytes_of words.now) ≡ Some bounds) }
     ensures syntax { IsErrOf result Unfit.Syntax → bounds_of (bytes_of words.now) ≡ None }

@@ -53,7 +53,7 @@ fn say_found<O: Write, E: ErrorStream>(
     }
 }
 
-/// Looks for faults in the tables of a file, and prints what it finds.
+/// Checks the tables of a file and prints the result.
 pub fn check<K: Keep, F: Files<K>, O: Write, E: ErrorStream>(
     alloc: Global,
     files: &mut F,
@@ -99,7 +99,7 @@ fn tell_unsound<E: ErrorStream>(errors: &mut E, cause: Cause, found: &Result<Loo
     }
 }
 
-/// Looks for faults in the tables of a store; true where it finds none. Else it says by the cause what isn't done, and each
+/// Checks the tables of a store. Returns true if there is no fault. Otherwise reports by the cause what is not done, and each
 /// fault.
 pub fn look_first<K: Keep, F: Files<K>, E: ErrorStream>(
     alloc: Global,

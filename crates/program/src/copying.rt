@@ -20,7 +20,7 @@ use machine::{AdminAnswer, Keep, OrgRow};
 use std::alloc::Global;
 use std::io::Write;
 
-/// Opens the store of a path, in whose tables there may be no fault; or says why it isn't opened, and closes it again.
+/// Opens the store at a path if its tables have no fault. Otherwise reports why not, and closes it.
 fn open_sound<K: Keep, F: Files<K>, O: Write, E: ErrorStream>(
     alloc: Global,
     files: &mut F,
@@ -42,8 +42,8 @@ fn open_sound<K: Keep, F: Files<K>, O: Write, E: ErrorStream>(
     Err(say(output, Ending::Down))
 }
 
-/// Opens the stores of two paths, the first first; or says why one isn't opened. Where faults are found in the first's tables,
-/// nothing is opened at the second; where the second isn't opened, the first is closed again. Of one path nothing is opened.
+/// Opens the stores at two different paths, the first one first, or reports why one was not opened. If the first one's tables
+/// have faults, the second is not opened. If the second is not opened, the first is closed.
 fn open_both<K: Keep, F: Files<K>, O: Write, E: ErrorStream>(
     alloc: Global,
     files: &mut F,
@@ -93,7 +93,7 @@ fn say_copied<K: Keep, F: Files<K>, O: Write, E: ErrorStream>(
     }
 }
 
-/// Copies an organization from one file to another, and prints the answer.
+/// Copies an organization from one file to another and prints the answer.
 pub fn copy_one<K: Keep, F: Files<K>, O: Write, E: ErrorStream>(
     alloc: Global,
     files: &mut F,
@@ -116,7 +116,7 @@ pub fn copy_one<K: Keep, F: Files<K>, O: Write, E: ErrorStream>(
     ending
 }
 
-/// One organization by its name, as the list of all has it.
+/// The entry of one organization in the list of all.
 fn copy_named<K: Keep, F: Files<K>>(
     alloc: Global,
     files: &F,
@@ -166,7 +166,7 @@ fn copy_listed<K: Keep, F: Files<K>>(
     }
 }
 
-/// Copies every organization from one store to another, each in a transaction of its own.
+/// Copies every organization from one store to another, each in its own transaction.
 fn copy_all<K: Keep, F: Files<K>>(
     alloc: Global,
     files: &F,
@@ -179,7 +179,7 @@ fn copy_all<K: Keep, F: Files<K>>(
     copy_listed(alloc, files, &listed, from, to)
 }
 
-/// Whether a list of all organizations has none.
+/// Whether a list of organizations is empty.
 fn lists_none(listed: &AdminAnswer) -> bool
     ensures { result ≡ lists_none listed.now }
 {
@@ -190,7 +190,8 @@ fn lists_none(listed: &AdminAnswer) -> bool
     }
 }
 
-/// Copies every organization from one store to another that has none (true); where it has some (false) nothing is copied.
+/// Copies every organization to a store that has none, and returns true. If the target has some, copies nothing and returns
+/// false.
 fn fill<K: Keep, F: Files<K>>(
     alloc: Global,
     files: &F,
@@ -226,7 +227,7 @@ fn say_filled<O: Write, E: ErrorStream>(
     }
 }
 
-/// Copies every organization from one file to another, which may have none.
+/// Copies every organization from one file to another that has none.
 pub fn compact<K: Keep, F: Files<K>, O: Write, E: ErrorStream>(
     alloc: Global,
     files: &mut F,

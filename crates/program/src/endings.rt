@@ -5,28 +5,28 @@ ghost use Rattle.program.specs.Endings.{status_of, ending_line};
 
 use std::io::ErrorKind;
 
-/// How the program ends.
+/// How a run of the program ends.
 #[derive(Clone, Copy, PartialEq, Eq)]
 pub enum Ending {
-    /// All was carried out and printed.
+    /// Everything was carried out and printed.
     Done,
-    /// The organization, the token's name, or its secret within the organization is there already.
+    /// The organization, the token's name, or its secret within the organization already exists.
     Exists,
-    /// The organization, or the token, isn't there.
+    /// The organization or the token does not exist.
     Absent,
-    /// A lock holds in the organization, or a run is open.
+    /// A workspace of the organization is locked, or a run is open.
     InUse,
-    /// Faults were found in the tables of the file.
+    /// The file's tables have faults.
     Faults,
-    /// The words or the secret don't read.
+    /// The words or the secret are not valid.
     Usage,
-    /// A frame doesn't parse.
+    /// A frame does not parse.
     BadFrame,
-    /// The file is of another schema.
+    /// The file has another schema.
     Schema,
-    /// Memory, the store, standard input or the network was refused.
+    /// An allocation, the store, standard input or the network failed.
     Down,
-    /// A stream took not all that was to be printed.
+    /// A stream did not take everything that was to be printed.
     Unprinted,
 }
 
@@ -43,7 +43,7 @@ impl Ending {
         }
     }
 
-    /// The line on standard output that says so, without its line feed; where none is due it is empty.
+    /// The line on standard output, without its line feed; empty if there is none.
     pub fn line(self) -> &'static str
         ensures { result.now ≡ ending_line self }
     {
@@ -60,7 +60,7 @@ impl Ending {
     }
 }
 
-/// How the program ends where its arguments can't be read: for want of memory, or since one isn't UTF-8.
+/// How the program ends if its arguments cannot be read: out of memory, or one is not UTF-8.
 pub fn unread(kind: ErrorKind) -> Ending
     ensures memory { kind ≡ ErrorKind.OutOfMemory → result ≡ Ending.Down }
     ensures other { kind ≢ ErrorKind.OutOfMemory → result ≡ Ending.Usage }

@@ -10,7 +10,7 @@ use basis::Text;
 use itoa::Buffer;
 use std::io;
 
-/// Writes a text, up to the first call that fails.
+/// Writes a text. Stops at the first call that fails.
 fn write_text<E: ErrorStream>(errors: &mut E, text: &[u8]) -> io::Result<()>
     ensures { TellsBy (E.told errors.old) (E.told errors.new) text.now result }
 {
@@ -24,7 +24,7 @@ fn write_text<E: ErrorStream>(errors: &mut E, text: &[u8]) -> io::Result<()>
     Ok(())
 }
 
-/// Sends on what was written, where no call failed.
+/// Flushes the stream if every write succeeded.
 pub fn send_on<E: ErrorStream>(errors: &mut E, written: io::Result<()>) -> io::Result<()>
     ensures { (before : Told) (text : List ℕ) → TellsBy before (E.told errors.old) text written → TellsBy before (E.told errors.new) text result }
 {
@@ -63,7 +63,7 @@ fn write_placed<E: ErrorStream>(errors: &mut E, place: u64, text: &str) -> io::R
     }
 }
 
-/// Writes a line on the connection of this number.
+/// Writes a line about the connection with this number.
 pub fn write_line<E: ErrorStream>(errors: &mut E, place: u64, text: &str) -> io::Result<()>
     ensures { TellsBy (E.told errors.old) (E.told errors.new) (connection_line place text.now) result }
 {
@@ -73,7 +73,7 @@ pub fn write_line<E: ErrorStream>(errors: &mut E, place: u64, text: &str) -> io:
     }
 }
 
-/// Writes a text, up to the first call that fails, and sends it on.
+/// Writes a text and flushes it. Stops at the first call that fails.
 pub fn note<E: ErrorStream>(errors: &mut E, text: &str) -> io::Result<()>
     ensures by { TellsBy (E.told errors.old) (E.told errors.new) text.now result }
     ensures told { Tells (E.told errors.old) (E.told errors.new) text.now }
@@ -82,7 +82,7 @@ pub fn note<E: ErrorStream>(errors: &mut E, text: &str) -> io::Result<()>
     send_on(errors, written)
 }
 
-/// Says why memory, the store, the input or the network was refused.
+/// Reports why an allocation, the store, the input or the network failed.
 pub fn tell_cause<E: ErrorStream>(errors: &mut E, cause: Cause)
     ensures { Tells (E.told errors.old) (E.told errors.new) (cause_line cause) }
 {
@@ -110,7 +110,7 @@ fn note_faults<E: ErrorStream>(errors: &mut E, cause: Cause, faults: &[Text]) ->
     }
 }
 
-/// Says what isn't done since the tables of a file aren't sound, and each fault on a line.
+/// Reports what the command did not do because the file's tables have faults, then one line per fault.
 pub fn tell_faults<E: ErrorStream>(errors: &mut E, cause: Cause, faults: &[Text])
     ensures { Tells (E.told errors.old) (E.told errors.new) (cause_line cause ++ fault_lines faults.now) }
 {
@@ -126,7 +126,7 @@ fn write_frame<E: ErrorStream>(errors: &mut E, frame: usize) -> io::Result<()>
     write_ended(errors, digits)
 }
 
-/// Writes the line about the frame that doesn't parse; `frame` is its place, from 1 on.
+/// Reports the frame that does not parse, by its number (from 1).
 pub fn note_bad_frame<E: ErrorStream>(errors: &mut E, frame: usize) -> io::Result<()>
     ensures { TellsBy (E.told errors.old) (E.told errors.new) (bad_frame_text frame) result }
 {
@@ -139,7 +139,7 @@ pub fn note_bad_frame<E: ErrorStream>(errors: &mut E, frame: usize) -> io::Resul
 fn note_memory<E: ErrorStream>(errors: &mut E, bytes: u64) -> io::Result<()>
     ensures { TellsBy (E.told errors.old) (E.told errors.new) (memory_line bytes) result }
 {
-    match write_text(errors, b"custody: memory was refused to open the file of ") {
+    match write_text(errors, b"custody: out of memory while opening the file of ") {
         Ok(()) => write_bytes(errors, bytes),
         Err(error) => Err(error),
     }
@@ -156,7 +156,7 @@ fn write_bytes<E: ErrorStream>(errors: &mut E, bytes: u64) -> io::Result<()>
     }
 }
 
-/// Says that memory was refused to open a file of so many bytes.
+/// Reports that there was not enough memory to open a file of this many bytes.
 pub fn tell_memory<E: ErrorStream>(errors: &mut E, bytes: u64)
     ensures { Tells (E.told errors.old) (E.told errors.new) (memory_line bytes) }
 {
@@ -164,9 +164,9 @@ pub fn tell_memory<E: ErrorStream>(errors: &mut E, bytes: u64)
     let _ = send_on(errors, written);
 }
 
-/// What is said of tables that have names of ours, where none tells a version.
+/// The line for a file whose tables have our names but no schema version.
 const UNTOLD: &str =
-    "custody: tables in the file have names of this schema, and none tells its version\n";
+    "custody: the file has tables with this schema's names, but no schema version\n";
 
 fn write_version<E: ErrorStream>(errors: &mut E, version: u64) -> io::Result<()>
     ensures { TellsBy (E.told errors.old) (E.told errors.new) (decimal version ++ version_end) result }
@@ -176,7 +176,7 @@ fn write_version<E: ErrorStream>(errors: &mut E, version: u64) -> io::Result<()>
     match write_text(errors, digits.as_bytes()) {
         Ok(()) => write_text(
             errors,
-            b" of the schema: it isn't known here, or its tables are others\n",
+            b" of the schema, which this program does not know, or its tables are different\n",
         ),
         Err(error) => Err(error),
     }
@@ -185,7 +185,7 @@ fn write_version<E: ErrorStream>(errors: &mut E, version: u64) -> io::Result<()>
 fn note_version<E: ErrorStream>(errors: &mut E, version: u64) -> io::Result<()>
     ensures { TellsBy (E.told errors.old) (E.told errors.new) (version_line version) result }
 {
-    match write_text(errors, b"custody: the file tells version ") {
+    match write_text(errors, b"custody: the file has version ") {
         Ok(()) => write_version(errors, version),
         Err(error) => Err(error),
     }
@@ -198,7 +198,7 @@ fn tell_version<E: ErrorStream>(errors: &mut E, version: u64)
     let _ = send_on(errors, written);
 }
 
-/// Says what a file of another schema has.
+/// Reports what a file of another schema contains.
 pub fn tell_other<E: ErrorStream>(errors: &mut E, other: OtherSchema)
     ensures { Tells (E.told errors.old) (E.told errors.new) (other_line other) }
 {

@@ -8,11 +8,11 @@ use basis::{Bytes, Down, Unfit};
 use serve::Step;
 use std::alloc::Global;
 
-/// The steps of the frames up to the first that doesn't parse.
+/// The steps of the frames before the first that does not parse.
 #[derive(Drop)]
 pub struct Frames {
     pub steps: Vec<Step>,
-    /// Whether a frame follows that doesn't parse.
+    /// Whether the next frame does not parse.
     pub is_bad: bool,
 }
 
@@ -53,7 +53,7 @@ fn read_frame(alloc: Global, bytes: &[u8]) -> Result<(Step, &[u8]), Unfit>
     read_step(alloc, heading, rest)
 }
 
-/// Reads frames up to the first that doesn't parse. It has the place `steps.len() + 1`, from 1 on.
+/// Reads frames up to the first that does not parse. That one has the number `steps.len() + 1` (from 1).
 pub fn read_frames(alloc: Global, bytes: &[u8]) -> Result<Frames, Down>
     ensures frames { IfOk result (λ frames. AreFrames bytes.now frames.steps.items frames.is_bad) }
     ensures only { IfOk result (λ frames. IsOnlyReading bytes.now frames.steps.items frames.is_bad) }

@@ -16,7 +16,7 @@ pub const MAX_REQUEST: u64 = 20_000_000;
 /// What the first line of a frame says.
 #[derive(Drop)]
 pub enum Heading {
-    /// A request follows, of so many bytes.
+    /// A request of this many bytes follows.
     Request { at: Moment, len: usize },
     Command { at: Moment, command: Admin },
 }

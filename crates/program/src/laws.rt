@@ -7,17 +7,17 @@ pub fn copied_organizations_go_on()
     ensures { CopiedOrganizationsGoOn }
 {}
 
-/// Where a copy is answered as done, the record is the one that was copied, and there was none.
+/// If a copy succeeds, the target's record is the source's, and the target had none before.
 pub fn done_copies_are_equal()
     ensures { DoneCopiesAreEqual }
 {}
 
-/// Where every organization is copied to a store that had none, the records are the same.
+/// If every organization is copied to a store that had none, both stores have the same records.
 pub fn copies_to_none_are_the_same()
     ensures { CopiesToNoneAreTheSame }
 {}
 
-/// Where some organizations were copied, and then every one, the records are those of one copy.
+/// If some organizations were copied before, and then all are, the records are those of a single copy.
 pub fn stopped_copies_go_on()
     ensures { StoppedCopiesGoOn }
 {}

@@ -24,7 +24,7 @@ fn line_end(bytes: &[u8]) -> Option<usize>
     bytes.iter().position(|b| *b == b'\n')
 }
 
-/// The first line and what comes after its line feed.
+/// The first line, and everything after its line feed.
 pub fn split_line(bytes: &[u8]) -> Option<(&[u8], &[u8])>
     ensures parts { option_map (λ found. (found.0.now, found.1.now)) result ≡ first_line bytes.now }
     ensures shorter { IfSome result (λ found. length found.1.now < length bytes.now) }
@@ -35,7 +35,7 @@ pub fn split_line(bytes: &[u8]) -> Option<(&[u8], &[u8])>
     }
 }
 
-/// The first bytes, as many as `len` says, and what comes after the line feed behind them.
+/// The first `len` bytes, and everything after the line feed that follows them.
 pub fn split_message(bytes: &[u8], len: usize) -> Option<(&[u8], &[u8])>
     ensures parts { option_map (λ found. (found.0.now, found.1.now)) result ≡ message_of len bytes.now }
     ensures shorter { IfSome result (λ found. length found.1.now < length bytes.now) }
@@ -46,7 +46,7 @@ pub fn split_message(bytes: &[u8], len: usize) -> Option<(&[u8], &[u8])>
     }
 }
 
-/// A line, where it is text (UTF-8).
+/// A line, if it is UTF-8.
 pub fn read_text(line: &[u8]) -> Option<&str>
     ensures { option_map (λ text. text.now) result ≡ text_of line.now }
 {
@@ -59,7 +59,7 @@ fn split_text(alloc: Global, text: &str) -> Result<Vec<&str>, AllocError>
     text.split(' ').collect(alloc)
 }
 
-/// The words of a line, parted by one space.
+/// The words of a line, separated by single spaces.
 pub fn split_words(alloc: Global, line: &[u8]) -> Result<Vec<&str>, Unfit>
     ensures ok { IfOk result (λ words. words_of line.now ≡ Some (bytes_of words.items)) }
     ensures syntax { IsErrOf result Unfit.Syntax → words_of line.now ≡ None }

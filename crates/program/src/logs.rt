@@ -13,7 +13,7 @@ use std::alloc::Global;
 use std::io;
 use std::io::{ErrorKind, Write};
 
-/// The word of how an exchange ended.
+/// The log's word for how an exchange ended.
 fn end_word(ended: Result<(), LinkFault>) -> &'static str
     ensures { result.now ≡ end_word ended }
 {
@@ -26,7 +26,7 @@ fn end_word(ended: Result<(), LinkFault>) -> &'static str
     }
 }
 
-/// Whether an act is told of an exchange.
+/// Whether an exchange's line names an act.
 pub fn tells_act(row: &Option<LogRow>) -> bool
     ensures { result ≡ tells_act row.now }
 {
@@ -88,8 +88,8 @@ fn write_line<O: Write>(
     }
 }
 
-/// Writes the line of an exchange, where something is told of it, and sends it on. After an error memory
-/// was refused, or the stream took not all.
+/// Writes the line of an exchange, if it has one, and flushes it. Fails if an allocation fails or the stream does not take the
+/// whole line.
 fn write_row<O: Write>(
     alloc: Global,
     output: &mut O,
@@ -106,8 +106,7 @@ fn write_row<O: Write>(
     }
 }
 
-/// Writes the line of an exchange where the log is asked for (`logs`), and tells whether it was taken; true
-/// where no log is asked for.
+/// Writes the line of an exchange if the log is on (`logs`). Returns whether the stream took it; true if the log is off.
 pub fn log_row<O: Write>(
     alloc: Global,
     output: &mut O,

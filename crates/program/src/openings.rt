@@ -13,16 +13,16 @@ use crate::streams::ErrorStream;
 use machine::Keep;
 use std::io::Write;
 
-/// What is said where the log of a file stays beside it.
+/// The line for a WAL that stays beside its file.
 const LOG_STAYS: &str =
-    "custody: the log could not be copied into the file: keep the file and its log together\n";
+    "custody: the WAL could not be copied into the file: keep the file and its -wal together\n";
 
-/// What is said where others than its owner may read a file or its log.
+/// The line for a file or WAL that other users may read.
 const OTHERS_READ: &str =
-    "custody: others than its owner may read the file or its log: chmod 600 ends that\n";
+    "custody: users other than its owner may read the file or its -wal: chmod 600 ends that\n";
 
-/// What is said where no file lay at a path.
-const NEW_FILE: &str = "custody: there was no file at the path: a new one was made\n";
+/// The line for a file that was created.
+const NEW_FILE: &str = "custody: there was no file at the path; a new one was created\n";
 
 fn tell_of_readers<E: ErrorStream>(errors: &mut E, others_may_read: bool)
     ensures { TellsOfReaders others_may_read (error_stream (E.told errors.old) (E.told errors.new)) }
@@ -47,7 +47,7 @@ fn tell_of_file<E: ErrorStream>(errors: &mut E, is_new: bool, others_may_read: b
     tell_of_readers(errors, others_may_read);
 }
 
-/// The same cause, where the path stands behind `--to` as one that says so.
+/// The cause, with `NoFolder` as `NoTargetFolder` if the path came with `--to`.
 fn seen_at(opening: Opening, cause: Cause) -> Cause
     ensures { result ≡ seen_at opening cause }
 {
@@ -77,7 +77,7 @@ fn refuse_memory<O: Write, E: ErrorStream>(output: &mut O, errors: &mut E, bytes
     say(output, Ending::Down)
 }
 
-/// Opens the store of a path, and tells of its file; or says why it isn't opened.
+/// Opens the store at a path and reports on its file, or reports why it was not opened.
 pub fn open_one<K: Keep, F: Files<K>, O: Write, E: ErrorStream>(
     files: &mut F,
     path: &str,
@@ -101,7 +101,7 @@ pub fn open_one<K: Keep, F: Files<K>, O: Write, E: ErrorStream>(
     }
 }
 
-/// Closes the store of a path, and says where its log stays.
+/// Closes the store at a path, and reports a WAL that stays beside its file.
 pub fn close_after<K: Keep, F: Files<K>, E: ErrorStream>(
     files: &mut F,
     path: &str,
@@ -115,7 +115,7 @@ pub fn close_after<K: Keep, F: Files<K>, E: ErrorStream>(
     }
 }
 
-/// Closes the stores of two paths, the second first.
+/// Closes the stores at two paths, the second one first.
 pub fn close_both<K: Keep, F: Files<K>, E: ErrorStream>(
     files: &mut F,
     from: &str,

@@ -23,11 +23,11 @@ use serve::{Admin, Service};
 use std::alloc::Global;
 use std::io::{Read, Write};
 
-/// What a secret has to be.
+/// The line for a secret that is not valid.
 const SECRET_FORM: &str =
-    "custody: the secret isn't one line of 16 to 64 ASCII letters or digits\n";
+    "custody: the secret must be one line of 16 to 64 ASCII letters or digits\n";
 
-/// Says why on the error stream, and the ending on standard output.
+/// Prints the cause to the error stream and the ending to standard output.
 pub fn say_why<O: Write, E: ErrorStream>(
     output: &mut O,
     errors: &mut E,
@@ -89,8 +89,8 @@ fn say_answer<O: Write>(output: &mut O, command: &Admin, answer: &AdminAnswer) -
     }
 }
 
-/// Why a store refused: a fault of the disk has shut it, so that a change that was under way may have been made; or it is open
-/// still, and no record changed; or memory was refused to that question, too.
+/// Why a store failed: a disk error closed it, so a change that was under way may have been made; or it is still open, and no
+/// record changed; or there was no memory to find out which.
 pub fn failure<K: Keep, F: Files<K>>(files: &F, store: &mut K) -> Cause
     ensures looks { Looks K.rows K.clean K.sound K.keyed K.shielded store.old store.new }
     ensures fails { FailsAs K.Keep F.Files store.old store.new result }
@@ -102,8 +102,8 @@ pub fn failure<K: Keep, F: Files<K>>(files: &F, store: &mut K) -> Cause
     }
 }
 
-/// Carries out an operator's command over a store, prints its answer, and gives the store back. It looks
-/// at no clock: no answer to an operator's command depends on the moment.
+/// Carries out an operator's command, prints its answer, and returns the store. No answer depends on the time, so the clock is
+/// not read.
 fn operate<K: Keep, F: Files<K>, O: Write, E: ErrorStream>(
     alloc: Global,
     files: &F,
@@ -129,7 +129,7 @@ fn operate<K: Keep, F: Files<K>, O: Write, E: ErrorStream>(
     }
 }
 
-/// Only a command that adds an organization makes a database.
+/// Only a command that adds an organization creates a database.
 fn opening_of(command: &Admin) -> Opening
     ensures { result ≡ opening_of command.now }
 {

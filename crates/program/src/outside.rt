@@ -23,18 +23,18 @@ use std::alloc::Global;
 use std::net::Ipv4Addr;
 use wire::{Inlet, Outlet};
 
-/// What is opened at a path, and whether a database is made there.
+/// Which path is opened, and whether a database may be created there.
 #[derive(Clone, Copy, PartialEq, Eq)]
 pub enum Opening {
-    /// The database at `--db`, which has to be there, with our tables: nothing is made.
+    /// The database at `--db`. It must exist and have our tables.
     Existing,
-    /// The database at `--db`, which is made where there is no file, or an empty one.
+    /// The database at `--db`. It is created if there is no file or an empty one.
     Created,
-    /// The database at `--to`, which is made so, too.
+    /// The database at `--to`. It is created if there is no file or an empty one.
     Target,
 }
 
-/// Where databases lie, each by its path; a database that was opened is a `K`.
+/// The databases, each by its path. An open database is a `K`.
 pub trait Files<K: Keep> {
     // What a store has is what lies at a path: in its file, and in the log beside it.
     ghost holds: { Self → List ℕ → K → Type 0 };
@@ -70,14 +70,14 @@ pub trait Files<K: Keep> {
     // The newest version of the schema, which a database is made of.
     ghost newest: { ℕ };
 
-    // A store as it was opened, its tables defined as ours are: what is premised where one without faults is to be sound.
+    // What is assumed of a store as it was opened, so that one without faults is sound: its tables have rows of our columns.
     ghost is_ours: { K → Type 0 };
 
-    /// Whether nothing lies at a path.
+    /// Whether there is nothing at a path.
     fn is_absent(&self, path: &str) -> bool
         ensures { lacks self.now path.now result };
 
-    /// Whether others than its owner may read what lies at a path.
+    /// Whether users other than its owner may read the file at a path.
     fn others_may_read(&self, path: &str) -> bool
         ensures { reads self.now path.now result };
 
@@ -85,9 +85,9 @@ pub trait Files<K: Keep> {
     fn newest_schema(&self) -> u64
         ensures { result ≡ newest };
 
-    /// Opens the store of a path. Where a database is to be there already, one that isn't there, or has none of our tables, is
-    /// refused, and nothing is made. Else one is made, with no organization, where there is no file, or an empty one. One of
-    /// another schema stays as it is.
+    /// Opens the store at a path. If the database must exist, a missing one, or one without our tables, is refused, and nothing
+    /// is created. Otherwise a database without organizations is created if there is no file or an empty one. A file of another
+    /// schema is not changed.
     fn open(&mut self, path: &str, opening: Opening) -> Result<K, OpenFault>
         ensures opened { IfOk result (λ store. holds self.old path.now store) }
         ensures existing { makes opening ≡ false → IfOk result (λ store. K.clean store → ¬ bare self.old path.now) }
@@ -97,26 +97,26 @@ pub trait Files<K: Keep> {
         ensures refused { OnErr result (AllStay holds self.old self.new) }
         ensures why { IfErr result (refuses self.old path.now) };
 
-    /// Whether a fault of the disk has shut a store, so that it refuses each call; an error where memory was refused.
+    /// Whether a disk error has closed a store, so that every call fails. Fails itself if an allocation fails.
     fn is_shut(&self, store: &mut K) -> Result<bool, Down>
         ensures told { shuts store.old result store.new }
         ensures looks { Looks K.rows K.clean K.sound K.keyed K.shielded store.old store.new };
 
-    /// Copies the log of a store into its file where it is long, so that the next change needn't. No record of a sound
-    /// store changes. An error where memory or the store refused.
+    /// Checkpoints a long WAL: copies it into its file, so that the next change does not have to. No record of a sound store
+    /// changes. Fails if an allocation or the store fails.
     fn checkpoint(&self, store: &mut K) -> Result<(), Down>
         ensures done { checkpoints store.old store.new }
         ensures upkeep { Upkeep K.rows K.clean K.sound K.keyed K.shielded store.old store.new };
 
-    /// Looks over the tables of a store: a line for each fault, without its line feed, and 50 at most, and how many rows there
-    /// are. Where there is no fault the store is sound and keyed. An error where memory or the store refused.
+    /// Checks the tables of a store. Returns one line per fault, without its line feed, at most 50, and the numbers of rows. If
+    /// there is no fault, the store is sound and keyed. Fails if an allocation or the store fails.
     fn check(&self, alloc: Global, store: &mut K) -> Result<Looked, Down>
         ensures found { finds store.old result store.new }
         ensures looks { Looks K.rows K.clean K.sound K.keyed K.shielded store.old store.new }
         ensures sound { IfOk result (λ looked. looked.faults ≡ [] → K.clean store.new → is_ours store.old → K.sound store.old × K.keyed store.old) };
 
-    /// Copies an organization from one store to another, in one transaction of the other. What each has of other
-    /// organizations stays. An error where memory or a store refused.
+    /// Copies an organization from one store to another, in one transaction of the target. The records of other organizations do
+    /// not change in either. Fails if an allocation or a store fails.
     fn copy(
         &self,
         alloc: Global,
@@ -130,19 +130,19 @@ pub trait Files<K: Keep> {
         ensures others { K.clean to.new → K.sound to.old → K.clean from.new → K.sound from.old → (o : List ℕ) → o ≢ org.now → K.rows to.new o ≡ K.rows to.old o }
         ensures err { K.clean to.new → OnErr result ((o : List ℕ) → K.rows to.new o ≡ K.rows to.old o) };
 
-    /// Closes a store: what it has lies at the path then. After an error its log stays beside the file.
+    /// Closes a store. Its records are then in the file at the path. After an error its WAL stays beside the file.
     fn close(&mut self, path: &str, store: K) -> Result<(), Down>
         ensures closed { holds self.new path.now store }
         ensures copied { OnOk result (copied self.new path.now store) }
         ensures vacancies { LeavesVacant vacant true path.now self.old self.new }
         ensures others { OthersStay holds path.now self.old self.new };
 
-    /// The replies to steps over a database in memory, in which no organization is at first.
+    /// The replies to steps over a database in memory that has no organization at first.
     fn replay(&self, alloc: Global, steps: &[Step]) -> Result<Vec<Bytes>, Down>
         ensures { IfOk result (λ replies. AreReplies steps.now replies.items) };
 }
 
-/// What peers connect to; each connection is a reader and a writer.
+/// What peers connect to. Each connection is a reader and a writer.
 pub trait Connections {
     type Reader: Inlet + Drop;
 
@@ -159,28 +159,27 @@ pub trait Connections {
     // been read whole, the network after.
     ghost ends: { Self → Self.Reader → Self.Writer → Bool → Self → Type 0 };
 
-    /// Listens at an address and a port, and gives the port that is listened at; or says why it can't.
+    /// Listens on an address and a port. Returns the port in use, or why it cannot listen.
     fn bind(&mut self, address: Ipv4Addr, port: u16) -> Result<u16, Cause>
         ensures { binds self.old (ipv4_octets address) port result self.new };
 
-    /// The next connection. Neither side of it has failed; a read or a write that the timeouts end
-    /// fails.
+    /// The next connection. Neither side has failed yet. A read or a write fails when a timeout ends it.
     fn accept(&mut self, timeouts: &Timeouts) -> Result<(Self::Reader, Self::Writer), Down>
         ensures sound { IfOk result (λ sides. (Self.Reader.broken sides.0 ≡ false) × (Self.Writer.broken sides.1 ≡ false)) }
         ensures accepted { accepts self.old timeouts.now result self.new };
 
-    /// Ends a connection. Where its message is known to have been read whole (`was_whole`), it may end at once.
-    /// Else the peer is given time to read its reply, while what it still sends is dropped.
+    /// Closes a connection: at once if its whole message was read (`was_whole`). Otherwise the peer gets time to read its reply,
+    /// and what it still sends is dropped.
     fn finish(&mut self, reader: Self::Reader, writer: Self::Writer, was_whole: bool)
         ensures { ends self.old reader writer was_whole self.new };
 }
 
-/// What tells the moment.
+/// The clock.
 pub trait Clock {
     // What tells a moment, or none: the clock before and after.
     ghost tells: { Self → Option ℕ → Self → Type 0 };
 
-    /// The moment, unless it can't be read or is out of range.
+    /// The current time, in seconds since 1970, unless it cannot be read or is out of range.
     fn now(&mut self) -> Option<Moment>
         ensures { tells self.old result self.new };
 }

@@ -2,142 +2,146 @@
 ghost use Rattle.std.specs.Prelude.{◌≡◌};
 ghost use Rattle.program.specs.Errors.{cause_line};
 
-/// Why memory, the store, the input or the network was refused.
+/// Why an allocation, the store, the input or the network failed.
 #[derive(Clone, Copy, PartialEq, Eq)]
 pub enum Cause {
-    /// Another program has the file.
+    /// Another program has the file open.
     InUse,
-    /// The file or its folder may not be read and written.
+    /// The process may not read and write the file or its folder.
     NotPermitted,
-    /// The path leads to no file, or to one with more than one hard link.
+    /// The path does not lead to a regular file, or the file has more than one hard link.
     NoFile,
-    /// The folder of `--db`'s file isn't there.
+    /// The folder of the `--db` file does not exist.
     NoFolder,
-    /// The folder of `--to`'s file isn't there.
+    /// The folder of the `--to` file does not exist.
     NoTargetFolder,
-    /// There is no file at the path, or an empty one, and the command makes none.
+    /// There is no file at the path, or an empty one, and the command does not create one.
     Missing,
-    /// There is no file at the path, or an empty one, and the log beside it may hold what was committed.
+    /// There is no file at the path, or an empty one, but the WAL beside it may hold committed changes.
     LogAlone,
-    /// The file is a database that has none of our tables.
+    /// The file is a database without our tables.
     NoTables,
-    /// SQLite's rollback journal lies beside the file.
+    /// A rollback journal of SQLite lies beside the file.
     Journal,
-    /// A page of the file is damaged: where pages have sums, a sum is wrong.
+    /// A page of the file is damaged. If its pages have checksums, one is wrong.
     Corrupt,
-    /// The file is no database, or its rows break its schema.
+    /// The file is not a database, or its rows break its schema.
     Unsound,
     NoRoom,
     NoMemory,
-    /// The disk or the system refused.
+    /// The disk or the operating system reported an error.
     Disk,
-    /// Memory or the store refused, and it isn't told which.
+    /// An allocation or the store failed; which one is not known.
     Store,
-    /// Memory or a store refused before every organization was copied.
+    /// An allocation or a store failed before every organization was copied.
     Unfinished,
-    /// A fault of the disk has shut the store.
+    /// A disk error closed the store.
     Shut,
-    /// A fault of the disk has shut the store in the midst of a change, which may have been made.
+    /// A disk error closed the store during a change, which may have been made.
     Halted,
-    /// Memory or the store refused, and then whether a fault of the disk has shut the store can't be told.
+    /// An allocation or the store failed, and there was no memory to ask whether a disk error closed the store.
     Unknown,
-    /// Standard input can't be read, or memory was refused behind it.
+    /// Standard input could not be read, or there was no memory for it.
     Input,
     PortTaken,
     PortNotPermitted,
-    /// The port can't be listened at.
+    /// The service could not listen on the port.
     Port,
     /// A connection could not be accepted.
     Accept,
-    /// The clock can't be read, or is out of range.
+    /// The clock could not be read, or it is out of range.
     Clock,
-    /// A line of the log was not taken whole.
+    /// A line of the exchange log could not be written completely.
     Log,
-    /// Faults were found in the tables of the file.
+    /// The file's tables have faults.
     Faults,
-    /// Faults were found in the tables of the file that is copied.
+    /// The tables of the file to copy from have faults.
     SourceFaults,
-    /// An argument isn't UTF-8.
+    /// An argument is not UTF-8.
     Encoding,
-    /// `/dev/null` can't be opened in the place of a standard stream that is closed.
+    /// A standard stream is closed, and `/dev/null` could not be opened in its place.
     NoNull,
 }
 
 impl Cause {
-    /// The line on the error stream that says so.
+    /// The cause's line on the error stream.
     pub fn line(self) -> &'static str
         ensures { result.now ≡ cause_line self }
     {
         match self {
             Cause::InUse => "custody: another program has the file open\n",
-            Cause::NotPermitted => "custody: the file or its folder may not be read and written\n",
+            Cause::NotPermitted =>
+                "custody: no permission to read and write the file or its folder\n",
             Cause::NoFile => {
-                "custody: the path leads to no file, or to one with more than one hard link\n"
+                "custody: the path does not lead to a file, or the file has more than one hard link\n"
             }
-            Cause::NoFolder => "custody: the folder of --db's file isn't there\n",
-            Cause::NoTargetFolder => "custody: the folder of --to's file isn't there\n",
+            Cause::NoFolder => "custody: the folder of the --db file does not exist\n",
+            Cause::NoTargetFolder => "custody: the folder of the --to file does not exist\n",
             Cause::Missing => {
-                "custody: there is no file at the path, or an empty one: only org-add, serve without --check, and --to make one\n"
+                "custody: there is no file at the path, or it is empty; only org-add, serve without --check, and --to create one\n"
             }
             Cause::LogAlone => {
-                "custody: the file is missing or empty, and the log beside it may hold changes: put the file back\n"
+                "custody: the file is missing or empty, and the -wal beside it may hold changes: put the file back\n"
             }
             Cause::NoTables => "custody: the file is a database without custody's tables\n",
             Cause::Journal => {
-                "custody: a rollback journal lies beside the file: open it with sqlite3 first\n"
+                "custody: a rollback journal lies beside the file: open the file with sqlite3 first\n"
             }
-            Cause::Corrupt => "custody: the file is damaged: a page's sum or form is wrong\n",
+            Cause::Corrupt =>
+                "custody: the file is damaged: a page's checksum or format is wrong\n",
             Cause::Unsound => {
-                "custody: the file is damaged or no database: its rows break its schema\n"
+                "custody: the file is not a database, or it is damaged: its rows break its schema\n"
             }
-            Cause::NoRoom => "custody: there is no room on the disk\n",
-            Cause::NoMemory => "custody: memory was refused\n",
-            Cause::Disk => "custody: the disk or the system refused\n",
-            Cause::Store => "custody: memory or the store refused, and no record changed\n",
+            Cause::NoRoom => "custody: there is no space left on the disk\n",
+            Cause::NoMemory => "custody: out of memory\n",
+            Cause::Disk => "custody: the disk or the system reported an error\n",
+            Cause::Store => "custody: out of memory or the store failed; no record was changed\n",
             Cause::Unfinished => {
-                "custody: memory or a store refused before all was copied: delete the new file, and start again\n"
+                "custody: out of memory or a store failed before everything was copied: delete the new file and start again\n"
             }
-            Cause::Shut => "custody: a fault of the disk has shut the store: see to the disk\n",
+            Cause::Shut => "custody: a disk error closed the store: check the disk\n",
             Cause::Halted => {
-                "custody: a fault of the disk has shut the store: see to the disk. It may have been done: look\n"
+                "custody: a disk error closed the store: check the disk. The change may have been made: look before you repeat it\n"
             }
-            Cause::Unknown => "custody: memory or the store refused. It may have been done: look\n",
-            Cause::Input => "custody: the input can't be read, or memory was refused\n",
-            Cause::PortTaken => "custody: the port is taken\n",
-            Cause::PortNotPermitted => "custody: the port isn't permitted\n",
-            Cause::Port => "custody: the port can't be listened at\n",
+            Cause::Unknown =>
+                "custody: out of memory or the store failed. The change may have been made: look before you repeat it\n",
+            Cause::Input => "custody: the input could not be read, or out of memory\n",
+            Cause::PortTaken => "custody: the port is in use\n",
+            Cause::PortNotPermitted => "custody: no permission to use the port\n",
+            Cause::Port => "custody: could not listen on the port\n",
             Cause::Accept => "custody: a connection could not be accepted\n",
-            Cause::Clock => "custody: the clock can't be read, or is out of range\n",
+            Cause::Clock => "custody: the clock could not be read, or it is out of range\n",
             Cause::Log => {
-                "custody: the exchange log could not be written, so nothing more is answered\n"
+                "custody: the exchange log could not be written, so the service stops\n"
             }
-            Cause::Faults => "custody: the file's tables are not sound, so nothing is answered:\n",
+            Cause::Faults =>
+                "custody: the file's tables have faults, so the service does not start:\n",
             Cause::SourceFaults => {
-                "custody: the file's tables are not sound, so nothing is copied:\n"
+                "custody: the file's tables have faults, so nothing is copied:\n"
             }
-            Cause::Encoding => "custody: an argument isn't UTF-8\n",
+            Cause::Encoding => "custody: an argument is not UTF-8\n",
             Cause::NoNull =>
-                "custody: a standard stream is closed, and /dev/null can't be opened\n",
+                "custody: a standard stream is closed, and /dev/null could not be opened\n",
         }
     }
 }
 
-/// What a file of another schema has.
+/// What a file of another schema contains.
 #[derive(Clone, Copy, PartialEq, Eq)]
 pub enum OtherSchema {
-    /// It tells this version, which isn't known here, or its tables are others.
+    /// It has this schema version, which is unknown here, or its tables are different.
     Version(u64),
-    /// Tables have names of ours, and none tells a version.
+    /// It has tables with our names, but no schema version.
     Untold,
 }
 
-/// Why a file isn't opened.
+/// Why a file was not opened.
 #[derive(Clone, Copy, PartialEq, Eq)]
 pub enum OpenFault {
-    /// It is of another schema.
+    /// It has another schema.
     Schema(OtherSchema),
-    /// Memory or the store refused.
+    /// An allocation or the store failed.
     Down(Cause),
-    /// Memory was refused to open a file of so many bytes.
+    /// There was not enough memory to open a file of this many bytes.
     Memory(u64),
 }

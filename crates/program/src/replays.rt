@@ -38,7 +38,7 @@ pub fn replay_over<K: Keep>(alloc: Global, keep: K, steps: &[Step]) -> (Result<V
     (replies, keep)
 }
 
-/// All that is left of a stream.
+/// Everything left in a stream.
 pub fn read_all<I: Read>(alloc: Global, input: &mut I) -> Result<Vec<u8>, Down>
     ensures { IfOk result (λ bytes. IfSome (I.remaining input.old) (λ known. bytes.items ≡ known)) }
 {
@@ -93,7 +93,7 @@ fn end_at<E: ErrorStream>(errors: &mut E, bad_frame: Option<usize>) -> Ending
     }
 }
 
-/// Reads frames up to the first that doesn't parse, replays them and prints the replies.
+/// Reads frames up to the first that does not parse, replays them and prints the replies.
 pub fn replay_frames<K: Keep, F: Files<K>, I: Read, O: Write, E: ErrorStream>(
     alloc: Global,
     files: &F,

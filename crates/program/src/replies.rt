@@ -27,7 +27,7 @@ fn print_reply<W: Write>(output: &mut W, reply: &[u8]) -> io::Result<()>
     output.write_all(b"\n")
 }
 
-/// Prints the replies in order, each behind a line with its length.
+/// Prints the replies in order, each after a line with its length.
 pub fn print_replies<W: Write>(output: &mut W, replies: &[Bytes]) -> io::Result<()>
     ensures { OnOk result (Appends (W.contents output.old) (W.contents output.new) (printed replies.now)) }
 {
@@ -37,7 +37,7 @@ pub fn print_replies<W: Write>(output: &mut W, replies: &[Bytes]) -> io::Result<
     Ok(())
 }
 
-/// Prints an answer of one line, and sends on what a buffer holds.
+/// Prints an answer of one line and flushes it.
 pub fn print_answer<W: Write>(output: &mut W, answer: &str) -> io::Result<()>
     ensures { OnOk result (Appends (W.contents output.old) (W.contents output.new) (answer_line answer.now)) }
 {
@@ -53,7 +53,7 @@ fn print_fault<O: Write>(output: &mut O, fault: &str) -> io::Result<()>
     output.write_all(b"\n")
 }
 
-/// Prints a line for each fault, and sends on what a buffer holds.
+/// Prints one line per fault and flushes them.
 pub fn print_faults<O: Write>(output: &mut O, faults: &[Text]) -> io::Result<()>
     ensures { OnOk result (Appends (O.contents output.old) (O.contents output.new) (fault_lines faults.now)) }
 {
@@ -70,7 +70,7 @@ fn print_lines<O: Write>(output: &mut O, totals: &Totals) -> io::Result<()>
     print_totals(output, totals)
 }
 
-/// Prints that no fault was found, and how many rows there are, and sends on what a buffer holds.
+/// Prints `ok` and the numbers of rows, and flushes them.
 pub fn print_sound<O: Write>(output: &mut O, totals: &Totals) -> io::Result<()>
     ensures { OnOk result (Appends (O.contents output.old) (O.contents output.new) (sound_text totals.now)) }
 {
@@ -86,7 +86,7 @@ pub fn print_version<O: Write>(output: &mut O, schema: u64) -> io::Result<()>
     output.flush()
 }
 
-/// Prints the line of an ending, and says how the program ends then.
+/// Prints the line of an ending, and returns how the program then ends.
 pub fn say<O: Write>(output: &mut O, ending: Ending) -> Ending
     ensures { IsSaid ending result (O.contents output.old) (O.contents output.new) }
 {
@@ -96,7 +96,7 @@ pub fn say<O: Write>(output: &mut O, ending: Ending) -> Ending
     }
 }
 
-/// Says why on the error stream, and `refused down` on standard output.
+/// Prints the cause to the error stream and `refused down` to standard output.
 pub fn refuse<O: Write, E: ErrorStream>(output: &mut O, errors: &mut E, cause: Cause) -> Ending
     ensures said { IsSaid Ending.Down result (O.contents output.old) (O.contents output.new) }
     ensures why { Tells (E.told errors.old) (E.told errors.new) (cause_line cause) }
@@ -105,7 +105,7 @@ pub fn refuse<O: Write, E: ErrorStream>(output: &mut O, errors: &mut E, cause: C
     say(output, Ending::Down)
 }
 
-/// Says why on the error stream, and `refused usage` on standard output.
+/// Prints the cause to the error stream and `refused usage` to standard output.
 pub fn refuse_usage<O: Write, E: ErrorStream>(
     output: &mut O,
     errors: &mut E,
@@ -118,7 +118,7 @@ pub fn refuse_usage<O: Write, E: ErrorStream>(
     say(output, Ending::Usage)
 }
 
-/// Prints the list of all organizations: a line `ORG WORKSPACES LIMIT` each.
+/// Prints all organizations, one line `ORG WORKSPACES LIMIT` each.
 pub fn print_organizations<O: Write>(output: &mut O, rows: &[OrgRow]) -> io::Result<()>
     ensures { OnOk result (Appends (O.contents output.old) (O.contents output.new) (org_lines rows.now)) }
 {
@@ -126,7 +126,7 @@ pub fn print_organizations<O: Write>(output: &mut O, rows: &[OrgRow]) -> io::Res
     output.flush()
 }
 
-/// Prints the list of an organization's tokens: a line `NAME ROLE UNTIL PREFIX` each.
+/// Prints an organization's tokens, one line `NAME ROLE UNTIL PREFIX` each.
 pub fn print_tokens<O: Write>(output: &mut O, rows: &[TokenRow]) -> io::Result<()>
     ensures { OnOk result (Appends (O.contents output.old) (O.contents output.new) (token_lines rows.now)) }
 {
@@ -134,7 +134,7 @@ pub fn print_tokens<O: Write>(output: &mut O, rows: &[TokenRow]) -> io::Result<(
     output.flush()
 }
 
-/// Prints the word of an answer, and says how the program ends then; a list has none.
+/// Prints the word of an answer, and returns how the program then ends. A list has no word.
 pub fn say_word<O: Write>(output: &mut O, answer: &AdminAnswer) -> Ending
     ensures line { AnswersLine result (stream (O.contents output.old) (O.contents output.new)) }
     ensures tells { TellsWord answer.now result (stream (O.contents output.old) (O.contents output.new)) }

@@ -22,9 +22,9 @@ use machine::Keep;
 use std::alloc::Global;
 use std::io::{Read, Write};
 
-/// What is said where a stream took not all.
+/// The line for a stream that did not take everything.
 const UNPRINTED: &str =
-    "custody: standard output or error did not take all that was to be printed\n";
+    "custody: not everything could be printed to standard output or standard error\n";
 
 fn say_version<O: Write>(output: &mut O, schema: u64) -> Ending
     ensures { TellsVersion schema result (stream (O.contents output.old) (O.contents output.new)) }
@@ -124,8 +124,7 @@ fn tell_end<E: ErrorStream>(errors: &mut E, ending: Ending)
     }
 }
 
-/// Runs the command that the words ask for; they come without the program's name. The result is the exit
-/// status.
+/// Runs the command that the words ask for. They come without the program's name. Returns the exit status.
 pub fn run_words<K: Keep, F: Files<K>, N: Connections, C: Clock, I: Read, O: Write, E: ErrorStream>(
     alloc: Global,
     files: &mut F,

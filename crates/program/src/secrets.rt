@@ -26,7 +26,7 @@ fn secret_of(alloc: Global, text: Option<&str>) -> Result<Secret, Unfit>
     }
 }
 
-/// The secret on these bytes.
+/// Reads a secret from these bytes.
 pub fn read_secret(alloc: Global, bytes: &[u8]) -> Result<Secret, Unfit>
     ensures ok { IfOk result (λ secret. secret_in bytes.now ≡ Some secret) }
     ensures syntax { IsErrOf result Unfit.Syntax → secret_in bytes.now ≡ None }

@@ -29,14 +29,14 @@ fn fault_text(fault: LinkFault) -> &'static str
     ensures { result.now ≡ fault_text fault }
 {
     match fault {
-        LinkFault::Ended => "the peer closed before its request was whole",
+        LinkFault::Ended => "the peer closed the connection before its request was complete",
         LinkFault::Read => "a read failed",
-        LinkFault::Continue => "100 Continue could not be written",
-        LinkFault::Write => "the reply could not be written whole",
+        LinkFault::Continue => "100 Continue could not be sent",
+        LinkFault::Write => "the reply could not be sent completely",
     }
 }
 
-const DOWN: &str = "memory or the store was refused, answered 503";
+const DOWN: &str = "out of memory or the store failed; replied 503";
 
 fn tell_down<E: ErrorStream>(errors: &mut E, place: u64, is_down: bool) -> io::Result<()>
     ensures { TellsBy (E.told errors.old) (E.told errors.new) (down_line place is_down) result }
@@ -231,12 +231,11 @@ fn serve_next<K: Keep, F: Files<K>, N: Connections, C: Clock, O: Write, E: Error
     }
 }
 
-/// Says at which port it listens, and then answers so many connections, one after the other, each with
-/// one exchange. The network listens at that port already. A connection that ends in a fault of its link
-/// counts, and a line of the error stream tells the fault; so does one that the timeouts end. One that is
-/// answered by the 503, since memory or the store refused, is told of so, too. An accept that fails, a
-/// clock out of range, or a fault of the disk that has shut the store ends it, and a line says which. Where
-/// `logs` is true, standard output gets a line for each exchange; one that isn't taken whole ends it, too.
+/// Prints the port it listens on, then answers this many connections, one after the other, each with one exchange. The network
+/// already listens on that port. A connection that ends in a link fault or a timeout still counts, and a line of the error stream
+/// reports it. A 503 for a failed allocation or store is reported, too. It stops, with a line that says why, if an accept fails,
+/// the clock is out of range, or a disk error has closed the store. If `logs` is true, it prints one line per exchange to
+/// standard output, and stops if a line cannot be written completely.
 pub fn serve_loop<K: Keep, F: Files<K>, N: Connections, C: Clock, O: Write, E: ErrorStream>(
     alloc: Global,
     files: &F,
@@ -281,8 +280,8 @@ pub fn serve_loop<K: Keep, F: Files<K>, N: Connections, C: Clock, O: Write, E: E
     Ending::Done
 }
 
-/// The log has a line for each connection that was answered, in turn, and between two lines no record
-/// changes but that of the organization that the later line names.
+/// The log has a line for each answered connection, in order. Between two lines, only the record of the organization that the
+/// later line names changes.
 pub fn log_tells_changes<K: Keep, F: Files<K>, N: Connections, C: Clock>()
     ensures { LogTellsChanges K.Keep F.Files N.Connections C.Clock N.Reader.Inlet N.Writer.Outlet }
 {}

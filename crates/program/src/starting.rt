@@ -61,7 +61,7 @@ fn say_served<O: Write>(output: &mut O, ending: Ending) -> Ending
     }
 }
 
-/// Answers connections from a store that was opened at a path, and closes it there.
+/// Answers connections from a store that was opened at a path, then closes it.
 fn serve_opened<K: Keep, F: Files<K>, N: Connections, C: Clock, O: Write, E: ErrorStream>(
     alloc: Global,
     files: &mut F,
@@ -155,7 +155,7 @@ fn serve_checked<K: Keep, F: Files<K>, N: Connections, C: Clock, O: Write, E: Er
     say(output, Ending::Down)
 }
 
-/// Answers connections from the file at a path: behind a look for faults where one is asked for (`checks`), which makes no file.
+/// Answers connections from the file at a path. If `checks` is true, it checks the tables first and never creates a file.
 pub fn serve_as_asked<K: Keep, F: Files<K>, N: Connections, C: Clock, O: Write, E: ErrorStream>(
     alloc: Global,
     files: &mut F,

@@ -7,25 +7,25 @@ ghost use Rattle.program.specs.Streams.{Told, as_told, one_more, failures_after}
 use std::io;
 use std::io::{ErrorKind, Write};
 
-/// What is told of errors, and of what an operator has to know, is written to it.
+/// The stream for errors and for what an operator has to know.
 pub trait ErrorStream {
     // What it has, where that is known, and how many calls on it have failed.
     ghost told: { Self → Told };
 
-    /// Of a text that isn't empty at least one byte is taken: where none is, the call fails.
+    /// Takes at least one byte of a text that is not empty, or fails.
     fn write(&mut self, text: &[u8]) -> io::Result<usize>
         ensures bound { WritesAtMost result text.now }
         ensures bytes { WriteAppends (told self.old).bytes (told self.new).bytes result text.now }
         ensures some { IfOk result (λ count. 0 < length text.now → 0 < count) }
         ensures failures { (told self.new).failures ≡ failures_after result (told self.old).failures };
 
-    /// Sends on what a buffer holds.
+    /// Flushes a buffer.
     fn flush(&mut self) -> io::Result<()>
         ensures bytes { Keeps (told self.old).bytes (told self.new).bytes }
         ensures failures { (told self.new).failures ≡ failures_after result (told self.old).failures };
 }
 
-/// A writer's answer to a text of this length: it failed, too, where it took nothing of a text that isn't empty.
+/// A writer's answer to a text of this length. Taking nothing of a text that is not empty is also a failure.
 fn answer_to(answer: io::Result<usize>, length: usize) -> io::Result<usize>
     ensures ok { IfOk result (λ count. answer ≡ Ok count) }
     ensures some { IfOk result (λ count. 0 < length → 0 < count) }
@@ -45,7 +45,7 @@ fn one_more(failures: u64) -> u64
     failures.saturating_add(1)
 }
 
-/// A writer of std, and how many calls on it have failed.
+/// A writer of std, with the number of calls on it that failed.
 #[derive(Drop)]
 pub struct Counted<W: Write> {
     writer: W,

@@ -7,21 +7,21 @@ use basis::{Items, Text};
 use std::io;
 use std::io::Write;
 
-/// How many rows the tables of a file have.
+/// The numbers of rows in the tables of a file.
 #[derive(Clone, Copy, PartialEq, Eq)]
 pub struct Totals {
     pub organizations: u64,
     pub workspaces: u64,
     pub versions: u64,
     pub runs: u64,
-    /// When the newest version was made, in seconds since 1970; none where there is no version.
+    /// When the newest version was created, in seconds since 1970, if there is a version.
     pub newest: Option<u64>,
 }
 
-/// What a look over the tables of a file finds.
+/// What a check of a file's tables finds.
 #[derive(Drop)]
 pub struct Looked {
-    /// A line for each fault, without its line feed, 50 at most.
+    /// One line per fault, without its line feed, at most 50.
     pub faults: Items<Text>,
     pub totals: Totals,
 }
@@ -35,7 +35,7 @@ fn print_newest<O: Write>(output: &mut O, newest: Option<u64>) -> io::Result<()>
     }
 }
 
-/// Prints the line that tells them, with its line feed.
+/// Prints them as one line, with its line feed.
 pub fn print_totals<O: Write>(output: &mut O, totals: &Totals) -> io::Result<()>
     ensures { OnOk result (Appends (O.contents output.old) (O.contents output.new) (totals_line totals.now)) }
 {

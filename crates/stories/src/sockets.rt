@@ -268,13 +268,13 @@ impl Bout<'_> {
 }
 
 const TWO_LEFT: &[u8] =
-    b"custody: connection 1: the peer closed before its request was whole\ncustody: connection 2: the peer closed before its request was whole\n";
+    b"custody: connection 1: the peer closed the connection before its request was complete\ncustody: connection 2: the peer closed the connection before its request was complete\n";
 
 const SILENT_AND_TRICKLING: &[u8] =
     b"custody: connection 1: a read failed\ncustody: connection 2: a read failed\n";
 
 const SILENT_AND_DEAF: &[u8] =
-    b"custody: connection 1: a read failed\ncustody: connection 2: the reply could not be written whole\n";
+    b"custody: connection 1: a read failed\ncustody: connection 2: the reply could not be sent completely\n";
 
 fn bound(network: &mut TcpSockets<'_>) -> Result<u16, Down> {
     match network.bind(Ipv4Addr::LOCALHOST, 0) {

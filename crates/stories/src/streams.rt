@@ -11,11 +11,11 @@ use telling::modes::{Counts, Modes};
 const BROKEN: u8 = 3;
 
 /// What the error stream gets where the standard input can't be read.
-const UNREAD: &[u8] = b"custody: the input can't be read, or memory was refused\n";
+const UNREAD: &[u8] = b"custody: the input could not be read, or out of memory\n";
 
 /// What the error stream gets last where a stream didn't take all; behind the frames of a replay nothing is told.
 const UNPRINTED: &[u8] =
-    b"custody: standard output or error did not take all that was to be printed\n";
+    b"custody: not everything could be printed to standard output or standard error\n";
 
 /// Words, and what is due on the streams.
 #[derive(Drop)]

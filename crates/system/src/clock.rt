@@ -8,8 +8,8 @@ use program::outside::Clock;
 use std::rt::HostRuntime;
 use std::time::{SystemTime, UNIX_EPOCH};
 
-/// The moment of a time of the system: its whole seconds since 1970. There is none behind the last second of the
-/// year 9999; of a time before 1970 the system's clock gives none.
+/// A system time in whole seconds since 1970. None after the last second of the year 9999. The system's clock gives no time
+/// before 1970.
 fn moment_of(time: SystemTime) -> Option<Moment>
     ensures { result ≡ moment_at (system_time_nanos time) }
 {

@@ -20,11 +20,11 @@ use sqlite_store::{FileStore, OpenError, Unopened};
 use sqlite_wal::PageSize;
 use std::alloc::Global;
 
-/// How many bytes a page of a new file has. SQLite's own number is 4,096. A change writes each page whole in which it changes
-/// anything, to the log and then to the file.
+/// The page size of a new file, in bytes. SQLite's default is 4,096. A change writes every page that it touches whole, to the WAL
+/// and later to the file.
 pub const NEW_PAGE_BYTES: usize = 1_024;
 
-/// Why a database wasn't begun, by what the calls of the disk met before and since.
+/// Why a database was not begun, by the disk errors before and since.
 pub fn begun_cause(error: OpenError, before: Tally, since: Tally) -> Cause
     ensures cause { result ≡ begun_cause error before since }
     ensures open { is_open_cause result ≡ true }
@@ -36,7 +36,7 @@ pub fn begun_cause(error: OpenError, before: Tally, since: Tally) -> Cause
     }
 }
 
-/// What the calls of the disk have met, where the files were looked at.
+/// The disk errors so far, once the files were opened.
 pub fn tally_since<D: Disk + Drop>(before: Tally, left: Option<Unopened<D>>) -> Tally
     ensures { result ≡ tally_since before left }
 {
@@ -46,8 +46,8 @@ pub fn tally_since<D: Disk + Drop>(before: Tally, left: Option<Unopened<D>>) -> 
     }
 }
 
-/// Begins a database with no row in files that hold none, or in which one was begun and not ended. Its pages have 1,024 bytes,
-/// and each ends with SQLite's sum (cksumvfs). Files that hold a database stay as they are: for them it is refused.
+/// Begins an empty database in files that hold none, or in which one was begun and not finished. Its pages have 1,024 bytes, and
+/// each ends with SQLite's checksum (cksumvfs). Refuses files that hold a database, and leaves them as they are.
 pub fn begin<D: Disk + Drop>(
     alloc: Global,
     files: Files<D>,
@@ -76,7 +76,7 @@ pub fn begin<D: Disk + Drop>(
     }
 }
 
-/// Begins a database in files, and opens it, empty.
+/// Begins a database in files, and opens it empty.
 fn connect_new<D: Disk + Drop>(
     alloc: Global,
     files: Files<D>,
@@ -103,9 +103,9 @@ fn connect_new<D: Disk + Drop>(
     }
 }
 
-/// Opens the database that two files hold. Where that of the database is empty, one is begun there, if one may be, and nobody else
-/// has the files until it is opened. It has SQLite's sums (cksumvfs): each page ends with one, and a page whose sum is wrong is
-/// refused. A database that is there has sums or none, as it was made.
+/// Opens the database in two files, the database file and its WAL. If the database file is empty and may be created, a database
+/// is begun there, and nobody else has the files until it is open. Each page of a new database ends with SQLite's checksum
+/// (cksumvfs), and a page with a wrong checksum is refused. An existing database has checksums or not, as it was created.
 pub fn connect<D: Disk + Drop>(
     alloc: Global,
     files: Files<D>,

@@ -11,7 +11,7 @@ use sqlite::Alter;
 use std::alloc::Global;
 use tables::SqlKeep;
 
-/// Copies an organization from one store to another, in one transaction of the other.
+/// Copies an organization from one store to another, in one transaction of the target.
 pub fn copy_between<S: Alter, K: PageKey>(
     alloc: Global,
     org: &OrgName,

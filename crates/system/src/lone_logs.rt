@@ -8,11 +8,11 @@ use std::path::PathBuf;
 use std::rt::HostRuntime;
 use std::{fs, io};
 
-/// The least bytes of a log in which a page may stand: its header has 32, that of a frame 24, and a page 512 or more
-/// (SQLite's file format, section 4).
+/// The smallest WAL that can hold a page, in bytes: a header of 32, a frame header of 24, and a page of at least 512 (SQLite's
+/// file format, section 4).
 const LEAST_LOG: u64 = 32 + 24 + 512;
 
-/// Whether no file lies at a path, or an empty one. What can't be looked at counts as a file: the open behind it tells why.
+/// Whether there is no file at a path, or an empty one. A path that cannot be examined counts as a file: the later open says why.
 fn is_vacant(rt: &HostRuntime, path: &str) -> bool {
     match fs::metadata(rt, path) {
         Ok(found) => found.is_file() && found.len() == 0,
@@ -20,8 +20,8 @@ fn is_vacant(rt: &HostRuntime, path: &str) -> bool {
     }
 }
 
-/// The path with no link in it; where nothing lies, the path. What can't be looked at is an error: beside the link no log would
-/// be found, nor that the file is open already.
+/// The path with all symbolic links resolved, or the path itself if nothing is there. Fails if the path cannot be examined:
+/// beside the link, neither the WAL would be found nor that the file is already open.
 pub fn real_path(rt: &HostRuntime, path: &str) -> io::Result<PathBuf> {
     match fs::canonicalize(rt, path) {
         Ok(real) => Ok(real),
@@ -32,7 +32,7 @@ pub fn real_path(rt: &HostRuntime, path: &str) -> io::Result<PathBuf> {
     }
 }
 
-/// Whether the log beside a path may hold what was committed.
+/// Whether the WAL beside a path may hold committed changes.
 fn has_log(rt: &HostRuntime, path: &str) -> io::Result<bool> {
     let real = real_path(rt, path)?;
     let log = format!(in rt.alloc(); "{}-wal", real.as_str())?;
@@ -52,7 +52,7 @@ fn folder_of(path: &str) -> &str {
     }
 }
 
-/// Why nothing may be made at a path at which no file lies.
+/// Why no file may be created at a path that has none.
 fn missing(rt: &HostRuntime, path: &str) -> Cause
     ensures { is_open_cause result ≡ true }
 {
@@ -62,8 +62,8 @@ fn missing(rt: &HostRuntime, path: &str) -> Cause
     }
 }
 
-/// Refuses a path at which no file lies, or an empty one: where the log beside it may hold what was committed, and where no
-/// database is to be made there. Nothing is changed.
+/// Refuses a path with no file, or an empty one, if the WAL beside it may hold committed changes, or if no database may be
+/// created there. Nothing is changed.
 pub fn admit(rt: &HostRuntime, path: &str, opening: Opening) -> Result<(), Cause>
     ensures why { IfErr result (λ cause. is_open_cause cause ≡ true) }
 {

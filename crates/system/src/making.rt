@@ -14,12 +14,12 @@ use std::io::ErrorKind;
 use std::os::unix::fs::OpenOptionsExt;
 use std::rt::HostRuntime;
 
-/// The mode of a file that is made: its owner reads and writes it, and nobody else.
+/// The mode of a new file: only its owner may read and write it.
 const OWNER_ALONE: u32 = 0o600;
 
-/// Makes the file for its owner alone, where nothing lies at the path; its log gets the file's mode. Where
-/// it isn't made the open behind it would make one that others may read, so the store is down. So it is where
-/// SQLite's programs take the path for no file's name.
+/// Creates the file, for its owner alone, if there is nothing at the path. Its WAL gets the file's mode. If this fails, the store
+/// is down, because the later open would create a file that others may read. So it is if SQLite's programs do not read the path
+/// as a file's name.
 fn make_private(rt: &HostRuntime, path: &str) -> Result<(), Cause>
     ensures why { IfErr result (λ cause. is_open_cause cause ≡ true) }
 {
@@ -43,7 +43,7 @@ fn make_private(rt: &HostRuntime, path: &str) -> Result<(), Cause>
     }
 }
 
-/// Whether a file may be one in which a database was begun and not ended: it has some bytes, and no more than the first page.
+/// Whether a file may hold a database that was begun and not finished: it has some bytes, but no more than the first page.
 fn may_be_half(rt: &HostRuntime, path: &str) -> bool {
     match fs::metadata(rt, path) {
         Ok(found) => { found.is_file() && 0 < found.len() && found.len() <= NEW_PAGE_BYTES as u64 }
@@ -73,8 +73,8 @@ fn begin_at(rt: &HostRuntime, path: &str) -> Result<(), Cause>
     }
 }
 
-/// Makes the file of a database where there is none, for its owner alone, and empty. A database that was begun there and not ended
-/// is begun again. What else lies there stays as it is.
+/// Creates an empty database file, for its owner alone, if there is none. A database that was begun there and not finished is
+/// begun again. Anything else at the path is not changed.
 pub fn make(rt: &HostRuntime, path: &str) -> Result<(), Cause>
     ensures why { IfErr result (λ cause. is_open_cause cause ≡ true) }
 {

@@ -4,7 +4,7 @@ use std::os::unix::fs::MetadataExt;
 use std::rt::HostRuntime;
 use std::{fs, io};
 
-/// A file, whatever path leads to it: its device, and its number there.
+/// A file, whatever path leads to it: its device and inode.
 #[derive(Clone, Copy, PartialEq, Eq)]
 struct FileId {
     device: u64,
@@ -19,10 +19,10 @@ fn id_of(rt: &HostRuntime, path: &str) -> io::Result<FileId> {
     })
 }
 
-/// What an open of a path opens: the file where links lead, SQLite's log beside it, and a rollback journal.
+/// The paths that an open uses: the file with links resolved, its WAL, and a rollback journal.
 const OPENED: &[&str] = &["", "-wal", "-journal"];
 
-/// The file of a database that is open, and its log.
+/// The file of an open database, and its WAL.
 #[derive(Clone, Copy)]
 pub struct Pair {
     file: FileId,
@@ -30,7 +30,7 @@ pub struct Pair {
 }
 
 impl Pair {
-    /// The file where a path leads, and its log.
+    /// The file that a path leads to, and its WAL.
     pub fn at(rt: &HostRuntime, path: &str) -> io::Result<Pair> {
         let real = fs::canonicalize(rt, path)?;
         let log = format!(in rt.alloc(); "{}-wal", real.as_str())?;

@@ -14,13 +14,13 @@ use std::rt::HostRuntime;
 use std::time::Duration;
 use wire::{FromRead, Inlet, Outlet, ToWrite};
 
-/// The seconds that a peer may wait with its next byte, once its reply is written.
+/// How long a peer may take for its next byte once its reply is written, in seconds.
 pub const LINGER_SECONDS: u64 = 1;
 
-/// The most reads of what a peer still sends, once its reply is written.
+/// The most reads of what a peer still sends once its reply is written.
 pub const LINGER_READS: u32 = 8_192;
 
-/// The sockets of the system. They listen at the address that was bound last.
+/// The system's sockets. They listen on the address that was bound last.
 #[derive(Drop)]
 pub struct TcpSockets<'a> {
     rt: &'a HostRuntime,
@@ -28,7 +28,7 @@ pub struct TcpSockets<'a> {
 }
 
 impl<'a> TcpSockets<'a> {
-    /// Sockets that don't listen yet.
+    /// Sockets that do not listen yet.
     pub fn new(rt: &'a HostRuntime) -> TcpSockets<'a> {
         TcpSockets { rt, listener: None }
     }

@@ -7,10 +7,10 @@ use std::rc::Rc;
 use std::rt::HostRuntime;
 use std::time::{Duration, Instant};
 
-/// How often a call that a signal interrupts is taken up again.
+/// How often a call that a signal interrupts is retried.
 const MOST_INTERRUPTIONS: u32 = 1_000_000;
 
-/// A socket that two sides have in common, or a handle of it for one side alone, where there was no memory for that.
+/// A socket that both sides share, or its handle for one side if there was no memory to share it.
 #[derive(Drop)]
 enum Socket {
     Shared(Rc<TcpStream>),
@@ -40,18 +40,17 @@ impl Socket {
     }
 }
 
-/// A side of a connection. Each of its reads and writes waits no longer than it may, and none later than
-/// the end of the connection's time: one that gets nothing through until then fails. One that a signal interrupts
-/// (a process that is stopped and goes on) is taken up again for the time that is left of it.
+/// One side of a connection. Each read or write fails if it makes no progress within its timeout, or before the connection's
+/// deadline. A call that a signal interrupts (a process that is stopped and continued) is retried for the rest of its time.
 #[derive(Drop)]
 pub struct TimedStream<'a> {
     rt: &'a HostRuntime,
     socket: Socket,
     idle: Duration,
     end: Instant,
-    /// How long the system lets a call of this side wait, once it was told.
+    /// The timeout that the system has for calls of this side, once it was set.
     told: Option<Duration>,
-    /// Whether the last read of this side filled its buffer, so that more bytes may wait.
+    /// Whether the last read filled its buffer, so that more bytes may be waiting.
     is_filled: bool,
 }
 
@@ -67,7 +66,7 @@ impl<'a> TimedStream<'a> {
         }
     }
 
-    /// The two sides of a connection whose time begins now.
+    /// The two sides of a connection whose time starts now.
     pub fn sides(
         rt: &'a HostRuntime,
         stream: TcpStream,
@@ -113,8 +112,8 @@ impl<'a> TimedStream<'a> {
         Ok(())
     }
 
-    /// Whether bytes wait behind those that were read. Where none do, this side is to be read no more. A read that
-    /// left room in its buffer took all that had come, so the system is asked only behind one that left none.
+    /// Whether more bytes are waiting. If none are, this side is not read again. A read that left room in its buffer took
+    /// everything that had arrived, so the system is asked only after one that filled it.
     pub fn has_more(&self) -> bool {
         self.is_filled && self.are_waiting()
     }
@@ -131,7 +130,7 @@ impl<'a> TimedStream<'a> {
         }
     }
 
-    /// Says that nothing more is written; from now on a read waits no longer than `idle`.
+    /// Shuts down writing. From now on a read waits at most `idle`.
     pub fn end_writing(&mut self, idle: Duration) -> io::Result<()> {
         self.idle = idle;
         self.socket.stream().shutdown(Shutdown::Write)
