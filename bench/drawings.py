@@ -49,7 +49,7 @@ POST = [
     ("tables", "apply", "the transaction is committed and synced"),
     ("wire", "write_reply", "the reply is written"),
     ("docs", "write_log_line", "with --log: the line of this exchange"),
-    ("program", "tend", "a long WAL is checkpointed"),
+    ("program", "after_reply", "a long WAL is checkpointed"),
 ]
 LANES = ["program", "wire", "route", "serve", "docs", "machine", "tables", "statements", "texts", "pages"]
 

@@ -1,7 +1,7 @@
 //! The program `custody`: Terraform state for organizations that share one database.
 #![tactic(auto)]
 
-use program::endings::{Ending, unread};
+use program::exits::{Exit, unread};
 use program::reasons::Cause;
 use program::replies::{refuse, refuse_usage};
 use program::streams::Counted;
@@ -41,7 +41,7 @@ fn run(rt: &HostRuntime) -> u8 {
     match read_arguments(rt) {
         Ok(words) => run_buffered(rt, words.as_slice()),
         Err(error) => match unread(error.kind()) {
-            Ending::Down => refuse_for(rt, Cause::NoMemory),
+            Exit::Down => refuse_for(rt, Cause::NoMemory),
             _ => refuse_usage(&mut rt.stdout(), &mut error_stream(rt), Cause::Encoding).status(),
         },
     }

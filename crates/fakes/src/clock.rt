@@ -2,7 +2,7 @@
 ghost use Rattle.std.specs.Prelude.{◌≡◌};
 
 use basis::Moment;
-use program::outside::Clock;
+use program::environment::Clock;
 
 /// A clock that tells one moment, or none, whenever it is asked.
 #[derive(Drop)]

@@ -7,7 +7,7 @@ ghost use Rattle.program.specs.declared.reasons.OpenFault.TheVariants as fault;
 
 use basis::{Bytes, Down, Items, OrgName, Text};
 use machine::{AdminAnswer, Keep, PlainKeep};
-use program::outside::{Files, Opening};
+use program::environment::{Files, Opening};
 use program::reasons::{Cause, OpenFault};
 use program::replays::replay_over;
 use program::totals::{Looked, Totals};

@@ -3,7 +3,7 @@ ghost use Rattle.std.specs.Prelude.{◌≡◌, ◌++◌, ◌∷◌, ◌⊎◌, [
 ghost use Rattle.fakes.specs.Peers.{AcceptsNext, IsBound};
 
 use basis::{Bytes, Down};
-use program::outside::Connections;
+use program::environment::Connections;
 use program::reasons::Cause;
 use program::timeouts::Timeouts;
 use std::alloc::Global;

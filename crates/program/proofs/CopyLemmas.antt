@@ -14,16 +14,16 @@ use Rattle.machine.specs.declared.keeps.Keep as keep
 use Rattle.machine.specs.declared.keeps.OrgRow.{OrgRow}
 use Rattle.machine.specs.declared.records.Organization.{Organization}
 use Rattle.serve.specs.Service.{Stays}
-use Rattle.program.specs.declared.endings.Ending.{Ending}
-use Rattle.program.specs.declared.outside.Files as files
+use Rattle.program.specs.declared.exits.Exit.{Exit}
+use Rattle.program.specs.declared.environment.Files as files
 use Rattle.program.specs.declared.reasons.Cause.{Cause}
 use Rattle.program.specs.declared.reasons.Cause.TheVariants.{Unfinished}
 use Rattle.program.specs.Moves.{org_copied, copied_into, Arrives, AllAreCopied, SomeAreCopied, IsFilled, lists_none, CopiesBetween}
-use Rattle.program.specs.declared.outside.Opening.TheVariants.{Target}
+use Rattle.program.specs.declared.environment.Opening.TheVariants.{Target}
 use Rattle.program.specs.Outcomes.{Stream, Errors, stream, error_stream, IsSaid, filled_ending, TellsCause, TellsWord, Refuses, RefusesToOpen, RefusesSecond, OpensSound, OpensBoth, Closes, ClosesBoth, CopiesOver, IsCopied, IsCompacted}
 use Rattle.program.specs.Streams.{Told}
 use Rattle.program.proofs.MoveLemmas.{copied_none, copied_left}
-use Rattle.program.proofs.OutsideLemmas.{same_records}
+use Rattle.program.proofs.EnvironmentLemmas.{same_records}
 
 -- ---- records
 
@@ -158,13 +158,13 @@ some_stay from old new same org = inl (same org)
 -- ---- answers
 
 -- an answer is told as it is, and where there is none `refused down`, with its cause
-pub copied : (Fails : Cause → Type 0) (org : List ℕ) (from old new : Records) (e : Ending) (output : Stream) (errors : Errors) (result : Result AdminAnswer Down)
+pub copied : (Fails : Cause → Type 0) (org : List ℕ) (from old new : Records) (e : Exit) (output : Stream) (errors : Errors) (result : Result AdminAnswer Down)
     → IfOk result (λ answer. effect answer (new org) ≡ org_copied (from org) (old org)) → ((other : List ℕ) → other ≢ org → new other ≡ old other) → OnErr result (Stays old new)
     → IfOk result (λ answer. TellsWord answer e output × (errors.new ≡ errors.old)) → OnErr result ((why : Cause) × Fails why × Refuses why e output errors) → IsCopied Fails org from old new e output errors
 copied Fails org from old new e output errors (Ok answer) own others stays tells down = inl (answer, own, others, tells.0, tells.1)
 copied Fails org from old new e output errors (Err d) own others stays tells down = inr (stays, down)
 
-pub compacted : (from old new : Records) (e : Ending) (output : Stream) (errors : Errors) (result : Result Bool Down) → SomeAreCopied from old new → IfOk result (IsFilled from old new)
+pub compacted : (from old new : Records) (e : Exit) (output : Stream) (errors : Errors) (result : Result Bool Down) → SomeAreCopied from old new → IfOk result (IsFilled from old new)
     → IfOk result (λ is_filled. IsSaid (filled_ending is_filled) e output.old output.new × (errors.new ≡ errors.old)) → OnErr result (Refuses Unfinished e output errors) → IsCompacted from old new e output errors
 compacted from old new e output errors (Ok is_filled) some filled tells down = inl (is_filled, filled, tells.0, tells.1)
 compacted from old new e output errors (Err d) some filled tells down = inr (some, down)
@@ -178,7 +178,7 @@ unfinished P errors (inr h) = inr (Unfinished, refl, h)
 
 module _ {K F : Type 0} (k : keep.Ghosts K) (f : files.Ghosts F K) where
   -- the second of two paths isn't opened, and the first is closed again
-  pub refuses_second : (from to : List ℕ) (old opened unopened new : F) (source : K) (e : Ending) (out said : Option (List ℕ)) (before noted told after : Told) → from ≢ to
+  pub refuses_second : (from to : List ℕ) (old opened unopened new : F) (source : K) (e : Exit) (out said : Option (List ℕ)) (before noted told after : Told) → from ≢ to
       → OpensSound k f from old opened source (error_stream before noted) → RefusesToOpen k f to Target opened unopened e (stream out said) (error_stream noted told) → Closes k f from unopened new source (error_stream told after)
       → RefusesSecond k f from to old new e (stream out said) (error_stream before after)
   refuses_second from to old opened unopened new source e out said before noted told after differ first second closes = record {

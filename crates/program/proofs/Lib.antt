@@ -4,7 +4,7 @@ pub mod WordLemmas
 mod ReplayLemmas
 mod ServingLemmas
 mod OutcomeLemmas
-mod OutsideLemmas
+mod EnvironmentLemmas
 mod ErrorLemmas
 mod LogLemmas
 mod MoveLemmas

@@ -20,14 +20,14 @@ use Rattle.serve.specs.declared.exchanges.LinkFault.TheVariants.{Ended, Read, Co
 use Rattle.serve.specs.declared.steps.Admin.{Admin}
 use Rattle.serve.specs.declared.steps.Admin.TheVariants.{OrgAdd, OrgLimit, OrgRemove, OrgList, TokenAdd, TokenList, TokenRevoke}
 use Rattle.command_line.specs.declared.timeouts.Timeouts.{Timeouts}
-use Rattle.program.specs.declared.outside.Clock as clock
-use Rattle.program.specs.declared.outside.Connections as connections
-use Rattle.program.specs.declared.outside.Files as files
+use Rattle.program.specs.declared.environment.Clock as clock
+use Rattle.program.specs.declared.environment.Connections as connections
+use Rattle.program.specs.declared.environment.Files as files
 use Rattle.program.specs.declared.reasons.Cause.{Cause}
 use Rattle.program.specs.Logs.{end_word, row_text, with_log, Logs, Line, log_text, ChangeByLines}
 use Rattle.program.specs.Serving.{State, AnswersOne, AnswersNext, AnswersAll, EndsEarly}
 use Rattle.program.specs.Streams.{Told}
-use Rattle.program.proofs.ServingLemmas.{tended_lasts, tended_rows}
+use Rattle.program.proofs.ServingLemmas.{after_reply_lasts, after_reply_rows}
 
 -- a log where it is asked for, and else nothing
 abbrev pub Grows : Bool → Option (List ℕ) → Option (List ℕ) → Type 0
@@ -112,7 +112,7 @@ module _ {K F N C R W : Type 0} (k : keep.Ghosts K) (f : files.Ghosts F K) (n : 
       grows_one logs false (row_text place one.result one.row) last.output new.output one.logged
 
   clean_next : (timeouts : Timeouts) (logs : Bool) (place at : ℕ) (is_shut is_told : Bool) (old new : State N C K) → AnswersNext k f n c i o timeouts logs place at is_shut is_told old new → k.clean new.store → k.clean old.store
-  clean_next timeouts logs place at is_shut is_told old new one clean = one.answers.answers.lasts.so_far ((tended_lasts k f one.is_down one.store is_shut new.store one.tends).so_far clean)
+  clean_next timeouts logs place at is_shut is_told old new one clean = one.answers.answers.lasts.so_far ((after_reply_lasts k f one.is_down one.store is_shut new.store one.after_reply).so_far clean)
 
   clean_all : (timeouts : Timeouts) (logs : Bool) (place : ℕ) (moments : List ℕ) (old new : State N C K) → AnswersAll k f n c i o timeouts logs place moments old new → k.clean new.store → k.clean old.store
   clean_all timeouts logs place [] old new same clean = subst (λ (s : State N C K). k.clean s.store) same clean
@@ -121,18 +121,18 @@ module _ {K F N C R W : Type 0} (k : keep.Ghosts K) (f : files.Ghosts F K) (n : 
 
   sound_next : (timeouts : Timeouts) (logs : Bool) (place at : ℕ) (is_shut is_told : Bool) (old new : State N C K) → AnswersNext k f n c i o timeouts logs place at is_shut is_told old new → k.clean new.store → k.sound old.store → k.sound new.store
   sound_next timeouts logs place at is_shut is_told old new one clean sound =
-      (tended_lasts k f one.is_down one.store is_shut new.store one.tends).kept clean (one.answers.answers.lasts.kept ((tended_lasts k f one.is_down one.store is_shut new.store one.tends).so_far clean) sound)
+      (after_reply_lasts k f one.is_down one.store is_shut new.store one.after_reply).kept clean (one.answers.answers.lasts.kept ((after_reply_lasts k f one.is_down one.store is_shut new.store one.after_reply).so_far clean) sound)
 
   line_next : (timeouts : Timeouts) (place at : ℕ) (old new : State N C K) → AnswersNext k f n c i o timeouts true place at false true old new → k.clean new.store → k.sound old.store
       → (line : Line) × Appends old.output new.output (log_line place (end_word line.ended) line.row) × ChangesAsTold line.row (k.rows old.store) (k.rows new.store)
   line_next timeouts place at old new one clean sound =
       let answers = one.answers in
-      let before = (tended_lasts k f one.is_down one.store false new.store one.tends).so_far clean in
+      let before = (after_reply_lasts k f one.is_down one.store false new.store one.after_reply).so_far clean in
       let line = line_of k n i o place at one.is_down answers.reader answers.writer answers.network new.network old.store one.store old.errors new.errors old.output new.output answers.answers
       before sound in (
         line.0,
         line.1,
-        subst (λ (rows : List ℕ → Option Organization). ChangesAsTold line.0.row (k.rows old.store) rows) (sym (tended_rows k f one.is_down one.store false new.store one.tends clean (answers.answers.lasts.kept before sound))) line.2,
+        subst (λ (rows : List ℕ → Option Organization). ChangesAsTold line.0.row (k.rows old.store) rows) (sym (after_reply_rows k f one.is_down one.store false new.store one.after_reply clean (answers.answers.lasts.kept before sound))) line.2,
       )
 
   pub tells_changes : (timeouts : Timeouts) (place : ℕ) (moments : List ℕ) (old new : State N C K) → AnswersAll k f n c i o timeouts true place moments old new → k.clean new.store → k.sound old.store

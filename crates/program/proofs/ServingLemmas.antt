@@ -20,11 +20,11 @@ use Rattle.serve.specs.Asks.{Ask}
 use Rattle.machine.specs.declared.keeps.Keep as keep
 use Rattle.wire.specs.declared.devices.Inlet as inlet
 use Rattle.wire.specs.declared.devices.Outlet as outlet
-use Rattle.program.specs.declared.outside.Connections as connections
-use Rattle.program.specs.declared.outside.Files as files
-use Rattle.program.specs.declared.outside.Clock as clock
+use Rattle.program.specs.declared.environment.Connections as connections
+use Rattle.program.specs.declared.environment.Files as files
+use Rattle.program.specs.declared.environment.Clock as clock
 use Rattle.command_line.specs.declared.timeouts.Timeouts.{Timeouts}
-use Rattle.program.specs.Serving.{AreRequests, Serves, State, Tends, AnswersNext, AnswersAll}
+use Rattle.program.specs.Serving.{AreRequests, Serves, State, AfterReply, AnswersNext, AnswersAll}
 use Rattle.program.specs.Inner.Serving.{TakesOne, ServesTo}
 
 answered : (now : ℕ) (received : List ℕ) (old new : List ℕ → Option Organization) (awaited : Bool) (text : List ℕ) (row : Option LogRow) → IsMoment now → (is_down : Bool) → IsAnswered now received old new awaited text row is_down → TakesOne old new
@@ -102,13 +102,13 @@ serves_of count most old new le so_far = record {
 
 -- what is so once the store was tended
 module _ {K F : Type 0} (k : keep.Ghosts K) (f : files.Ghosts F K) where
-  pub tended_lasts : (is_down : Bool) (old : K) (is_shut : Bool) (new : K) → Tends k f is_down old is_shut new → Lasts k.clean k.sound k.keyed k.shielded old new
-  tended_lasts true old is_shut new tends = let look = tends.2 in record { so_far = look.so_far; kept = look.kept; keys = look.keys; shield = look.shield }
-  tended_lasts false old is_shut new tends = let upkeep = tends.2 in record { so_far = upkeep.so_far; kept = upkeep.kept; keys = upkeep.keys; shield = upkeep.shield }
+  pub after_reply_lasts : (is_down : Bool) (old : K) (is_shut : Bool) (new : K) → AfterReply k f is_down old is_shut new → Lasts k.clean k.sound k.keyed k.shielded old new
+  after_reply_lasts true old is_shut new after_reply = let look = after_reply.2 in record { so_far = look.so_far; kept = look.kept; keys = look.keys; shield = look.shield }
+  after_reply_lasts false old is_shut new after_reply = let checkpointed = after_reply.2 in record { so_far = checkpointed.so_far; kept = checkpointed.kept; keys = checkpointed.keys; shield = checkpointed.shield }
 
-  pub tended_rows : (is_down : Bool) (old : K) (is_shut : Bool) (new : K) → Tends k f is_down old is_shut new → k.clean new → k.sound old → k.rows new ≡ k.rows old
-  tended_rows true old is_shut new tends clean sound = λ i org. tends.2.same clean org i
-  tended_rows false old is_shut new tends clean sound = λ i org. tends.2.same clean sound org i
+  pub after_reply_rows : (is_down : Bool) (old : K) (is_shut : Bool) (new : K) → AfterReply k f is_down old is_shut new → k.clean new → k.sound old → k.rows new ≡ k.rows old
+  after_reply_rows true old is_shut new after_reply clean sound = λ i org. after_reply.2.same clean org i
+  after_reply_rows false old is_shut new after_reply clean sound = λ i org. after_reply.2.same clean sound org i
 
 -- one connection more behind those that were answered
 module _ {K F N C R W : Type 0} (k : keep.Ghosts K) (f : files.Ghosts F K) (n : connections.Ghosts N R W) (c : clock.Ghosts C) (i : inlet.Ghosts R) (o : outlet.Ghosts W) where

@@ -2,7 +2,7 @@
 use Rattle.std.proofs.Common.{◌≡◌, ℕ, ◌<◌, List, [], ◌∷◌, length, Bor, None, refl, arith}
 use Rattle.program.specs.Bounds.{bounds_of}
 use Rattle.program.specs.Lines.{bytes_of}
-use Rattle.program.specs.Headings.{org_add_of, org_limit_of, token_add_of, token_revoke_of, heading_of}
+use Rattle.program.specs.FrameHeaders.{org_add_of, org_limit_of, token_add_of, token_revoke_of, heading_of}
 
 pub no_org_add : (words : List (Bor (List ℕ))) → ¬ (length words ≡ 1) → ¬ (length words ≡ 2) → org_add_of (bytes_of words) ≡ None
 no_org_add [] one two = refl

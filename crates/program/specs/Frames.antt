@@ -2,23 +2,23 @@
 use Rattle.std.specs.Prelude.{ℕ, List, [], ◌∷◌, ◌≡◌, ◌≢◌, Option, Some, None, Bool, true, false, option_map, option_and_then}
 use Rattle.serve.specs.declared.steps.Step.{Step}
 use Rattle.serve.specs.declared.steps.Step.TheVariants.{Request as RequestStep, Command as CommandStep}
-use Rattle.program.specs.declared.headings.Heading.{Heading}
-use Rattle.program.specs.declared.headings.Heading.TheVariants.{Request, Command}
-use Rattle.program.specs.Headings.{heading_of}
+use Rattle.program.specs.declared.frame_headers.FrameHeader.{FrameHeader}
+use Rattle.program.specs.declared.frame_headers.FrameHeader.TheVariants.{Request, Command}
+use Rattle.program.specs.FrameHeaders.{heading_of}
 use Rattle.program.specs.Lines.{first_line, message_of, words_of}
 
 -- the step that a heading and the bytes after its line make, and the bytes after the frame
-abbrev pub step_of : Heading → List ℕ → Option (Step × List ℕ)
+abbrev pub step_of : FrameHeader → List ℕ → Option (Step × List ℕ)
 step_of (Request at len) rest = option_map (λ found. (RequestStep at found.0, found.1)) (message_of len rest)
 step_of (Command at command) rest = Some (CommandStep at command, rest)
 
 -- what a frame's line says
-abbrev pub line_heading : List ℕ → Option Heading
+abbrev pub line_heading : List ℕ → Option FrameHeader
 line_heading line = option_and_then heading_of (words_of line)
 
 -- the step of the first frame and the bytes after it; none where the bytes begin with no frame
 abbrev pub first_frame : List ℕ → Option (Step × List ℕ)
-first_frame bytes = option_and_then (λ found. option_and_then (λ heading. step_of heading found.1) (line_heading found.0)) (first_line bytes)
+first_frame bytes = option_and_then (λ found. option_and_then (λ header. step_of header found.1) (line_heading found.0)) (first_line bytes)
 
 -- nothing stands at the end, or bytes that begin with no frame: a bad one
 abbrev pub Ends : List ℕ → Bool → Type 0

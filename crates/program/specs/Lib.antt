@@ -1,8 +1,8 @@
 pub mod Bounds
-pub mod Endings
+pub mod Exits
 pub mod Errors
 pub mod Frames
-pub mod Headings
+pub mod FrameHeaders
 pub mod Inner
 pub mod Lines
 pub mod Logs
@@ -14,4 +14,4 @@ pub mod Secrets
 pub mod Serving
 pub mod Streams
 pub mod Totals
-pub mod Upkeep
+pub mod Checkpoints

@@ -17,9 +17,9 @@ use Rattle.machine.specs.declared.records.Organization.{Organization}
 use Rattle.machine.specs.Effects.{effect}
 use Rattle.serve.specs.Asks.{commands}
 use Rattle.serve.specs.Service.{Carries as CarriesOut, IsAdminAnswer, Stays, org_lines, token_lines}
-use Rattle.program.specs.declared.endings.Ending.{Ending}
-use Rattle.program.specs.declared.endings.Ending.TheVariants as ending
-use Rattle.program.specs.Endings.{ending_line}
+use Rattle.program.specs.declared.exits.Exit.{Exit}
+use Rattle.program.specs.declared.exits.Exit.TheVariants as exit
+use Rattle.program.specs.Exits.{ending_line}
 use Rattle.program.specs.Errors.{log_line, readers_line, secret_line, new_line, cause_line, memory_line, other_line, unprinted_line}
 use Rattle.program.specs.declared.reasons.Cause.{Cause}
 use Rattle.program.specs.declared.reasons.Cause.TheVariants as cause
@@ -27,9 +27,9 @@ use Rattle.program.specs.declared.reasons.OtherSchema.{OtherSchema}
 use Rattle.program.specs.declared.reasons.OpenFault.TheVariants as fault
 use Rattle.program.specs.Frames.{AreFrames}
 use Rattle.program.specs.Logs.{with_log}
-use Rattle.program.specs.declared.outside.Files as files
-use Rattle.program.specs.declared.outside.Opening.{Opening}
-use Rattle.program.specs.declared.outside.Opening.TheVariants as opening
+use Rattle.program.specs.declared.environment.Files as files
+use Rattle.program.specs.declared.environment.Opening.{Opening}
+use Rattle.program.specs.declared.environment.Opening.TheVariants as opening
 use Rattle.program.specs.declared.totals.Looked.{Looked}
 use Rattle.program.specs.declared.totals.Totals.{Totals}
 use Rattle.program.specs.Totals.{sound_text, version_text}
@@ -40,8 +40,8 @@ use Rattle.program.specs.Replies.{printed, bad_frame_text, answer_line, fault_li
 use Rattle.program.specs.Secrets.{secret_in}
 use Rattle.program.specs.Serving.{listening_line, Serves, state, AnswersAtPort}
 use Rattle.program.specs.Streams.{Told, GetsWhole, Tells}
-use Rattle.program.specs.declared.outside.Clock as clock
-use Rattle.program.specs.declared.outside.Connections as connections
+use Rattle.program.specs.declared.environment.Clock as clock
+use Rattle.program.specs.declared.environment.Connections as connections
 use Rattle.command_line.specs.declared.timeouts.Timeouts.{Timeouts}
 use Rattle.wire.specs.declared.devices.Inlet as inlet
 use Rattle.wire.specs.declared.devices.Outlet as outlet
@@ -71,59 +71,59 @@ abbrev pub GetsSome : Errors → Type 0
 GetsSome errors = (text : List ℕ) × (0 < length text) × GetsWhole errors.old errors.new text
 
 -- the line that says how the program ends
-abbrev pub Says : Ending → Stream → Type 0
+abbrev pub Says : Exit → Stream → Type 0
 Says e output = Gets output (answer_line (ending_line e))
 
 -- the line of an ending was printed, or not all of it was taken
-abbrev pub IsSaid : Ending → Ending → Option (List ℕ) → Option (List ℕ) → Type 0
-IsSaid e result old new = ((result ≡ e) × Appends old new (answer_line (ending_line e))) ⊎ (result ≡ ending.Unprinted)
+abbrev pub IsSaid : Exit → Exit → Option (List ℕ) → Option (List ℕ) → Type 0
+IsSaid e result old new = ((result ≡ e) × Appends old new (answer_line (ending_line e))) ⊎ (result ≡ exit.Unprinted)
 
 -- an answer of one line to an operator's command, or why there is none
-abbrev pub AnswersLine : Ending → Stream → Type 0
-AnswersLine ending.Done output = Says ending.Done output
-AnswersLine ending.Exists output = Says ending.Exists output
-AnswersLine ending.Absent output = Says ending.Absent output
-AnswersLine ending.InUse output = Says ending.InUse output
-AnswersLine ending.Schema output = Says ending.Schema output
-AnswersLine ending.Down output = Says ending.Down output
-AnswersLine ending.Faults output = ⊥
-AnswersLine ending.Usage output = ⊥
-AnswersLine ending.BadFrame output = ⊥
-AnswersLine ending.Unprinted output = ⊤
+abbrev pub AnswersLine : Exit → Stream → Type 0
+AnswersLine exit.Done output = Says exit.Done output
+AnswersLine exit.Exists output = Says exit.Exists output
+AnswersLine exit.Absent output = Says exit.Absent output
+AnswersLine exit.InUse output = Says exit.InUse output
+AnswersLine exit.Schema output = Says exit.Schema output
+AnswersLine exit.Down output = Says exit.Down output
+AnswersLine exit.Faults output = ⊥
+AnswersLine exit.Usage output = ⊥
+AnswersLine exit.BadFrame output = ⊥
+AnswersLine exit.Unprinted output = ⊤
 
 -- `ok`, or that an organization is there already, or why neither
-abbrev pub AnswersFilled : Ending → Stream → Type 0
-AnswersFilled ending.Done output = Says ending.Done output
-AnswersFilled ending.Exists output = Says ending.Exists output
-AnswersFilled ending.Schema output = Says ending.Schema output
-AnswersFilled ending.Down output = Says ending.Down output
-AnswersFilled ending.Unprinted output = ⊤
+abbrev pub AnswersFilled : Exit → Stream → Type 0
+AnswersFilled exit.Done output = Says exit.Done output
+AnswersFilled exit.Exists output = Says exit.Exists output
+AnswersFilled exit.Schema output = Says exit.Schema output
+AnswersFilled exit.Down output = Says exit.Down output
+AnswersFilled exit.Unprinted output = ⊤
 AnswersFilled e output = ⊥
 
 -- how it is told whether every organization was copied to where none was (`true`), or some were there
-abbrev pub filled_ending : Bool → Ending
-filled_ending true = ending.Done
-filled_ending false = ending.Exists
+abbrev pub filled_ending : Bool → Exit
+filled_ending true = exit.Done
+filled_ending false = exit.Exists
 
 -- the list of all organizations, a line each, or why there is none
-abbrev pub AnswersList : Ending → Stream → Type 0
-AnswersList ending.Done output = (rows : List OrgRow) × Gets output (org_lines rows)
-AnswersList ending.Schema output = Says ending.Schema output
-AnswersList ending.Down output = Says ending.Down output
-AnswersList ending.Unprinted output = ⊤
+abbrev pub AnswersList : Exit → Stream → Type 0
+AnswersList exit.Done output = (rows : List OrgRow) × Gets output (org_lines rows)
+AnswersList exit.Schema output = Says exit.Schema output
+AnswersList exit.Down output = Says exit.Down output
+AnswersList exit.Unprinted output = ⊤
 AnswersList e output = ⊥
 
 -- the list of an organization's tokens, a line each, or why there is none
-abbrev pub AnswersTokens : Ending → Stream → Type 0
-AnswersTokens ending.Done output = (rows : List TokenRow) × Gets output (token_lines rows)
-AnswersTokens ending.Absent output = Says ending.Absent output
-AnswersTokens ending.Schema output = Says ending.Schema output
-AnswersTokens ending.Down output = Says ending.Down output
-AnswersTokens ending.Unprinted output = ⊤
+abbrev pub AnswersTokens : Exit → Stream → Type 0
+AnswersTokens exit.Done output = (rows : List TokenRow) × Gets output (token_lines rows)
+AnswersTokens exit.Absent output = Says exit.Absent output
+AnswersTokens exit.Schema output = Says exit.Schema output
+AnswersTokens exit.Down output = Says exit.Down output
+AnswersTokens exit.Unprinted output = ⊤
 AnswersTokens e output = ⊥
 
 -- an operator's command on a file
-abbrev pub AnswersCommand : Admin → Ending → Stream → Type 0
+abbrev pub AnswersCommand : Admin → Exit → Stream → Type 0
 AnswersCommand OrgList e output = AnswersList e output
 AnswersCommand (OrgAdd org limit) e output = AnswersLine e output
 AnswersCommand (OrgLimit org limit) e output = AnswersLine e output
@@ -133,27 +133,27 @@ AnswersCommand (TokenList org) e output = AnswersTokens e output
 AnswersCommand (TokenRevoke org name) e output = AnswersLine e output
 
 -- the word of an answer is told; a list has none
-abbrev pub TellsWord : AdminAnswer → Ending → Stream → Type 0
-TellsWord answer.Done e output = IsSaid ending.Done e output.old output.new
-TellsWord answer.Exists e output = IsSaid ending.Exists e output.old output.new
-TellsWord answer.Absent e output = IsSaid ending.Absent e output.old output.new
-TellsWord answer.InUse e output = IsSaid ending.InUse e output.old output.new
+abbrev pub TellsWord : AdminAnswer → Exit → Stream → Type 0
+TellsWord answer.Done e output = IsSaid exit.Done e output.old output.new
+TellsWord answer.Exists e output = IsSaid exit.Exists e output.old output.new
+TellsWord answer.Absent e output = IsSaid exit.Absent e output.old output.new
+TellsWord answer.InUse e output = IsSaid exit.InUse e output.old output.new
 TellsWord (answer.Organizations rows) e output = ⊤
 TellsWord (answer.Tokens rows) e output = ⊤
 
 -- the lines of a list are told
-abbrev pub TellsList : AdminAnswer → Ending → Stream → Type 0
-TellsList (answer.Organizations rows) e output = ((e ≡ ending.Done) × Gets output (org_lines rows)) ⊎ (e ≡ ending.Unprinted)
+abbrev pub TellsList : AdminAnswer → Exit → Stream → Type 0
+TellsList (answer.Organizations rows) e output = ((e ≡ exit.Done) × Gets output (org_lines rows)) ⊎ (e ≡ exit.Unprinted)
 TellsList word e output = ⊤
 
 -- the lines of an organization's tokens are told, or that it isn't there
-abbrev pub TellsTokens : AdminAnswer → Ending → Stream → Type 0
-TellsTokens (answer.Tokens rows) e output = ((e ≡ ending.Done) × Gets output (token_lines rows)) ⊎ (e ≡ ending.Unprinted)
-TellsTokens answer.Absent e output = IsSaid ending.Absent e output.old output.new
+abbrev pub TellsTokens : AdminAnswer → Exit → Stream → Type 0
+TellsTokens (answer.Tokens rows) e output = ((e ≡ exit.Done) × Gets output (token_lines rows)) ⊎ (e ≡ exit.Unprinted)
+TellsTokens answer.Absent e output = IsSaid exit.Absent e output.old output.new
 TellsTokens other e output = ⊤
 
 -- an answer to an operator's command is told
-abbrev pub TellsAnswer : Admin → AdminAnswer → Ending → Stream → Type 0
+abbrev pub TellsAnswer : Admin → AdminAnswer → Exit → Stream → Type 0
 TellsAnswer OrgList answer e output = TellsList answer e output
 TellsAnswer (OrgAdd org limit) answer e output = TellsWord answer e output
 TellsAnswer (OrgLimit org limit) answer e output = TellsWord answer e output
@@ -167,19 +167,19 @@ abbrev pub TellsCause : Cause → Errors → Type 0
 TellsCause why errors = Tells errors.old errors.new (cause_line why)
 
 -- `refused down` is printed, and the error stream is told the cause
-abbrev pub Refuses : Cause → Ending → Stream → Errors → Type 0
-Refuses why e output errors = IsSaid ending.Down e output.old output.new × TellsCause why errors
+abbrev pub Refuses : Cause → Exit → Stream → Errors → Type 0
+Refuses why e output errors = IsSaid exit.Down e output.old output.new × TellsCause why errors
 
 -- an operator's command was carried out, each record as the machine leaves it, and its answer by the records before was
 -- told; or memory or the store refused, which is told by such a cause, and no record is seen to have changed
-abbrev pub IsOperated : (Cause → Type 0) → Admin → (List ℕ → Option Organization) → (List ℕ → Option Organization) → Ending → Stream → Errors → Type 0
+abbrev pub IsOperated : (Cause → Type 0) → Admin → (List ℕ → Option Organization) → (List ℕ → Option Organization) → Exit → Stream → Errors → Type 0
 IsOperated Fails command old new e output errors =
     ((answer : AdminAnswer) × (at : ℕ) × CarriesOut (commands at command) old new × IsAdminAnswer old command answer × TellsAnswer command answer e output × (errors.new ≡ errors.old))
     ⊎ (Stays old new × ((why : Cause) × Fails why × Refuses why e output errors))
 
 -- an organization was copied, its record as the rule says by the records before, and the answer was told; or memory or a store
 -- refused, which is told by such a cause, and no record is seen to have changed
-abbrev pub IsCopied : (Cause → Type 0) → List ℕ → (from old new : List ℕ → Option Organization) → Ending → Stream → Errors → Type 0
+abbrev pub IsCopied : (Cause → Type 0) → List ℕ → (from old new : List ℕ → Option Organization) → Exit → Stream → Errors → Type 0
 IsCopied Fails org from old new e output errors =
     ((answer : AdminAnswer) × (effect answer (new org) ≡ org_copied (from org) (old org)) × ((other : List ℕ) → other ≢ org → new other ≡ old other)
     × TellsWord answer e output × (errors.new ≡ errors.old))
@@ -187,21 +187,21 @@ IsCopied Fails org from old new e output errors =
 
 -- every organization was copied to where none was, and `ok` was told; or some were there, none was copied, and that was told; or memory
 -- or a store refused before, which is told, and only some were copied
-abbrev pub IsCompacted : (from old new : List ℕ → Option Organization) → Ending → Stream → Errors → Type 0
+abbrev pub IsCompacted : (from old new : List ℕ → Option Organization) → Exit → Stream → Errors → Type 0
 IsCompacted from old new e output errors =
     ((is_filled : Bool) × IsFilled from old new is_filled × IsSaid (filled_ending is_filled) e output.old output.new × (errors.new ≡ errors.old))
     ⊎ (SomeAreCopied from old new × Refuses cause.Unfinished e output errors)
 
 -- `refused usage` on the standard output, and why on the error stream
-abbrev pub RefusesUsage : Ending → Stream → Errors → Type 0
-RefusesUsage ending.Usage output errors = Says ending.Usage output × GetsSome errors
-RefusesUsage ending.Unprinted output errors = ⊤
+abbrev pub RefusesUsage : Exit → Stream → Errors → Type 0
+RefusesUsage exit.Usage output errors = Says exit.Usage output × GetsSome errors
+RefusesUsage exit.Unprinted output errors = ⊤
 RefusesUsage e output errors = ⊥
 
 -- `refused down`
-abbrev pub RefusesDown : Ending → Stream → Type 0
-RefusesDown ending.Down output = Says ending.Down output
-RefusesDown ending.Unprinted output = ⊤
+abbrev pub RefusesDown : Exit → Stream → Type 0
+RefusesDown exit.Down output = Says exit.Down output
+RefusesDown exit.Unprinted output = ⊤
 RefusesDown e output = ⊥
 
 -- the input is known, and this is its secret, or it has none
@@ -212,27 +212,27 @@ abbrev pub HasNoSecret : Option (List ℕ) → Type 0
 HasNoSecret input = IfSome input (λ bytes. secret_in bytes ≡ None)
 
 -- a token is added: its secret is read before the file is opened
-abbrev pub AddsToken : Option (List ℕ) → Ending → Stream → Errors → Type 0
+abbrev pub AddsToken : Option (List ℕ) → Exit → Stream → Errors → Type 0
 AddsToken input e output errors =
     (HasSecret input × AnswersLine e output) ⊎ ((HasNoSecret input × RefusesUsage e output errors) ⊎ RefusesDown e output)
 
 -- faults in the tables of a file: where there is none `ok`, and how many rows there are, and else a line for each; or why they
 -- aren't known
-abbrev pub AnswersFaults : Ending → Stream → Type 0
-AnswersFaults ending.Done output = (totals : Totals) × Gets output (sound_text totals)
-AnswersFaults ending.Faults output = (faults : List (List ℕ)) × (0 < length faults) × Gets output (fault_lines faults)
-AnswersFaults ending.Schema output = Says ending.Schema output
-AnswersFaults ending.Down output = Says ending.Down output
-AnswersFaults ending.Unprinted output = ⊤
+abbrev pub AnswersFaults : Exit → Stream → Type 0
+AnswersFaults exit.Done output = (totals : Totals) × Gets output (sound_text totals)
+AnswersFaults exit.Faults output = (faults : List (List ℕ)) × (0 < length faults) × Gets output (fault_lines faults)
+AnswersFaults exit.Schema output = Says exit.Schema output
+AnswersFaults exit.Down output = Says exit.Down output
+AnswersFaults exit.Unprinted output = ⊤
 AnswersFaults e output = ⊥
 
 -- these faults are told, a line for each; where there is none `ok`, and these numbers
-abbrev pub TellsFaults : List (List ℕ) → Totals → Ending → Stream → Type 0
-TellsFaults [] totals e output = ((e ≡ ending.Done) × Gets output (sound_text totals)) ⊎ (e ≡ ending.Unprinted)
-TellsFaults (fault ∷ faults) totals e output = ((e ≡ ending.Faults) × Gets output (fault_lines (fault ∷ faults))) ⊎ (e ≡ ending.Unprinted)
+abbrev pub TellsFaults : List (List ℕ) → Totals → Exit → Stream → Type 0
+TellsFaults [] totals e output = ((e ≡ exit.Done) × Gets output (sound_text totals)) ⊎ (e ≡ exit.Unprinted)
+TellsFaults (fault ∷ faults) totals e output = ((e ≡ exit.Faults) × Gets output (fault_lines (fault ∷ faults))) ⊎ (e ≡ exit.Unprinted)
 
 -- what a look over the tables found is told; or that memory or the store refused
-abbrev pub TellsFound : Result Looked Down → Ending → Stream → Errors → Type 0
+abbrev pub TellsFound : Result Looked Down → Exit → Stream → Errors → Type 0
 TellsFound (Ok looked) e output errors = TellsFaults looked.faults looked.totals e output × (errors.new ≡ errors.old)
 TellsFound (Err refused) e output errors = Refuses cause.Store e output errors
 
@@ -247,12 +247,12 @@ TellsUnsound why (Ok looked) errors = TellsEach why looked.faults errors
 TellsUnsound why (Err refused) errors = TellsCause cause.Store errors
 
 -- connections are served, at the port that is told, and the log stands behind it where it is asked for (`true`)
-abbrev pub ServesAt : Bool → Ending → Stream → Type 0
-ServesAt logs ending.Done output = (port : ℕ) × (log : List ℕ) × Gets output (with_log logs (listening_line port) log)
-ServesAt logs ending.Schema output = Says ending.Schema output
-ServesAt logs ending.Down output =
-    Says ending.Down output ⊎ ((port : ℕ) × (log : List ℕ) × Gets output (with_log logs (listening_line port) log ++ answer_line (ending_line ending.Down)))
-ServesAt logs ending.Unprinted output = ⊤
+abbrev pub ServesAt : Bool → Exit → Stream → Type 0
+ServesAt logs exit.Done output = (port : ℕ) × (log : List ℕ) × Gets output (with_log logs (listening_line port) log)
+ServesAt logs exit.Schema output = Says exit.Schema output
+ServesAt logs exit.Down output =
+    Says exit.Down output ⊎ ((port : ℕ) × (log : List ℕ) × Gets output (with_log logs (listening_line port) log ++ answer_line (ending_line exit.Down)))
+ServesAt logs exit.Unprinted output = ⊤
 ServesAt logs e output = ⊥
 
 -- the replies to the frames before a bad one, and on the error stream which one is bad, counted from 1
@@ -261,21 +261,21 @@ ReplaysToBad bytes output errors =
     (steps : List Step) × (replies : List (List ℕ)) × AreFrames bytes steps true × AreReplies steps replies × Gets output (printed replies) × GetsWhole errors.old errors.new (bad_frame_text (length steps + 1))
 
 -- frames are replayed over an empty database in memory
-abbrev pub ReplaysFrames : Option (List ℕ) → Ending → Stream → Errors → Type 0
-ReplaysFrames input ending.Done output errors = IfSome input (λ bytes. Replays bytes false output.old output.new)
-ReplaysFrames input ending.BadFrame output errors = IfSome input (λ bytes. ReplaysToBad bytes output errors)
-ReplaysFrames input ending.Down output errors = Says ending.Down output × TellsCause cause.Input errors
-ReplaysFrames input ending.Unprinted output errors = ⊤
+abbrev pub ReplaysFrames : Option (List ℕ) → Exit → Stream → Errors → Type 0
+ReplaysFrames input exit.Done output errors = IfSome input (λ bytes. Replays bytes false output.old output.new)
+ReplaysFrames input exit.BadFrame output errors = IfSome input (λ bytes. ReplaysToBad bytes output errors)
+ReplaysFrames input exit.Down output errors = Says exit.Down output × TellsCause cause.Input errors
+ReplaysFrames input exit.Unprinted output errors = ⊤
 ReplaysFrames input e output errors = ⊥
 
 -- the version of the program is told, and the newest version of the schema
-abbrev pub TellsVersion : ℕ → Ending → Stream → Type 0
-TellsVersion schema ending.Done output = Gets output (version_text schema)
-TellsVersion schema ending.Unprinted output = ⊤
+abbrev pub TellsVersion : ℕ → Exit → Stream → Type 0
+TellsVersion schema exit.Done output = Gets output (version_text schema)
+TellsVersion schema exit.Unprinted output = ⊤
 TellsVersion schema e output = ⊥
 
 -- what is asked for is done, or it is said why not; this is the newest version of the schema
-abbrev pub Does : ℕ → Asked → Option (List ℕ) → Ending → Stream → Errors → Type 0
+abbrev pub Does : ℕ → Asked → Option (List ℕ) → Exit → Stream → Errors → Type 0
 Does schema (carries db command) input e output errors = AnswersCommand command e output
 Does schema (adds_token db org name role bounds) input e output errors = AddsToken input e output errors
 Does schema (looks_over db) input e output errors = AnswersFaults e output
@@ -287,25 +287,25 @@ Does schema tells_version input e output errors = TellsVersion schema e output
 
 -- words that ask for nothing that is carried out: for help, whose text goes to the error stream; or for
 -- nothing at all; or memory was refused
-abbrev pub RefusesWords : List (List ℕ) → Ending → Stream → Errors → Type 0
-RefusesWords words ending.Done output errors = AskForHelp words × (output.new ≡ output.old) × GetsSome errors
-RefusesWords words ending.Usage output errors = (AreNoCommand words ⊎ (asked_in words ≡ None)) × RefusesUsage ending.Usage output errors
-RefusesWords words ending.Down output errors = Says ending.Down output × TellsCause cause.NoMemory errors
-RefusesWords words ending.Unprinted output errors = ⊤
+abbrev pub RefusesWords : List (List ℕ) → Exit → Stream → Errors → Type 0
+RefusesWords words exit.Done output errors = AskForHelp words × (output.new ≡ output.old) × GetsSome errors
+RefusesWords words exit.Usage output errors = (AreNoCommand words ⊎ (asked_in words ≡ None)) × RefusesUsage exit.Usage output errors
+RefusesWords words exit.Down output errors = Says exit.Down output × TellsCause cause.NoMemory errors
+RefusesWords words exit.Unprinted output errors = ⊤
 RefusesWords words e output errors = ⊥
 
 -- what is printed, by the words
-abbrev pub PrintsFor : ℕ → List (List ℕ) → Option (List ℕ) → Ending → Stream → Errors → Type 0
+abbrev pub PrintsFor : ℕ → List (List ℕ) → Option (List ℕ) → Exit → Stream → Errors → Type 0
 PrintsFor schema words input e output errors =
     ((asked : Asked) × (asked_in words ≡ Some asked) × Does schema asked input e output errors) ⊎ RefusesWords words e output errors
 
 -- where a stream took not all the error stream is told so, and else nothing
-abbrev pub TellsEnd : Ending → Errors → Type 0
-TellsEnd ending.Unprinted errors = Tells errors.old errors.new unprinted_line
+abbrev pub TellsEnd : Exit → Errors → Type 0
+TellsEnd exit.Unprinted errors = Tells errors.old errors.new unprinted_line
 TellsEnd e errors = errors.new ≡ errors.old
 
 -- and behind it on the error stream that a stream took not all, where one didn't
-abbrev pub Prints : ℕ → List (List ℕ) → Option (List ℕ) → Ending → Stream → Errors → Type 0
+abbrev pub Prints : ℕ → List (List ℕ) → Option (List ℕ) → Exit → Stream → Errors → Type 0
 Prints schema words input e output errors =
     (told : Told) × PrintsFor schema words input e output (error_stream errors.old told) × TellsEnd e (error_stream told errors.new)
 
@@ -363,12 +363,12 @@ module _ {K F : Type 0} (k : keep.Ghosts K) (f : files.Ghosts F K) where
 
   -- what lies at a path isn't opened, and at each path all stays, where no database is to be made also that no file lies there:
   -- memory or the store refuses, or it is of another schema; and the error stream is told why
-  abbrev pub RefusesToOpen : List ℕ → Opening → F → F → Ending → Stream → Errors → Type 0
+  abbrev pub RefusesToOpen : List ℕ → Opening → F → F → Exit → Stream → Errors → Type 0
   RefusesToOpen path opening old new e output errors =
       AllStay f.holds old new × LeavesVacant f.vacant (makes opening) path old new
       × (((why : Cause) × f.refuses old path (fault.Down why) × Refuses (seen_at opening why) e output errors)
-      ⊎ (((bytes : ℕ) × f.refuses old path (fault.Memory bytes) × IsSaid ending.Down e output.old output.new × Tells errors.old errors.new (memory_line bytes))
-      ⊎ ((other : OtherSchema) × f.refuses old path (fault.Schema other) × IsSaid ending.Schema e output.old output.new × Tells errors.old errors.new (other_line other))))
+      ⊎ (((bytes : ℕ) × f.refuses old path (fault.Memory bytes) × IsSaid exit.Down e output.old output.new × Tells errors.old errors.new (memory_line bytes))
+      ⊎ ((other : OtherSchema) × f.refuses old path (fault.Schema other) × IsSaid exit.Schema e output.old output.new × Tells errors.old errors.new (other_line other))))
 
   -- a store was opened at a path, and its file told of; what lies at other paths stays. Where no database is to be made, one with our
   -- tables lay there
@@ -392,7 +392,7 @@ module _ {K F : Type 0} (k : keep.Ghosts K) (f : files.Ghosts F K) where
     pub log : TellsOfLog (f.copied new path store) errors
 
   -- an operator's command was carried out on what lay at a path; what that left lies there now, and nothing else changed
-  pub record Operates (path : List ℕ) (command : Admin) (old new : F) (e : Ending) (output : Stream) (errors : Errors) : Type 0 where
+  pub record Operates (path : List ℕ) (command : Admin) (old new : F) (e : Exit) (output : Stream) (errors : Errors) : Type 0 where
     pub before : K
     pub after : K
     pub worked : F
@@ -406,11 +406,11 @@ module _ {K F : Type 0} (k : keep.Ghosts K) (f : files.Ghosts F K) where
     pub closes : Closes path worked new after (error_stream told errors.new)
     pub others : OthersStay f.holds path old new
 
-  abbrev pub OperatesAt : List ℕ → Admin → F → F → Ending → Stream → Errors → Type 0
+  abbrev pub OperatesAt : List ℕ → Admin → F → F → Exit → Stream → Errors → Type 0
   OperatesAt path command old new e output errors = Operates path command old new e output errors ⊎ RefusesToOpen path (opening_of command) old new e output errors
 
   -- a token is added at a path with the secret of the input; or there is none, or it isn't read, and nothing changes
-  abbrev pub AddsTokenAt : List ℕ → (List ℕ → Admin) → Option (List ℕ) → F → F → Ending → Stream → Errors → Type 0
+  abbrev pub AddsTokenAt : List ℕ → (List ℕ → Admin) → Option (List ℕ) → F → F → Exit → Stream → Errors → Type 0
   AddsTokenAt path adding input old new e output errors =
       ((secret : List ℕ) × IsSecretOf input secret × OperatesAt path (adding secret) old new e output errors)
       ⊎ ((new ≡ old) × ((HasNoSecret input × RefusesUsage e output errors × Tells errors.old errors.new secret_line)
@@ -439,13 +439,13 @@ module _ {K F : Type 0} (k : keep.Ghosts K) (f : files.Ghosts F K) where
     pub others : OthersStay f.holds path old new
 
   -- faults are looked for at a path, and what is found is printed
-  abbrev pub LooksAt : List ℕ → F → F → Ending → Stream → Errors → Type 0
+  abbrev pub LooksAt : List ℕ → F → F → Exit → Stream → Errors → Type 0
   LooksAt path old new e output errors =
       LooksOver path (λ found told. TellsFound found e output told) old new errors ⊎ RefusesToOpen path opening.Existing old new e output errors
 
   -- faults are found at a path, or the look for them is refused, and so nothing more is done: by this cause
-  abbrev pub RefusesUnsound : List ℕ → Cause → F → F → Ending → Stream → Errors → Type 0
-  RefusesUnsound path why old new e output errors = LooksOver path (TellsUnsound why) old new errors × IsSaid ending.Down e output.old output.new
+  abbrev pub RefusesUnsound : List ℕ → Cause → F → F → Exit → Stream → Errors → Type 0
+  RefusesUnsound path why old new e output errors = LooksOver path (TellsUnsound why) old new errors × IsSaid exit.Down e output.old output.new
 
   -- a store was opened at a path, which made no file, and a look over its tables found no fault: so it is sound and keyed, if its tables
   -- are defined as ours
@@ -460,7 +460,7 @@ module _ {K F : Type 0} (k : keep.Ghosts K) (f : files.Ghosts F K) where
     pub keyed_ours : k.clean store → f.is_ours opened → k.keyed opened × k.keyed store
 
   -- what is copied isn't opened, or faults are found in its tables
-  abbrev pub RefusesSource : List ℕ → F → F → Ending → Stream → Errors → Type 0
+  abbrev pub RefusesSource : List ℕ → F → F → Exit → Stream → Errors → Type 0
   RefusesSource path old new e output errors =
       RefusesToOpen path opening.Existing old new e output errors ⊎ RefusesUnsound path cause.SourceFaults old new e output errors
 
@@ -481,7 +481,7 @@ module _ {K F : Type 0} (k : keep.Ghosts K) (f : files.Ghosts F K) where
 
   -- a store was opened at one path, and what lies at the other isn't opened; so the first was closed as it was, and at each other path
   -- all stays
-  pub record RefusesSecond (from to : List ℕ) (old new : F) (e : Ending) (output : Stream) (errors : Errors) : Type 0 where
+  pub record RefusesSecond (from to : List ℕ) (old new : F) (e : Exit) (output : Stream) (errors : Errors) : Type 0 where
     pub differ : from ≢ to
     pub source : K
     pub opened : F
@@ -494,7 +494,7 @@ module _ {K F : Type 0} (k : keep.Ghosts K) (f : files.Ghosts F K) where
     pub others : OthersStay f.holds from old new
 
   -- of two paths one isn't opened; or they are the same, and nothing is opened
-  abbrev pub RefusesBoth : List ℕ → List ℕ → F → F → Ending → Stream → Errors → Type 0
+  abbrev pub RefusesBoth : List ℕ → List ℕ → F → F → Exit → Stream → Errors → Type 0
   RefusesBoth from to old new e output errors =
       ((from ≡ to) × (new ≡ old) × Refuses cause.InUse e output errors)
       ⊎ (((from ≢ to) × RefusesSource from old new e output errors) ⊎ RefusesSecond from to old new e output errors)
@@ -520,39 +520,39 @@ module _ {K F : Type 0} (k : keep.Ghosts K) (f : files.Ghosts F K) where
     pub others : OthersStayBut f.holds from to old new
 
   -- an organization is copied from what lies at one path to what lies at another
-  abbrev pub CopiesAt : List ℕ → List ℕ → List ℕ → F → F → Ending → Stream → Errors → Type 0
+  abbrev pub CopiesAt : List ℕ → List ℕ → List ℕ → F → F → Exit → Stream → Errors → Type 0
   CopiesAt from to org old new e output errors =
       CopiesOver from to (λ left source before after told. IsCopied (HasFailed left) org source before after e output told) HasFailed old new errors
       ⊎ RefusesBoth from to old new e output errors
 
   -- every organization is copied so
-  abbrev pub CompactsAt : List ℕ → List ℕ → F → F → Ending → Stream → Errors → Type 0
+  abbrev pub CompactsAt : List ℕ → List ℕ → F → F → Exit → Stream → Errors → Type 0
   CompactsAt from to old new e output errors =
       CopiesOver from to (λ left source before after told. IsCompacted source before after e output told) (λ left why. why ≡ cause.Unfinished) old new errors
       ⊎ RefusesBoth from to old new e output errors
 
 -- what the program stands on besides its streams
-pub record Outside (F N C : Type 0) : Type 0 where
+pub record Environment (F N C : Type 0) : Type 0 where
   pub files : F
   pub network : N
   pub clock : C
 
-abbrev pub outside : {F N C : Type 0} → F → N → C → Outside F N C
-outside files network clock = record { files = files; network = network; clock = clock }
+abbrev pub environment : {F N C : Type 0} → F → N → C → Environment F N C
+environment files network clock = record { files = files; network = network; clock = clock }
 
 -- neither the network nor the clock is used
-abbrev pub IsAlone : {F N C : Type 0} → Outside F N C → Outside F N C → Type 0
+abbrev pub IsAlone : {F N C : Type 0} → Environment F N C → Environment F N C → Type 0
 IsAlone old new = (new.network ≡ old.network) × (new.clock ≡ old.clock)
 
 -- `refused down` is printed where serving ended so, and nothing more where it didn't
-abbrev pub SaysServed : Ending → Ending → Option (List ℕ) → Option (List ℕ) → Type 0
+abbrev pub SaysServed : Exit → Exit → Option (List ℕ) → Option (List ℕ) → Type 0
 SaysServed served e old new =
-    ((served ≡ ending.Down) × IsSaid ending.Down e old new) ⊎ ((served ≢ ending.Down) × (e ≡ served) × (new ≡ old))
+    ((served ≡ exit.Down) × IsSaid exit.Down e old new) ⊎ ((served ≢ exit.Down) × (e ≡ served) × (new ≡ old))
 
 module _ {K F N C R W : Type 0} (k : keep.Ghosts K) (f : files.Ghosts F K) (n : connections.Ghosts N R W) (c : clock.Ghosts C) (i : inlet.Ghosts R) (o : outlet.Ghosts W) where
   -- connections are answered from what lay at a path, each with these timeouts, with the log or without it; what they left
   -- lies there now, and nothing else changed
-  pub record ServesFrom (path : List ℕ) (port : ℕ) (timeouts : Timeouts) (logs : Bool) (count : ℕ) (old new : Outside F N C) (e : Ending) (output : Stream) (errors : Errors) : Type 0 where
+  pub record ServesFrom (path : List ℕ) (port : ℕ) (timeouts : Timeouts) (logs : Bool) (count : ℕ) (old new : Environment F N C) (e : Exit) (output : Stream) (errors : Errors) : Type 0 where
     pub before : K
     pub after : K
     pub worked : F
@@ -560,7 +560,7 @@ module _ {K F N C R W : Type 0} (k : keep.Ghosts K) (f : files.Ghosts F K) (n : 
     pub opens : Opens k f path opening.Created old.files worked before (error_stream errors.old noted)
     pub lasts : Lasts k.clean k.sound k.keyed k.shielded before after
     pub serves : k.clean after → k.sound before → Serves count (k.rows before) (k.rows after)
-    pub served : Ending
+    pub served : Exit
     pub told : Option (List ℕ)
     pub lines : Told
     pub answers : AnswersAtPort k f n c i o port timeouts logs count (state old.network old.clock before noted output.old) (state new.network new.clock after lines told) served
@@ -570,7 +570,7 @@ module _ {K F N C R W : Type 0} (k : keep.Ghosts K) (f : files.Ghosts F K) (n : 
 
   -- the same of a file that was there, after a check of its tables, which found no fault. So what is served is sound and keyed, if the store
   -- `is_ours`
-  pub record ServesChecked (path : List ℕ) (port : ℕ) (timeouts : Timeouts) (logs : Bool) (count : ℕ) (old new : Outside F N C) (e : Ending) (output : Stream) (errors : Errors) : Type 0 where
+  pub record ServesChecked (path : List ℕ) (port : ℕ) (timeouts : Timeouts) (logs : Bool) (count : ℕ) (old new : Environment F N C) (e : Exit) (output : Stream) (errors : Errors) : Type 0 where
     pub before : K
     pub after : K
     pub worked : F
@@ -581,7 +581,7 @@ module _ {K F N C R W : Type 0} (k : keep.Ghosts K) (f : files.Ghosts F K) (n : 
     pub sound_ours : k.clean after → f.is_ours opens.opened → k.sound opens.opened × k.sound after
     pub keyed_ours : k.clean after → f.is_ours opens.opened → k.keyed opens.opened × k.keyed after
     pub serves_ours : k.clean after → f.is_ours opens.opened → Serves count (k.rows opens.opened) (k.rows after)
-    pub served : Ending
+    pub served : Exit
     pub told : Option (List ℕ)
     pub lines : Told
     pub answers : AnswersAtPort k f n c i o port timeouts logs count (state old.network old.clock before noted output.old) (state new.network new.clock after lines told) served
@@ -591,7 +591,7 @@ module _ {K F N C R W : Type 0} (k : keep.Ghosts K) (f : files.Ghosts F K) (n : 
 
   -- connections are answered; where a look for faults is asked for (`true`), behind one, and only where it found none, and then no file is
   -- made; or what lies at the path isn't opened
-  abbrev pub ServesAsAsked : Bool → List ℕ → ℕ → Timeouts → Bool → ℕ → Outside F N C → Outside F N C → Ending → Stream → Errors → Type 0
+  abbrev pub ServesAsAsked : Bool → List ℕ → ℕ → Timeouts → Bool → ℕ → Environment F N C → Environment F N C → Exit → Stream → Errors → Type 0
   ServesAsAsked false path port timeouts logs count old new e output errors =
       ServesFrom path port timeouts logs count old new e output errors ⊎ (RefusesToOpen k f path opening.Created old.files new.files e output errors × IsAlone old new)
   ServesAsAsked true path port timeouts logs count old new e output errors =
@@ -599,7 +599,7 @@ module _ {K F N C R W : Type 0} (k : keep.Ghosts K) (f : files.Ghosts F K) (n : 
       ⊎ (RefusesToOpen k f path opening.Existing old.files new.files e output errors × IsAlone old new)
 
   -- what is asked for is done to what lies at its path, and to nothing else
-  abbrev pub Leaves : Asked → Option (List ℕ) → Outside F N C → Outside F N C → Ending → Stream → Errors → Type 0
+  abbrev pub Leaves : Asked → Option (List ℕ) → Environment F N C → Environment F N C → Exit → Stream → Errors → Type 0
   Leaves (carries db command) input old new e output errors = OperatesAt k f db command old.files new.files e output errors × IsAlone old new
   Leaves (adds_token db org name role bounds) input old new e output errors =
       AddsTokenAt k f db (λ secret. TokenAdd org name role secret bounds) input old.files new.files e output errors × IsAlone old new
@@ -611,13 +611,13 @@ module _ {K F N C R W : Type 0} (k : keep.Ghosts K) (f : files.Ghosts F K) (n : 
   Leaves tells_version input old new e output errors = new ≡ old
 
   -- the program by its words, up to what is told where a stream took not all
-  pub record RunsOver (words : List (List ℕ)) (input : Option (List ℕ)) (old new : Outside F N C) (e : Ending) (output : Stream) (errors : Errors) : Type 0 where
+  pub record RunsOver (words : List (List ℕ)) (input : Option (List ℕ)) (old new : Environment F N C) (e : Exit) (output : Stream) (errors : Errors) : Type 0 where
     pub prints : PrintsFor f.newest words input e output errors
     pub leaves : ((asked : Asked) × (asked_in words ≡ Some asked) × Leaves asked input old new e output errors)
         ⊎ (RefusesWords words e output errors × (new ≡ old))
 
   -- the program by its words: how it ends, what is printed, and what the program stands on before and after
-  pub record Runs (words : List (List ℕ)) (input : Option (List ℕ)) (old new : Outside F N C) (e : Ending) (output : Stream) (errors : Errors) : Type 0 where
+  pub record Runs (words : List (List ℕ)) (input : Option (List ℕ)) (old new : Environment F N C) (e : Exit) (output : Stream) (errors : Errors) : Type 0 where
     pub told : Told
     pub runs : RunsOver words input old new e output (error_stream errors.old told)
     pub ends : TellsEnd e (error_stream told errors.new)

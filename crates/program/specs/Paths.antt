@@ -1,7 +1,7 @@
 -- What lies at paths, and what of it stays. `holds` says that what a store has is what lies at a path.
 use Rattle.std.specs.Prelude.{◌≢◌, ℕ, Bool, true, false, List}
-use Rattle.program.specs.declared.outside.Opening.{Opening}
-use Rattle.program.specs.declared.outside.Opening.TheVariants.{Existing, Created, Target}
+use Rattle.program.specs.declared.environment.Opening.{Opening}
+use Rattle.program.specs.declared.environment.Opening.TheVariants.{Existing, Created, Target}
 
 -- what lies at each path stays
 abbrev pub AllStay : {F K : Type 0} → (F → List ℕ → K → Type 0) → F → F → Type 0

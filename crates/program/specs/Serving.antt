@@ -15,15 +15,15 @@ use Rattle.serve.specs.Service.{AreAsked}
 use Rattle.serve.specs.Runs.{IsOwnRecord}
 use Rattle.program.specs.Errors.{GetsConnectionLines, cause_line}
 use Rattle.program.specs.Streams.{Told, Tells}
-use Rattle.program.specs.Upkeep.{Upkeep}
+use Rattle.program.specs.Checkpoints.{Checkpoints}
 use Rattle.program.specs.Logs.{row_text, tells_act, with_log, Logs, Line, log_text, ChangeByLines}
 use Rattle.program.specs.declared.reasons.Cause.{Cause}
 use Rattle.program.specs.declared.reasons.Cause.TheVariants as cause
-use Rattle.program.specs.declared.endings.Ending.{Ending}
-use Rattle.program.specs.declared.endings.Ending.TheVariants as ending
-use Rattle.program.specs.declared.outside.Connections as connections
-use Rattle.program.specs.declared.outside.Files as files
-use Rattle.program.specs.declared.outside.Clock as clock
+use Rattle.program.specs.declared.exits.Exit.{Exit}
+use Rattle.program.specs.declared.exits.Exit.TheVariants as exit
+use Rattle.program.specs.declared.environment.Connections as connections
+use Rattle.program.specs.declared.environment.Files as files
+use Rattle.program.specs.declared.environment.Clock as clock
 use Rattle.command_line.specs.declared.timeouts.Timeouts.{Timeouts}
 use Rattle.wire.specs.declared.devices.Inlet as inlet
 use Rattle.wire.specs.declared.devices.Outlet as outlet
@@ -34,17 +34,17 @@ listening_line port = codes "listening 127.0.0.1:" ++ decimal port ++ 10 ∷ []
 
 -- what the standard output gets: the line, once, before the first connection, and the log behind it, where it is asked for
 -- (`true`); where no connection can be had there may be none
-abbrev pub Listens : Bool → Ending → Option (List ℕ) → Option (List ℕ) → Type 0
-Listens logs ending.Done old new = (port : ℕ) × (log : List ℕ) × Appends old new (with_log logs (listening_line port) log)
-Listens logs ending.Down old new = (new ≡ old) ⊎ ((port : ℕ) × (log : List ℕ) × Appends old new (with_log logs (listening_line port) log))
-Listens logs ending.Unprinted old new = ⊤
+abbrev pub Listens : Bool → Exit → Option (List ℕ) → Option (List ℕ) → Type 0
+Listens logs exit.Done old new = (port : ℕ) × (log : List ℕ) × Appends old new (with_log logs (listening_line port) log)
+Listens logs exit.Down old new = (new ≡ old) ⊎ ((port : ℕ) × (log : List ℕ) × Appends old new (with_log logs (listening_line port) log))
+Listens logs exit.Unprinted old new = ⊤
 Listens logs other old new = ⊥
 
 -- the same, where the port is known
-abbrev pub ListensAt : ℕ → Bool → Ending → Option (List ℕ) → Option (List ℕ) → Type 0
-ListensAt port logs ending.Done old new = (log : List ℕ) × Appends old new (with_log logs (listening_line port) log)
-ListensAt port logs ending.Down old new = (log : List ℕ) × Appends old new (with_log logs (listening_line port) log)
-ListensAt port logs ending.Unprinted old new = ⊤
+abbrev pub ListensAt : ℕ → Bool → Exit → Option (List ℕ) → Option (List ℕ) → Type 0
+ListensAt port logs exit.Done old new = (log : List ℕ) × Appends old new (with_log logs (listening_line port) log)
+ListensAt port logs exit.Down old new = (log : List ℕ) × Appends old new (with_log logs (listening_line port) log)
+ListensAt port logs exit.Unprinted old new = ⊤
 ListensAt port logs other old new = ⊥
 
 -- the network, the clock, the store and what the error stream and standard output have, between two connections
@@ -86,9 +86,9 @@ module _ {K N R W : Type 0} (k : keep.Ghosts K) (n : connections.Ghosts N R W) (
 module _ {K F : Type 0} (k : keep.Ghosts K) (f : files.Ghosts F K) where
   -- after the 503 the files are asked whether a fault of the disk has shut the store, and say so or not, or they are refused
   -- memory, which counts as not; after another reply they aren't asked, and copy the log where it is long
-  abbrev pub Tends : Bool → K → Bool → K → Type 0
-  Tends true old is_shut new = (said : Result Bool Down) × f.shuts old said new × Looks k.rows k.clean k.sound k.keyed k.shielded old new × MatchResult said (λ told. is_shut ≡ told) (λ down. is_shut ≡ false)
-  Tends false old is_shut new = (is_shut ≡ false) × f.checkpoints old new × Upkeep k.rows k.clean k.sound k.keyed k.shielded old new
+  abbrev pub AfterReply : Bool → K → Bool → K → Type 0
+  AfterReply true old is_shut new = (said : Result Bool Down) × f.shuts old said new × Looks k.rows k.clean k.sound k.keyed k.shielded old new × MatchResult said (λ told. is_shut ≡ told) (λ down. is_shut ≡ false)
+  AfterReply false old is_shut new = (is_shut ≡ false) × f.checkpoints old new × Checkpoints k.rows k.clean k.sound k.keyed k.shielded old new
 
 module _ {K N C R W : Type 0} (k : keep.Ghosts K) (n : connections.Ghosts N R W) (c : clock.Ghosts C) (i : inlet.Ghosts R) (o : outlet.Ghosts W) where
   -- a connection is accepted with these timeouts, the clock tells this moment, and the connection is answered as that of
@@ -107,7 +107,7 @@ module _ {K F N C R W : Type 0} (k : keep.Ghosts K) (f : files.Ghosts F K) (n : 
     pub is_down : Bool
     pub store : K
     pub answers : Answers k n c i o timeouts logs place at is_down is_told old (state new.network new.clock store new.errors new.output)
-    pub tends : Tends k f is_down store is_shut new.store
+    pub after_reply : AfterReply k f is_down store is_shut new.store
 
   -- connections are answered in turn, one at each of these moments, each with these timeouts, by numbers from this one on; and
   -- after none of them was the store shut, and of none was the log's line not taken
@@ -125,25 +125,25 @@ module _ {K F N C R W : Type 0} (k : keep.Ghosts K) (f : files.Ghosts F K) (n : 
 
   -- the line on the port is printed, and then so many connections are answered; or fewer, since no further one is accepted, and
   -- the error stream is told the cause; or none, where the line wasn't printed
-  abbrev pub AnswersCount : ℕ → Timeouts → Bool → ℕ → State N C K → State N C K → Ending → Type 0
-  AnswersCount port timeouts logs count old new ending.Done =
+  abbrev pub AnswersCount : ℕ → Timeouts → Bool → ℕ → State N C K → State N C K → Exit → Type 0
+  AnswersCount port timeouts logs count old new exit.Done =
       (heard : Option (List ℕ)) × Appends old.output heard (listening_line port)
       × (moments : List ℕ) × (length moments ≡ count) × AnswersAll timeouts logs 1 moments (state old.network old.clock old.store old.errors heard) new
-  AnswersCount port timeouts logs count old new ending.Down =
+  AnswersCount port timeouts logs count old new exit.Down =
       (heard : Option (List ℕ)) × Appends old.output heard (listening_line port)
       × (moments : List ℕ) × (last : State N C K) × (length moments < count) × AnswersAll timeouts logs 1 moments (state old.network old.clock old.store old.errors heard) last
       × (why : Cause) × (errors : Told) × EndsEarly timeouts logs (suc (length moments)) last (state new.network new.clock new.store errors new.output) why × Tells errors new.errors (cause_line why)
-  AnswersCount port timeouts logs count old new ending.Unprinted = (new.network ≡ old.network) × (new.clock ≡ old.clock) × (new.store ≡ old.store) × (new.errors ≡ old.errors)
+  AnswersCount port timeouts logs count old new exit.Unprinted = (new.network ≡ old.network) × (new.clock ≡ old.clock) × (new.store ≡ old.store) × (new.errors ≡ old.errors)
   AnswersCount port timeouts logs count old new other = ⊥
 
   -- 127.0.0.1 is bound at a port, and nothing else is; the port that it gave is told, and so many connections
   -- are answered; or it can't be bound, and the error stream is told the cause
-  abbrev pub AnswersAtPort : ℕ → Timeouts → Bool → ℕ → State N C K → State N C K → Ending → Type 0
+  abbrev pub AnswersAtPort : ℕ → Timeouts → Bool → ℕ → State N C K → State N C K → Exit → Type 0
   AnswersAtPort port timeouts logs count old new e =
       ((bound : N) × (given : ℕ) × n.binds old.network (127 ∷ 0 ∷ 0 ∷ 1 ∷ []) port (Ok given) bound
       × AnswersCount given timeouts logs count (state bound old.clock old.store old.errors old.output) new e × ListensAt given logs e old.output new.output)
       ⊎ ((why : Cause) × n.binds old.network (127 ∷ 0 ∷ 0 ∷ 1 ∷ []) port (Err why) new.network
-      × (new.clock ≡ old.clock) × (new.store ≡ old.store) × Tells old.errors new.errors (cause_line why) × (e ≡ ending.Down) × (new.output ≡ old.output))
+      × (new.clock ≡ old.clock) × (new.store ≡ old.store) × Tells old.errors new.errors (cause_line why) × (e ≡ exit.Down) × (new.output ≡ old.output))
 
   -- the log tells each connection that was answered by one line, in turn; and between two lines no record changes but that of the
   -- organization that the later line names

@@ -3,10 +3,10 @@ ghost use Rattle.std.specs.Prelude.{[], Ok};
 ghost use Rattle.program.specs.Outcomes.{stream, error_stream, AnswersFaults, TellsFaults, TellsFound, LooksAt};
 ghost use Rattle.program.specs.Inner.Outcomes.{FindsNone, LooksFirst};
 
-use crate::endings::Ending;
+use crate::environment::{Files, Opening};
 use crate::errors::{tell_cause, tell_faults};
+use crate::exits::Exit;
 use crate::openings::{close_after, open_one};
-use crate::outside::{Files, Opening};
 use crate::reasons::Cause;
 use crate::replies::{print_faults, print_sound, refuse};
 use crate::streams::ErrorStream;
@@ -16,25 +16,25 @@ use machine::Keep;
 use std::alloc::Global;
 use std::io::Write;
 
-fn say_sound<O: Write>(output: &mut O, totals: &Totals) -> Ending
+fn say_sound<O: Write>(output: &mut O, totals: &Totals) -> Exit
     ensures line { AnswersFaults result (stream (O.contents output.old) (O.contents output.new)) }
     ensures tells { TellsFaults [] totals.now result (stream (O.contents output.old) (O.contents output.new)) }
 {
     match print_sound(output, totals) {
-        Ok(()) => Ending::Done,
-        Err(_) => Ending::Unprinted,
+        Ok(()) => Exit::Done,
+        Err(_) => Exit::Unprinted,
     }
 }
 
-fn say_faults<O: Write>(output: &mut O, faults: &[Text], totals: &Totals) -> Ending
+fn say_faults<O: Write>(output: &mut O, faults: &[Text], totals: &Totals) -> Exit
     ensures line { AnswersFaults result (stream (O.contents output.old) (O.contents output.new)) }
     ensures tells { TellsFaults faults.now totals.now result (stream (O.contents output.old) (O.contents output.new)) }
 {
     match faults {
         [] => say_sound(output, totals),
         [_, ..] => match print_faults(output, faults) {
-            Ok(()) => Ending::Faults,
-            Err(_) => Ending::Unprinted,
+            Ok(()) => Exit::Faults,
+            Err(_) => Exit::Unprinted,
         },
     }
 }
@@ -43,7 +43,7 @@ fn say_found<O: Write, E: ErrorStream>(
     output: &mut O,
     errors: &mut E,
     found: &Result<Looked, Down>,
-) -> Ending
+) -> Exit
     ensures line { AnswersFaults result (stream (O.contents output.old) (O.contents output.new)) }
     ensures tells { TellsFound found.now result (stream (O.contents output.old) (O.contents output.new)) (error_stream (E.told errors.old) (E.told errors.new)) }
 {
@@ -60,18 +60,18 @@ pub fn check<K: Keep, F: Files<K>, O: Write, E: ErrorStream>(
     db: &str,
     output: &mut O,
     errors: &mut E,
-) -> Ending
+) -> Exit
     ensures line { AnswersFaults result (stream (O.contents output.old) (O.contents output.new)) }
     ensures looks { LooksAt K.Keep F.Files db.now files.old files.new result (stream (O.contents output.old) (O.contents output.new)) (error_stream (E.told errors.old) (E.told errors.new)) }
 {
     let mut store = match open_one(files, db, Opening::Existing, output, errors) {
         Ok(store) => store,
-        Err(ending) => return ending,
+        Err(exit) => return exit,
     };
     let found = files.check(alloc, &mut store);
-    let ending = say_found(output, errors, &found);
+    let exit = say_found(output, errors, &found);
     close_after(files, db, store, errors);
-    ending
+    exit
 }
 
 fn tell_if_some<E: ErrorStream>(errors: &mut E, cause: Cause, looked: &Looked) -> bool

@@ -8,10 +8,10 @@ ghost use Rattle.program.specs.Outcomes.{stream, error_stream, AnswersLine, Answ
 ghost use Rattle.program.specs.declared.reasons.Cause.{Cause as AnyCause};
 
 use crate::checking::look_first;
-use crate::endings::Ending;
+use crate::environment::{Files, Opening};
+use crate::exits::Exit;
 use crate::openings::{close_after, close_both, open_one};
 use crate::operating::failure;
-use crate::outside::{Files, Opening};
 use crate::reasons::Cause;
 use crate::replies::{refuse, say, say_word};
 use crate::streams::ErrorStream;
@@ -27,19 +27,19 @@ fn open_sound<K: Keep, F: Files<K>, O: Write, E: ErrorStream>(
     path: &str,
     output: &mut O,
     errors: &mut E,
-) -> Result<K, Ending>
+) -> Result<K, Exit>
     ensures opened { IfOk result (λ store. OpensSound K.Keep F.Files path.now files.old files.new store (error_stream (E.told errors.old) (E.told errors.new)) × (O.contents output.new ≡ O.contents output.old)) }
-    ensures refused { IfErr result (λ ending. RefusesSource K.Keep F.Files path.now files.old files.new ending (stream (O.contents output.old) (O.contents output.new)) (error_stream (E.told errors.old) (E.told errors.new))) }
+    ensures refused { IfErr result (λ exit. RefusesSource K.Keep F.Files path.now files.old files.new exit (stream (O.contents output.old) (O.contents output.new)) (error_stream (E.told errors.old) (E.told errors.new))) }
 {
     let mut store = match open_one(files, path, Opening::Existing, output, errors) {
         Ok(store) => store,
-        Err(ending) => return Err(ending),
+        Err(exit) => return Err(exit),
     };
     if look_first(alloc, files, &mut store, Cause::SourceFaults, errors) {
         return Ok(store);
     }
     close_after(files, path, store, errors);
-    Err(say(output, Ending::Down))
+    Err(say(output, Exit::Down))
 }
 
 /// Opens the stores at two different paths, the first one first, or reports why one was not opened. If the first one's tables
@@ -51,22 +51,22 @@ fn open_both<K: Keep, F: Files<K>, O: Write, E: ErrorStream>(
     to: &str,
     output: &mut O,
     errors: &mut E,
-) -> Result<(K, K), Ending>
+) -> Result<(K, K), Exit>
     ensures opened { IfOk result (λ stores. OpensBoth K.Keep F.Files from.now to.now files.old files.new stores.0 stores.1 (error_stream (E.told errors.old) (E.told errors.new)) × (O.contents output.new ≡ O.contents output.old)) }
-    ensures refused { IfErr result (λ ending. RefusesBoth K.Keep F.Files from.now to.now files.old files.new ending (stream (O.contents output.old) (O.contents output.new)) (error_stream (E.told errors.old) (E.told errors.new))) }
+    ensures refused { IfErr result (λ exit. RefusesBoth K.Keep F.Files from.now to.now files.old files.new exit (stream (O.contents output.old) (O.contents output.new)) (error_stream (E.told errors.old) (E.told errors.new))) }
 {
     if from == to {
         return Err(refuse(output, errors, Cause::InUse));
     }
     let source = match open_sound(alloc, files, from, output, errors) {
         Ok(source) => source,
-        Err(ending) => return Err(ending),
+        Err(exit) => return Err(exit),
     };
     match open_one(files, to, Opening::Target, output, errors) {
         Ok(target) => Ok((source, target)),
-        Err(ending) => {
+        Err(exit) => {
             close_after(files, from, source, errors);
-            Err(ending)
+            Err(exit)
         }
     }
 }
@@ -77,7 +77,7 @@ fn say_copied<K: Keep, F: Files<K>, O: Write, E: ErrorStream>(
     output: &mut O,
     errors: &mut E,
     answered: &Result<AdminAnswer, Down>,
-) -> Ending
+) -> Exit
     ensures line { AnswersLine result (stream (O.contents output.old) (O.contents output.new)) }
     ensures looks { Looks K.rows K.clean K.sound K.keyed K.shielded target.old target.new }
     ensures tells { IfOk answered.now (λ answer. TellsWord answer result (stream (O.contents output.old) (O.contents output.new)) × (E.told errors.new ≡ E.told errors.old)) }
@@ -102,18 +102,18 @@ pub fn copy_one<K: Keep, F: Files<K>, O: Write, E: ErrorStream>(
     org: &OrgName,
     output: &mut O,
     errors: &mut E,
-) -> Ending
+) -> Exit
     ensures line { AnswersLine result (stream (O.contents output.old) (O.contents output.new)) }
     ensures copies { CopiesAt K.Keep F.Files from.now to.now org.now files.old files.new result (stream (O.contents output.old) (O.contents output.new)) (error_stream (E.told errors.old) (E.told errors.new)) }
 {
     let (mut source, mut target) = match open_both(alloc, files, from, to, output, errors) {
         Ok(stores) => stores,
-        Err(ending) => return ending,
+        Err(exit) => return exit,
     };
     let answered = files.copy(alloc, org, &mut source, &mut target);
-    let ending = say_copied(files, &mut target, output, errors, &answered);
+    let exit = say_copied(files, &mut target, output, errors, &answered);
     close_both(files, from, source, to, target, errors);
-    ending
+    exit
 }
 
 /// The entry of one organization in the list of all.
@@ -214,15 +214,15 @@ fn say_filled<O: Write, E: ErrorStream>(
     output: &mut O,
     errors: &mut E,
     filled: &Result<bool, Down>,
-) -> Ending
+) -> Exit
     ensures line { AnswersFilled result (stream (O.contents output.old) (O.contents output.new)) }
     ensures tells { IfOk filled.now (λ is_filled. IsSaid (filled_ending is_filled) result (O.contents output.old) (O.contents output.new) × (E.told errors.new ≡ E.told errors.old)) }
     ensures down { OnErr filled.now (Refuses Cause.Unfinished result (stream (O.contents output.old) (O.contents output.new)) (error_stream (E.told errors.old) (E.told errors.new))) }
     ensures why { (E.told errors.new ≡ E.told errors.old) ⊎ TellsCause Cause.Unfinished (error_stream (E.told errors.old) (E.told errors.new)) }
 {
     match filled {
-        Ok(true) => say(output, Ending::Done),
-        Ok(false) => say(output, Ending::Exists),
+        Ok(true) => say(output, Exit::Done),
+        Ok(false) => say(output, Exit::Exists),
         Err(_) => refuse(output, errors, Cause::Unfinished),
     }
 }
@@ -235,16 +235,16 @@ pub fn compact<K: Keep, F: Files<K>, O: Write, E: ErrorStream>(
     to: &str,
     output: &mut O,
     errors: &mut E,
-) -> Ending
+) -> Exit
     ensures line { AnswersFilled result (stream (O.contents output.old) (O.contents output.new)) }
     ensures copies { CompactsAt K.Keep F.Files from.now to.now files.old files.new result (stream (O.contents output.old) (O.contents output.new)) (error_stream (E.told errors.old) (E.told errors.new)) }
 {
     let (mut source, mut target) = match open_both(alloc, files, from, to, output, errors) {
         Ok(stores) => stores,
-        Err(ending) => return ending,
+        Err(exit) => return exit,
     };
     let filled = fill(alloc, files, &mut source, &mut target);
-    let ending = say_filled(output, errors, &filled);
+    let exit = say_filled(output, errors, &filled);
     close_both(files, from, source, to, target, errors);
-    ending
+    exit
 }

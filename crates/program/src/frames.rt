@@ -2,7 +2,7 @@
 ghost use Rattle.std.specs.Prelude.{◌≡◌, ◌<◌, ◌≤◌, length, Some, None, IfOk, IsErrOf};
 ghost use Rattle.program.specs.Frames.{step_of, line_heading, first_frame, AreFrames, IsOnlyReading};
 
-use crate::headings::Heading;
+use crate::frame_headers::FrameHeader;
 use crate::lines::{split_line, split_message, split_words};
 use basis::{Bytes, Down, Unfit};
 use serve::Step;
@@ -16,28 +16,28 @@ pub struct Frames {
     pub is_bad: bool,
 }
 
-fn read_line(alloc: Global, line: &[u8]) -> Result<Heading, Unfit>
-    ensures ok { IfOk result (λ heading. line_heading line.now ≡ Some heading) }
+fn read_line(alloc: Global, line: &[u8]) -> Result<FrameHeader, Unfit>
+    ensures ok { IfOk result (λ header. line_heading line.now ≡ Some header) }
     ensures syntax { IsErrOf result Unfit.Syntax → line_heading line.now ≡ None }
 {
     let words = split_words(alloc, line)?;
-    Heading::read(alloc, words.as_slice())
+    FrameHeader::read(alloc, words.as_slice())
 }
 
-fn read_step(alloc: Global, heading: Heading, rest: &[u8]) -> Result<(Step, &[u8]), Unfit>
-    ensures ok { IfOk result (λ found. step_of heading rest.now ≡ Some (found.0, found.1.now)) }
-    ensures syntax { IsErrOf result Unfit.Syntax → step_of heading rest.now ≡ None }
+fn read_step(alloc: Global, header: FrameHeader, rest: &[u8]) -> Result<(Step, &[u8]), Unfit>
+    ensures ok { IfOk result (λ found. step_of header rest.now ≡ Some (found.0, found.1.now)) }
+    ensures syntax { IsErrOf result Unfit.Syntax → step_of header rest.now ≡ None }
     ensures shorter { IfOk result (λ found. length found.1.now ≤ length rest.now) }
 {
-    match heading {
-        Heading::Request { at, len } => {
+    match header {
+        FrameHeader::Request { at, len } => {
             let Some((message, rest)) = split_message(rest, len) else {
                 return Err(Unfit::Syntax);
             };
             let bytes = Bytes::new(Vec::from_slice(alloc, message)?);
             Ok((Step::Request { at, bytes }, rest))
         }
-        Heading::Command { at, command } => Ok((Step::Command { at, command }, rest)),
+        FrameHeader::Command { at, command } => Ok((Step::Command { at, command }, rest)),
     }
 }
 
@@ -49,8 +49,8 @@ fn read_frame(alloc: Global, bytes: &[u8]) -> Result<(Step, &[u8]), Unfit>
     let Some((line, rest)) = split_line(bytes) else {
         return Err(Unfit::Syntax);
     };
-    let heading = read_line(alloc, line)?;
-    read_step(alloc, heading, rest)
+    let header = read_line(alloc, line)?;
+    read_step(alloc, header, rest)
 }
 
 /// Reads frames up to the first that does not parse. That one has the number `steps.len() + 1` (from 1).

@@ -4,9 +4,9 @@ ghost use Rattle.program.specs.Errors.{other_line, memory_line};
 ghost use Rattle.program.specs.Streams.{Tells};
 ghost use Rattle.program.specs.Outcomes.{stream, error_stream, IsSaid, TellsOfNew, TellsOfReaders, TellsOfFile, RefusesToOpen, Opens, Closes, ClosesBoth, seen_at};
 
-use crate::endings::Ending;
+use crate::environment::{Files, Opening};
 use crate::errors::{note, tell_memory, tell_other};
-use crate::outside::{Files, Opening};
+use crate::exits::Exit;
 use crate::reasons::{Cause, OpenFault, OtherSchema};
 use crate::replies::{refuse, say};
 use crate::streams::ErrorStream;
@@ -61,20 +61,20 @@ fn refuse_other<O: Write, E: ErrorStream>(
     output: &mut O,
     errors: &mut E,
     other: OtherSchema,
-) -> Ending
-    ensures schema { IsSaid Ending.Schema result (O.contents output.old) (O.contents output.new) }
+) -> Exit
+    ensures schema { IsSaid Exit.Schema result (O.contents output.old) (O.contents output.new) }
     ensures why { Tells (E.told errors.old) (E.told errors.new) (other_line other) }
 {
     tell_other(errors, other);
-    say(output, Ending::Schema)
+    say(output, Exit::Schema)
 }
 
-fn refuse_memory<O: Write, E: ErrorStream>(output: &mut O, errors: &mut E, bytes: u64) -> Ending
-    ensures said { IsSaid Ending.Down result (O.contents output.old) (O.contents output.new) }
+fn refuse_memory<O: Write, E: ErrorStream>(output: &mut O, errors: &mut E, bytes: u64) -> Exit
+    ensures said { IsSaid Exit.Down result (O.contents output.old) (O.contents output.new) }
     ensures why { Tells (E.told errors.old) (E.told errors.new) (memory_line bytes) }
 {
     tell_memory(errors, bytes);
-    say(output, Ending::Down)
+    say(output, Exit::Down)
 }
 
 /// Opens the store at a path and reports on its file, or reports why it was not opened.
@@ -84,9 +84,9 @@ pub fn open_one<K: Keep, F: Files<K>, O: Write, E: ErrorStream>(
     opening: Opening,
     output: &mut O,
     errors: &mut E,
-) -> Result<K, Ending>
+) -> Result<K, Exit>
     ensures opened { IfOk result (λ store. Opens K.Keep F.Files path.now opening files.old files.new store (error_stream (E.told errors.old) (E.told errors.new)) × (O.contents output.new ≡ O.contents output.old)) }
-    ensures refused { IfErr result (λ ending. RefusesToOpen K.Keep F.Files path.now opening files.old files.new ending (stream (O.contents output.old) (O.contents output.new)) (error_stream (E.told errors.old) (E.told errors.new))) }
+    ensures refused { IfErr result (λ exit. RefusesToOpen K.Keep F.Files path.now opening files.old files.new exit (stream (O.contents output.old) (O.contents output.new)) (error_stream (E.told errors.old) (E.told errors.new))) }
 {
     let is_new = files.is_absent(path);
     let others_may_read = files.others_may_read(path);

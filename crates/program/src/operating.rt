@@ -7,10 +7,10 @@ ghost use Rattle.program.specs.Streams.{Tells};
 ghost use Rattle.program.specs.Outcomes.{stream, error_stream, AnswersLine, AnswersList, AnswersTokens, TellsList, TellsTokens, TellsAnswer, IsOperated, AnswersCommand, HasSecret, HasNoSecret, IsSecretOf, AddsToken, OperatesAt, AddsTokenAt, TellsCause, opening_of, FailsAs, HasFailed};
 ghost use Rattle.program.specs.Inner.Outcomes.{IsSaidWhy};
 
-use crate::endings::Ending;
+use crate::environment::{Files, Opening};
 use crate::errors::note;
+use crate::exits::Exit;
 use crate::openings::{close_after, open_one};
-use crate::outside::{Files, Opening};
 use crate::reasons::Cause;
 use crate::replays::read_all;
 use crate::replies::{print_organizations, print_tokens, refuse, say, say_word};
@@ -31,50 +31,50 @@ const SECRET_FORM: &str =
 pub fn say_why<O: Write, E: ErrorStream>(
     output: &mut O,
     errors: &mut E,
-    ending: Ending,
+    exit: Exit,
     why: &str,
-) -> Ending
-    ensures said { 0 < length why.now → IsSaidWhy ending result (stream (O.contents output.old) (O.contents output.new)) (error_stream (E.told errors.old) (E.told errors.new)) }
+) -> Exit
+    ensures said { 0 < length why.now → IsSaidWhy exit result (stream (O.contents output.old) (O.contents output.new)) (error_stream (E.told errors.old) (E.told errors.new)) }
     ensures told { Tells (E.told errors.old) (E.told errors.new) why.now }
 {
     let noted = note(errors, why);
-    let said = say(output, ending);
+    let said = say(output, exit);
     match noted {
         Ok(()) => said,
-        Err(_) => Ending::Unprinted,
+        Err(_) => Exit::Unprinted,
     }
 }
 
-fn say_list<O: Write>(output: &mut O, answer: &AdminAnswer) -> Ending
+fn say_list<O: Write>(output: &mut O, answer: &AdminAnswer) -> Exit
     ensures line { AnswersList result (stream (O.contents output.old) (O.contents output.new)) }
     ensures tells { TellsList answer.now result (stream (O.contents output.old) (O.contents output.new)) }
 {
     match answer {
         AdminAnswer::Organizations(rows) => match print_organizations(output, rows.as_slice()) {
-            Ok(()) => Ending::Done,
-            Err(_) => Ending::Unprinted,
+            Ok(()) => Exit::Done,
+            Err(_) => Exit::Unprinted,
         },
-        AdminAnswer::Done | AdminAnswer::Exists | AdminAnswer::Absent => say(output, Ending::Down),
-        AdminAnswer::InUse | AdminAnswer::Tokens(_) => say(output, Ending::Down),
+        AdminAnswer::Done | AdminAnswer::Exists | AdminAnswer::Absent => say(output, Exit::Down),
+        AdminAnswer::InUse | AdminAnswer::Tokens(_) => say(output, Exit::Down),
     }
 }
 
-fn say_tokens<O: Write>(output: &mut O, answer: &AdminAnswer) -> Ending
+fn say_tokens<O: Write>(output: &mut O, answer: &AdminAnswer) -> Exit
     ensures line { AnswersTokens result (stream (O.contents output.old) (O.contents output.new)) }
     ensures tells { TellsTokens answer.now result (stream (O.contents output.old) (O.contents output.new)) }
 {
     match answer {
         AdminAnswer::Tokens(rows) => match print_tokens(output, rows.as_slice()) {
-            Ok(()) => Ending::Done,
-            Err(_) => Ending::Unprinted,
+            Ok(()) => Exit::Done,
+            Err(_) => Exit::Unprinted,
         },
-        AdminAnswer::Absent => say(output, Ending::Absent),
-        AdminAnswer::Done | AdminAnswer::Exists | AdminAnswer::InUse => say(output, Ending::Down),
-        AdminAnswer::Organizations(_) => say(output, Ending::Down),
+        AdminAnswer::Absent => say(output, Exit::Absent),
+        AdminAnswer::Done | AdminAnswer::Exists | AdminAnswer::InUse => say(output, Exit::Down),
+        AdminAnswer::Organizations(_) => say(output, Exit::Down),
     }
 }
 
-fn say_answer<O: Write>(output: &mut O, command: &Admin, answer: &AdminAnswer) -> Ending
+fn say_answer<O: Write>(output: &mut O, command: &Admin, answer: &AdminAnswer) -> Exit
     ensures line { AnswersCommand command.now result (stream (O.contents output.old) (O.contents output.new)) }
     ensures tells { TellsAnswer command.now answer.now result (stream (O.contents output.old) (O.contents output.new)) }
 {
@@ -111,7 +111,7 @@ fn operate<K: Keep, F: Files<K>, O: Write, E: ErrorStream>(
     command: &Admin,
     output: &mut O,
     errors: &mut E,
-) -> (Ending, K)
+) -> (Exit, K)
     ensures lasts { Lasts K.clean K.sound K.keyed K.shielded keep result.1 }
     ensures line { AnswersCommand command.now result.0 (stream (O.contents output.old) (O.contents output.new)) }
     ensures model { K.clean result.1 → K.sound keep → IsOperated (HasFailed K.Keep F.Files result.1) command.now (K.rows keep) (K.rows result.1) result.0 (stream (O.contents output.old) (O.contents output.new)) (error_stream (E.told errors.old) (E.told errors.new)) }
@@ -148,17 +148,17 @@ pub fn carry_out<K: Keep, F: Files<K>, O: Write, E: ErrorStream>(
     command: &Admin,
     output: &mut O,
     errors: &mut E,
-) -> Ending
+) -> Exit
     ensures line { AnswersCommand command.now result (stream (O.contents output.old) (O.contents output.new)) }
     ensures operates { OperatesAt K.Keep F.Files db.now command.now files.old files.new result (stream (O.contents output.old) (O.contents output.new)) (error_stream (E.told errors.old) (E.told errors.new)) }
 {
     let store = match open_one(files, db, opening_of(command), output, errors) {
         Ok(store) => store,
-        Err(ending) => return ending,
+        Err(exit) => return exit,
     };
-    let (ending, store) = operate(alloc, files, store, command, output, errors);
+    let (exit, store) = operate(alloc, files, store, command, output, errors);
     close_after(files, db, store, errors);
-    ending
+    exit
 }
 
 fn add_token<K: Keep, F: Files<K>, O: Write, E: ErrorStream>(
@@ -169,7 +169,7 @@ fn add_token<K: Keep, F: Files<K>, O: Write, E: ErrorStream>(
     secret: Secret,
     output: &mut O,
     errors: &mut E,
-) -> Ending
+) -> Exit
     ensures line { AnswersLine result (stream (O.contents output.old) (O.contents output.new)) }
     ensures operates { OperatesAt K.Keep F.Files db.now (with_secret token secret) files.old files.new result (stream (O.contents output.old) (O.contents output.new)) (error_stream (E.told errors.old) (E.told errors.new)) }
 {
@@ -197,13 +197,13 @@ pub fn read_and_add<K: Keep, F: Files<K>, I: Read, O: Write, E: ErrorStream>(
     input: &mut I,
     output: &mut O,
     errors: &mut E,
-) -> Ending
+) -> Exit
     ensures line { AddsToken (I.remaining input.old) result (stream (O.contents output.old) (O.contents output.new)) (error_stream (E.told errors.old) (E.told errors.new)) }
     ensures adds { AddsTokenAt K.Keep F.Files db.now (with_secret token) (I.remaining input.old) files.old files.new result (stream (O.contents output.old) (O.contents output.new)) (error_stream (E.told errors.old) (E.told errors.new)) }
 {
     match input_secret(alloc, input) {
         Ok(secret) => add_token(alloc, files, db, token, secret, output, errors),
-        Err(Unfit::Syntax) => say_why(output, errors, Ending::Usage, SECRET_FORM),
+        Err(Unfit::Syntax) => say_why(output, errors, Exit::Usage, SECRET_FORM),
         Err(Unfit::Down) => refuse(output, errors, Cause::Input),
     }
 }

@@ -2,15 +2,15 @@
 ghost use Rattle.std.specs.Prelude.{◌≡◌, ◌⊎◌, ℕ, List, None, IfSome, IfOk, OnOk};
 ghost use Rattle.std.specs.Io.KnownBytes.{Appends};
 ghost use Rattle.program.specs.Replies.{printed, bad_frame_text, AreReplies, AnswersFrames};
-ghost use Rattle.program.specs.Endings.{status_of};
+ghost use Rattle.program.specs.Exits.{status_of};
 ghost use Rattle.program.specs.Outcomes.{stream, error_stream, ReplaysFrames};
 ghost use Rattle.program.specs.Streams.{GetsWhole};
-ghost use Rattle.program.specs.declared.endings.Ending.{Ending};
+ghost use Rattle.program.specs.declared.exits.Exit.{Exit};
 
-use crate::endings::Ending;
+use crate::environment::Files;
 use crate::errors::note_bad_frame;
+use crate::exits::Exit;
 use crate::frames::read_frames;
-use crate::outside::Files;
 use crate::reasons::Cause;
 use crate::replies::{print_replies, refuse};
 use crate::streams::ErrorStream;
@@ -80,15 +80,15 @@ fn print_all<O: Write>(output: &mut O, replies: &[Bytes]) -> io::Result<()>
     output.flush()
 }
 
-fn end_at<E: ErrorStream>(errors: &mut E, bad_frame: Option<usize>) -> Ending
-    ensures done { bad_frame ≡ None → result ≡ Ending.Done }
-    ensures bad { IfSome bad_frame (λ frame. ((result ≡ Ending.BadFrame) × GetsWhole (E.told errors.old) (E.told errors.new) (bad_frame_text frame)) ⊎ (result ≡ Ending.Unprinted)) }
+fn end_at<E: ErrorStream>(errors: &mut E, bad_frame: Option<usize>) -> Exit
+    ensures done { bad_frame ≡ None → result ≡ Exit.Done }
+    ensures bad { IfSome bad_frame (λ frame. ((result ≡ Exit.BadFrame) × GetsWhole (E.told errors.old) (E.told errors.new) (bad_frame_text frame)) ⊎ (result ≡ Exit.Unprinted)) }
 {
     match bad_frame {
-        None => Ending::Done,
+        None => Exit::Done,
         Some(frame) => match note_bad_frame(errors, frame) {
-            Ok(()) => Ending::BadFrame,
-            Err(_) => Ending::Unprinted,
+            Ok(()) => Exit::BadFrame,
+            Err(_) => Exit::Unprinted,
         },
     }
 }
@@ -100,7 +100,7 @@ pub fn replay_frames<K: Keep, F: Files<K>, I: Read, O: Write, E: ErrorStream>(
     input: &mut I,
     output: &mut O,
     errors: &mut E,
-) -> Ending
+) -> Exit
     ensures { ReplaysFrames (I.remaining input.old) result (stream (O.contents output.old) (O.contents output.new)) (error_stream (E.told errors.old) (E.told errors.new)) }
 {
     let Ok(replay) = answer_input::<K, F, I>(alloc, files, input) else {
@@ -108,7 +108,7 @@ pub fn replay_frames<K: Keep, F: Files<K>, I: Read, O: Write, E: ErrorStream>(
     };
     match print_all(output, replay.replies.as_slice()) {
         Ok(()) => end_at(errors, replay.bad_frame),
-        Err(_) => Ending::Unprinted,
+        Err(_) => Exit::Unprinted,
     }
 }
 
@@ -120,7 +120,7 @@ pub fn run_frames<K: Keep, F: Files<K>, I: Read, O: Write, E: ErrorStream>(
     output: &mut O,
     errors: &mut E,
 ) -> u8
-    ensures { (ending : Ending) × (result ≡ status_of ending) × ReplaysFrames (I.remaining input.old) ending (stream (O.contents output.old) (O.contents output.new)) (error_stream (E.told errors.old) (E.told errors.new)) }
+    ensures { (exit : Exit) × (result ≡ status_of exit) × ReplaysFrames (I.remaining input.old) exit (stream (O.contents output.old) (O.contents output.new)) (error_stream (E.told errors.old) (E.told errors.new)) }
 {
     replay_frames::<K, F, I, O, E>(alloc, files, input, output, errors).status()
 }

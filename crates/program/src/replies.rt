@@ -8,8 +8,8 @@ ghost use Rattle.program.specs.Totals.{sound_text, version_text};
 ghost use Rattle.program.specs.Outcomes.{stream, IsSaid, AnswersLine, TellsWord};
 ghost use Rattle.serve.specs.Service.{org_lines, token_lines};
 
-use crate::endings::Ending;
 use crate::errors::tell_cause;
+use crate::exits::Exit;
 use crate::reasons::Cause;
 use crate::streams::ErrorStream;
 use crate::totals::{Totals, print_totals};
@@ -87,35 +87,31 @@ pub fn print_version<O: Write>(output: &mut O, schema: u64) -> io::Result<()>
 }
 
 /// Prints the line of an ending, and returns how the program then ends.
-pub fn say<O: Write>(output: &mut O, ending: Ending) -> Ending
-    ensures { IsSaid ending result (O.contents output.old) (O.contents output.new) }
+pub fn say<O: Write>(output: &mut O, exit: Exit) -> Exit
+    ensures { IsSaid exit result (O.contents output.old) (O.contents output.new) }
 {
-    match print_answer(output, ending.line()) {
-        Ok(()) => ending,
-        Err(_) => Ending::Unprinted,
+    match print_answer(output, exit.line()) {
+        Ok(()) => exit,
+        Err(_) => Exit::Unprinted,
     }
 }
 
 /// Prints the cause to the error stream and `refused down` to standard output.
-pub fn refuse<O: Write, E: ErrorStream>(output: &mut O, errors: &mut E, cause: Cause) -> Ending
-    ensures said { IsSaid Ending.Down result (O.contents output.old) (O.contents output.new) }
+pub fn refuse<O: Write, E: ErrorStream>(output: &mut O, errors: &mut E, cause: Cause) -> Exit
+    ensures said { IsSaid Exit.Down result (O.contents output.old) (O.contents output.new) }
     ensures why { Tells (E.told errors.old) (E.told errors.new) (cause_line cause) }
 {
     tell_cause(errors, cause);
-    say(output, Ending::Down)
+    say(output, Exit::Down)
 }
 
 /// Prints the cause to the error stream and `refused usage` to standard output.
-pub fn refuse_usage<O: Write, E: ErrorStream>(
-    output: &mut O,
-    errors: &mut E,
-    cause: Cause,
-) -> Ending
-    ensures said { IsSaid Ending.Usage result (O.contents output.old) (O.contents output.new) }
+pub fn refuse_usage<O: Write, E: ErrorStream>(output: &mut O, errors: &mut E, cause: Cause) -> Exit
+    ensures said { IsSaid Exit.Usage result (O.contents output.old) (O.contents output.new) }
     ensures why { Tells (E.told errors.old) (E.told errors.new) (cause_line cause) }
 {
     tell_cause(errors, cause);
-    say(output, Ending::Usage)
+    say(output, Exit::Usage)
 }
 
 /// Prints all organizations, one line `ORG WORKSPACES LIMIT` each.
@@ -135,16 +131,16 @@ pub fn print_tokens<O: Write>(output: &mut O, rows: &[TokenRow]) -> io::Result<(
 }
 
 /// Prints the word of an answer, and returns how the program then ends. A list has no word.
-pub fn say_word<O: Write>(output: &mut O, answer: &AdminAnswer) -> Ending
+pub fn say_word<O: Write>(output: &mut O, answer: &AdminAnswer) -> Exit
     ensures line { AnswersLine result (stream (O.contents output.old) (O.contents output.new)) }
     ensures tells { TellsWord answer.now result (stream (O.contents output.old) (O.contents output.new)) }
 {
     match answer {
-        AdminAnswer::Done => say(output, Ending::Done),
-        AdminAnswer::Exists => say(output, Ending::Exists),
-        AdminAnswer::Absent => say(output, Ending::Absent),
-        AdminAnswer::InUse => say(output, Ending::InUse),
-        AdminAnswer::Organizations(_) => say(output, Ending::Down),
-        AdminAnswer::Tokens(_) => say(output, Ending::Down),
+        AdminAnswer::Done => say(output, Exit::Done),
+        AdminAnswer::Exists => say(output, Exit::Exists),
+        AdminAnswer::Absent => say(output, Exit::Absent),
+        AdminAnswer::InUse => say(output, Exit::InUse),
+        AdminAnswer::Organizations(_) => say(output, Exit::Down),
+        AdminAnswer::Tokens(_) => say(output, Exit::Down),
     }
 }

@@ -1,17 +1,17 @@
 //! The program's commands, from its words to its exit status.
 ghost use Rattle.std.specs.Prelude.{◌≡◌, ◌<◌, ℕ, List, length, Option};
-ghost use Rattle.program.specs.Endings.{status_of};
+ghost use Rattle.program.specs.Exits.{status_of};
 ghost use Rattle.command_line.specs.Orders.{said_by};
 ghost use Rattle.command_line.specs.Words.{words_bytes, IsWhy, AskForHelp, AreNoCommand};
-ghost use Rattle.program.specs.Outcomes.{stream, error_stream, Does, TellsVersion, RefusesWords, outside, Leaves, Runs, RunsOver, TellsEnd};
-ghost use Rattle.program.specs.declared.endings.Ending.{Ending};
+ghost use Rattle.program.specs.Outcomes.{stream, error_stream, Does, TellsVersion, RefusesWords, environment, Leaves, Runs, RunsOver, TellsEnd};
+ghost use Rattle.program.specs.declared.exits.Exit.{Exit};
 
 use crate::checking::check;
 use crate::copying::{compact, copy_one};
-use crate::endings::Ending;
+use crate::environment::{Clock, Connections, Files};
 use crate::errors::note;
+use crate::exits::Exit;
 use crate::operating::{carry_out, read_and_add, say_why};
-use crate::outside::{Clock, Connections, Files};
 use crate::reasons::Cause;
 use crate::replays::replay_frames;
 use crate::replies::{print_version, refuse};
@@ -26,12 +26,12 @@ use std::io::{Read, Write};
 const UNPRINTED: &str =
     "custody: not everything could be printed to standard output or standard error\n";
 
-fn say_version<O: Write>(output: &mut O, schema: u64) -> Ending
+fn say_version<O: Write>(output: &mut O, schema: u64) -> Exit
     ensures { TellsVersion schema result (stream (O.contents output.old) (O.contents output.new)) }
 {
     match print_version(output, schema) {
-        Ok(()) => Ending::Done,
-        Err(_) => Ending::Unprinted,
+        Ok(()) => Exit::Done,
+        Err(_) => Exit::Unprinted,
     }
 }
 
@@ -44,9 +44,9 @@ fn run_order<K: Keep, F: Files<K>, N: Connections, C: Clock, I: Read, O: Write, 
     input: &mut I,
     output: &mut O,
     errors: &mut E,
-) -> Ending
+) -> Exit
     ensures does { Does F.newest (said_by order.entry) (I.remaining input.old) result (stream (O.contents output.old) (O.contents output.new)) (error_stream (E.told errors.old) (E.told errors.new)) }
-    ensures leaves { Leaves K.Keep F.Files N.Connections C.Clock N.Reader.Inlet N.Writer.Outlet (said_by order.entry) (I.remaining input.old) (outside files.old network.old clock.old) (outside files.new network.new clock.new) result (stream (O.contents output.old) (O.contents output.new)) (error_stream (E.told errors.old) (E.told errors.new)) }
+    ensures leaves { Leaves K.Keep F.Files N.Connections C.Clock N.Reader.Inlet N.Writer.Outlet (said_by order.entry) (I.remaining input.old) (environment files.old network.old clock.old) (environment files.new network.new clock.new) result (stream (O.contents output.old) (O.contents output.new)) (error_stream (E.told errors.old) (E.told errors.new)) }
 {
     match order {
         Order::Carry { db, command } => carry_out(alloc, files, db, &command, output, errors),
@@ -71,28 +71,28 @@ fn run_order<K: Keep, F: Files<K>, N: Connections, C: Clock, I: Read, O: Write, 
     }
 }
 
-fn tell_help<E: ErrorStream>(errors: &mut E, help: &str) -> Ending
+fn tell_help<E: ErrorStream>(errors: &mut E, help: &str) -> Exit
     ensures { (words : List (List ℕ)) (output : Option (List ℕ)) → AskForHelp words → 0 < length help.now → RefusesWords words result (stream output output) (error_stream (E.told errors.old) (E.told errors.new)) }
 {
     match note(errors, help) {
-        Ok(()) => Ending::Done,
-        Err(_) => Ending::Unprinted,
+        Ok(()) => Exit::Done,
+        Err(_) => Exit::Unprinted,
     }
 }
 
-fn refuse_error<O: Write, E: ErrorStream>(output: &mut O, errors: &mut E, text: &str) -> Ending
+fn refuse_error<O: Write, E: ErrorStream>(output: &mut O, errors: &mut E, text: &str) -> Exit
     ensures { (words : List (List ℕ)) → AreNoCommand words → 0 < length text.now → RefusesWords words result (stream (O.contents output.old) (O.contents output.new)) (error_stream (E.told errors.old) (E.told errors.new)) }
 {
-    say_why(output, errors, Ending::Usage, text)
+    say_why(output, errors, Exit::Usage, text)
 }
 
-fn refuse_words<O: Write, E: ErrorStream>(output: &mut O, errors: &mut E, why: Unasked) -> Ending
+fn refuse_words<O: Write, E: ErrorStream>(output: &mut O, errors: &mut E, why: Unasked) -> Exit
     ensures { (words : List (List ℕ)) → IsWhy words why → RefusesWords words result (stream (O.contents output.old) (O.contents output.new)) (error_stream (E.told errors.old) (E.told errors.new)) }
 {
     match why {
         Unasked::Help(help) => tell_help(errors, help.as_str()),
         Unasked::Words(text) => refuse_error(output, errors, text.as_str()),
-        Unasked::Value(argument) => say_why(output, errors, Ending::Usage, argument.line()),
+        Unasked::Value(argument) => say_why(output, errors, Exit::Usage, argument.line()),
         Unasked::Down => refuse(output, errors, Cause::NoMemory),
     }
 }
@@ -106,8 +106,8 @@ fn run<K: Keep, F: Files<K>, N: Connections, C: Clock, I: Read, O: Write, E: Err
     input: &mut I,
     output: &mut O,
     errors: &mut E,
-) -> Ending
-    ensures { RunsOver K.Keep F.Files N.Connections C.Clock N.Reader.Inlet N.Writer.Outlet (words_bytes words.now) (I.remaining input.old) (outside files.old network.old clock.old) (outside files.new network.new clock.new) result (stream (O.contents output.old) (O.contents output.new)) (error_stream (E.told errors.old) (E.told errors.new)) }
+) -> Exit
+    ensures { RunsOver K.Keep F.Files N.Connections C.Clock N.Reader.Inlet N.Writer.Outlet (words_bytes words.now) (I.remaining input.old) (environment files.old network.old clock.old) (environment files.new network.new clock.new) result (stream (O.contents output.old) (O.contents output.new)) (error_stream (E.told errors.old) (E.told errors.new)) }
 {
     match read_words(alloc, words) {
         Ok(order) => run_order(alloc, files, network, clock, order, input, output, errors),
@@ -116,10 +116,10 @@ fn run<K: Keep, F: Files<K>, N: Connections, C: Clock, I: Read, O: Write, E: Err
 }
 
 // Where a stream took not all, the error stream is told so.
-fn tell_end<E: ErrorStream>(errors: &mut E, ending: Ending)
-    ensures { TellsEnd ending (error_stream (E.told errors.old) (E.told errors.new)) }
+fn tell_end<E: ErrorStream>(errors: &mut E, exit: Exit)
+    ensures { TellsEnd exit (error_stream (E.told errors.old) (E.told errors.new)) }
 {
-    if ending == Ending::Unprinted {
+    if exit == Exit::Unprinted {
         let _ = note(errors, UNPRINTED);
     }
 }
@@ -135,9 +135,9 @@ pub fn run_words<K: Keep, F: Files<K>, N: Connections, C: Clock, I: Read, O: Wri
     output: &mut O,
     errors: &mut E,
 ) -> u8
-    ensures { (ending : Ending) × (result ≡ status_of ending) × Runs K.Keep F.Files N.Connections C.Clock N.Reader.Inlet N.Writer.Outlet (words_bytes words.now) (I.remaining input.old) (outside files.old network.old clock.old) (outside files.new network.new clock.new) ending (stream (O.contents output.old) (O.contents output.new)) (error_stream (E.told errors.old) (E.told errors.new)) }
+    ensures { (exit : Exit) × (result ≡ status_of exit) × Runs K.Keep F.Files N.Connections C.Clock N.Reader.Inlet N.Writer.Outlet (words_bytes words.now) (I.remaining input.old) (environment files.old network.old clock.old) (environment files.new network.new clock.new) exit (stream (O.contents output.old) (O.contents output.new)) (error_stream (E.told errors.old) (E.told errors.new)) }
 {
-    let ending = run(alloc, files, network, clock, words, input, output, errors);
-    tell_end(errors, ending);
-    ending.status()
+    let exit = run(alloc, files, network, clock, words, input, output, errors);
+    tell_end(errors, exit);
+    exit.status()
 }

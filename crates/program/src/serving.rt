@@ -5,14 +5,14 @@ ghost use Rattle.std.specs.Io.KnownBytes.{Appends, Consumes};
 ghost use Rattle.machine.specs.Keeping.{Lasts};
 ghost use Rattle.serve.specs.Exchanges.{Exchanges, ChangesAsTold};
 ghost use Rattle.program.specs.Errors.{GetsConnectionLines, fault_text, down_line, fault_line};
-ghost use Rattle.program.specs.Serving.{listening_line, ListensAt, Serves, state, AcceptsNone, AnswersOne, Answers, Tends, AnswersNext, EndsEarly, AnswersCount, LogTellsChanges};
+ghost use Rattle.program.specs.Serving.{listening_line, ListensAt, Serves, state, AcceptsNone, AnswersOne, Answers, AfterReply, AnswersNext, EndsEarly, AnswersCount, LogTellsChanges};
 ghost use Rattle.program.specs.Streams.{TellsBy};
 ghost use Rattle.program.specs.Inner.Serving.{TakesOne};
 
-use crate::endings::Ending;
+use crate::environment::{Clock, Connections, Files};
 use crate::errors::{send_on, tell_cause, write_line};
+use crate::exits::Exit;
 use crate::logs::{log_row, tells_act};
-use crate::outside::{Clock, Connections, Files};
 use crate::reasons::Cause;
 use crate::streams::ErrorStream;
 use basis::Moment;
@@ -185,8 +185,8 @@ fn answer_next<K: Keep, N: Connections, C: Clock, O: Write, E: ErrorStream>(
 
 // After the 503 the files are asked whether a fault of the disk has shut the store. After another reply they copy the log
 // where it is long, while nobody waits for an answer; what they refuse then, the next request meets.
-fn tend<K: Keep, F: Files<K>>(files: &F, service: &mut Service<K>) -> bool
-    ensures { Tends K.Keep F.Files service.old.was_down service.old.keep result service.new.keep }
+fn after_reply<K: Keep, F: Files<K>>(files: &F, service: &mut Service<K>) -> bool
+    ensures { AfterReply K.Keep F.Files service.old.was_down service.old.keep result service.new.keep }
 {
     if !service.was_down() {
         let _ = files.checkpoint(&mut service.keep);
@@ -222,7 +222,7 @@ fn serve_next<K: Keep, F: Files<K>, N: Connections, C: Clock, O: Write, E: Error
         Ok(is_told) => is_told,
         Err(cause) => return Err(cause),
     };
-    if tend(files, service) {
+    if after_reply(files, service) {
         Err(Cause::Shut)
     } else if is_told {
         Ok(())
@@ -248,14 +248,14 @@ pub fn serve_loop<K: Keep, F: Files<K>, N: Connections, C: Clock, O: Write, E: E
     clock: &mut C,
     output: &mut O,
     errors: &mut E,
-) -> Ending
+) -> Exit
     ensures lasts { Lasts K.clean K.sound K.keyed K.shielded service.old.keep service.new.keep }
     ensures serves { K.clean service.new.keep → K.sound service.old.keep → Serves count (K.rows service.old.keep) (K.rows service.new.keep) }
     ensures answers { AnswersCount K.Keep F.Files N.Connections C.Clock N.Reader.Inlet N.Writer.Outlet port timeouts.now logs count (state network.old clock.old service.old.keep (E.told errors.old) (O.contents output.old)) (state network.new clock.new service.new.keep (E.told errors.new) (O.contents output.new)) result }
     ensures listens { ListensAt port logs result (O.contents output.old) (O.contents output.new) }
 {
     if print_listening(output, port).is_err() {
-        return Ending::Unprinted;
+        return Exit::Unprinted;
     }
     'connections: for place in 0..count {
         match serve_next(
@@ -273,11 +273,11 @@ pub fn serve_loop<K: Keep, F: Files<K>, N: Connections, C: Clock, O: Write, E: E
             Ok(()) => {}
             Err(cause) => {
                 tell_cause(errors, cause);
-                return Ending::Down;
+                return Exit::Down;
             }
         }
     }
-    Ending::Done
+    Exit::Done
 }
 
 /// The log has a line for each answered connection, in order. Between two lines, only the record of the organization that the

@@ -1,15 +1,15 @@
 //! The command `serve`: a file is opened, connections are answered from it, and it is closed.
 ghost use Rattle.std.specs.Prelude.{◌≡◌, ◌≢◌, ◌⊎◌};
 ghost use Rattle.machine.specs.Keeping.{Lasts};
-ghost use Rattle.program.specs.Outcomes.{stream, error_stream, IsSaid, ServesAt, ServesFrom, ServesChecked, ServesAsAsked, RefusesUnsound, RefusesToOpen, outside, IsAlone, SaysServed};
+ghost use Rattle.program.specs.Outcomes.{stream, error_stream, IsSaid, ServesAt, ServesFrom, ServesChecked, ServesAsAsked, RefusesUnsound, RefusesToOpen, environment, IsAlone, SaysServed};
 ghost use Rattle.program.specs.Inner.Outcomes.{ServesOpened};
 ghost use Rattle.program.specs.Serving.{Listens, Serves, state, AnswersAtPort};
 
 use crate::checking::look_first;
-use crate::endings::Ending;
+use crate::environment::{Clock, Connections, Files, Opening};
 use crate::errors::tell_cause;
+use crate::exits::Exit;
 use crate::openings::{close_after, open_one};
-use crate::outside::{Clock, Connections, Files, Opening};
 use crate::reasons::Cause;
 use crate::replies::say;
 use crate::serving::serve_loop;
@@ -33,7 +33,7 @@ fn serve_at<K: Keep, F: Files<K>, N: Connections, C: Clock, O: Write, E: ErrorSt
     logs: bool,
     output: &mut O,
     errors: &mut E,
-) -> Ending
+) -> Exit
     ensures lasts { Lasts K.clean K.sound K.keyed K.shielded service.old.keep service.new.keep }
     ensures serves { K.clean service.new.keep → K.sound service.old.keep → Serves count (K.rows service.old.keep) (K.rows service.new.keep) }
     ensures listens { Listens logs result (O.contents output.old) (O.contents output.new) }
@@ -45,19 +45,19 @@ fn serve_at<K: Keep, F: Files<K>, N: Connections, C: Clock, O: Write, E: ErrorSt
         ),
         Err(cause) => {
             tell_cause(errors, cause);
-            Ending::Down
+            Exit::Down
         }
     }
 }
 
-fn say_served<O: Write>(output: &mut O, ending: Ending) -> Ending
-    ensures down { ending ≡ Ending.Down → IsSaid Ending.Down result (O.contents output.old) (O.contents output.new) }
-    ensures other { ending ≢ Ending.Down → (result ≡ ending) × (O.contents output.new ≡ O.contents output.old) }
-    ensures says { SaysServed ending result (O.contents output.old) (O.contents output.new) }
+fn say_served<O: Write>(output: &mut O, exit: Exit) -> Exit
+    ensures down { exit ≡ Exit.Down → IsSaid Exit.Down result (O.contents output.old) (O.contents output.new) }
+    ensures other { exit ≢ Exit.Down → (result ≡ exit) × (O.contents output.new ≡ O.contents output.old) }
+    ensures says { SaysServed exit result (O.contents output.old) (O.contents output.new) }
 {
-    match ending {
-        Ending::Down => say(output, Ending::Down),
-        _ => ending,
+    match exit {
+        Exit::Down => say(output, Exit::Down),
+        _ => exit,
     }
 }
 
@@ -75,12 +75,12 @@ fn serve_opened<K: Keep, F: Files<K>, N: Connections, C: Clock, O: Write, E: Err
     logs: bool,
     output: &mut O,
     errors: &mut E,
-) -> Ending
+) -> Exit
     ensures line { ServesAt logs result (stream (O.contents output.old) (O.contents output.new)) }
-    ensures serves { ServesOpened K.Keep F.Files N.Connections C.Clock N.Reader.Inlet N.Writer.Outlet db.now port timeouts.now logs count keep (outside files.old network.old clock.old) (outside files.new network.new clock.new) result (stream (O.contents output.old) (O.contents output.new)) (error_stream (E.told errors.old) (E.told errors.new)) }
+    ensures serves { ServesOpened K.Keep F.Files N.Connections C.Clock N.Reader.Inlet N.Writer.Outlet db.now port timeouts.now logs count keep (environment files.old network.old clock.old) (environment files.new network.new clock.new) result (stream (O.contents output.old) (O.contents output.new)) (error_stream (E.told errors.old) (E.told errors.new)) }
 {
     let mut service = Service::new(keep);
-    let ending = serve_at(
+    let exit = serve_at(
         alloc,
         files,
         network,
@@ -95,7 +95,7 @@ fn serve_opened<K: Keep, F: Files<K>, N: Connections, C: Clock, O: Write, E: Err
     );
     let keep = service.into_keep();
     close_after(files, db, keep, errors);
-    say_served(output, ending)
+    say_served(output, exit)
 }
 
 fn serve<K: Keep, F: Files<K>, N: Connections, C: Clock, O: Write, E: ErrorStream>(
@@ -110,14 +110,14 @@ fn serve<K: Keep, F: Files<K>, N: Connections, C: Clock, O: Write, E: ErrorStrea
     logs: bool,
     output: &mut O,
     errors: &mut E,
-) -> Ending
+) -> Exit
     ensures line { ServesAt logs result (stream (O.contents output.old) (O.contents output.new)) }
-    ensures serves { ServesFrom K.Keep F.Files N.Connections C.Clock N.Reader.Inlet N.Writer.Outlet db.now port timeouts.now logs count (outside files.old network.old clock.old) (outside files.new network.new clock.new) result (stream (O.contents output.old) (O.contents output.new)) (error_stream (E.told errors.old) (E.told errors.new))
-        ⊎ (RefusesToOpen K.Keep F.Files db.now Opening.Created files.old files.new result (stream (O.contents output.old) (O.contents output.new)) (error_stream (E.told errors.old) (E.told errors.new)) × IsAlone (outside files.old network.old clock.old) (outside files.new network.new clock.new)) }
+    ensures serves { ServesFrom K.Keep F.Files N.Connections C.Clock N.Reader.Inlet N.Writer.Outlet db.now port timeouts.now logs count (environment files.old network.old clock.old) (environment files.new network.new clock.new) result (stream (O.contents output.old) (O.contents output.new)) (error_stream (E.told errors.old) (E.told errors.new))
+        ⊎ (RefusesToOpen K.Keep F.Files db.now Opening.Created files.old files.new result (stream (O.contents output.old) (O.contents output.new)) (error_stream (E.told errors.old) (E.told errors.new)) × IsAlone (environment files.old network.old clock.old) (environment files.new network.new clock.new)) }
 {
     let keep = match open_one(files, db, Opening::Created, output, errors) {
         Ok(keep) => keep,
-        Err(ending) => return ending,
+        Err(exit) => return exit,
     };
     serve_opened(
         alloc, files, network, clock, db, keep, port, count, timeouts, logs, output, errors,
@@ -136,15 +136,15 @@ fn serve_checked<K: Keep, F: Files<K>, N: Connections, C: Clock, O: Write, E: Er
     logs: bool,
     output: &mut O,
     errors: &mut E,
-) -> Ending
+) -> Exit
     ensures line { ServesAt logs result (stream (O.contents output.old) (O.contents output.new)) }
-    ensures serves { (ServesChecked K.Keep F.Files N.Connections C.Clock N.Reader.Inlet N.Writer.Outlet db.now port timeouts.now logs count (outside files.old network.old clock.old) (outside files.new network.new clock.new) result (stream (O.contents output.old) (O.contents output.new)) (error_stream (E.told errors.old) (E.told errors.new))
-        ⊎ (RefusesUnsound K.Keep F.Files db.now Cause.Faults files.old files.new result (stream (O.contents output.old) (O.contents output.new)) (error_stream (E.told errors.old) (E.told errors.new)) × IsAlone (outside files.old network.old clock.old) (outside files.new network.new clock.new)))
-        ⊎ (RefusesToOpen K.Keep F.Files db.now Opening.Existing files.old files.new result (stream (O.contents output.old) (O.contents output.new)) (error_stream (E.told errors.old) (E.told errors.new)) × IsAlone (outside files.old network.old clock.old) (outside files.new network.new clock.new)) }
+    ensures serves { (ServesChecked K.Keep F.Files N.Connections C.Clock N.Reader.Inlet N.Writer.Outlet db.now port timeouts.now logs count (environment files.old network.old clock.old) (environment files.new network.new clock.new) result (stream (O.contents output.old) (O.contents output.new)) (error_stream (E.told errors.old) (E.told errors.new))
+        ⊎ (RefusesUnsound K.Keep F.Files db.now Cause.Faults files.old files.new result (stream (O.contents output.old) (O.contents output.new)) (error_stream (E.told errors.old) (E.told errors.new)) × IsAlone (environment files.old network.old clock.old) (environment files.new network.new clock.new)))
+        ⊎ (RefusesToOpen K.Keep F.Files db.now Opening.Existing files.old files.new result (stream (O.contents output.old) (O.contents output.new)) (error_stream (E.told errors.old) (E.told errors.new)) × IsAlone (environment files.old network.old clock.old) (environment files.new network.new clock.new)) }
 {
     let mut keep = match open_one(files, db, Opening::Existing, output, errors) {
         Ok(keep) => keep,
-        Err(ending) => return ending,
+        Err(exit) => return exit,
     };
     if look_first(alloc, files, &mut keep, Cause::Faults, errors) {
         return serve_opened(
@@ -152,7 +152,7 @@ fn serve_checked<K: Keep, F: Files<K>, N: Connections, C: Clock, O: Write, E: Er
         );
     }
     close_after(files, db, keep, errors);
-    say(output, Ending::Down)
+    say(output, Exit::Down)
 }
 
 /// Answers connections from the file at a path. If `checks` is true, it checks the tables first and never creates a file.
@@ -169,9 +169,9 @@ pub fn serve_as_asked<K: Keep, F: Files<K>, N: Connections, C: Clock, O: Write, 
     checks: bool,
     output: &mut O,
     errors: &mut E,
-) -> Ending
+) -> Exit
     ensures line { ServesAt logs result (stream (O.contents output.old) (O.contents output.new)) }
-    ensures serves { ServesAsAsked K.Keep F.Files N.Connections C.Clock N.Reader.Inlet N.Writer.Outlet checks db.now port timeouts.now logs count (outside files.old network.old clock.old) (outside files.new network.new clock.new) result (stream (O.contents output.old) (O.contents output.new)) (error_stream (E.told errors.old) (E.told errors.new)) }
+    ensures serves { ServesAsAsked K.Keep F.Files N.Connections C.Clock N.Reader.Inlet N.Writer.Outlet checks db.now port timeouts.now logs count (environment files.old network.old clock.old) (environment files.new network.new clock.new) result (stream (O.contents output.old) (O.contents output.new)) (error_stream (E.told errors.old) (E.told errors.new)) }
 {
     if checks {
         serve_checked(

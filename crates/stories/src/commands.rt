@@ -1,6 +1,6 @@
 //! An operator's command, by the words that a frame has; and the list of tokens and the removal of an organization, which no frame asks for.
 use basis::{Moment, OrgName, Unfit};
-use program::headings::Heading;
+use program::frame_headers::FrameHeader;
 use program::lines::split_words;
 use serve::{Admin, Step};
 use std::alloc::{AllocError, Global};
@@ -33,9 +33,9 @@ fn removal_of(alloc: Global, at: Moment, org: &str, is_forced: bool) -> Result<S
 fn framed(alloc: Global, at: Moment, words: &str) -> Result<Step, Unfit> {
     let line = frame_line(alloc, at, words)?;
     let words = split_words(alloc, line.as_str().as_bytes())?;
-    match Heading::read(alloc, words.as_slice())? {
-        Heading::Command { at, command } => Ok(Step::Command { at, command }),
-        Heading::Request { .. } => Err(Unfit::Syntax),
+    match FrameHeader::read(alloc, words.as_slice())? {
+        FrameHeader::Command { at, command } => Ok(Step::Command { at, command }),
+        FrameHeader::Request { .. } => Err(Unfit::Syntax),
     }
 }
 

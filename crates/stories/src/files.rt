@@ -1,6 +1,6 @@
 //! A story of a store over tables in a file, which is closed and opened again midway.
 use crate::programs::{forget, is_done};
-use program::outside::Opening;
+use program::environment::Opening;
 use serve::Step;
 use sqlite_disk::{Start, Unknown};
 use std::fs;

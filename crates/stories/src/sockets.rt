@@ -4,8 +4,8 @@ ghost use Rattle.std.specs.Prelude.{⊤, None};
 use basis::{Down, Moment};
 use fakes::{MemoryFile, StandingClock};
 use machine::PlainKeep;
-use program::endings::Ending;
-use program::outside::Connections;
+use program::environment::Connections;
+use program::exits::Exit;
 use program::reasons::Cause;
 use program::serving::serve_loop;
 use program::streams::Counted;
@@ -247,7 +247,7 @@ impl Bout<'_> {
         };
         let mut output = Vec::new(alloc);
         let mut errors = Counted::new(Vec::new(alloc));
-        let ending = serve_loop(
+        let exit = serve_loop(
             alloc,
             &MemoryFile::new(alloc, ""),
             network,
@@ -260,7 +260,7 @@ impl Bout<'_> {
             &mut output,
             &mut errors,
         );
-        if ending != Ending::Done {
+        if exit != Exit::Done {
             return Err(self.refused("the connections aren't all answered"));
         }
         compare_bytes(alloc, self.line, told, errors.into_inner().as_slice())

@@ -4,7 +4,7 @@ ghost use Rattle.std.specs.Time.{system_time_nanos};
 ghost use Rattle.system.specs.Clock.{moment_at};
 
 use basis::Moment;
-use program::outside::Clock;
+use program::environment::Clock;
 use std::rt::HostRuntime;
 use std::time::{SystemTime, UNIX_EPOCH};
 

@@ -30,7 +30,7 @@ use crate::tuning::{file_bytes, options};
 use basis::{Bytes, Down, OrgName};
 use machine::{AdminAnswer, Fault, Keep};
 use pages::ShaKey;
-use program::outside::{Files, Opening};
+use program::environment::{Files, Opening};
 use program::reasons::{Cause, OpenFault, OtherSchema};
 use program::totals::{Looked, Totals};
 use serve::Step;

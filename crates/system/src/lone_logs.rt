@@ -2,7 +2,7 @@
 ghost use Rattle.std.specs.Prelude.{◌≡◌, true, IfErr};
 ghost use Rattle.system.specs.Causes.{is_open_cause};
 
-use program::outside::Opening;
+use program::environment::Opening;
 use program::reasons::Cause;
 use std::path::PathBuf;
 use std::rt::HostRuntime;

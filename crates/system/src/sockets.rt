@@ -4,7 +4,7 @@ ghost use Rattle.system.specs.Causes.{port_cause};
 
 use crate::streams::TimedStream;
 use basis::Down;
-use program::outside::Connections;
+use program::environment::Connections;
 use program::reasons::Cause;
 use program::timeouts::Timeouts;
 use std::io;

@@ -6,19 +6,19 @@ use Rattle.machine.specs.declared.keeps.Keep as keep
 use Rattle.machine.specs.Keeping.{Lasts}
 use Rattle.wire.specs.declared.devices.Inlet as inlet
 use Rattle.wire.specs.declared.devices.Outlet as outlet
-use Rattle.program.specs.declared.endings.Ending.{Ending}
-use Rattle.program.specs.declared.endings.Ending.TheVariants.{Unprinted}
-use Rattle.program.specs.declared.outside.Clock as clock
-use Rattle.program.specs.declared.outside.Connections as connections
-use Rattle.program.specs.declared.outside.Files as files
+use Rattle.program.specs.declared.exits.Exit.{Exit}
+use Rattle.program.specs.declared.exits.Exit.TheVariants.{Unprinted}
+use Rattle.program.specs.declared.environment.Clock as clock
+use Rattle.program.specs.declared.environment.Connections as connections
+use Rattle.program.specs.declared.environment.Files as files
 use Rattle.program.specs.declared.reasons.Cause.{Cause}
 use Rattle.program.specs.declared.totals.Looked.{Looked}
-use Rattle.program.specs.Outcomes.{Stream, Errors, Outside, error_stream, Says, GetsSome, SaysServed, LooksFor, Closes, TellsUnsound}
+use Rattle.program.specs.Outcomes.{Stream, Errors, Environment, error_stream, Says, GetsSome, SaysServed, LooksFor, Closes, TellsUnsound}
 use Rattle.program.specs.Serving.{Serves, state, AnswersAtPort}
 use Rattle.program.specs.Streams.{Told}
 
 -- the line of an ending on the standard output and why on the error stream, or a stream took not all
-abbrev pub IsSaidWhy : Ending → Ending → Stream → Errors → Type 0
+abbrev pub IsSaidWhy : Exit → Exit → Stream → Errors → Type 0
 IsSaidWhy e result output errors = ((result ≡ e) × Says e output × GetsSome errors) ⊎ (result ≡ Unprinted)
 
 -- a look found no fault (`true`); or it found some, or was refused, and the error stream is told so
@@ -33,11 +33,11 @@ module _ {K F : Type 0} (k : keep.Ghosts K) (f : files.Ghosts F K) where
 
 module _ {K F N C R W : Type 0} (k : keep.Ghosts K) (f : files.Ghosts F K) (n : connections.Ghosts N R W) (c : clock.Ghosts C) (i : inlet.Ghosts R) (o : outlet.Ghosts W) where
   -- connections are answered from a store that was opened, which is closed at this path then
-  pub record ServesOpened (path : List ℕ) (port : ℕ) (timeouts : Timeouts) (logs : Bool) (count : ℕ) (before : K) (old new : Outside F N C) (e : Ending) (output : Stream) (errors : Errors) : Type 0 where
+  pub record ServesOpened (path : List ℕ) (port : ℕ) (timeouts : Timeouts) (logs : Bool) (count : ℕ) (before : K) (old new : Environment F N C) (e : Exit) (output : Stream) (errors : Errors) : Type 0 where
     pub after : K
     pub lasts : Lasts k.clean k.sound k.keyed k.shielded before after
     pub serves : k.clean after → k.sound before → Serves count (k.rows before) (k.rows after)
-    pub served : Ending
+    pub served : Exit
     pub told : Option (List ℕ)
     pub lines : Told
     pub answers : AnswersAtPort k f n c i o port timeouts logs count (state old.network old.clock before errors.old output.old) (state new.network new.clock after lines told) served

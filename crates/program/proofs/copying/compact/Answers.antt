@@ -14,7 +14,7 @@ returns-clause-copies g c =
     let source = c.in-Ok.stores.0 in
     let target = c.in-Ok.stores.1 in
     let copies = c.fill-filled in
-    let said = c.say_filled-ending in
+    let said = c.say_filled-exit in
     let told = error_stream (err c.open_both.new.errors) (err said.new.errors) in
     inl (copies_over g.K.Keep g.F.Files c.args.from.now c.args.to.now (λ at from old new errors. IsCompacted from old new said.result (stream (out c.args.output.now) (out said.new.output)) errors) (λ at why. why ≡ Unfinished)
     c.args.files.now c.open_both.new.files c.close_both.new.files source copies.new.from target copies.new.to

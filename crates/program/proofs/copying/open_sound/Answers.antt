@@ -1,10 +1,10 @@
 use Rattle.std.proofs.Common.{Bool, inl, inr, subst}
-use Rattle.program.specs.declared.endings.Ending.TheVariants.{Down}
+use Rattle.program.specs.declared.exits.Exit.TheVariants.{Down}
 use Rattle.program.specs.declared.reasons.Cause.TheVariants.{SourceFaults}
 use Rattle.program.specs.Inner.Outcomes.{LooksFirst}
 use Rattle.program.specs.Outcomes.{error_stream}
 use Rattle.program.proofs.OutcomeLemmas.{said_behind}
-use Rattle.program.proofs.OutsideLemmas.{opens_sound, looks_over}
+use Rattle.program.proofs.EnvironmentLemmas.{opens_sound, looks_over}
 use Rattle.program.proofs.copying.open_sound.Goals as goal
 
 pub returns-in-Err-clause-refused : goal.returns-in-Err-clause-refused

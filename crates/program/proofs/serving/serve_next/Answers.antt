@@ -1,29 +1,29 @@
 use Rattle.std.proofs.Common.{sym, subst}
 use Rattle.machine.proofs.LastingLemmas.{lasts_then}
 use Rattle.program.specs.Inner.Serving.{TakesOne}
-use Rattle.program.proofs.ServingLemmas.{tended_lasts, tended_rows}
+use Rattle.program.proofs.ServingLemmas.{after_reply_lasts, after_reply_rows}
 use Rattle.program.proofs.serving.serve_next.Goals as goal
 
 pub returns-then-is_told-clause-takes : goal.returns-then-is_told-clause-takes
 returns-then-is_told-clause-takes g c clean sound =
     let mid = c.answer_next.new.service in
-    let before = (tended_lasts g.K.Keep g.F.Files mid.was_down mid.keep c.tend.result c.tend.new.service.keep c.tend.ensures).so_far clean in
-    subst (λ rows. TakesOne (g.K.Keep.rows c.args.service.now.keep) rows) (sym (tended_rows g.K.Keep g.F.Files mid.was_down mid.keep c.tend.result c.tend.new.service.keep c.tend.ensures clean (c.in-Ok.ensures.lasts.kept before sound)))
+    let before = (after_reply_lasts g.K.Keep g.F.Files mid.was_down mid.keep c.after_reply.result c.after_reply.new.service.keep c.after_reply.ensures).so_far clean in
+    subst (λ rows. TakesOne (g.K.Keep.rows c.args.service.now.keep) rows) (sym (after_reply_rows g.K.Keep g.F.Files mid.was_down mid.keep c.after_reply.result c.after_reply.new.service.keep c.after_reply.ensures clean (c.in-Ok.ensures.lasts.kept before sound)))
     (c.in-Ok.ensures.takes before sound)
 
 pub returns-else-is_told-clause-takes : goal.returns-else-is_told-clause-takes
 returns-else-is_told-clause-takes g c clean sound =
     let mid = c.answer_next.new.service in
-    let before = (tended_lasts g.K.Keep g.F.Files mid.was_down mid.keep c.tend.result c.tend.new.service.keep c.tend.ensures).so_far clean in
-    subst (λ rows. TakesOne (g.K.Keep.rows c.args.service.now.keep) rows) (sym (tended_rows g.K.Keep g.F.Files mid.was_down mid.keep c.tend.result c.tend.new.service.keep c.tend.ensures clean (c.in-Ok.ensures.lasts.kept before sound)))
+    let before = (after_reply_lasts g.K.Keep g.F.Files mid.was_down mid.keep c.after_reply.result c.after_reply.new.service.keep c.after_reply.ensures).so_far clean in
+    subst (λ rows. TakesOne (g.K.Keep.rows c.args.service.now.keep) rows) (sym (after_reply_rows g.K.Keep g.F.Files mid.was_down mid.keep c.after_reply.result c.after_reply.new.service.keep c.after_reply.ensures clean (c.in-Ok.ensures.lasts.kept before sound)))
     (c.in-Ok.ensures.takes before sound)
 
 pub returns-then-is_told-clause-lasts : goal.returns-then-is_told-clause-lasts
 returns-then-is_told-clause-lasts g c =
     let mid = c.answer_next.new.service in
-    lasts_then c.args.service.now.keep mid.keep c.tend.new.service.keep c.in-Ok.ensures.lasts (tended_lasts g.K.Keep g.F.Files mid.was_down mid.keep c.tend.result c.tend.new.service.keep c.tend.ensures)
+    lasts_then c.args.service.now.keep mid.keep c.after_reply.new.service.keep c.in-Ok.ensures.lasts (after_reply_lasts g.K.Keep g.F.Files mid.was_down mid.keep c.after_reply.result c.after_reply.new.service.keep c.after_reply.ensures)
 
 pub returns-else-is_told-clause-lasts : goal.returns-else-is_told-clause-lasts
 returns-else-is_told-clause-lasts g c =
     let mid = c.answer_next.new.service in
-    lasts_then c.args.service.now.keep mid.keep c.tend.new.service.keep c.in-Ok.ensures.lasts (tended_lasts g.K.Keep g.F.Files mid.was_down mid.keep c.tend.result c.tend.new.service.keep c.tend.ensures)
+    lasts_then c.args.service.now.keep mid.keep c.after_reply.new.service.keep c.in-Ok.ensures.lasts (after_reply_lasts g.K.Keep g.F.Files mid.was_down mid.keep c.after_reply.result c.after_reply.new.service.keep c.after_reply.ensures)

@@ -1,11 +1,11 @@
 use Rattle.std.proofs.Common.{inl, inr, refl}
-use Rattle.program.specs.declared.outside.Opening.TheVariants.{Created}
+use Rattle.program.specs.declared.environment.Opening.TheVariants.{Created}
 use Rattle.program.proofs.OutcomeLemmas.{refused_by, refused_serving}
-use Rattle.program.proofs.OutsideLemmas.{serves_from}
+use Rattle.program.proofs.EnvironmentLemmas.{serves_from}
 use Rattle.program.proofs.starting.serve.Goals as goal
 
 pub returns-in-Err-clause-line : goal.returns-in-Err-clause-line
-returns-in-Err-clause-line g c = refused_serving c.args.logs c.in-Err.ending _ _ (refused_by g.K.Keep g.F.Files c.args.db.now Created c.args.files.now c.open_one.new.files c.in-Err.ending (g.O.Write.contents c.args.output.now) (g.O.Write.contents c.open_one.new.output) (g.E.ErrorStream.told c.args.errors.now) (g.E.ErrorStream.told c.open_one.new.errors) c.in-Err.ensures.refused)
+returns-in-Err-clause-line g c = refused_serving c.args.logs c.in-Err.exit _ _ (refused_by g.K.Keep g.F.Files c.args.db.now Created c.args.files.now c.open_one.new.files c.in-Err.exit (g.O.Write.contents c.args.output.now) (g.O.Write.contents c.open_one.new.output) (g.E.ErrorStream.told c.args.errors.now) (g.E.ErrorStream.told c.open_one.new.errors) c.in-Err.ensures.refused)
 
 pub returns-in-Err-clause-serves : goal.returns-in-Err-clause-serves
 returns-in-Err-clause-serves g c = inr (c.in-Err.ensures.refused, (refl {a = c.args.network.now}, refl {a = c.args.clock.now}))

@@ -2,14 +2,14 @@ use Rattle.std.proofs.Common.{Bool, inl, inr, refl, subst}
 use Rattle.program.specs.declared.reasons.Cause.TheVariants.{Faults}
 use Rattle.program.specs.Inner.Outcomes.{LooksFirst}
 use Rattle.program.specs.Outcomes.{error_stream}
-use Rattle.program.specs.declared.endings.Ending.TheVariants.{Down}
-use Rattle.program.specs.declared.outside.Opening.TheVariants.{Existing}
+use Rattle.program.specs.declared.exits.Exit.TheVariants.{Down}
+use Rattle.program.specs.declared.environment.Opening.TheVariants.{Existing}
 use Rattle.program.proofs.OutcomeLemmas.{refused_by, refused_serving, said_behind}
-use Rattle.program.proofs.OutsideLemmas.{serves_checked, opens_sound, looks_over}
+use Rattle.program.proofs.EnvironmentLemmas.{serves_checked, opens_sound, looks_over}
 use Rattle.program.proofs.starting.serve_checked.Goals as goal
 
 pub returns-in-Err-clause-line : goal.returns-in-Err-clause-line
-returns-in-Err-clause-line g c = refused_serving c.args.logs c.in-Err.ending _ _ (refused_by g.K.Keep g.F.Files c.args.db.now Existing c.args.files.now c.open_one.new.files c.in-Err.ending (g.O.Write.contents c.args.output.now) (g.O.Write.contents c.open_one.new.output) (g.E.ErrorStream.told c.args.errors.now) (g.E.ErrorStream.told c.open_one.new.errors) c.in-Err.ensures.refused)
+returns-in-Err-clause-line g c = refused_serving c.args.logs c.in-Err.exit _ _ (refused_by g.K.Keep g.F.Files c.args.db.now Existing c.args.files.now c.open_one.new.files c.in-Err.exit (g.O.Write.contents c.args.output.now) (g.O.Write.contents c.open_one.new.output) (g.E.ErrorStream.told c.args.errors.now) (g.E.ErrorStream.told c.open_one.new.errors) c.in-Err.ensures.refused)
 
 pub returns-then-look_first-clause-serves : goal.returns-then-look_first-clause-serves
 returns-then-look_first-clause-serves g c =

@@ -15,15 +15,15 @@ pub const MAX_REQUEST: u64 = 20_000_000;
 
 /// What the first line of a frame says.
 #[derive(Drop)]
-pub enum Heading {
+pub enum FrameHeader {
     /// A request of this many bytes follows.
     Request { at: Moment, len: usize },
     Command { at: Moment, command: Admin },
 }
 
-impl Heading {
+impl FrameHeader {
     ghost use Rattle.command_line.specs.Bounds.{moment_of};
-    ghost use Rattle.program.specs.Headings.{length_of, org_add_of, org_limit_of, org_list_of, token_add_of, token_revoke_of, command_of, request_at, heading_at, heading_of};
+    ghost use Rattle.program.specs.FrameHeaders.{length_of, org_add_of, org_limit_of, org_list_of, token_add_of, token_revoke_of, command_of, request_at, heading_at, heading_of};
 
     fn read_moment(word: &str) -> Result<Moment, Unfit>
         ensures ok { IfOk result (λ at. moment_of word.now ≡ Some at) }
@@ -105,45 +105,45 @@ impl Heading {
             return Err(Unfit::Syntax);
         };
         match *name {
-            "org-add" => Heading::read_org_add(alloc, words),
-            "org-limit" => Heading::read_org_limit(alloc, words),
-            "org-list" => Heading::read_org_list(words),
-            "token-add" => Heading::read_token_add(alloc, words),
-            "token-revoke" => Heading::read_token_revoke(alloc, words),
+            "org-add" => FrameHeader::read_org_add(alloc, words),
+            "org-limit" => FrameHeader::read_org_limit(alloc, words),
+            "org-list" => FrameHeader::read_org_list(words),
+            "token-add" => FrameHeader::read_token_add(alloc, words),
+            "token-revoke" => FrameHeader::read_token_revoke(alloc, words),
             _ => Err(Unfit::Syntax),
         }
     }
 
-    fn read_request(at: Moment, words: &[&str]) -> Result<Heading, Unfit>
-        ensures ok { IfOk result (λ heading. request_at at (bytes_of words.now) ≡ Some heading) }
+    fn read_request(at: Moment, words: &[&str]) -> Result<FrameHeader, Unfit>
+        ensures ok { IfOk result (λ header. request_at at (bytes_of words.now) ≡ Some header) }
         ensures syntax { IsErrOf result Unfit.Syntax → request_at at (bytes_of words.now) ≡ None }
     {
         match *words {
-            [len] => Ok(Heading::Request {
+            [len] => Ok(FrameHeader::Request {
                 at,
-                len: Heading::read_length(len)?,
+                len: FrameHeader::read_length(len)?,
             }),
             _ => Err(Unfit::Syntax),
         }
     }
 
-    fn read_at(alloc: Global, at: Moment, kind: &str, words: &[&str]) -> Result<Heading, Unfit>
-        ensures ok { IfOk result (λ heading. heading_at at kind.now (bytes_of words.now) ≡ Some heading) }
+    fn read_at(alloc: Global, at: Moment, kind: &str, words: &[&str]) -> Result<FrameHeader, Unfit>
+        ensures ok { IfOk result (λ header. heading_at at kind.now (bytes_of words.now) ≡ Some header) }
         ensures syntax { IsErrOf result Unfit.Syntax → heading_at at kind.now (bytes_of words.now) ≡ None }
     {
         match kind {
-            "http" => Heading::read_request(at, words),
-            "admin" => Ok(Heading::Command {
+            "http" => FrameHeader::read_request(at, words),
+            "admin" => Ok(FrameHeader::Command {
                 at,
-                command: Heading::read_command(alloc, words)?,
+                command: FrameHeader::read_command(alloc, words)?,
             }),
             _ => Err(Unfit::Syntax),
         }
     }
 
     /// What the words of a line say.
-    pub fn read(alloc: Global, words: &[&str]) -> Result<Heading, Unfit>
-        ensures ok { IfOk result (λ heading. heading_of (bytes_of words.now) ≡ Some heading) }
+    pub fn read(alloc: Global, words: &[&str]) -> Result<FrameHeader, Unfit>
+        ensures ok { IfOk result (λ header. heading_of (bytes_of words.now) ≡ Some header) }
         ensures syntax { IsErrOf result Unfit.Syntax → heading_of (bytes_of words.now) ≡ None }
     {
         let [word, seconds, kind, words @ ..] = words else {
@@ -152,7 +152,7 @@ impl Heading {
         if *word != "at" {
             return Err(Unfit::Syntax);
         }
-        let at = Heading::read_moment(seconds)?;
-        Heading::read_at(alloc, at, kind, words)
+        let at = FrameHeader::read_moment(seconds)?;
+        FrameHeader::read_at(alloc, at, kind, words)
     }
 }

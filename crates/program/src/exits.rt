@@ -1,13 +1,13 @@
 //! How the program ends: its exit status, and the line that says so.
 
 ghost use Rattle.std.specs.Prelude.{◌≡◌, ◌≢◌};
-ghost use Rattle.program.specs.Endings.{status_of, ending_line};
+ghost use Rattle.program.specs.Exits.{status_of, ending_line};
 
 use std::io::ErrorKind;
 
 /// How a run of the program ends.
 #[derive(Clone, Copy, PartialEq, Eq)]
-pub enum Ending {
+pub enum Exit {
     /// Everything was carried out and printed.
     Done,
     /// The organization, the token's name, or its secret within the organization already exists.
@@ -30,16 +30,16 @@ pub enum Ending {
     Unprinted,
 }
 
-impl Ending {
+impl Exit {
     /// The exit status.
     pub fn status(self) -> u8
         ensures { result ≡ status_of self }
     {
         match self {
-            Ending::Done => 0,
-            Ending::Exists | Ending::Absent | Ending::InUse | Ending::Faults => 1,
-            Ending::Usage | Ending::BadFrame => 2,
-            Ending::Schema | Ending::Down | Ending::Unprinted => 3,
+            Exit::Done => 0,
+            Exit::Exists | Exit::Absent | Exit::InUse | Exit::Faults => 1,
+            Exit::Usage | Exit::BadFrame => 2,
+            Exit::Schema | Exit::Down | Exit::Unprinted => 3,
         }
     }
 
@@ -48,25 +48,25 @@ impl Ending {
         ensures { result.now ≡ ending_line self }
     {
         match self {
-            Ending::Done => "ok",
-            Ending::Exists => "refused exists",
-            Ending::Absent => "refused absent",
-            Ending::InUse => "refused in-use",
-            Ending::Usage => "refused usage",
-            Ending::Schema => "refused schema",
-            Ending::Down => "refused down",
-            Ending::Faults | Ending::BadFrame | Ending::Unprinted => "",
+            Exit::Done => "ok",
+            Exit::Exists => "refused exists",
+            Exit::Absent => "refused absent",
+            Exit::InUse => "refused in-use",
+            Exit::Usage => "refused usage",
+            Exit::Schema => "refused schema",
+            Exit::Down => "refused down",
+            Exit::Faults | Exit::BadFrame | Exit::Unprinted => "",
         }
     }
 }
 
 /// How the program ends if its arguments cannot be read: out of memory, or one is not UTF-8.
-pub fn unread(kind: ErrorKind) -> Ending
-    ensures memory { kind ≡ ErrorKind.OutOfMemory → result ≡ Ending.Down }
-    ensures other { kind ≢ ErrorKind.OutOfMemory → result ≡ Ending.Usage }
+pub fn unread(kind: ErrorKind) -> Exit
+    ensures memory { kind ≡ ErrorKind.OutOfMemory → result ≡ Exit.Down }
+    ensures other { kind ≢ ErrorKind.OutOfMemory → result ≡ Exit.Usage }
 {
     match kind {
-        ErrorKind::OutOfMemory => Ending::Down,
-        _ => Ending::Usage,
+        ErrorKind::OutOfMemory => Exit::Down,
+        _ => Exit::Usage,
     }
 }

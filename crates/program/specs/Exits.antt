@@ -1,10 +1,10 @@
 -- How the program ends: its exit status, and the line on standard output.
 use Rattle.std.specs.Prelude.{ℕ, List, [], codes}
-use Rattle.program.specs.declared.endings.Ending.{Ending}
-use Rattle.program.specs.declared.endings.Ending.TheVariants.{Done, Exists, Absent, InUse, Faults, Usage, BadFrame, Schema, Down, Unprinted}
+use Rattle.program.specs.declared.exits.Exit.{Exit}
+use Rattle.program.specs.declared.exits.Exit.TheVariants.{Done, Exists, Absent, InUse, Faults, Usage, BadFrame, Schema, Down, Unprinted}
 
 -- the exit status
-abbrev pub status_of : Ending → ℕ
+abbrev pub status_of : Exit → ℕ
 status_of Done = 0
 status_of Exists = 1
 status_of Absent = 1
@@ -17,7 +17,7 @@ status_of Down = 3
 status_of Unprinted = 3
 
 -- the line that says so, without its line feed
-abbrev pub ending_line : Ending → List ℕ
+abbrev pub ending_line : Exit → List ℕ
 ending_line Done = codes "ok"
 ending_line Exists = codes "refused exists"
 ending_line Absent = codes "refused absent"

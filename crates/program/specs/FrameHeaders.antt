@@ -6,8 +6,8 @@ use Rattle.serve.specs.declared.steps.Admin.TheVariants.{OrgList}
 use Rattle.command_line.specs.Bounds.{moment_of}
 use Rattle.command_line.specs.Commands.{limit_of, org_command, limit_command, token_command, revoke_command}
 use Rattle.program.specs.Bounds.{bounds_of}
-use Rattle.program.specs.declared.headings.Heading.{Heading}
-use Rattle.program.specs.declared.headings.Heading.TheVariants.{Request, Command}
+use Rattle.program.specs.declared.frame_headers.FrameHeader.{FrameHeader}
+use Rattle.program.specs.declared.frame_headers.FrameHeader.TheVariants.{Request, Command}
 
 -- the length of a request that a word writes: at most 20,000,000 bytes
 abbrev pub length_of : List ℕ → Option ℕ
@@ -50,18 +50,18 @@ command_of (name ∷ words) =
     (cond (bytes_eq name (codes "token-revoke")) (token_revoke_of words) None))))
 
 -- what follows at that moment: `LEN`, the one word behind `http`
-abbrev pub request_at : ℕ → List (List ℕ) → Option Heading
+abbrev pub request_at : ℕ → List (List ℕ) → Option FrameHeader
 request_at at (word ∷ []) = option_map (λ len. Request at len) (length_of word)
 request_at at words = None
 
 -- a request's length after `http`, a command after `admin`
-abbrev pub heading_at : ℕ → List ℕ → List (List ℕ) → Option Heading
+abbrev pub heading_at : ℕ → List ℕ → List (List ℕ) → Option FrameHeader
 heading_at at kind words =
     cond (bytes_eq kind (codes "http")) (request_at at words)
     (cond (bytes_eq kind (codes "admin")) (option_map (λ command. Command at command) (command_of words)) None)
 
 -- `at SECONDS http LEN` or `at SECONDS admin WORDS`
-abbrev pub heading_of : List (List ℕ) → Option Heading
+abbrev pub heading_of : List (List ℕ) → Option FrameHeader
 heading_of (word ∷ seconds ∷ kind ∷ words) =
     cond (bytes_eq word (codes "at")) (option_and_then (λ at. heading_at at kind words) (moment_of seconds)) None
 heading_of words = None

@@ -4,7 +4,7 @@ use Rattle.machine.specs.declared.records.Organization.{Organization}
 
 -- what is promised of it holds so far, what was sound stays sound, with each record as it was, what was keyed stays keyed, and what was shielded
 -- stays shielded
-pub record Upkeep {S : Type 0} (rows : S → List ℕ → Option Organization) (clean sound keyed shielded : S → Type 0) (old new : S) : Type 0 where
+pub record Checkpoints {S : Type 0} (rows : S → List ℕ → Option Organization) (clean sound keyed shielded : S → Type 0) (old new : S) : Type 0 where
   pub so_far : clean new → clean old
   pub kept : clean new → sound old → sound new
   pub keys : clean new → sound old → keyed old → keyed new

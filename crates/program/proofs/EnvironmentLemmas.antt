@@ -5,18 +5,18 @@ use Rattle.machine.specs.declared.keeps.Keep as keep
 use Rattle.machine.specs.declared.records.Organization.{Organization}
 use Rattle.wire.specs.declared.devices.Inlet as inlet
 use Rattle.wire.specs.declared.devices.Outlet as outlet
-use Rattle.program.specs.declared.endings.Ending.{Ending}
-use Rattle.program.specs.declared.outside.Clock as clock
-use Rattle.program.specs.declared.outside.Connections as connections
-use Rattle.program.specs.declared.outside.Files as files
-use Rattle.program.specs.declared.outside.Opening.TheVariants.{Existing, Created}
+use Rattle.program.specs.declared.exits.Exit.{Exit}
+use Rattle.program.specs.declared.environment.Clock as clock
+use Rattle.program.specs.declared.environment.Connections as connections
+use Rattle.program.specs.declared.environment.Files as files
+use Rattle.program.specs.declared.environment.Opening.TheVariants.{Existing, Created}
 use Rattle.program.specs.declared.reasons.Cause.{Cause}
 use Rattle.program.specs.declared.totals.Looked.{Looked}
 use Rattle.command_line.specs.declared.timeouts.Timeouts.{Timeouts}
 use Rattle.program.specs.Inner.Outcomes.{LooksFirst, ServesOpened}
 use Rattle.serve.specs.declared.steps.Admin.{Admin}
 use Rattle.machine.specs.Keeping.{Looks, Lasts}
-use Rattle.program.specs.Outcomes.{stream, error_stream, outside, TellsFound, opening_of, HasFailed, IsOperated, Operates, TellsCause, Opens, OpensSound, Closes, ServesFrom, ServesChecked, LooksOver, SaysServed, TellsUnsound}
+use Rattle.program.specs.Outcomes.{stream, error_stream, environment, TellsFound, opening_of, HasFailed, IsOperated, Operates, TellsCause, Opens, OpensSound, Closes, ServesFrom, ServesChecked, LooksOver, SaysServed, TellsUnsound}
 use Rattle.program.specs.Serving.{Serves, state, AnswersAtPort}
 use Rattle.program.specs.Streams.{Told}
 
@@ -47,7 +47,7 @@ module _ {K F : Type 0} (k : keep.Ghosts K) (f : files.Ghosts F K) where
       }
 
   -- a store is opened at a path, its tables are looked over, what is found is told, and it is closed there
-  pub looks_at : (path : List ℕ) (old mid new : F) (opened store : K) (found : Result Looked Down) (e : Ending) (out heard said : Option (List ℕ)) (before noted told after : Told)
+  pub looks_at : (path : List ℕ) (old mid new : F) (opened store : K) (found : Result Looked Down) (e : Exit) (out heard said : Option (List ℕ)) (before noted told after : Told)
       → Opens k f path Existing old mid opened (error_stream before noted) → heard ≡ out
       → Looks k.rows k.clean k.sound k.keyed k.shielded opened store → f.finds opened found store
       → IfOk found (λ looked. looked.faults ≡ [] → k.clean store → f.is_ours opened → k.sound opened × k.keyed opened)
@@ -90,7 +90,7 @@ module _ {K F : Type 0} (k : keep.Ghosts K) (f : files.Ghosts F K) where
 
 module _ {K F : Type 0} (k : keep.Ghosts K) (f : files.Ghosts F K) where
   -- a store is opened at a path, a command is carried out on it, and it is closed there
-  pub operates : (path : List ℕ) (command : Admin) (old mid new : F) (before after : K) (e : Ending) (out heard said : Option (List ℕ)) (first noted told last : Told)
+  pub operates : (path : List ℕ) (command : Admin) (old mid new : F) (before after : K) (e : Exit) (out heard said : Option (List ℕ)) (first noted told last : Told)
       → Opens k f path (opening_of command) old mid before (error_stream first noted) → heard ≡ out
       → Lasts k.clean k.sound k.keyed k.shielded before after
       → (k.clean after → k.sound before → IsOperated (HasFailed k f after) command (k.rows before) (k.rows after) e (stream heard said) (error_stream noted told))
@@ -113,15 +113,15 @@ module _ {K F : Type 0} (k : keep.Ghosts K) (f : files.Ghosts F K) where
 
 module _ {K F N C R W : Type 0} (k : keep.Ghosts K) (f : files.Ghosts F K) (n : connections.Ghosts N R W) (c : clock.Ghosts C) (i : inlet.Ghosts R) (o : outlet.Ghosts W) where
   -- connections are answered from an opened store, and it is closed
-  pub serves_opened : (path : List ℕ) (port : ℕ) (timeouts : Timeouts) (logs : Bool) (count : ℕ) (old new : F) (network network' : N) (time time' : C) (opened from to closed : K) (served e : Ending) (out told last : Option (List ℕ)) (before lines after : Told)
+  pub serves_opened : (path : List ℕ) (port : ℕ) (timeouts : Timeouts) (logs : Bool) (count : ℕ) (old new : F) (network network' : N) (time time' : C) (opened from to closed : K) (served e : Exit) (out told last : Option (List ℕ)) (before lines after : Told)
       → from ≡ opened → closed ≡ to
       → Lasts k.clean k.sound k.keyed k.shielded from to
       → (k.clean to → k.sound from → Serves count (k.rows from) (k.rows to))
       → AnswersAtPort k f n c i o port timeouts logs count (state network time from before out) (state network' time' to lines told) served
       → Closes k f path old new closed (error_stream lines after) → SaysServed served e told last
-      → ServesOpened k f n c i o path port timeouts logs count opened (outside old network time) (outside new network' time') e (stream out last) (error_stream before after)
+      → ServesOpened k f n c i o path port timeouts logs count opened (environment old network time) (environment new network' time') e (stream out last) (error_stream before after)
   serves_opened path port timeouts logs count old new network network' time time' opened from to closed served e out told last before lines after begins ends lasts rows answers closes says =
-      subst (λ (s : K). ServesOpened k f n c i o path port timeouts logs count s (outside old network time) (outside new network' time') e (stream out last) (error_stream before after)) begins
+      subst (λ (s : K). ServesOpened k f n c i o path port timeouts logs count s (environment old network time) (environment new network' time') e (stream out last) (error_stream before after)) begins
       (record {
         after = to;
         lasts = lasts;
@@ -135,10 +135,10 @@ module _ {K F N C R W : Type 0} (k : keep.Ghosts K) (f : files.Ghosts F K) (n : 
       })
 
   -- a store is opened at a path, and connections are answered from it
-  pub serves_from : (path : List ℕ) (port : ℕ) (timeouts : Timeouts) (logs : Bool) (count : ℕ) (old mid new : F) (network network' : N) (time time' : C) (opened : K) (e : Ending) (out heard last : Option (List ℕ)) (before noted after : Told)
+  pub serves_from : (path : List ℕ) (port : ℕ) (timeouts : Timeouts) (logs : Bool) (count : ℕ) (old mid new : F) (network network' : N) (time time' : C) (opened : K) (e : Exit) (out heard last : Option (List ℕ)) (before noted after : Told)
       → Opens k f path Created old mid opened (error_stream before noted) → heard ≡ out
-      → ServesOpened k f n c i o path port timeouts logs count opened (outside mid network time) (outside new network' time') e (stream heard last) (error_stream noted after)
-      → ServesFrom k f n c i o path port timeouts logs count (outside old network time) (outside new network' time') e (stream out last) (error_stream before after)
+      → ServesOpened k f n c i o path port timeouts logs count opened (environment mid network time) (environment new network' time') e (stream heard last) (error_stream noted after)
+      → ServesFrom k f n c i o path port timeouts logs count (environment old network time) (environment new network' time') e (stream out last) (error_stream before after)
   serves_from path port timeouts logs count old mid new network network' time time' opened e out heard last before noted after opens same from = record {
     before = opened;
     after = from.after;
@@ -157,10 +157,10 @@ module _ {K F N C R W : Type 0} (k : keep.Ghosts K) (f : files.Ghosts F K) (n : 
   }
 
   -- a store is opened at a path, a look finds no fault in its tables, and connections are answered from it
-  pub serves_checked : (path : List ℕ) (port : ℕ) (timeouts : Timeouts) (logs : Bool) (count : ℕ) (old mid new : F) (network network' : N) (time time' : C) (store : K) (e : Ending) (out heard last : Option (List ℕ)) (before known after : Told)
+  pub serves_checked : (path : List ℕ) (port : ℕ) (timeouts : Timeouts) (logs : Bool) (count : ℕ) (old mid new : F) (network network' : N) (time time' : C) (store : K) (e : Exit) (out heard last : Option (List ℕ)) (before known after : Told)
       → OpensSound k f path old mid store (error_stream before known) → heard ≡ out
-      → ServesOpened k f n c i o path port timeouts logs count store (outside mid network time) (outside new network' time') e (stream heard last) (error_stream known after)
-      → ServesChecked k f n c i o path port timeouts logs count (outside old network time) (outside new network' time') e (stream out last) (error_stream before after)
+      → ServesOpened k f n c i o path port timeouts logs count store (environment mid network time) (environment new network' time') e (stream heard last) (error_stream known after)
+      → ServesChecked k f n c i o path port timeouts logs count (environment old network time) (environment new network' time') e (stream out last) (error_stream before after)
   serves_checked path port timeouts logs count old mid new network network' time time' store e out heard last before known after opens same from = record {
     before = store;
     after = from.after;

@@ -11,7 +11,7 @@ ghost use Rattle.program.specs.Moves.{org_copied};
 ghost use Rattle.program.specs.Paths.{AllStay, OthersStay, LeavesVacant, makes};
 ghost use Rattle.program.specs.declared.totals.Looked.{Looked as AnyLooked};
 ghost use Rattle.program.specs.Replies.{AreReplies};
-ghost use Rattle.program.specs.Upkeep.{Upkeep};
+ghost use Rattle.program.specs.Checkpoints.{Checkpoints};
 
 use crate::reasons::{Cause, OpenFault};
 use crate::totals::Looked;
@@ -106,7 +106,7 @@ pub trait Files<K: Keep> {
     /// changes. Fails if an allocation or the store fails.
     fn checkpoint(&self, store: &mut K) -> Result<(), Down>
         ensures done { checkpoints store.old store.new }
-        ensures upkeep { Upkeep K.rows K.clean K.sound K.keyed K.shielded store.old store.new };
+        ensures checkpointed { Checkpoints K.rows K.clean K.sound K.keyed K.shielded store.old store.new };
 
     /// Checks the tables of a store. Returns one line per fault, without its line feed, at most 50, and the numbers of rows. If
     /// there is no fault, the store is sound and keyed. Fails if an allocation or the store fails.
