@@ -3,13 +3,13 @@
 use crate::files::run_in_copy;
 use crate::programs::bytes_of;
 use std::alloc::Global;
-use telling::failures::Failure;
-use telling::modes::{Counts, Modes};
-use telling::plays::Play;
-use telling::recovering::Work;
-use trials::cuts::{Image, over_whole};
-use trials::stops;
-use trials::stops::run_earlier_stops;
+use story_runner::failures::Failure;
+use story_runner::modes::{Counts, Modes};
+use story_runner::plays::Play;
+use story_runner::recovering::Work;
+use story_stores::cuts::{Image, over_whole};
+use story_stores::stops;
+use story_stores::stops::run_earlier_stops;
 
 /// The name of the way in memory.
 const WAY: &str = "the file in memory";

@@ -4,7 +4,7 @@ use program::frame_headers::FrameHeader;
 use program::lines::split_words;
 use serve::{Admin, Step};
 use std::alloc::{AllocError, Global};
-use telling::plays::ReadsCommands;
+use story_runner::plays::ReadsCommands;
 
 // The line of a frame.
 fn frame_line(alloc: Global, at: Moment, words: &str) -> Result<String, AllocError> {

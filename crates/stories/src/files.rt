@@ -4,11 +4,11 @@ use program::environment::Opening;
 use serve::Step;
 use sqlite_disk::{Start, Unknown};
 use std::fs;
+use story_runner::devices::ALL;
+use story_runner::failures::Failure;
+use story_runner::plays::{Due, Play};
+use story_runner::taking::{Way, take_over};
 use system::{close_file, open_file};
-use telling::devices::ALL;
-use telling::failures::Failure;
-use telling::plays::{Due, Play};
-use telling::taking::{Way, take_over};
 
 /// Where the tables lie while a story runs.
 const PATH: &str = "stories.db";

@@ -17,10 +17,12 @@ use std::io;
 use std::io::{BufWriter, Read, Write};
 use std::process::ExitCode;
 use stories::run_story;
-use telling::books::{Book, Story, read_book};
-use telling::failures::{Failure, Why};
-use telling::modes::Counts;
-use telling::tells::{tell_counts, tell_end, tell_failure, tell_passed, tell_short, tell_unread};
+use story_runner::books::{Book, Story, read_book};
+use story_runner::failures::{Failure, Why};
+use story_runner::modes::Counts;
+use story_runner::tells::{
+    tell_counts, tell_end, tell_failure, tell_passed, tell_short, tell_unread,
+};
 
 /// All stories passed.
 const PASSED: u8 = 0;

@@ -8,10 +8,10 @@ use program::running::run_words;
 use program::streams::Counted;
 use std::alloc::Global;
 use std::mem;
-use telling::books::{Part, Plot, Story};
-use telling::devices::{ALL, Giver, Taker};
-use telling::failures::{Failure, compare_bytes};
-use telling::modes::{Counts, Modes};
+use story_runner::books::{Part, Plot, Story};
+use story_runner::devices::{ALL, Giver, Taker};
+use story_runner::failures::{Failure, compare_bytes};
+use story_runner::modes::{Counts, Modes};
 
 /// The name of this way.
 pub const WAY: &str = "a database and peers in memory";

@@ -8,9 +8,9 @@ use program::environment::Clock;
 use program::frames::read_frames;
 use serve::Service;
 use std::alloc::Global;
+use story_runner::books::{Part, Plot};
+use story_runner::failures::Failure;
 use system::SystemClock;
-use telling::books::{Part, Plot};
-use telling::failures::Failure;
 
 /// What is checked.
 #[derive(Clone, Copy)]

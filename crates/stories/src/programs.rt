@@ -8,10 +8,10 @@ use std::fs;
 use std::fs::Permissions;
 use std::net::{Ipv4Addr, TcpListener};
 use std::os::unix::fs::{MetadataExt, PermissionsExt};
+use story_runner::books::{Part, Plot};
+use story_runner::failures::{Failure, compare_bytes};
+use story_runner::lines::Mark;
 use system::run_here;
-use telling::books::{Part, Plot};
-use telling::failures::{Failure, compare_bytes};
-use telling::lines::Mark;
 
 /// What a step of the program does.
 #[derive(Clone, Copy)]

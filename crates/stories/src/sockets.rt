@@ -16,8 +16,8 @@ use std::io::{Read, Write};
 use std::net::{Ipv4Addr, Shutdown, TcpStream};
 use std::time::Duration;
 use std::{io, thread};
+use story_runner::failures::{Failure, compare_bytes};
 use system::{TcpSockets, TimedStream};
-use telling::failures::{Failure, compare_bytes};
 use wire::{Broken, FromRead, Inlet, Outlet, ToWrite};
 
 /// What peers ask.

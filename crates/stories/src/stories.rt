@@ -7,17 +7,17 @@ use crate::named_checks::{is_check, run_check};
 use crate::programs::{Files, is_of_program};
 use crate::values::{is_of_values, take_value};
 use std::alloc::Global;
-use telling::books::{Book, Part, Plot, Story};
-use telling::failures::Failure;
-use telling::modes::{Counts, Modes};
-use telling::plays::{Play, play_of};
-use telling::refusals;
-use telling::refusals::run_refused;
-use trials::beside::run_beside;
-use trials::resuming::run_resumed;
-use trials::stops;
-use trials::stops::run_stops;
-use trials::ways::{run_in_breaks, run_in_memory, run_large_in_memory};
+use story_runner::books::{Book, Part, Plot, Story};
+use story_runner::failures::Failure;
+use story_runner::modes::{Counts, Modes};
+use story_runner::plays::{Play, play_of};
+use story_runner::refusals;
+use story_runner::refusals::run_refused;
+use story_stores::beside::run_beside;
+use story_stores::resuming::run_resumed;
+use story_stores::stops;
+use story_stores::stops::run_stops;
+use story_stores::ways::{run_in_breaks, run_in_memory, run_large_in_memory};
 
 // The earlier stories and this one, in turn.
 fn run_store(

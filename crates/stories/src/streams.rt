@@ -2,10 +2,10 @@
 use crate::memories::Memory;
 use crate::programs::Left;
 use std::alloc::Global;
-use telling::books::Part;
-use telling::devices::{ALL, Giver, Stop, Taker};
-use telling::failures::Failure;
-use telling::modes::{Counts, Modes};
+use story_runner::books::Part;
+use story_runner::devices::{ALL, Giver, Stop, Taker};
+use story_runner::failures::Failure;
+use story_runner::modes::{Counts, Modes};
 
 /// The exit status where a stream fails.
 const BROKEN: u8 = 3;

@@ -6,13 +6,13 @@ use basis::{
 use docs::{DocFault, digest_fits, read_lock, read_run, read_settings, read_state};
 use program::lines::split_line;
 use std::alloc::{AllocError, Global};
-use telling::books::{Part, Plot};
-use telling::definitions::Unread;
-use telling::failures::{Failure, compare_bytes};
-use telling::lines::Mark;
-use telling::messages::show_message;
-use telling::routes::{show_asks, show_route};
-use trials::kept::show_kept;
+use story_runner::books::{Part, Plot};
+use story_runner::definitions::Unread;
+use story_runner::failures::{Failure, compare_bytes};
+use story_runner::lines::Mark;
+use story_runner::messages::show_message;
+use story_runner::routes::{show_asks, show_route};
+use story_stores::kept::show_kept;
 
 /// What is read.
 #[derive(Clone, Copy)]

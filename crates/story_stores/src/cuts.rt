@@ -8,11 +8,11 @@ use sqlite::{Alter, Connection, FileStore, Files, Options};
 use sqlite_disk::{Crash, Disk, Fuse, Memory};
 use std::alloc::{AllocError, Global};
 use std::io;
+use story_runner::failures::Failure;
+use story_runner::keyed::Keyed;
+use story_runner::plays::Play;
+use story_runner::recovering::{Done, Ended, Work, work_over};
 use tables::{SqlKeep, Unopened};
-use telling::failures::Failure;
-use telling::keyed::Keyed;
-use telling::plays::Play;
-use telling::recovering::{Done, Ended, Work, work_over};
 
 // A file in memory whose calls fail from one on.
 type Fused = Fuse<Memory>;

@@ -3,7 +3,7 @@
 use sqlite::types::ValueRef;
 use sqlite::{Alter, Connection, Error, Row, params};
 use std::alloc::{AllocError, Global};
-use telling::failures::Failure;
+use story_runner::failures::Failure;
 
 /// The places of a workspace's tables among all that are read, and behind them those of its organization's.
 pub const WORKSPACE: usize = 0;

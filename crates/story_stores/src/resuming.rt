@@ -7,12 +7,12 @@ use pages::{PageKey, ShaKey};
 use std::alloc::Global;
 use std::io;
 use std::io::Write;
-use telling::devices::ALL;
-use telling::failures::Failure;
-use telling::plays::Play;
-use telling::stopping::line_at;
-use telling::stores::{Looks, Makes, checked, record_at, records_of};
-use telling::taking::{Way, replay_over, resume_over, taken_to};
+use story_runner::devices::ALL;
+use story_runner::failures::Failure;
+use story_runner::plays::Play;
+use story_runner::stopping::line_at;
+use story_runner::stores::{Looks, Makes, checked, record_at, records_of};
+use story_runner::taking::{Way, replay_over, resume_over, taken_to};
 
 /// The name of tables that are looked at where a replay gave up.
 const LOOKED: &str = "tables by first bytes that are looked at";

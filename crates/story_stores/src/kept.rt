@@ -5,8 +5,8 @@ use basis::Number;
 use pages::{PageKey, ShaKey};
 use sqlite::{Connection, Error, MemStore};
 use std::alloc::{AllocError, Global};
-use telling::failures::Failure;
-use telling::stores::Makes;
+use story_runner::failures::Failure;
+use story_runner::stores::Makes;
 use texts::{add_text, remove_text, same_text};
 
 /// The version whose text it is.

@@ -1,6 +1,6 @@
 //! What holds of the tables between two steps: each law is a query that counts the rows which break it.
 use sqlite::{Alter, Connection, Error};
-use telling::failures::Failure;
+use story_runner::failures::Failure;
 
 const LAWS: &[(&str, &str)] = &[
     (

@@ -7,16 +7,16 @@ use machine::PlainKeep;
 use pages::{PageKey, ShaKey};
 use sqlite::{Alter, Connection, Error, MemStore, Row};
 use std::alloc::Global;
+use story_runner::breaking;
+use story_runner::breaking::run_broken;
+use story_runner::devices::ALL;
+use story_runner::failures::{Failure, compare_bytes};
+use story_runner::keyed::Keyed;
+use story_runner::modes::{Counts, Modes};
+use story_runner::plays::{Play, Question};
+use story_runner::stores::{Looks, Makes, told_over};
+use story_runner::taking::{Way, taken_to};
 use tables::SqlKeep;
-use telling::breaking;
-use telling::breaking::run_broken;
-use telling::devices::ALL;
-use telling::failures::{Failure, compare_bytes};
-use telling::keyed::Keyed;
-use telling::modes::{Counts, Modes};
-use telling::plays::{Play, Question};
-use telling::stores::{Looks, Makes, told_over};
-use telling::taking::{Way, taken_to};
 
 #[derive(Clone, Copy)]
 enum Store {

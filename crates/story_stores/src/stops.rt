@@ -3,12 +3,12 @@
 use crate::cuts::{Cuts, Image, Left, NO_CUTS, over_image, over_whole};
 use crate::images::write_images;
 use std::alloc::Global;
-use telling::failures::Failure;
-use telling::modes::Counts;
-use telling::plays::Play;
-use telling::recovering::{Ended, Work};
-use telling::stopping::{Cut, line_at};
-use telling::stores::record_at;
+use story_runner::failures::Failure;
+use story_runner::modes::Counts;
+use story_runner::plays::Play;
+use story_runner::recovering::{Ended, Work};
+use story_runner::stopping::{Cut, line_at};
+use story_runner::stores::record_at;
 
 /// The name of this way.
 pub const WAY: &str = "power that is cut";

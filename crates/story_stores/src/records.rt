@@ -3,7 +3,7 @@ use crate::laws::count_of;
 use sqlite::types::ValueRef;
 use sqlite::{Alter, Connection, Error, Row};
 use std::alloc::{AllocError, Global};
-use telling::failures::Failure;
+use story_runner::failures::Failure;
 
 /// The tables of the first version.
 const FIRST: &[&str] = &[

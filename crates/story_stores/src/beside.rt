@@ -12,12 +12,12 @@ use pages::PageKey;
 use serve::Step;
 use sqlite::Alter;
 use std::alloc::Global;
+use story_runner::devices::ALL;
+use story_runner::failures::Failure;
+use story_runner::plays::Play;
+use story_runner::stores::Makes;
+use story_runner::taking::{Way, taken_to};
 use tables::SqlKeep;
-use telling::devices::ALL;
-use telling::failures::Failure;
-use telling::plays::Play;
-use telling::stores::Makes;
-use telling::taking::{Way, taken_to};
 
 /// The name of this way.
 const WAY: &str = "all rows and the queries, asked before each act";
