@@ -4,7 +4,7 @@ use Rattle.std.specs.List.{starts_with}
 use Rattle.basis.specs.declared.roles.Bounds.{Bounds}
 use Rattle.command_line.specs.Bounds.{moment_of, prefix_of, bounds, no_bounds}
 
--- what stands behind a mark, in a word that begins with it
+-- what follows a mark, in a word that begins with it
 abbrev pub behind : List ℕ → List ℕ → Option (List ℕ)
 behind mark word = cond (starts_with nat_eq word mark) (Some (drop (length mark) word)) None
 
@@ -16,16 +16,16 @@ until_word word = option_and_then moment_of (behind (codes "until=") word)
 abbrev pub prefix_word : List ℕ → Option (List ℕ)
 prefix_word word = option_and_then prefix_of (behind (codes "prefix=") word)
 
--- an end alone, or else a prefix alone
+-- an expiry alone, or a prefix alone
 abbrev pub either_bound : Option ℕ → Option (List ℕ) → Option Bounds
 either_bound (Some until) prefix = Some (bounds (Some until) [])
 either_bound None prefix = option_map (λ p. bounds None p) prefix
 
--- an end and a prefix
+-- an expiry and a prefix
 abbrev pub both_bounds : Option ℕ → Option (List ℕ) → Option Bounds
 both_bounds until prefix = option_and_then (λ u. option_map (λ p. bounds (Some u) p) prefix) until
 
--- the words of a frame behind a secret: `until=SECONDS` and `prefix=TEXT`, in this order, each where it is wanted
+-- the words of a frame after a secret: `until=SECONDS` and `prefix=TEXT`, in this order, each optional
 abbrev pub bounds_of : List (List ℕ) → Option Bounds
 bounds_of [] = Some no_bounds
 bounds_of (word ∷ []) = either_bound (until_word word) (prefix_word word)

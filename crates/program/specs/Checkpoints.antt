@@ -1,9 +1,9 @@
--- What is done to a store for its own sake.
+-- What a checkpoint may do to a store.
 use Rattle.std.specs.Prelude.{◌≡◌, ℕ, List, Option}
 use Rattle.machine.specs.declared.records.Organization.{Organization}
 
--- what is promised of it holds so far, what was sound stays sound, with each record as it was, what was keyed stays keyed, and what was shielded
--- stays shielded
+-- a checkpoint: a clean disk was clean before; sound stays sound, and then each record is unchanged; keyed stays keyed, and shielded stays
+-- shielded
 pub record Checkpoints {S : Type 0} (rows : S → List ℕ → Option Organization) (clean sound keyed shielded : S → Type 0) (old new : S) : Type 0 where
   pub so_far : clean new → clean old
   pub kept : clean new → sound old → sound new

@@ -8,49 +8,49 @@ use Rattle.program.specs.declared.reasons.OtherSchema.{OtherSchema}
 use Rattle.program.specs.declared.reasons.OtherSchema.TheVariants.{Version, Untold}
 use Rattle.program.specs.Streams.{Told, Tells}
 
--- what the fault of a link is called
+-- the text for a link fault
 abbrev pub fault_text : LinkFault → List ℕ
 fault_text Ended = codes "the peer closed the connection before its request was complete"
 fault_text Read = codes "a read failed"
 fault_text Continue = codes "100 Continue could not be sent"
 fault_text Write = codes "the reply could not be sent completely"
 
--- a line of the error stream on the connection of this number, from 1 on
+-- a line about the connection of this number, from 1
 abbrev pub connection_line : ℕ → List ℕ → List ℕ
 connection_line place text = codes "custody: connection " ++ decimal place ++ codes ": " ++ text ++ 10 ∷ []
 
--- the line on a connection that was answered by the 503 of memory or a store that refused (`true`); on another there is none
+-- the line about a connection that got the 503 of a failed allocation or store (`true`); otherwise there is none
 abbrev pub down_line : ℕ → Bool → List ℕ
 down_line place true = connection_line place (codes "out of memory or the store failed; replied 503")
 down_line place false = []
 
--- the line on a connection that ended by a fault of its link; on another there is none
+-- the line about a connection that ended in a link fault; otherwise there is none
 abbrev pub fault_line : {T : Type 0} → ℕ → Result T LinkFault → List ℕ
 fault_line place (Ok done) = []
 fault_line place (Err fault) = connection_line place (fault_text fault)
 
--- the error stream is told of the connection of this number: by the line on the 503 exactly where that was its reply, and then by the
--- line on its fault exactly where it ended by one
+-- the error stream gets the lines about the connection of this number: the line about the 503 exactly if that was the reply, then the line
+-- about the link fault exactly if there was one
 abbrev pub GetsConnectionLines : {T : Type 0} → ℕ → Bool → Result T LinkFault → Told → Told → Type 0
 GetsConnectionLines place is_down result old new = Tells old new (down_line place is_down ++ fault_line place result)
 
--- what is told where the log of a file stays beside it
+-- the line for a WAL that stays beside its file
 abbrev pub log_line : List ℕ
 log_line = codes "custody: the WAL could not be copied into the file: keep the file and its -wal together\n"
 
--- what is told where others than its owner may read a file or its log
+-- the line for a file or WAL that other users may read
 abbrev pub readers_line : List ℕ
 readers_line = codes "custody: users other than its owner may read the file or its -wal: chmod 600 ends that\n"
 
--- what is told where a secret doesn't read
+-- the line for a secret that is not valid
 abbrev pub secret_line : List ℕ
 secret_line = codes "custody: the secret must be one line of 16 to 64 ASCII letters or digits\n"
 
--- what is told where no file lay at a path, and one was made
+-- the line for a file that was created
 abbrev pub new_line : List ℕ
 new_line = codes "custody: there was no file at the path; a new one was created\n"
 
--- why `refused down`: one line for each cause
+-- the line for each cause of `refused down`
 abbrev pub cause_line : Cause → List ℕ
 cause_line InUse = codes "custody: another program has the file open\n"
 cause_line NotPermitted = codes "custody: no permission to read and write the file or its folder\n"
@@ -83,23 +83,23 @@ cause_line SourceFaults = codes "custody: the file's tables have faults, so noth
 cause_line Encoding = codes "custody: an argument is not UTF-8\n"
 cause_line NoNull = codes "custody: a standard stream is closed, and /dev/null could not be opened\n"
 
--- what is told where memory was refused to open a file of so many bytes
+-- the line for a file of this many bytes for which there was not enough memory
 abbrev pub memory_line : ℕ → List ℕ
 memory_line bytes = codes "custody: out of memory while opening the file of " ++ (decimal bytes ++ codes " bytes\n")
 
--- what is told where standard output or error took not all that was to be printed
+-- the line for a stream that did not take everything
 abbrev pub unprinted_line : List ℕ
 unprinted_line = codes "custody: not everything could be printed to standard output or standard error\n"
 
--- how the line on a version ends
+-- the end of the line about a version
 abbrev pub version_end : List ℕ
 version_end = codes " of the schema, which this program does not know, or its tables are different\n"
 
--- the line on a file that tells this version, which isn't known, or has other tables
+-- the line about a file that has this version, which is unknown, or has different tables
 abbrev pub version_line : ℕ → List ℕ
 version_line version = codes "custody: the file has version " ++ (decimal version ++ version_end)
 
--- why `refused schema`
+-- the line for each cause of `refused schema`
 abbrev pub other_line : OtherSchema → List ℕ
 other_line (Version version) = version_line version
 other_line Untold = codes "custody: the file has tables with this schema's names, but no schema version\n"

@@ -1,4 +1,4 @@
--- How the program ends: its exit status, and the line on standard output.
+-- How the program exits: its status, and the line on standard output.
 use Rattle.std.specs.Prelude.{ℕ, List, [], codes}
 use Rattle.program.specs.declared.exits.Exit.{Exit}
 use Rattle.program.specs.declared.exits.Exit.TheVariants.{Done, Exists, Absent, InUse, Faults, Usage, BadFrame, Schema, Down, Unprinted}
@@ -16,7 +16,7 @@ status_of Schema = 3
 status_of Down = 3
 status_of Unprinted = 3
 
--- the line that says so, without its line feed
+-- the line, without its line feed
 abbrev pub ending_line : Exit → List ℕ
 ending_line Done = codes "ok"
 ending_line Exists = codes "refused exists"

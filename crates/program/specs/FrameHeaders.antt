@@ -9,7 +9,7 @@ use Rattle.program.specs.Bounds.{bounds_of}
 use Rattle.program.specs.declared.frame_headers.FrameHeader.{FrameHeader}
 use Rattle.program.specs.declared.frame_headers.FrameHeader.TheVariants.{Request, Command}
 
--- the length of a request that a word writes: at most 20,000,000 bytes
+-- reads the length of a request: at most 20,000,000 bytes
 abbrev pub length_of : List ℕ → Option ℕ
 length_of word = option_and_then (within 0 20_000_000) (whole_of word)
 
@@ -29,7 +29,7 @@ abbrev pub org_list_of : List (List ℕ) → Option Operator.Admin
 org_list_of [] = Some OrgList
 org_list_of words = None
 
--- `ORG NAME ROLE SECRET`, and behind it the bounds: `until=SECONDS`, `prefix=TEXT`
+-- `ORG NAME ROLE SECRET`, then optional bounds: `until=SECONDS`, `prefix=TEXT`
 abbrev pub token_add_of : List (List ℕ) → Option Operator.Admin
 token_add_of (org ∷ name ∷ role ∷ secret ∷ words) = option_and_then (λ bounds. token_command org name role secret bounds) (bounds_of words)
 token_add_of words = None
@@ -49,7 +49,7 @@ command_of (name ∷ words) =
     (cond (bytes_eq name (codes "token-add")) (token_add_of words)
     (cond (bytes_eq name (codes "token-revoke")) (token_revoke_of words) None))))
 
--- what follows at that moment: `LEN`, the one word behind `http`
+-- a request at this time: `LEN`, the only word after `http`
 abbrev pub request_at : ℕ → List (List ℕ) → Option FrameHeader
 request_at at (word ∷ []) = option_map (λ len. Request at len) (length_of word)
 request_at at words = None

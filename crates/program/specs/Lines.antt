@@ -4,27 +4,27 @@ use Rattle.std.specs.Borrow.{Bor}
 use Rattle.std.specs.List.{slice_split}
 use Rattle.std.specs.Str.{is_utf8}
 
--- the first bytes, so many, and what comes after the one byte behind them
+-- the first bytes, this many, and everything after the one byte that follows them
 abbrev pub parted : ℕ → List ℕ → List ℕ × List ℕ
 parted n bytes = (take n bytes, drop (suc n) bytes)
 
--- the first line and what comes after its line feed (10); none without a line feed, or with more than 4,096 bytes before it
+-- the first line, and everything after its line feed (10); none without a line feed, or with more than 4,096 bytes before it
 abbrev pub first_line : List ℕ → Option (List ℕ × List ℕ)
 first_line bytes = option_and_then (λ n. cond (nat_le n 4096) (Some (parted n bytes)) None) (position (λ b. b == 10) bytes)
 
--- so many bytes and what comes after the line feed (10) behind them; none where no line feed stands there
+-- this many bytes, and everything after the line feed (10) that follows them; none if no line feed follows
 abbrev pub message_of : ℕ → List ℕ → Option (List ℕ × List ℕ)
 message_of len bytes = cond (slice_index bytes len == 10) (Some (parted len bytes)) None
 
--- a line, where it is text (UTF-8)
+-- a line, if it is UTF-8
 abbrev pub text_of : List ℕ → Option (List ℕ)
 text_of line = cond (is_utf8 line) (Some line) None
 
--- the words of a text, parted by one space (32)
+-- the words of a text, separated by single spaces (32)
 abbrev pub words_in : List ℕ → List (List ℕ)
 words_in text = slice_split (λ b. b == 32) text
 
--- the words of a line that is text
+-- the words of a line that is UTF-8
 abbrev pub words_of : List ℕ → Option (List (List ℕ))
 words_of line = option_map words_in (text_of line)
 

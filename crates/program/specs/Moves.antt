@@ -1,4 +1,4 @@
--- What becomes of organizations that are copied from one store to another.
+-- What happens to organizations that are copied from one store to another.
 use Rattle.std.specs.Prelude.{◌≡◌, ◌⊎◌, ◌++◌, ℕ, List, [], ◌∷◌, Bool, true, false, Option, Some, None}
 use Rattle.machine.specs.Effects.{effect}
 use Rattle.machine.specs.Keeping.{Looks}
@@ -13,36 +13,35 @@ use Rattle.serve.specs.Steps.{own_said, own_record}
 use Rattle.serve.specs.Service.{AreTexts, own_asks, replies_at, record_for}
 use Rattle.serve.specs.Runs.{IsOwnMachine}
 
--- copying an organization: its record where it is copied from, and where it is copied to
+-- copying an organization: its record in the source, and its record in the target
 abbrev pub org_copied : Option Organization → Option Organization → Managed
 org_copied None there = effect Absent there
 org_copied (Some o) None = effect Done (Some o)
 org_copied (Some o) (Some p) = effect Exists (Some p)
 
--- the record afterwards where it is copied to: the one that was there, or where none was, the one that is copied
+-- its record in the target afterwards: the one that was there; if there was none, the source's
 abbrev pub copied_into : Option Organization → Option Organization → Option Organization
 copied_into from None = from
 copied_into from (Some p) = Some p
 
--- an organization is copied so: by each record where it is copied from, where it is copied to, and there afterwards
+-- an organization is copied in this way: the records of the source, and those of the target before and after
 abbrev pub Arrives : (from old new : List ℕ → Option Organization) → List ℕ → Type 0
 Arrives from old new org = new org ≡ copied_into (from org) (old org)
 
--- every organization is
+-- every organization is copied
 abbrev pub AllAreCopied : (from old new : List ℕ → Option Organization) → Type 0
 AllAreCopied from old new = (org : List ℕ) → Arrives from old new org
 
--- some are, and each other record stays
+-- some organizations are copied, and every other record is unchanged
 abbrev pub SomeAreCopied : (from old new : List ℕ → Option Organization) → Type 0
 SomeAreCopied from old new = (org : List ℕ) → (new org ≡ old org) ⊎ Arrives from old new org
 
--- every organization is there as it was where it was copied from, and nothing else, where none was before (`true`); or some were, and
--- each record is as before
+-- if the target was empty (`true`), its records are now those of the source; otherwise some organizations were in it, and no record changed
 abbrev pub IsFilled : (from old new : List ℕ → Option Organization) → Bool → Type 0
 IsFilled from old new true = ((org : List ℕ) → old org ≡ None) × ((org : List ℕ) → new org ≡ from org)
 IsFilled from old new false = ((org : List ℕ) → new org ≡ old org) × ((org : List ℕ) × (there : Organization) × (old org ≡ Some there))
 
--- whether a list of all organizations has none
+-- whether a list of organizations is empty
 abbrev pub has_none : List OrgRow → Bool
 has_none [] = true
 has_none (row ∷ rows) = false
@@ -56,7 +55,7 @@ lists_none InUse = false
 lists_none (Tokens rows) = false
 
 module _ {K : Type 0} (k : keep.Ghosts K) where
-  -- it was copied from one store to another, and this became of the records: where it was copied from each is as before
+  -- an organization, or all, were copied from one store to another, with this effect on the records. Those of the source are unchanged
   pub record CopiesBetween (Becomes : (from old new : List ℕ → Option Organization) → Type 0) (source_before source_after target_before target_after : K) : Type 0 where
     pub look : Looks k.rows k.clean k.sound k.keyed k.shielded source_before source_after
     pub so_far : k.clean target_after → k.clean target_before
@@ -66,20 +65,20 @@ module _ {K : Type 0} (k : keep.Ghosts K) where
     pub model : k.clean target_after → k.sound target_before → k.clean source_after → k.sound source_before
         → Becomes (k.rows source_before) (k.rows target_before) (k.rows target_after)
 
--- where a copy is answered as done, the record is the one that was copied, and there was none
+-- if the answer is that the copy was made, the target's record is the source's, and the target had none before
 abbrev pub DoneCopiesAreEqual : Type 0
 DoneCopiesAreEqual = (from there new : Option Organization) → effect Done new ≡ org_copied from there → (new ≡ from) × (there ≡ None)
 
--- where there was none, each record is the one that was copied
+-- if the target was empty, its records are those of the source
 abbrev pub CopiesToNoneAreTheSame : Type 0
 CopiesToNoneAreTheSame = (from old new : List ℕ → Option Organization) → AllAreCopied from old new → ((org : List ℕ) → old org ≡ None) → (org : List ℕ) → new org ≡ from org
 
--- some were copied and then all: together all were
+-- if some organizations were copied, and then all, the effect is that of copying all
 abbrev pub StoppedCopiesGoOn : Type 0
 StoppedCopiesGoOn = (from old mid new : List ℕ → Option Organization) → SomeAreCopied from old mid → AllAreCopied from mid new → AllAreCopied from old new
 
--- an organization is copied, as it was after a run, and another run goes on with its copy: its record in the end is that of one run of
--- its own machine, over its own steps of both, and so are its replies, one list behind the other
+-- an organization is copied after a run, and another run continues with the copy. Its record at the end, and its replies in both runs, are
+-- those of its own machine over its own steps of both runs
 abbrev pub CopiedOrganizationsGoOn : Type 0
 CopiedOrganizationsGoOn = (org : List ℕ) (first second : List Ask) (a b c d : List ℕ → Option Organization) (said later : List (List ℕ))
     → IsOwnMachine org first a b said → c org ≡ b org → IsOwnMachine org second c d later

@@ -1,6 +1,6 @@
--- What the program does for each kind of words: how it ends, what stands on both streams then, and what lies at
--- each path. Of standard output that took not all that was to be printed nothing is said. The error stream gets the whole of each line,
--- unless a call on it failed while the line was written.
+-- What the program does for each command: how it exits, what is printed to both streams, and what is at each path afterwards. Nothing is said
+-- of standard output that did not take everything. The error stream gets each line completely, unless a call on it failed while the line was
+-- written.
 use Rattle.std.specs.Prelude.{◌≡◌, ◌≢◌, ◌<◌, ◌⊎◌, ◌+◌, ◌++◌, ℕ, Bool, List, [], ◌∷◌, ⊤, Option, Some, None, IfSome, Result, Ok, Err, IfOk, true, false, length, is_some}
 use Rattle.std.specs.Io.KnownBytes.{Appends}
 use Rattle.basis.specs.declared.memory.Down.{Down}
@@ -47,7 +47,7 @@ use Rattle.wire.specs.declared.devices.Inlet as inlet
 use Rattle.wire.specs.declared.devices.Outlet as outlet
 use Rattle.command_line.specs.Words.{asked_in, AskForHelp, AreNoCommand}
 
--- standard output: what it holds before and after
+-- standard output: its contents before and after
 pub record Stream : Type 0 where
   pub old : Option (List ℕ)
   pub new : Option (List ℕ)
@@ -58,7 +58,7 @@ stream before after = record { old = before; new = after }
 abbrev pub Gets : Stream → List ℕ → Type 0
 Gets stream text = Appends stream.old stream.new text
 
--- the error stream: what it has, and how many calls on it have failed, before and after
+-- the error stream: its contents, and how many calls on it have failed, before and after
 pub record Errors : Type 0 where
   pub old : Told
   pub new : Told
@@ -66,19 +66,19 @@ pub record Errors : Type 0 where
 abbrev pub error_stream : Told → Told → Errors
 error_stream before after = record { old = before; new = after }
 
--- the whole of some text, which isn't empty
+-- the whole of a text that is not empty
 abbrev pub GetsSome : Errors → Type 0
 GetsSome errors = (text : List ℕ) × (0 < length text) × GetsWhole errors.old errors.new text
 
--- the line that says how the program ends
+-- the line of an exit
 abbrev pub Says : Exit → Stream → Type 0
 Says e output = Gets output (answer_line (ending_line e))
 
--- the line of an ending was printed, or not all of it was taken
+-- the line of an exit was printed, or not completely taken
 abbrev pub IsSaid : Exit → Exit → Option (List ℕ) → Option (List ℕ) → Type 0
 IsSaid e result old new = ((result ≡ e) × Appends old new (answer_line (ending_line e))) ⊎ (result ≡ exit.Unprinted)
 
--- an answer of one line to an operator's command, or why there is none
+-- the one-line answer to an operator's command, or why there is none
 abbrev pub AnswersLine : Exit → Stream → Type 0
 AnswersLine exit.Done output = Says exit.Done output
 AnswersLine exit.Exists output = Says exit.Exists output
@@ -91,7 +91,7 @@ AnswersLine exit.Usage output = ⊥
 AnswersLine exit.BadFrame output = ⊥
 AnswersLine exit.Unprinted output = ⊤
 
--- `ok`, or that an organization is there already, or why neither
+-- `ok`, or that an organization already exists, or why neither
 abbrev pub AnswersFilled : Exit → Stream → Type 0
 AnswersFilled exit.Done output = Says exit.Done output
 AnswersFilled exit.Exists output = Says exit.Exists output
@@ -100,12 +100,12 @@ AnswersFilled exit.Down output = Says exit.Down output
 AnswersFilled exit.Unprinted output = ⊤
 AnswersFilled e output = ⊥
 
--- how it is told whether every organization was copied to where none was (`true`), or some were there
+-- the answer to `compact`: every organization was copied to an empty target (`true`), or the target had some
 abbrev pub filled_ending : Bool → Exit
 filled_ending true = exit.Done
 filled_ending false = exit.Exists
 
--- the list of all organizations, a line each, or why there is none
+-- the list of all organizations, one line each, or why there is none
 abbrev pub AnswersList : Exit → Stream → Type 0
 AnswersList exit.Done output = (rows : List OrgRow) × Gets output (org_lines rows)
 AnswersList exit.Schema output = Says exit.Schema output
@@ -113,7 +113,7 @@ AnswersList exit.Down output = Says exit.Down output
 AnswersList exit.Unprinted output = ⊤
 AnswersList e output = ⊥
 
--- the list of an organization's tokens, a line each, or why there is none
+-- the list of an organization's tokens, one line each, or why there is none
 abbrev pub AnswersTokens : Exit → Stream → Type 0
 AnswersTokens exit.Done output = (rows : List TokenRow) × Gets output (token_lines rows)
 AnswersTokens exit.Absent output = Says exit.Absent output
@@ -132,7 +132,7 @@ AnswersCommand (TokenAdd org name role secret bounds) e output = AnswersLine e o
 AnswersCommand (TokenList org) e output = AnswersTokens e output
 AnswersCommand (TokenRevoke org name) e output = AnswersLine e output
 
--- the word of an answer is told; a list has none
+-- the word of an answer is printed; a list has no word
 abbrev pub TellsWord : AdminAnswer → Exit → Stream → Type 0
 TellsWord answer.Done e output = IsSaid exit.Done e output.old output.new
 TellsWord answer.Exists e output = IsSaid exit.Exists e output.old output.new
@@ -141,18 +141,18 @@ TellsWord answer.InUse e output = IsSaid exit.InUse e output.old output.new
 TellsWord (answer.Organizations rows) e output = ⊤
 TellsWord (answer.Tokens rows) e output = ⊤
 
--- the lines of a list are told
+-- the lines of a list are printed
 abbrev pub TellsList : AdminAnswer → Exit → Stream → Type 0
 TellsList (answer.Organizations rows) e output = ((e ≡ exit.Done) × Gets output (org_lines rows)) ⊎ (e ≡ exit.Unprinted)
 TellsList word e output = ⊤
 
--- the lines of an organization's tokens are told, or that it isn't there
+-- the lines of an organization's tokens are printed, or that the organization does not exist
 abbrev pub TellsTokens : AdminAnswer → Exit → Stream → Type 0
 TellsTokens (answer.Tokens rows) e output = ((e ≡ exit.Done) × Gets output (token_lines rows)) ⊎ (e ≡ exit.Unprinted)
 TellsTokens answer.Absent e output = IsSaid exit.Absent e output.old output.new
 TellsTokens other e output = ⊤
 
--- an answer to an operator's command is told
+-- the answer to an operator's command is printed
 abbrev pub TellsAnswer : Admin → AdminAnswer → Exit → Stream → Type 0
 TellsAnswer OrgList answer e output = TellsList answer e output
 TellsAnswer (OrgAdd org limit) answer e output = TellsWord answer e output
@@ -162,37 +162,37 @@ TellsAnswer (TokenAdd org name role secret bounds) answer e output = TellsWord a
 TellsAnswer (TokenList org) answer e output = TellsTokens answer e output
 TellsAnswer (TokenRevoke org name) answer e output = TellsWord answer e output
 
--- the error stream is told the cause of `refused down`
+-- the error stream gets the cause of `refused down`
 abbrev pub TellsCause : Cause → Errors → Type 0
 TellsCause why errors = Tells errors.old errors.new (cause_line why)
 
--- `refused down` is printed, and the error stream is told the cause
+-- `refused down` is printed, and the error stream gets the cause
 abbrev pub Refuses : Cause → Exit → Stream → Errors → Type 0
 Refuses why e output errors = IsSaid exit.Down e output.old output.new × TellsCause why errors
 
--- an operator's command was carried out, each record as the machine leaves it, and its answer by the records before was
--- told; or memory or the store refused, which is told by such a cause, and no record is seen to have changed
+-- an operator's command was carried out: each record is what the machine leaves, and its answer, by the records before, was printed. Or an
+-- allocation or the store failed, this cause was reported, and no record is seen to have changed
 abbrev pub IsOperated : (Cause → Type 0) → Admin → (List ℕ → Option Organization) → (List ℕ → Option Organization) → Exit → Stream → Errors → Type 0
 IsOperated Fails command old new e output errors =
     ((answer : AdminAnswer) × (at : ℕ) × CarriesOut (commands at command) old new × IsAdminAnswer old command answer × TellsAnswer command answer e output × (errors.new ≡ errors.old))
     ⊎ (Stays old new × ((why : Cause) × Fails why × Refuses why e output errors))
 
--- an organization was copied, its record as the rule says by the records before, and the answer was told; or memory or a store
--- refused, which is told by such a cause, and no record is seen to have changed
+-- an organization was copied: its record is what the rule says by the records before, and the answer was printed. Or an allocation or a store
+-- failed, this cause was reported, and no record is seen to have changed
 abbrev pub IsCopied : (Cause → Type 0) → List ℕ → (from old new : List ℕ → Option Organization) → Exit → Stream → Errors → Type 0
 IsCopied Fails org from old new e output errors =
     ((answer : AdminAnswer) × (effect answer (new org) ≡ org_copied (from org) (old org)) × ((other : List ℕ) → other ≢ org → new other ≡ old other)
     × TellsWord answer e output × (errors.new ≡ errors.old))
     ⊎ (Stays old new × ((why : Cause) × Fails why × Refuses why e output errors))
 
--- every organization was copied to where none was, and `ok` was told; or some were there, none was copied, and that was told; or memory
--- or a store refused before, which is told, and only some were copied
+-- every organization was copied to an empty target, and `ok` was printed. Or the target had some, none was copied, and that was printed. Or an
+-- allocation or a store failed before, which was reported, and only some were copied
 abbrev pub IsCompacted : (from old new : List ℕ → Option Organization) → Exit → Stream → Errors → Type 0
 IsCompacted from old new e output errors =
     ((is_filled : Bool) × IsFilled from old new is_filled × IsSaid (filled_ending is_filled) e output.old output.new × (errors.new ≡ errors.old))
     ⊎ (SomeAreCopied from old new × Refuses cause.Unfinished e output errors)
 
--- `refused usage` on the standard output, and why on the error stream
+-- `refused usage` on standard output, and the reason on the error stream
 abbrev pub RefusesUsage : Exit → Stream → Errors → Type 0
 RefusesUsage exit.Usage output errors = Says exit.Usage output × GetsSome errors
 RefusesUsage exit.Unprinted output errors = ⊤
@@ -204,7 +204,7 @@ RefusesDown exit.Down output = Says exit.Down output
 RefusesDown exit.Unprinted output = ⊤
 RefusesDown e output = ⊥
 
--- the input is known, and this is its secret, or it has none
+-- the input is known, and this is its secret; or it has none
 abbrev pub HasSecret : Option (List ℕ) → Type 0
 HasSecret input = IfSome input (λ bytes. is_some (secret_in bytes) ≡ true)
 
@@ -216,8 +216,7 @@ abbrev pub AddsToken : Option (List ℕ) → Exit → Stream → Errors → Type
 AddsToken input e output errors =
     (HasSecret input × AnswersLine e output) ⊎ ((HasNoSecret input × RefusesUsage e output errors) ⊎ RefusesDown e output)
 
--- faults in the tables of a file: where there is none `ok`, and how many rows there are, and else a line for each; or why they
--- aren't known
+-- the result of a check: if there is no fault, `ok` and the numbers of rows; otherwise one line per fault; or why it failed
 abbrev pub AnswersFaults : Exit → Stream → Type 0
 AnswersFaults exit.Done output = (totals : Totals) × Gets output (sound_text totals)
 AnswersFaults exit.Faults output = (faults : List (List ℕ)) × (0 < length faults) × Gets output (fault_lines faults)
@@ -226,27 +225,27 @@ AnswersFaults exit.Down output = Says exit.Down output
 AnswersFaults exit.Unprinted output = ⊤
 AnswersFaults e output = ⊥
 
--- these faults are told, a line for each; where there is none `ok`, and these numbers
+-- these faults are printed, one line each; if there is none, `ok` and these numbers
 abbrev pub TellsFaults : List (List ℕ) → Totals → Exit → Stream → Type 0
 TellsFaults [] totals e output = ((e ≡ exit.Done) × Gets output (sound_text totals)) ⊎ (e ≡ exit.Unprinted)
 TellsFaults (fault ∷ faults) totals e output = ((e ≡ exit.Faults) × Gets output (fault_lines (fault ∷ faults))) ⊎ (e ≡ exit.Unprinted)
 
--- what a look over the tables found is told; or that memory or the store refused
+-- what a check of the tables found is printed; or that an allocation or the store failed
 abbrev pub TellsFound : Result Looked Down → Exit → Stream → Errors → Type 0
 TellsFound (Ok looked) e output errors = TellsFaults looked.faults looked.totals e output × (errors.new ≡ errors.old)
 TellsFound (Err refused) e output errors = Refuses cause.Store e output errors
 
--- these faults: the error stream is told by the cause what isn't done, and each fault
+-- the error stream gets the line of this cause, which says what is not done, and one line per fault
 abbrev pub TellsEach : Cause → List (List ℕ) → Errors → Type 0
 TellsEach why [] errors = ⊥
 TellsEach why (fault ∷ faults) errors = Tells errors.old errors.new (cause_line why ++ fault_lines (fault ∷ faults))
 
--- a look found faults, or memory or the store refused: the error stream is told so
+-- a check found faults, or an allocation or the store failed: the error stream says so
 abbrev pub TellsUnsound : Cause → Result Looked Down → Errors → Type 0
 TellsUnsound why (Ok looked) errors = TellsEach why looked.faults errors
 TellsUnsound why (Err refused) errors = TellsCause cause.Store errors
 
--- connections are served, at the port that is told, and the log stands behind it where it is asked for (`true`)
+-- connections are served on the port that is printed, followed by the log if it is on (`true`)
 abbrev pub ServesAt : Bool → Exit → Stream → Type 0
 ServesAt logs exit.Done output = (port : ℕ) × (log : List ℕ) × Gets output (with_log logs (listening_line port) log)
 ServesAt logs exit.Schema output = Says exit.Schema output
@@ -255,7 +254,7 @@ ServesAt logs exit.Down output =
 ServesAt logs exit.Unprinted output = ⊤
 ServesAt logs e output = ⊥
 
--- the replies to the frames before a bad one, and on the error stream which one is bad, counted from 1
+-- the replies to the frames before a bad one, and on the error stream the number of the bad one, from 1
 abbrev pub ReplaysToBad : List ℕ → Stream → Errors → Type 0
 ReplaysToBad bytes output errors =
     (steps : List Step) × (replies : List (List ℕ)) × AreFrames bytes steps true × AreReplies steps replies × Gets output (printed replies) × GetsWhole errors.old errors.new (bad_frame_text (length steps + 1))
@@ -268,13 +267,13 @@ ReplaysFrames input exit.Down output errors = Says exit.Down output × TellsCaus
 ReplaysFrames input exit.Unprinted output errors = ⊤
 ReplaysFrames input e output errors = ⊥
 
--- the version of the program is told, and the newest version of the schema
+-- the version of the program and the newest version of the schema are printed
 abbrev pub TellsVersion : ℕ → Exit → Stream → Type 0
 TellsVersion schema exit.Done output = Gets output (version_text schema)
 TellsVersion schema exit.Unprinted output = ⊤
 TellsVersion schema e output = ⊥
 
--- what is asked for is done, or it is said why not; this is the newest version of the schema
+-- the command is carried out, or it is printed why not; this is the newest version of the schema
 abbrev pub Does : ℕ → Asked → Option (List ℕ) → Exit → Stream → Errors → Type 0
 Does schema (carries db command) input e output errors = AnswersCommand command e output
 Does schema (adds_token db org name role bounds) input e output errors = AddsToken input e output errors
@@ -285,8 +284,7 @@ Does schema (serves db port count timeouts logs checks) input e output errors = 
 Does schema replays input e output errors = ReplaysFrames input e output errors
 Does schema tells_version input e output errors = TellsVersion schema e output
 
--- words that ask for nothing that is carried out: for help, whose text goes to the error stream; or for
--- nothing at all; or memory was refused
+-- words without a command to carry out: they ask for help, whose text goes to the error stream; or they are not valid; or an allocation failed
 abbrev pub RefusesWords : List (List ℕ) → Exit → Stream → Errors → Type 0
 RefusesWords words exit.Done output errors = AskForHelp words × (output.new ≡ output.old) × GetsSome errors
 RefusesWords words exit.Usage output errors = (AreNoCommand words ⊎ (asked_in words ≡ None)) × RefusesUsage exit.Usage output errors
@@ -294,17 +292,17 @@ RefusesWords words exit.Down output errors = Says exit.Down output × TellsCause
 RefusesWords words exit.Unprinted output errors = ⊤
 RefusesWords words e output errors = ⊥
 
--- what is printed, by the words
+-- what is printed for these words
 abbrev pub PrintsFor : ℕ → List (List ℕ) → Option (List ℕ) → Exit → Stream → Errors → Type 0
 PrintsFor schema words input e output errors =
     ((asked : Asked) × (asked_in words ≡ Some asked) × Does schema asked input e output errors) ⊎ RefusesWords words e output errors
 
--- where a stream took not all the error stream is told so, and else nothing
+-- if a stream did not take everything, the error stream says so; otherwise it gets nothing more
 abbrev pub TellsEnd : Exit → Errors → Type 0
 TellsEnd exit.Unprinted errors = Tells errors.old errors.new unprinted_line
 TellsEnd e errors = errors.new ≡ errors.old
 
--- and behind it on the error stream that a stream took not all, where one didn't
+-- and after that, on the error stream, that a stream did not take everything, if one did not
 abbrev pub Prints : ℕ → List (List ℕ) → Option (List ℕ) → Exit → Stream → Errors → Type 0
 Prints schema words input e output errors =
     (told : Told) × PrintsFor schema words input e output (error_stream errors.old told) × TellsEnd e (error_stream told errors.new)
@@ -313,30 +311,30 @@ Prints schema words input e output errors =
 abbrev pub IsSecretOf : Option (List ℕ) → List ℕ → Type 0
 IsSecretOf input secret = IfSome input (λ bytes. secret_in bytes ≡ Some secret)
 
--- the error stream is told that others may read the file, where they may, and else nothing
+-- the error stream says that others may read the file, exactly if they may
 abbrev pub TellsOfReaders : Bool → Errors → Type 0
 TellsOfReaders true errors = Tells errors.old errors.new readers_line
 TellsOfReaders false errors = errors.new ≡ errors.old
 
--- the error stream is told that a file is made, where none lay at its path, and else nothing
+-- the error stream says that a file was created, exactly if there was none at its path
 abbrev pub TellsOfNew : Bool → Errors → Type 0
 TellsOfNew true errors = Tells errors.old errors.new new_line
 TellsOfNew false errors = errors.new ≡ errors.old
 
--- both are told, in this order
+-- both lines, in this order
 abbrev pub TellsOfFile : Bool → Bool → Errors → Type 0
 TellsOfFile is_new others_may_read errors = (mid : Told) × TellsOfNew is_new (error_stream errors.old mid) × TellsOfReaders others_may_read (error_stream mid errors.new)
 
--- the log of a file is copied into it, or the error stream is told that it stays beside it
+-- the WAL of a file is copied into it, or the error stream says that it stays beside it
 abbrev pub TellsOfLog : Type 0 → Errors → Type 0
 TellsOfLog IsCopied errors = (IsCopied × (errors.new ≡ errors.old)) ⊎ Tells errors.old errors.new log_line
 
--- the same cause, where the path stands behind `--to` as one that says so
+-- the cause, with `NoFolder` as `NoTargetFolder` if the path came with `--to`
 abbrev pub seen_at : Opening → Cause → Cause
 seen_at opening.Target cause.NoFolder = cause.NoTargetFolder
 seen_at opening why = why
 
--- only a command that adds an organization makes a database
+-- only a command that adds an organization creates a database
 abbrev pub opening_of : Admin → Opening
 opening_of (OrgAdd org limit) = opening.Created
 opening_of (OrgLimit org limit) = opening.Existing
@@ -346,23 +344,23 @@ opening_of (TokenAdd org name role secret bounds) = opening.Existing
 opening_of (TokenList org) = opening.Existing
 opening_of (TokenRevoke org name) = opening.Existing
 
--- why a store refused, by what it says of a fault of the disk: where one has shut it, a change that was under way may have been made
+-- why a store failed: if a disk error has closed it, a change that was under way may have been made
 abbrev pub failure_of : Result Bool Down → Cause
 failure_of (Ok true) = cause.Halted
 failure_of (Ok false) = cause.Store
 failure_of (Err refused) = cause.Unknown
 
 module _ {K F : Type 0} (k : keep.Ghosts K) (f : files.Ghosts F K) where
-  -- a store refused, and this is why, by what is said of a fault of the disk
+  -- a store failed, and this is the cause, by whether a disk error has closed it
   abbrev pub FailsAs : K → K → Cause → Type 0
   FailsAs asked after why = (said : Result Bool Down) × f.shuts asked said after × (why ≡ failure_of said)
 
-  -- the same, whatever the store was when it was asked
+  -- the same, for any state of the store when it was asked
   abbrev pub HasFailed : K → Cause → Type 0
   HasFailed after why = (asked : K) × FailsAs asked after why
 
-  -- what lies at a path isn't opened, and at each path all stays, where no database is to be made also that no file lies there:
-  -- memory or the store refuses, or it is of another schema; and the error stream is told why
+  -- the store at a path is not opened, and nothing changes at any path; if no database may be created, no file is created either. An
+  -- allocation or the store failed, or the file has another schema, and the error stream says which
   abbrev pub RefusesToOpen : List ℕ → Opening → F → F → Exit → Stream → Errors → Type 0
   RefusesToOpen path opening old new e output errors =
       AllStay f.holds old new × LeavesVacant f.vacant (makes opening) path old new
@@ -370,8 +368,8 @@ module _ {K F : Type 0} (k : keep.Ghosts K) (f : files.Ghosts F K) where
       ⊎ (((bytes : ℕ) × f.refuses old path (fault.Memory bytes) × IsSaid exit.Down e output.old output.new × Tells errors.old errors.new (memory_line bytes))
       ⊎ ((other : OtherSchema) × f.refuses old path (fault.Schema other) × IsSaid exit.Schema e output.old output.new × Tells errors.old errors.new (other_line other))))
 
-  -- a store was opened at a path, and its file told of; what lies at other paths stays. Where no database is to be made, one with our
-  -- tables lay there
+  -- a store was opened at a path, and its file reported on. Nothing changed at other paths. If no database may be created, one with our tables
+  -- was there
   pub record Opens (path : List ℕ) (opening : Opening) (old new : F) (store : K) (errors : Errors) : Type 0 where
     pub found : f.holds old path store
     pub existing : makes opening ≡ false → k.clean store → ¬ f.bare old path
@@ -384,14 +382,14 @@ module _ {K F : Type 0} (k : keep.Ghosts K) (f : files.Ghosts F K) where
     pub looked : f.reads old path others_may_read
     pub tells : TellsOfFile is_new others_may_read errors
 
-  -- a store was closed at a path; what lies at other paths stays
+  -- a store was closed at a path. Nothing changed at other paths
   pub record Closes (path : List ℕ) (old new : F) (store : K) (errors : Errors) : Type 0 where
     pub left : f.holds new path store
     pub others : OthersStay f.holds path old new
     pub vacancies : LeavesVacant f.vacant true path old new
     pub log : TellsOfLog (f.copied new path store) errors
 
-  -- an operator's command was carried out on what lay at a path; what that left lies there now, and nothing else changed
+  -- an operator's command was carried out on the store at a path. What it left is there now, and nothing else changed
   pub record Operates (path : List ℕ) (command : Admin) (old new : F) (e : Exit) (output : Stream) (errors : Errors) : Type 0 where
     pub before : K
     pub after : K
@@ -409,7 +407,7 @@ module _ {K F : Type 0} (k : keep.Ghosts K) (f : files.Ghosts F K) where
   abbrev pub OperatesAt : List ℕ → Admin → F → F → Exit → Stream → Errors → Type 0
   OperatesAt path command old new e output errors = Operates path command old new e output errors ⊎ RefusesToOpen path (opening_of command) old new e output errors
 
-  -- a token is added at a path with the secret of the input; or there is none, or it isn't read, and nothing changes
+  -- a token is added at a path with the secret from the input; or there is none, or it could not be read, and nothing changes
   abbrev pub AddsTokenAt : List ℕ → (List ℕ → Admin) → Option (List ℕ) → F → F → Exit → Stream → Errors → Type 0
   AddsTokenAt path adding input old new e output errors =
       ((secret : List ℕ) × IsSecretOf input secret × OperatesAt path (adding secret) old new e output errors)
@@ -425,8 +423,7 @@ module _ {K F : Type 0} (k : keep.Ghosts K) (f : files.Ghosts F K) where
     pub sound : IfOk result (λ looked. looked.faults ≡ [] → k.clean after → f.is_ours before → k.sound before × k.keyed before)
     pub says : IsTold result errors
 
-  -- what lay at a path was looked over, which made no file. What the look left lies there now, each record as before, and nothing else
-  -- changed
+  -- the store at a path was checked, which created no file. What the check left is there now, each record as before, and nothing else changed
   pub record LooksOver (path : List ℕ) (IsTold : Result Looked Down → Errors → Type 0) (old new : F) (errors : Errors) : Type 0 where
     pub before : K
     pub after : K
@@ -438,17 +435,16 @@ module _ {K F : Type 0} (k : keep.Ghosts K) (f : files.Ghosts F K) where
     pub closes : Closes path worked new after (error_stream told errors.new)
     pub others : OthersStay f.holds path old new
 
-  -- faults are looked for at a path, and what is found is printed
+  -- the store at a path is checked, and the result is printed
   abbrev pub LooksAt : List ℕ → F → F → Exit → Stream → Errors → Type 0
   LooksAt path old new e output errors =
       LooksOver path (λ found told. TellsFound found e output told) old new errors ⊎ RefusesToOpen path opening.Existing old new e output errors
 
-  -- faults are found at a path, or the look for them is refused, and so nothing more is done: by this cause
+  -- the store at a path has faults, or its check fails, so nothing more is done, with this cause
   abbrev pub RefusesUnsound : List ℕ → Cause → F → F → Exit → Stream → Errors → Type 0
   RefusesUnsound path why old new e output errors = LooksOver path (TellsUnsound why) old new errors × IsSaid exit.Down e output.old output.new
 
-  -- a store was opened at a path, which made no file, and a look over its tables found no fault: so it is sound and keyed, if its tables
-  -- are defined as ours
+  -- a store was opened at a path, which created no file, and a check of its tables found no fault. So it is sound and keyed, if it `is_ours`
   pub record OpensSound (path : List ℕ) (old new : F) (store : K) (errors : Errors) : Type 0 where
     pub opened : K
     pub opens : Opens path opening.Existing old new opened errors
@@ -459,12 +455,12 @@ module _ {K F : Type 0} (k : keep.Ghosts K) (f : files.Ghosts F K) where
     pub sound_ours : k.clean store → f.is_ours opened → k.sound opened × k.sound store
     pub keyed_ours : k.clean store → f.is_ours opened → k.keyed opened × k.keyed store
 
-  -- what is copied isn't opened, or faults are found in its tables
+  -- the source is not opened, or its tables have faults
   abbrev pub RefusesSource : List ℕ → F → F → Exit → Stream → Errors → Type 0
   RefusesSource path old new e output errors =
       RefusesToOpen path opening.Existing old new e output errors ⊎ RefusesUnsound path cause.SourceFaults old new e output errors
 
-  -- stores were opened at two paths, one after the other, the first without a fault
+  -- stores were opened at two paths, one after the other; the first has no fault
   pub record OpensBoth (from to : List ℕ) (old new : F) (source target : K) (errors : Errors) : Type 0 where
     pub differ : from ≢ to
     pub mid : F
@@ -472,15 +468,15 @@ module _ {K F : Type 0} (k : keep.Ghosts K) (f : files.Ghosts F K) where
     pub first : OpensSound from old mid source (error_stream errors.old noted)
     pub second : Opens to opening.Target mid new target (error_stream noted errors.new)
 
-  -- they were closed there, the second first
+  -- they were closed there, the second one first
   pub record ClosesBoth (from to : List ℕ) (old new : F) (source target : K) (errors : Errors) : Type 0 where
     pub mid : F
     pub noted : Told
     pub second : Closes to old mid target (error_stream errors.old noted)
     pub first : Closes from mid new source (error_stream noted errors.new)
 
-  -- a store was opened at one path, and what lies at the other isn't opened; so the first was closed as it was, and at each other path
-  -- all stays
+  -- a store was opened at one path, and the one at the other path is not opened. So the first was closed as it was, and nothing changed at any
+  -- other path
   pub record RefusesSecond (from to : List ℕ) (old new : F) (e : Exit) (output : Stream) (errors : Errors) : Type 0 where
     pub differ : from ≢ to
     pub source : K
@@ -493,7 +489,7 @@ module _ {K F : Type 0} (k : keep.Ghosts K) (f : files.Ghosts F K) where
     pub closes : Closes from unopened new source (error_stream told errors.new)
     pub others : OthersStay f.holds from old new
 
-  -- of two paths one isn't opened; or they are the same, and nothing is opened
+  -- one of two stores is not opened; or the paths are the same, and nothing is opened
   abbrev pub RefusesBoth : List ℕ → List ℕ → F → F → Exit → Stream → Errors → Type 0
   RefusesBoth from to old new e output errors =
       ((from ≡ to) × (new ≡ old) × Refuses cause.InUse e output errors)
@@ -519,19 +515,19 @@ module _ {K F : Type 0} (k : keep.Ghosts K) (f : files.Ghosts F K) where
     pub left_target : f.holds new to target_after
     pub others : OthersStayBut f.holds from to old new
 
-  -- an organization is copied from what lies at one path to what lies at another
+  -- an organization is copied from the store at one path to the store at another
   abbrev pub CopiesAt : List ℕ → List ℕ → List ℕ → F → F → Exit → Stream → Errors → Type 0
   CopiesAt from to org old new e output errors =
       CopiesOver from to (λ left source before after told. IsCopied (HasFailed left) org source before after e output told) HasFailed old new errors
       ⊎ RefusesBoth from to old new e output errors
 
-  -- every organization is copied so
+  -- every organization is copied in this way
   abbrev pub CompactsAt : List ℕ → List ℕ → F → F → Exit → Stream → Errors → Type 0
   CompactsAt from to old new e output errors =
       CopiesOver from to (λ left source before after told. IsCompacted source before after e output told) (λ left why. why ≡ cause.Unfinished) old new errors
       ⊎ RefusesBoth from to old new e output errors
 
--- what the program stands on besides its streams
+-- the program's environment besides its streams: files, network and clock
 pub record Environment (F N C : Type 0) : Type 0 where
   pub files : F
   pub network : N
@@ -544,14 +540,14 @@ environment files network clock = record { files = files; network = network; clo
 abbrev pub IsAlone : {F N C : Type 0} → Environment F N C → Environment F N C → Type 0
 IsAlone old new = (new.network ≡ old.network) × (new.clock ≡ old.clock)
 
--- `refused down` is printed where serving ended so, and nothing more where it didn't
+-- `refused down` is printed if serving ended with it, and nothing more otherwise
 abbrev pub SaysServed : Exit → Exit → Option (List ℕ) → Option (List ℕ) → Type 0
 SaysServed served e old new =
     ((served ≡ exit.Down) × IsSaid exit.Down e old new) ⊎ ((served ≢ exit.Down) × (e ≡ served) × (new ≡ old))
 
 module _ {K F N C R W : Type 0} (k : keep.Ghosts K) (f : files.Ghosts F K) (n : connections.Ghosts N R W) (c : clock.Ghosts C) (i : inlet.Ghosts R) (o : outlet.Ghosts W) where
-  -- connections are answered from what lay at a path, each with these timeouts, with the log or without it; what they left
-  -- lies there now, and nothing else changed
+  -- connections are answered from the store at a path, each with these timeouts, with the log or without it. What they left is there now, and
+  -- nothing else changed
   pub record ServesFrom (path : List ℕ) (port : ℕ) (timeouts : Timeouts) (logs : Bool) (count : ℕ) (old new : Environment F N C) (e : Exit) (output : Stream) (errors : Errors) : Type 0 where
     pub before : K
     pub after : K
@@ -568,7 +564,7 @@ module _ {K F N C R W : Type 0} (k : keep.Ghosts K) (f : files.Ghosts F K) (n : 
     pub closes : Closes k f path worked new.files after (error_stream lines errors.new)
     pub others : OthersStay f.holds path old.files new.files
 
-  -- the same of a file that was there, after a check of its tables, which found no fault. So what is served is sound and keyed, if the store
+  -- the same for a file that existed, after a check of its tables, which found no fault. So what is served is sound and keyed, if the store
   -- `is_ours`
   pub record ServesChecked (path : List ℕ) (port : ℕ) (timeouts : Timeouts) (logs : Bool) (count : ℕ) (old new : Environment F N C) (e : Exit) (output : Stream) (errors : Errors) : Type 0 where
     pub before : K
@@ -589,8 +585,8 @@ module _ {K F N C R W : Type 0} (k : keep.Ghosts K) (f : files.Ghosts F K) (n : 
     pub closes : Closes k f path worked new.files after (error_stream lines errors.new)
     pub others : OthersStay f.holds path old.files new.files
 
-  -- connections are answered; where a look for faults is asked for (`true`), behind one, and only where it found none, and then no file is
-  -- made; or what lies at the path isn't opened
+  -- connections are answered. If a check is asked for (`true`), only after one that found no fault, and no file is created. Or the store at
+  -- the path is not opened
   abbrev pub ServesAsAsked : Bool → List ℕ → ℕ → Timeouts → Bool → ℕ → Environment F N C → Environment F N C → Exit → Stream → Errors → Type 0
   ServesAsAsked false path port timeouts logs count old new e output errors =
       ServesFrom path port timeouts logs count old new e output errors ⊎ (RefusesToOpen k f path opening.Created old.files new.files e output errors × IsAlone old new)
@@ -598,7 +594,7 @@ module _ {K F N C R W : Type 0} (k : keep.Ghosts K) (f : files.Ghosts F K) (n : 
       (ServesChecked path port timeouts logs count old new e output errors ⊎ (RefusesUnsound k f path cause.Faults old.files new.files e output errors × IsAlone old new))
       ⊎ (RefusesToOpen k f path opening.Existing old.files new.files e output errors × IsAlone old new)
 
-  -- what is asked for is done to what lies at its path, and to nothing else
+  -- the command is carried out on the store at its path, and on nothing else
   abbrev pub Leaves : Asked → Option (List ℕ) → Environment F N C → Environment F N C → Exit → Stream → Errors → Type 0
   Leaves (carries db command) input old new e output errors = OperatesAt k f db command old.files new.files e output errors × IsAlone old new
   Leaves (adds_token db org name role bounds) input old new e output errors =
@@ -610,13 +606,13 @@ module _ {K F N C R W : Type 0} (k : keep.Ghosts K) (f : files.Ghosts F K) (n : 
   Leaves replays input old new e output errors = new ≡ old
   Leaves tells_version input old new e output errors = new ≡ old
 
-  -- the program by its words, up to what is told where a stream took not all
+  -- the program for these words, before it reports that a stream did not take everything
   pub record RunsOver (words : List (List ℕ)) (input : Option (List ℕ)) (old new : Environment F N C) (e : Exit) (output : Stream) (errors : Errors) : Type 0 where
     pub prints : PrintsFor f.newest words input e output errors
     pub leaves : ((asked : Asked) × (asked_in words ≡ Some asked) × Leaves asked input old new e output errors)
         ⊎ (RefusesWords words e output errors × (new ≡ old))
 
-  -- the program by its words: how it ends, what is printed, and what the program stands on before and after
+  -- the program for these words: how it exits, what is printed, and its environment before and after
   pub record Runs (words : List (List ℕ)) (input : Option (List ℕ)) (old new : Environment F N C) (e : Exit) (output : Stream) (errors : Errors) : Type 0 where
     pub told : Told
     pub runs : RunsOver words input old new e output (error_stream errors.old told)

@@ -18,7 +18,7 @@ reply_frame reply = codes "reply " ++ decimal (length reply) ++ 10 ∷ [] ++ rep
 abbrev pub printed : List (List ℕ) → List ℕ
 printed replies = flat_map reply_frame replies
 
--- the line about the frame at this place, which doesn't parse
+-- the line about the frame of this number, which does not parse
 abbrev pub bad_frame_text : ℕ → List ℕ
 bad_frame_text frame = codes "custody: bad frame " ++ (decimal frame ++ 10 ∷ [])
 
@@ -26,28 +26,27 @@ bad_frame_text frame = codes "custody: bad frame " ++ (decimal frame ++ 10 ∷ [
 abbrev pub answer_line : List ℕ → List ℕ
 answer_line words = words ++ 10 ∷ []
 
--- a line for each fault that was found in the tables of a file
+-- one line for each fault found in the tables of a file
 abbrev pub fault_lines : List (List ℕ) → List ℕ
 fault_lines faults = flat_map answer_line faults
 
--- no organization is there
+-- there is no organization
 abbrev pub no_records : List ℕ → Option Organization
 no_records org = None
 
--- the replies to these steps over an empty store: one for each, and at the places of the steps of an
--- organization, and of nobody, those that its own machine says; the operator's are lists, and each tells the organizations that the
--- steps before it leave
+-- the replies to these steps over an empty store: one each. For the steps of an organization, and of nobody, they are those of its own
+-- machine. The operator's are lists, and each names the organizations that the steps before it leave
 pub record AreReplies (steps : List Step) (replies : List (List ℕ)) : Type 0 where
   pub one_each : length replies ≡ length steps
   pub own : (asked : List Ask) → AreAsked steps asked → (owner : Owner) → AreOwnReplies asked no_records replies owner
   pub lists : (asked : List Ask) → AreAsked steps asked → ListsAreTold no_records asked replies
 
--- the replies to the frames of the bytes, and the place of the bad frame behind them, counted from 1
+-- the replies to the frames of the bytes, and the number of the bad frame after them, from 1
 abbrev pub AnswersFrames : List ℕ → List (List ℕ) → Option ℕ → Type 0
 AnswersFrames bytes replies bad_frame =
     (steps : List Step) × AreFrames bytes steps (is_some bad_frame) × AreReplies steps replies × IfSome bad_frame (λ frame. frame ≡ length steps + 1)
 
--- known contents of the output grow by the printed replies to the frames of the bytes; whether a bad frame follows
+-- the output's contents, if known, grow by the printed replies to the frames of the bytes; and whether a bad frame follows
 abbrev pub Replays : List ℕ → Bool → Option (List ℕ) → Option (List ℕ) → Type 0
 Replays bytes is_bad old new =
     (steps : List Step) × (replies : List (List ℕ)) × AreFrames bytes steps is_bad × AreReplies steps replies × Appends old new (printed replies)

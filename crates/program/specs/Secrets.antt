@@ -3,7 +3,7 @@ use Rattle.std.specs.Prelude.{ℕ, List, [], ◌∷◌, Option, Some, None, cond
 use Rattle.basis.specs.Names.{is_secret}
 use Rattle.program.specs.Lines.{first_line, text_of}
 
--- a line, where nothing follows its line feed
+-- a line, if nothing follows its line feed
 abbrev pub alone : List ℕ × List ℕ → Option (List ℕ)
 alone (line, []) = Some line
 alone (line, byte ∷ rest) = None
@@ -16,10 +16,10 @@ line_or_all bytes None = Some bytes
 abbrev pub only_line : List ℕ → Option (List ℕ)
 only_line bytes = line_or_all bytes (first_line bytes)
 
--- a text that is a secret
+-- a text, if it is a secret
 abbrev pub if_secret : List ℕ → Option (List ℕ)
 if_secret text = cond (is_secret text) (Some text) None
 
--- the secret: the one line, where it is one
+-- the secret: the only line, if it is a secret
 abbrev pub secret_in : List ℕ → Option (List ℕ)
 secret_in bytes = option_and_then (λ line. option_and_then if_secret (text_of line)) (only_line bytes)

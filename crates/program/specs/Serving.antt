@@ -1,4 +1,4 @@
--- The loop of `serve`: what it prints, the connections that it answers, the records that it leaves, and what its log tells of those.
+-- The loop of `serve`: what it prints, the connections that it answers, the records that it leaves, and what its log says of them.
 use Rattle.std.specs.Prelude.{◌≡◌, ◌<◌, ◌≤◌, ℕ, suc, List, [], ◌∷◌, ◌++◌, ◌⊎◌, ⊤, Bool, true, false, Option, Some, None, IfSome, Result, Ok, Err, MatchResult, codes, decimal, length}
 use Rattle.std.specs.Io.KnownBytes.{Appends, Consumes}
 use Rattle.basis.specs.declared.memory.Down.{Down}
@@ -32,22 +32,22 @@ use Rattle.wire.specs.declared.devices.Outlet as outlet
 abbrev pub listening_line : ℕ → List ℕ
 listening_line port = codes "listening 127.0.0.1:" ++ decimal port ++ 10 ∷ []
 
--- what the standard output gets: the line, once, before the first connection, and the log behind it, where it is asked for
--- (`true`); where no connection can be had there may be none
+-- what standard output gets: this line once, before the first connection, then the log if it is on (`true`). If no connection can be accepted,
+-- the line may be missing
 abbrev pub Listens : Bool → Exit → Option (List ℕ) → Option (List ℕ) → Type 0
 Listens logs exit.Done old new = (port : ℕ) × (log : List ℕ) × Appends old new (with_log logs (listening_line port) log)
 Listens logs exit.Down old new = (new ≡ old) ⊎ ((port : ℕ) × (log : List ℕ) × Appends old new (with_log logs (listening_line port) log))
 Listens logs exit.Unprinted old new = ⊤
 Listens logs other old new = ⊥
 
--- the same, where the port is known
+-- the same, if the port is known
 abbrev pub ListensAt : ℕ → Bool → Exit → Option (List ℕ) → Option (List ℕ) → Type 0
 ListensAt port logs exit.Done old new = (log : List ℕ) × Appends old new (with_log logs (listening_line port) log)
 ListensAt port logs exit.Down old new = (log : List ℕ) × Appends old new (with_log logs (listening_line port) log)
 ListensAt port logs exit.Unprinted old new = ⊤
 ListensAt port logs other old new = ⊥
 
--- the network, the clock, the store and what the error stream and standard output have, between two connections
+-- the network, the clock, the store, and the contents of the error stream and standard output, between two connections
 pub record State (N C K : Type 0) : Type 0 where
   pub network : N
   pub clock : C
@@ -58,18 +58,17 @@ pub record State (N C K : Type 0) : Type 0 where
 abbrev pub state : {N C K : Type 0} → N → C → K → Told → Option (List ℕ) → State N C K
 state network clock store errors output = record { network = network; clock = clock; store = store; errors = errors; output = output }
 
--- no connection is accepted with these timeouts, or the clock tells no moment for it, and this is the cause: the network
--- and the clock before and after
+-- no connection is accepted with these timeouts, or the clock has no time for it, for this cause: the network and the clock before and after
 abbrev pub AcceptsNone : {N C R W : Type 0} → connections.Ghosts N R W → clock.Ghosts C → Timeouts → N → N → C → C → Cause → Type 0
 AcceptsNone {N} {C} {R} {W} n c timeouts network network' clock clock' why =
     ((refused : Down) × n.accepts network timeouts (Err refused) network' × (clock' ≡ clock) × (why ≡ cause.Accept))
     ⊎ ((reader : R) × (writer : W) × n.accepts network timeouts (Ok (reader, writer)) network' × c.tells clock None clock' × (why ≡ cause.Clock))
 
 module _ {K N R W : Type 0} (k : keep.Ghosts K) (n : connections.Ghosts N R W) (i : inlet.Ghosts R) (o : outlet.Ghosts W) where
-  -- the connection of this number, with these two sides, is answered by one exchange at this moment, by the 503 of memory or
-  -- a store that refused or not, told of on the error stream, and in the log where it is asked for, and ended, as one whose message
-  -- was read whole where an act is told of it; and whether the log's line was taken: the network, the store and what the error
-  -- stream and standard output have, before and after
+  -- the connection of this number, with these two sides, is answered by one exchange at this time. Whether it got the 503 of a failed
+  -- allocation or store, which the error stream reports; its line in the log, if the log is on, and whether that was taken; its end, as one
+  -- whose message was read completely if the line names an act. The network, the store, and the contents of the error stream and standard
+  -- output, before and after
   pub record AnswersOne (logs : Bool) (place at : ℕ) (is_down is_told : Bool) (reader : R) (writer : W) (network network' : N) (store store' : K) (errors errors' : Told) (output output' : Option (List ℕ)) : Type 0 where
     pub read : R
     pub written : W
@@ -84,15 +83,14 @@ module _ {K N R W : Type 0} (k : keep.Ghosts K) (n : connections.Ghosts N R W) (
     pub ends : n.ends network read written (tells_act row) network'
 
 module _ {K F : Type 0} (k : keep.Ghosts K) (f : files.Ghosts F K) where
-  -- after the 503 the files are asked whether a fault of the disk has shut the store, and say so or not, or they are refused
-  -- memory, which counts as not; after another reply they aren't asked, and copy the log where it is long
+  -- after the 503, the files are asked whether a disk error has closed the store, and say so or not, or have no memory for it, which counts as
+  -- not. After another reply they are not asked, and checkpoint a long WAL
   abbrev pub AfterReply : Bool → K → Bool → K → Type 0
   AfterReply true old is_shut new = (said : Result Bool Down) × f.shuts old said new × Looks k.rows k.clean k.sound k.keyed k.shielded old new × MatchResult said (λ told. is_shut ≡ told) (λ down. is_shut ≡ false)
   AfterReply false old is_shut new = (is_shut ≡ false) × f.checkpoints old new × Checkpoints k.rows k.clean k.sound k.keyed k.shielded old new
 
 module _ {K N C R W : Type 0} (k : keep.Ghosts K) (n : connections.Ghosts N R W) (c : clock.Ghosts C) (i : inlet.Ghosts R) (o : outlet.Ghosts W) where
-  -- a connection is accepted with these timeouts, the clock tells this moment, and the connection is answered as that of
-  -- this number
+  -- a connection is accepted with these timeouts, the clock gives this time, and the connection is answered as the one of this number
   pub record Answers (timeouts : Timeouts) (logs : Bool) (place at : ℕ) (is_down is_told : Bool) (old new : State N C K) : Type 0 where
     pub reader : R
     pub writer : W
@@ -102,29 +100,29 @@ module _ {K N C R W : Type 0} (k : keep.Ghosts K) (n : connections.Ghosts N R W)
     pub answers : AnswersOne k n i o logs place at is_down is_told reader writer network new.network old.store new.store old.errors new.errors old.output new.output
 
 module _ {K F N C R W : Type 0} (k : keep.Ghosts K) (f : files.Ghosts F K) (n : connections.Ghosts N R W) (c : clock.Ghosts C) (i : inlet.Ghosts R) (o : outlet.Ghosts W) where
-  -- a connection is answered so, and then the store is tended, and it is known whether a fault of the disk has shut it
+  -- a connection is answered in this way, and then the store is looked after; whether a disk error has closed it is then known
   pub record AnswersNext (timeouts : Timeouts) (logs : Bool) (place at : ℕ) (is_shut is_told : Bool) (old new : State N C K) : Type 0 where
     pub is_down : Bool
     pub store : K
     pub answers : Answers k n c i o timeouts logs place at is_down is_told old (state new.network new.clock store new.errors new.output)
     pub after_reply : AfterReply k f is_down store is_shut new.store
 
-  -- connections are answered in turn, one at each of these moments, each with these timeouts, by numbers from this one on; and
-  -- after none of them was the store shut, and of none was the log's line not taken
+  -- connections are answered in order, one at each of these times, each with these timeouts, numbered from this one on. After none of them was
+  -- the store closed, and every line of the log was taken
   abbrev pub AnswersAll : Timeouts → Bool → ℕ → List ℕ → State N C K → State N C K → Type 0
   AnswersAll timeouts logs place [] old new = new ≡ old
   AnswersAll timeouts logs place (at ∷ moments) old new = (mid : State N C K) × AnswersNext timeouts logs place at false true old mid × AnswersAll timeouts logs (suc place) moments mid new
 
-  -- no further connection is accepted, and this is why: an accept or the clock failed; or one more was answered, that of this
-  -- number, and a fault of the disk has shut the store, or it hasn't and the log's line was not taken
+  -- no further connection is accepted, for this cause: an accept or the clock failed; or one more was answered, that of this number, and a
+  -- disk error has closed the store, or it has not and the log's line was not taken
   abbrev pub EndsEarly : Timeouts → Bool → ℕ → State N C K → State N C K → Cause → Type 0
   EndsEarly timeouts logs place last new why =
       (AcceptsNone n c timeouts last.network new.network last.clock new.clock why × (new.store ≡ last.store) × (new.errors ≡ last.errors) × (new.output ≡ last.output))
       ⊎ (((at : ℕ) × (is_told : Bool) × AnswersNext timeouts logs place at true is_told last new × (why ≡ cause.Shut))
       ⊎ ((at : ℕ) × AnswersNext timeouts logs place at false false last new × (why ≡ cause.Log)))
 
-  -- the line on the port is printed, and then so many connections are answered; or fewer, since no further one is accepted, and
-  -- the error stream is told the cause; or none, where the line wasn't printed
+  -- the line with the port is printed, then this many connections are answered; or fewer, because no further one is accepted, and the error
+  -- stream gets the cause; or none, because the line could not be printed
   abbrev pub AnswersCount : ℕ → Timeouts → Bool → ℕ → State N C K → State N C K → Exit → Type 0
   AnswersCount port timeouts logs count old new exit.Done =
       (heard : Option (List ℕ)) × Appends old.output heard (listening_line port)
@@ -136,8 +134,8 @@ module _ {K F N C R W : Type 0} (k : keep.Ghosts K) (f : files.Ghosts F K) (n : 
   AnswersCount port timeouts logs count old new exit.Unprinted = (new.network ≡ old.network) × (new.clock ≡ old.clock) × (new.store ≡ old.store) × (new.errors ≡ old.errors)
   AnswersCount port timeouts logs count old new other = ⊥
 
-  -- 127.0.0.1 is bound at a port, and nothing else is; the port that it gave is told, and so many connections
-  -- are answered; or it can't be bound, and the error stream is told the cause
+  -- the network listens on 127.0.0.1 at a port, and nowhere else. The port that it gave is printed, and this many connections are answered. Or
+  -- it cannot listen, and the error stream gets the cause
   abbrev pub AnswersAtPort : ℕ → Timeouts → Bool → ℕ → State N C K → State N C K → Exit → Type 0
   AnswersAtPort port timeouts logs count old new e =
       ((bound : N) × (given : ℕ) × n.binds old.network (127 ∷ 0 ∷ 0 ∷ 1 ∷ []) port (Ok given) bound
@@ -145,8 +143,8 @@ module _ {K F N C R W : Type 0} (k : keep.Ghosts K) (f : files.Ghosts F K) (n : 
       ⊎ ((why : Cause) × n.binds old.network (127 ∷ 0 ∷ 0 ∷ 1 ∷ []) port (Err why) new.network
       × (new.clock ≡ old.clock) × (new.store ≡ old.store) × Tells old.errors new.errors (cause_line why) × (e ≡ exit.Down) × (new.output ≡ old.output))
 
-  -- the log tells each connection that was answered by one line, in turn; and between two lines no record changes but that of the
-  -- organization that the later line names
+  -- the log has one line for each answered connection, in order. Between two lines, only the record of the organization that the later line
+  -- names changes
   abbrev pub LogTellsChanges : Type 0
   LogTellsChanges = (timeouts : Timeouts) (place : ℕ) (moments : List ℕ) (old new : State N C K)
       → AnswersAll timeouts true place moments old new → k.clean new.store → k.sound old.store
@@ -158,8 +156,8 @@ AreRequests [] = ⊤
 AreRequests (Request at bytes ∷ steps) = AreRequests steps
 AreRequests (Command at command ∷ steps) = ⊥
 
--- requests of at most so many connections were carried out, one after the other, and nothing else: each
--- organization's record is what its own machine leaves, run over its own requests
+-- requests of at most this many connections were carried out, one after the other, and nothing else. Each organization's record is what its
+-- own machine leaves over its own requests
 pub record Serves (count : ℕ) (old new : List ℕ → Option Organization) : Type 0 where
   pub steps : List Step
   pub few : length steps ≤ count

@@ -1,8 +1,8 @@
--- The error stream: what it has, and how many calls on it have failed.
+-- The error stream: its contents, and how many calls on it have failed.
 use Rattle.std.specs.Prelude.{◌≡◌, ◌⊎◌, ◌++◌, ◌+◌, ◌^◌, ◌-◌, ℕ, List, Option, Result, Ok, Err, min}
 use Rattle.std.specs.Io.KnownBytes.{Appends}
 
--- what the stream has, where that is known, and how many calls on it have failed
+-- the stream's contents, if they are known, and how many calls on it have failed
 pub record Told : Type 0 where
   pub bytes : Option (List ℕ)
   pub failures : ℕ
@@ -31,7 +31,7 @@ GetsWhole old new text = Appends old.bytes new.bytes text × (new.failures ≡ o
 abbrev pub GetsPart : Told → Told → List ℕ → Type 0
 GetsPart old new text = GetsFront old.bytes new.bytes text × (new.failures ≡ one_more old.failures)
 
--- the error stream is told the text: it gets all of it, unless a call on it failed
+-- the error stream gets the whole text, unless a call on it failed
 abbrev pub Tells : Told → Told → List ℕ → Type 0
 Tells old new text = GetsWhole old new text ⊎ GetsPart old new text
 

@@ -1,9 +1,9 @@
--- How many rows the tables of a file have, as `check` tells it.
+-- The numbers of rows of a file's tables, as `check` prints them.
 use Rattle.std.specs.Prelude.{ℕ, List, [], ◌∷◌, ◌++◌, Option, Some, None, codes}
 use Rattle.std.specs.Fmt.{decimal}
 use Rattle.program.specs.declared.totals.Totals.{Totals}
 
--- when the newest version was made, in seconds since 1970; a hyphen where there is no version
+-- when the newest version was created, in seconds since 1970; a hyphen if there is no version
 abbrev pub newest_word : Option ℕ → List ℕ
 newest_word (Some seconds) = codes " newest " ++ decimal seconds ++ 10 ∷ []
 newest_word None = codes " newest -\n"
@@ -14,7 +14,7 @@ totals_line t =
     (codes "organizations " ++ decimal t.organizations) ++ (codes " workspaces " ++ decimal t.workspaces) ++ (codes " versions " ++ decimal t.versions)
     ++ (codes " runs " ++ decimal t.runs) ++ newest_word t.newest
 
--- what `check` prints where there is no fault: `ok` on a line, and how many rows there are
+-- what `check` prints if there is no fault: a line `ok`, and the numbers of rows
 abbrev pub sound_text : Totals → List ℕ
 sound_text t = codes "ok\n" ++ totals_line t
 

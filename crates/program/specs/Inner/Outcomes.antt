@@ -1,4 +1,4 @@
--- Contracts between functions: what is said on both streams, and what becomes of a store that was opened.
+-- Contracts between functions: what is printed to both streams, and what happens to an open store.
 use Rattle.std.specs.Prelude.{◌≡◌, ◌⊎◌, ℕ, List, [], Bool, true, false, Option, Result, Ok}
 use Rattle.basis.specs.declared.memory.Down.{Down}
 use Rattle.command_line.specs.declared.timeouts.Timeouts.{Timeouts}
@@ -17,22 +17,22 @@ use Rattle.program.specs.Outcomes.{Stream, Errors, Environment, error_stream, Sa
 use Rattle.program.specs.Serving.{Serves, state, AnswersAtPort}
 use Rattle.program.specs.Streams.{Told}
 
--- the line of an ending on the standard output and why on the error stream, or a stream took not all
+-- the line of an exit on standard output and its cause on the error stream; or a stream did not take everything
 abbrev pub IsSaidWhy : Exit → Exit → Stream → Errors → Type 0
 IsSaidWhy e result output errors = ((result ≡ e) × Says e output × GetsSome errors) ⊎ (result ≡ Unprinted)
 
--- a look found no fault (`true`); or it found some, or was refused, and the error stream is told so
+-- a check found no fault (`true`); or it found faults, or failed, and the error stream says so
 abbrev pub FindsNone : Cause → Result Looked Down → Bool → Errors → Type 0
 FindsNone why found true errors = ((looked : Looked) × (found ≡ Ok looked) × (looked.faults ≡ [])) × (errors.new ≡ errors.old)
 FindsNone why found false errors = TellsUnsound why found errors
 
 module _ {K F : Type 0} (k : keep.Ghosts K) (f : files.Ghosts F K) where
-  -- faults were looked for in the tables of a store
+  -- the tables of a store were checked
   abbrev pub LooksFirst : Cause → K → Bool → K → Errors → Type 0
   LooksFirst why opened is_sound before errors = LooksFor k f (λ found told. FindsNone why found is_sound told) opened before errors
 
 module _ {K F N C R W : Type 0} (k : keep.Ghosts K) (f : files.Ghosts F K) (n : connections.Ghosts N R W) (c : clock.Ghosts C) (i : inlet.Ghosts R) (o : outlet.Ghosts W) where
-  -- connections are answered from a store that was opened, which is closed at this path then
+  -- connections are answered from an open store, which is then closed at this path
   pub record ServesOpened (path : List ℕ) (port : ℕ) (timeouts : Timeouts) (logs : Bool) (count : ℕ) (before : K) (old new : Environment F N C) (e : Exit) (output : Stream) (errors : Errors) : Type 0 where
     pub after : K
     pub lasts : Lasts k.clean k.sound k.keyed k.shielded before after

@@ -11,7 +11,7 @@ use Rattle.program.specs.Serving.{AreRequests}
 abbrev pub TakesOne : (List ℕ → Option Organization) → (List ℕ → Option Organization) → Type 0
 TakesOne old new = ((at : ℕ) × (bytes : List ℕ) × (text : List ℕ) × IsTaken (Request at bytes) text old new) ⊎ Stays old new
 
--- so far at most so many requests were carried out
+-- at most this many requests were carried out so far
 pub record ServesTo (count : ℕ) (old new : List ℕ → Option Organization) : Type 0 where
   pub steps : List Step
   pub replies : List (List ℕ)
