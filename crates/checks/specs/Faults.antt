@@ -1,4 +1,4 @@
--- The faults of rows: which there are, and what each one tells.
+-- The faults of rows: which there are, and what each one reports.
 use Rattle.std.specs.Prelude.{◌≡◌, ◌≤◌, ◌<◌, ◌⊎◌, ℕ, true, false, ◌&&◌, ◌==◌, pos, List, [], ◌∷◌, filter, find, map, Option, Some, None, IsTrue}
 use Rattle.std.specs.Str.{bytes_eq}
 use Rattle.std.specs.List.{list_any}
@@ -48,7 +48,7 @@ abbrev pub first_fault : FaultKind → Option (Kept VpageRow) → Fault
 first_fault kind None = fault_of kind [] [] None
 first_fault kind (Some x) = place_fault kind x.1
 
--- the fault of this kind that names the version of the first place that names the page; none is named where no place does
+-- the fault of this kind that names the version of the first place that names the page; if no place does, it names none
 abbrev pub page_fault : FaultKind → List (Kept VpageRow) → PageHead → Fault
 page_fault kind vpages h = first_fault kind (find (names_page h.key h.twin) vpages)
 
@@ -120,7 +120,7 @@ BoundsOutside = OfSome (λ x. Breaks (IsBoundRow x) (name_fault kind.Range x.1.o
 
 -- ---- pages, their places and texts
 
--- of a page that isn't in use no more is told, nor of one whose key isn't that of its bytes whether another page has them
+-- if a page is not in use, nothing more is reported of it; if its key is not that of its bytes, not whether another page has them
 abbrev pub OfHead : List (Kept VpageRow) → PageHead → Fault → Type 0
 OfHead vpages h f =
     ((h.uses < 1) × (f ≡ page_fault kind.Uses vpages h)) ⊎ ((1 ≤ h.uses) × (h.is_keyed ≡ false) × (f ≡ page_fault kind.Key vpages h)) ⊎ ((1 ≤ h.uses) × (h.is_keyed ≡ true) × (h.is_first ≡ false) × (f ≡ page_fault kind.SamePage vpages h))
@@ -145,11 +145,12 @@ OfPages heads versions vpages f = OfHeads vpages heads f ⊎ PagesMiscounted vpa
 
 -- ---- workspaces
 
--- an organization that has more workspaces than any may have
+-- an organization that has more workspaces than the greatest limit
 abbrev pub TooMany : List (Kept WsRow) → Fault → Type 0
 TooMany wss f = (org : List ℕ) × (MAX_LIMIT < count_in wss org) × (f ≡ org_fault kind.TooMany org)
 
--- what the row of a workspace breaks, with its rows of keeping, versions and runs; named is the first version or run that is out of range, if there is one
+-- what is wrong with the row of a workspace, with its rows of keeping, versions and runs; it names the first version or run that is out of
+-- range, if there is one
 abbrev pub OfWorkspace : List (Kept KeepingRow) → List (Kept VersionRow) → List (Kept RunRow) → WsRow → Fault → Type 0
 OfWorkspace ks vs rs x f =
     Breaks (IsTrue (is_own x)) (name_fault kind.Unlawful x.org x.name) f ⊎ Breaks (IsTrue (are_versions (retention_among ks) x.it.next_version vs)) (fault_of kind.Versions x.org x.name (unfit_version vs)) f

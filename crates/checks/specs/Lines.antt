@@ -1,4 +1,4 @@
--- The line that tells a fault.
+-- The line of a fault.
 use Rattle.std.specs.Prelude.{◌≡◌, ℕ, List, [], ◌++◌, map, codes, if◌then◌else◌, Option, Some, None}
 use Rattle.std.specs.Fmt.{decimal}
 use Rattle.basis.specs.Names.{is_ws_name}
@@ -31,7 +31,7 @@ fault_word kind.Uses = codes "uses"
 fault_word kind.Key = codes "key"
 fault_word kind.SamePage = codes "same-page"
 
--- what is no name isn't told: a row may have any bytes there
+-- bytes that are not a valid name are not printed: a row may have any bytes there
 abbrev pub name_or_hyphen : List ℕ → List ℕ
 name_or_hyphen name = if is_ws_name name then name else codes "-"
 
@@ -39,18 +39,18 @@ abbrev pub number_or_hyphen : Option ℕ → List ℕ
 number_or_hyphen None = codes "-"
 number_or_hyphen (Some n) = decimal n
 
--- `fault`, the word, the names of organization and workspace (of a token's row and of a table its name), and the number, a space between them
+-- `fault`, the word, the names of organization and workspace (for a token's row or a table, its name), and the number, separated by spaces
 abbrev pub fault_line : Fault → List ℕ
 fault_line f =
     codes "fault " ++ fault_word f.kind ++ codes " " ++ name_or_hyphen f.org ++ codes " " ++ name_or_hyphen f.ws ++ codes " " ++ number_or_hyphen f.number
 
--- A line for each of some faults that are to be told: of all, where they are fewer than 50.
+-- One line for each of some faults that are to be reported: for all, if they are fewer than 50.
 pub record TellsEach (Says : Fault → Type 0) (lines : List (List ℕ)) : Type 0 where
   pub faults : List Fault
   pub told : AreTold Says faults
   pub lines_are : lines ≡ map fault_line faults
 
--- The lines that tell the faults of rows: none exactly where the tables that have these rows are sound, and each page's key is that of its bytes.
+-- The lines of the faults of rows: none exactly if the tables that have these rows are sound, and each page's key is that of its bytes.
 pub record TellsFaults (rows : Rows) (lines : List (List ℕ)) : Type 0 where
   pub each : TellsEach (IsFaultOf rows) lines
   pub holds : lines ≡ [] → (key_of : List ℕ → List ℕ) (t : Tables) → AreRowsOf key_of t rows → IsSound t × ArePagesKeyed key_of t

@@ -1,4 +1,4 @@
--- What the lines of a look tell of a database, whoever made it.
+-- What the lines of a check say about a database, whoever made it.
 use Rattle.std.specs.Prelude.{◌≡◌, ◌≤◌, ℕ, List, [], length}
 use Rattle.std.specs.List.{AllByRecursion}
 use Rattle.sqlite.specs.Effect.{Database}
@@ -11,19 +11,19 @@ use Rattle.checks.specs.Judging.{OfSome}
 use Rattle.checks.specs.Faults.{table_fault, rows_of, IsFaultOf}
 use Rattle.checks.specs.Lines.{TellsEach}
 
--- What the names of our tables mean has these rows, in the order of their rowids, however it is defined.
+-- The tables with our names have these rows, in the order of their rowids, however they are defined.
 abbrev pub HaveRows : Database → Tables → Type 0
 HaveRows db t = AllByRecursion (HasRows db) (stored_tables t)
 
--- A line for each of some tables of ours that don't stand in the database as they are defined, 50 at most.
+-- One line for each of some of our tables that are missing from the database or defined differently, at most 50.
 pub record TellsOthers (db : Database) (lines : List (List ℕ)) : Type 0 where
   pub names : List (List ℕ)
   pub others : AllByRecursion (IsOther db.schema our_tables) names
   pub each : TellsEach (OfSome (λ name f. f ≡ table_fault name) names) lines
 
--- There is no line exactly where our tables stand in the database as they are defined, the rows that they have are sound, and each page's key is that of
--- its bytes.
--- Each line tells a fault of the rows, of all where they are fewer than 50; if a table of ours doesn't stand there as it is defined, one of those instead.
+-- There is no line exactly if our tables exist in the database as they are defined, their rows are sound, and each page's key is that of its
+-- bytes. Each line reports a fault of the rows (if there are fewer than 50, all are reported); or, if a table of ours is missing or defined
+-- differently, a table.
 pub record TellsStore (key_of : List ℕ → List ℕ) (db : Database) (lines : List (List ℕ)) : Type 0 where
   pub few : length lines ≤ MAX_FAULTS
   pub rows : IsOurs db.schema → (t : Tables) → HaveRows db t → TellsEach (IsFaultOf (rows_of key_of t)) lines

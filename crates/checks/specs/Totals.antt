@@ -1,11 +1,11 @@
--- How much stands in our tables.
+-- The numbers of rows in our tables.
 use Rattle.std.specs.Prelude.{◌≡◌, ◌≤◌, ℕ, List, [], length, map, Contains, Option, Some, None}
 use Rattle.std.specs.List.{AllByRecursion}
 use Rattle.statements.specs.Rows.{Kept, VersionRow}
 use Rattle.statements.specs.Tables.{Tables}
 use Rattle.checks.specs.declared.totals.Totals.{Totals}
 
--- the greatest of these numbers, and none where there is no number
+-- the greatest of these numbers; none if there is no number
 abbrev pub IsGreatest : List ℕ → Option ℕ → Type 0
 IsGreatest xs None = xs ≡ []
 IsGreatest xs (Some n) = Contains xs n × AllByRecursion (λ x. x ≤ n) xs
@@ -14,7 +14,7 @@ IsGreatest xs (Some n) = Contains xs n × AllByRecursion (λ x. x ≤ n) xs
 abbrev pub made_at : Kept VersionRow → ℕ
 made_at x = x.1.it.created
 
--- How many rows the tables have of each kind, and the second in which the newest version was made.
+-- The numbers of rows of each kind, and when the newest version was created.
 pub record AreTotalsOf (t : Tables) (totals : Totals) : Type 0 where
   pub organizations : totals.organizations ≡ length t.orgs
   pub workspaces : totals.workspaces ≡ length t.wss

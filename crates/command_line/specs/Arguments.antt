@@ -1,4 +1,4 @@
--- The arguments of the commands, and what their values have to be.
+-- The arguments of the commands, and what their values must be.
 use Rattle.std.specs.Prelude.{ℕ, List, [], ◌∷◌, Bool, true, false, not, Option, is_some, cond, find, bytes_eq, codes}
 use Rattle.std.specs.Option.{option_map_or}
 use Rattle.basis.specs.Names.{is_org_name, is_prefix}
@@ -8,7 +8,7 @@ use Rattle.command_line.specs.Orders.{Given, port_of, connections_of, seconds_of
 use Rattle.command_line.specs.declared.arguments.Argument.{Argument}
 use Rattle.command_line.specs.declared.arguments.Argument.TheVariants as argument
 
--- what the error stream is told where the value of an argument isn't of its form
+-- the line on the error stream for an argument whose value is not valid
 abbrev pub form_line : Argument → List ℕ
 form_line argument.Command = codes "custody: the command is not one that --help lists\n"
 form_line argument.Db = codes "custody: --db needs the path of a file\n"
@@ -26,11 +26,11 @@ form_line argument.Count = codes "custody: the value of --count must be 1 to 100
 form_line argument.Idle = codes "custody: the value of --idle must be 1 to 3600 without a leading zero\n"
 form_line argument.Most = codes "custody: the value of --most must be 1 to 3600 without a leading zero\n"
 
--- one of two, and not both
+-- exactly one of two
 abbrev pub is_one_of : Bool → Bool → Bool
 is_one_of first second = cond first (not second) second
 
--- the values fit an argument: its value is there, if it has to be, and is of its form; nothing fits a command that isn't known
+-- the values fit an argument: its value is there if it is required, and is valid; nothing fits an unknown command
 abbrev pub fits : Given → Argument → Bool
 fits given argument.Command = false
 fits given argument.Db = is_some given.db
@@ -48,8 +48,7 @@ fits given argument.Count = option_map_or (λ word. is_some (connections_of word
 fits given argument.Idle = option_map_or (λ word. is_some (seconds_of word)) given.idle true
 fits given argument.Most = option_map_or (λ word. is_some (seconds_of word)) given.most true
 
--- the arguments of a command on one organization, in the order in which their values are judged; a command of another name is
--- itself at fault
+-- the arguments of a command on one organization, in the order in which their values are judged; an unknown command is itself at fault
 abbrev pub arguments_on : List ℕ → List Argument
 arguments_on command =
     cond (bytes_eq command (codes "org-add")) (argument.Db ∷ argument.Org ∷ argument.Limit ∷ [])
@@ -72,6 +71,6 @@ arguments_at command =
 abbrev pub arguments_of : List ℕ → List Argument
 arguments_of command = cond (bytes_eq command (codes "replay")) [] (arguments_at command)
 
--- the first argument of a command that the values don't fit
+-- the first argument of a command that the values do not fit
 abbrev pub first_misfit : List ℕ → Given → Option Argument
 first_misfit command given = find (λ argument. not (fits given argument)) (arguments_of command)

@@ -21,24 +21,22 @@ use Rattle.command_line.specs.declared.timeouts.Timeouts.{Timeouts}
 pub data Asked : Type 0 where
   -- an operator's command
   carries : List ℕ → Operator.Admin → Asked
-  -- a token of this organization, name and role, with these bounds, its secret aside
+  -- a new token of this organization, name and role, with these bounds, but without its secret
   adds_token : List ℕ → List ℕ → List ℕ → Role → Bounds → Asked
-  -- to look for faults in the tables of a file
+  -- to check the tables of a file
   looks_over : List ℕ → Asked
   -- to copy an organization from one file to another: the two paths, and its name
   copies : List ℕ → List ℕ → List ℕ → Asked
   -- to copy every organization from one file to another
   compacts : List ℕ → List ℕ → Asked
-  -- to serve at a port, so many connections, each waited for no longer than these timeouts; whether a line is printed for each
-  -- exchange; whether faults in the tables are looked for first
+  -- to serve on a port: this many connections, each with these timeouts; whether the log is on; whether the tables are checked first
   serves : List ℕ → ℕ → ℕ → Timeouts → Bool → Bool → Asked
   -- to answer frames
   replays : Asked
   -- to print the version of the program
   tells_version : Asked
 
--- the values among the words, by the names of their arguments, and whether `--unlimited`, `--log`, `--check` and
--- `--force` are there
+-- the values among the words, by argument, and whether `--unlimited`, `--log`, `--check` and `--force` are given
 pub record Given : Type 0 where
   pub db : Option (List ℕ)
   pub to : Option (List ℕ)
@@ -65,26 +63,26 @@ port_of word = option_and_then (within 1 65_535) (whole_of word)
 abbrev pub connections_of : List ℕ → Option ℕ
 connections_of word = option_and_then (within 1 1_000_000) (whole_of word)
 
--- the connections that `--unlimited` asks for: 2 ^ 64 - 1. A million a second use them up in half a million years
+-- the number that `--unlimited` stands for: 2 ^ 64 - 1. At a million a second they last for half a million years
 abbrev pub unlimited : ℕ
 unlimited = 18_446_744_073_709_551_615
 
--- how many connections are asked for: by `--count`, or by `--unlimited`, and never by both
+-- how many connections: from `--count` or from `--unlimited`, never from both
 abbrev pub count_asked : Option (List ℕ) → Bool → Option ℕ
 count_asked (Some word) false = connections_of word
 count_asked None true = Some unlimited
 count_asked _ _ = None
 
--- a time to wait: 1 to 3,600 seconds
+-- a timeout: 1 to 3,600 seconds
 abbrev pub seconds_of : List ℕ → Option ℕ
 seconds_of word = option_and_then (within 1 3_600) (whole_of word)
 
--- the seconds that are given, or the usual ones where none are
+-- the seconds that are given, or the default
 abbrev pub seconds_or : ℕ → Option (List ℕ) → Option ℕ
 seconds_or usual (Some word) = seconds_of word
 seconds_or usual None = Some usual
 
--- the limit that is given, or 200 where none is
+-- the limit, or 200 if none is given
 abbrev pub limit_or_first : Option (List ℕ) → Option ℕ
 limit_or_first (Some word) = limit_of word
 limit_or_first None = Some 200
@@ -103,7 +101,7 @@ abbrev pub command_in : List ℕ → Given → Option Operator.Admin
 command_in command given =
     cond (bytes_eq command (codes "org-list")) (Some OrgList) (option_and_then (λ org. command_on command org given) given.org)
 
--- a token, where organization, name, role and bounds read
+-- a new token, if organization, name, role and bounds are valid
 abbrev pub token_in : List ℕ → List ℕ → Option Role → Option Bounds → Option NewToken
 token_in org name role bounds =
     cond (is_org_name org && is_org_name name) (option_and_then (λ r. option_map (λ b. record { org = org; name = name; role = r; bounds = b }) bounds) role) None
@@ -112,7 +110,7 @@ abbrev pub token_asked : Given → Option NewToken
 token_asked given =
     option_and_then (λ org. option_and_then (λ name. option_and_then (λ role. token_in org name (role_of role) (bounds_given given.until given.prefix)) given.role) given.name) given.org
 
--- 10 seconds for a read or a write, and 120 for an exchange, unless others are given
+-- 10 seconds for a read or a write and 120 for a connection, unless others are given
 abbrev pub timeouts_asked : Given → Option Timeouts
 timeouts_asked given =
     option_and_then (λ idle. option_map (λ most. record { idle = idle; most = most }) (seconds_or 120 given.most)) (seconds_or 10 given.idle)
@@ -121,7 +119,7 @@ abbrev pub serving_asked : List ℕ → Given → Option Asked
 serving_asked db given =
     option_and_then (λ port. option_and_then (λ count. option_map (λ timeouts. serves db port count timeouts given.logs given.checks) (timeouts_asked given)) (count_asked given.count given.unlimited)) (option_and_then port_of given.port)
 
--- a copy of one organization, where its name reads
+-- a copy of one organization, if its name is valid
 abbrev pub copy_in : List ℕ → List ℕ → List ℕ → Option Asked
 copy_in from to org = cond (is_org_name org) (Some (copies from to org)) None
 
@@ -146,7 +144,7 @@ abbrev pub asked_with : List ℕ → Given → Option Asked
 asked_with command given =
     cond (bytes_eq command (codes "replay")) (Some replays) (option_and_then (λ db. file_asked command db given) given.db)
 
--- whether a flag is there: `clap` gives it the value `true` where it is, and `false` where it isn't
+-- whether a flag is given: `clap` has the value `true` if it is, and `false` if not
 abbrev pub flag_of : Option (List ℕ) → Bool
 flag_of (Some word) = bytes_eq word (codes "true")
 flag_of None = false

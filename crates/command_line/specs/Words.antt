@@ -21,15 +21,15 @@ use Rattle.command_line.specs.Orders.{Asked, tells_version, asked_with, given_in
 abbrev pub words_bytes : List (String Global) → List (List ℕ)
 words_bytes words = map (λ (word : String Global). string_bytes word) words
 
--- `--ID VALUE`, which has to be there or may be left out
+-- `--ID VALUE`, required or optional
 abbrev pub option_rule : Text → Bool → Rule
 option_rule id required = record (new_rule id) { long = Some id; value_names = 1; required = required }
 
--- a value by its place
+-- a value by its position
 abbrev pub value_rule : Text → Rule
 value_rule id = record (new_rule id) { value_names = 1; required = true }
 
--- `--ID`, which has no value and may be left out
+-- `--ID`, without a value, optional
 abbrev pub flag_rule : Text → Rule
 flag_rule id = record (new_rule id) { long = Some id; action = Some SetTrue }
 
@@ -108,7 +108,7 @@ compact = with_rule (with_rule (new_app (codes "compact")) database) target
 abbrev pub replay : App
 replay = new_app (codes "replay")
 
--- the program without its commands: a command has to be there, and the words begin with it; `--version` and `-V` ask for the version
+-- the program without its commands: a command is required, and the words begin with it; `--version` and `-V` ask for the version
 abbrev pub bare : App
 bare = record (new_app (codes "custody")) {
   top = record (new_app (codes "custody")).top {
@@ -140,7 +140,7 @@ IsArg arg rule = (rule_of arg ≡ rule) × (arg.global ≡ false)
 abbrev pub IsCommand : Command → App → Type 0
 IsCommand command app = (app_of command ≡ app) × ((fields_of command).has_globals ≡ false)
 
--- why the words aren't those of a command: the kinds of `clap`'s error, none where they are
+-- why the words are not those of a command: the kinds of `clap`'s error; none if they are
 abbrev pub faults : List (List ℕ) → List ErrorKind
 faults words = fault_of custody words
 
@@ -157,16 +157,16 @@ is_version _ = false
 abbrev pub ask_for_version : List (List ℕ) → Bool
 ask_for_version words = list_any is_version (faults words)
 
--- what the words ask for; nothing where they aren't those of a command, or a value isn't of its form
+-- what the words ask for; nothing if they are not those of a command, or a value is not valid
 abbrev pub asked_in : List (List ℕ) → Option Asked
 asked_in words = cond (ask_for_version words) (Some tells_version) (cond (is_empty (faults words)) (asked_by_command (subcommand_of custody words)) None)
 
--- the first argument that the values which `clap` finds don't fit
+-- the first argument that the values which `clap` finds do not fit
 abbrev pub misfit_by_command : Option (Text × List Row) → Option Argument
 misfit_by_command (Some found) = first_misfit found.0 (given_in found.1)
 misfit_by_command None = Some argument.Command
 
--- the first argument whose value among the words isn't of its form
+-- the first argument whose value among the words is not valid
 abbrev pub misfit_in : List (List ℕ) → Option Argument
 misfit_in words = misfit_by_command (subcommand_of custody words)
 
@@ -174,7 +174,7 @@ misfit_in words = misfit_by_command (subcommand_of custody words)
 abbrev pub AskForHelp : List (List ℕ) → Type 0
 AskForHelp words = IsAmong kind.DisplayHelp (faults words)
 
--- the words aren't those of a command, and don't ask for help or the version either
+-- the words are not those of a command, and do not ask for help or the version
 abbrev pub AreNoCommand : List (List ℕ) → Type 0
 AreNoCommand words = (k : ErrorKind) × IsAmong k (faults words) × (k ≡ kind.DisplayHelp → ⊥) × (k ≡ kind.DisplayVersion → ⊥)
 
@@ -182,8 +182,8 @@ AreNoCommand words = (k : ErrorKind) × IsAmong k (faults words) × (k ≡ kind.
 abbrev pub HasText : String Global → Type 0
 HasText text = 0 < length (string_bytes text)
 
--- why words ask for nothing that is carried out, with a text that says so, or the argument whose value isn't of its form; for want
--- of memory there needn't be a reason
+-- why there is no command to carry out: with a text that says so, or the argument whose value is not valid; if an allocation failed, there
+-- need not be a reason
 abbrev pub IsWhy : List (List ℕ) → Unasked → Type 0
 IsWhy words (Help text) = AskForHelp words × HasText text
 IsWhy words (Words text) = AreNoCommand words × HasText text

@@ -1,4 +1,4 @@
--- Why the system or SQLite refused a file, and the system a port, in the program's words.
+-- Why the system or SQLite refused a file or a port, in the program's words.
 use Rattle.std.specs.Prelude.{◌≡◌, nat_lt, if◌then◌else◌, Bool, true, false, ⊤}
 use Rattle.std.specs.IoError.{error_kind}
 use Rattle.std.specs.declared.io.ErrorKind.{ErrorKind}
@@ -16,7 +16,7 @@ use Rattle.program.specs.declared.reasons.Cause.TheVariants.{InUse, NotPermitted
 use Rattle.program.specs.declared.reasons.OpenFault.{OpenFault}
 use Rattle.program.specs.declared.reasons.OpenFault.TheVariants.{Schema, Down, Memory}
 
--- of a call on a file
+-- a failed call on a file
 abbrev pub system_cause : ErrorKind → Cause
 system_cause kind.PermissionDenied = NotPermitted
 system_cause kind.ReadOnlyFilesystem = NotPermitted
@@ -29,14 +29,14 @@ system_cause kind.QuotaExceeded = NoRoom
 system_cause kind.OutOfMemory = NoMemory
 system_cause _ = Disk
 
--- of a file and its log: `Busy` where another handle has them
+-- a failed open of a file and its WAL: `Busy` if another handle has them locked
 abbrev pub pair_cause : PairError → Cause
 pair_cause (pair.Io error) = system_cause (error_kind error)
 pair_cause pair.OutOfMemory = NoMemory
 pair_cause pair.Busy = InUse
 pair_cause pair.HotJournal = Journal
 
--- of a database in files
+-- a failed open of a database in files
 abbrev pub database_cause : Error → Cause
 database_cause (SqliteFailure code.OutOfMemory) = NoMemory
 database_cause (SqliteFailure code.DiskFull) = NoRoom
@@ -44,20 +44,20 @@ database_cause (SqliteFailure code.DatabaseCorrupt) = Corrupt
 database_cause (SqliteFailure code.NotADatabase) = Unsound
 database_cause _ = Disk
 
--- Of files in which a database was to be begun, by what failed calls of the disk met before and since.
+-- Why no database was begun in files, by the failed disk calls before and since.
 abbrev pub begun_cause : OpenError → Tally → Tally → Cause
 begun_cause begin.OutOfMemory before since = NoMemory
 begun_cause begin.Io before since = if nat_lt before.refused since.refused then NoRoom else Disk
 begun_cause _ before since = Disk
 
--- of a port
+-- a failed listen on a port
 abbrev pub port_cause : ErrorKind → Cause
 port_cause kind.AddrInUse = PortTaken
 port_cause kind.PermissionDenied = PortNotPermitted
 port_cause kind.OutOfMemory = NoMemory
 port_cause _ = Port
 
--- Why a file isn't opened, but for memory.
+-- Why a file is not opened, except for memory.
 abbrev pub is_file_cause : Cause → Bool
 is_file_cause InUse = true
 is_file_cause NotPermitted = true
@@ -79,7 +79,7 @@ abbrev pub is_open_cause : Cause → Bool
 is_open_cause NoMemory = true
 is_open_cause cause = is_file_cause cause
 
--- What an open of the system's files answers: memory is told with the file's size, and each other cause is one of files.
+-- The result of opening the system's files: out of memory comes with the file's size, and every other cause is one of files.
 abbrev pub IsFileFault : OpenFault → Type 0
 IsFileFault (Schema other) = ⊤
 IsFileFault (Memory bytes) = ⊤

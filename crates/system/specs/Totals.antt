@@ -1,4 +1,4 @@
--- What a look over the tables of a file finds, in the program's words.
+-- What a check of a file's tables finds, in the program's words.
 use Rattle.sha2.specs.Sha256.{sha256}
 use Rattle.sqlite.specs.Effect.{Database}
 use Rattle.statements.specs.Tables.{Tables, Holds}
@@ -12,8 +12,8 @@ use Rattle.program.specs.declared.totals.Totals.{Totals}
 abbrev pub found_totals : Totals → checks.Totals
 found_totals t = record { organizations = t.organizations; workspaces = t.workspaces; versions = t.versions; runs = t.runs; newest = t.newest }
 
--- No fault was found exactly where the tables that stand are ours and sound, and each page's key is the SHA-256 of its bytes; and so
--- many rows are in them.
+-- No fault was found exactly if the tables of the database are ours and sound, and each page's key is the SHA-256 of its bytes; and these are
+-- the numbers of their rows.
 pub record TellsOf (db : Database) (looked : Looked) : Type 0 where
   pub faults : TellsStore sha256 db looked.faults
   pub totals : (t : Tables) → Holds db t → AreTotalsOf t (found_totals looked.totals)

@@ -1,4 +1,4 @@
--- What the looks look for, by the rows as they were read.
+-- What the checks test, by the rows as they were read.
 use Rattle.std.specs.Prelude.{◌≡◌, pos, true, [], ◌∷◌}
 use Rattle.std.specs.List.{AllByRecursion, list_any}
 use Rattle.sqlite_keyed.specs.Rules.{AreApart}

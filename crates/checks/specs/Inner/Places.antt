@@ -35,7 +35,8 @@ HasCounts vpages m = (key : List ℕ) (twin : ℕ) → unwrap_or (value_at key [
 abbrev pub HasPieces : List PageHead → List (Kept VpageRow) → BTreeMap RowKey (Option ℕ) → Type 0
 HasPieces heads vpages m = (org ws : List ℕ) (n place : ℕ) → value_at org ws n place m ≡ piece_in org ws n place heads vpages
 
--- Of the first places of a version so many, in turn, name whole pages, and the next one doesn't. (No text has as many pages as the bound says.)
+-- This many of the version's first places, in order, name whole pages, and the next one does not. (No text has as many pages as the bound
+-- says.)
 pub record IsRunOf (heads : List PageHead) (vpages : List (Kept VpageRow)) (org ws : List ℕ) (n run : ℕ) : Type 0 where
   pub full : (place : ℕ) → place < run → piece_in org ws n place heads vpages ≡ Some (Some PAGE_BYTES)
   pub ends : run < 2 ^ 64 - 1 → piece_in org ws n run heads vpages ≢ Some (Some PAGE_BYTES)

@@ -23,12 +23,12 @@ pub record IsLawfulRow (ks : List (Kept KeepingRow)) (vs : List (Kept VersionRow
   pub versions : IsTrue (are_versions (retention_among ks) x.it.next_version vs)
   pub runs : IsTrue (are_runs x.it.holder x.it.next_run rs)
 
--- the same, where the rows are those at the places of its groups
+-- the same, for the rows at the places of its groups
 abbrev pub IsLawfulAt : Rows → Grouped → Kept WsRow → Type 0
 IsLawfulAt rows groups x =
     IsLawfulRow (picked rows.keepings (places_in groups.keepings x.1.org x.1.name)) (picked rows.versions (places_in groups.versions x.1.org x.1.name)) (picked rows.runs (places_in groups.runs x.1.org x.1.name)) x.1
 
--- what such a row breaks
+-- what is wrong with such a row
 abbrev pub OfGroups : Rows → Grouped → Kept WsRow → Fault → Type 0
 OfGroups rows groups x =
     OfWorkspace (picked rows.keepings (places_in groups.keepings x.1.org x.1.name)) (picked rows.versions (places_in groups.versions x.1.org x.1.name)) (picked rows.runs (places_in groups.runs x.1.org x.1.name)) x.1
