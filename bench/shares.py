@@ -18,7 +18,7 @@ import tempfile
 import exchanges
 
 FILE = ("sqlite_wal", "sqlite_pool", "sqlite_pager", "sqlite_pages", "sqlite_store", "sqlite_std_file", "sqlite_disk", "core::hash::sip")
-PARTS = {"file and log": FILE, "SQL": ("sqlite",), "SHA-256": ("sha2",), "HTTP, JSON": ("http", "json", "serde_json", "fast_float", "itoa", "matchit", "form_urlencoded", "base64")}
+PARTS = {"file and log": FILE, "SQL": ("sqlite",), "SHA-256": ("sha2", "lanes"), "HTTP, JSON": ("http", "json", "serde_json", "fast_float", "itoa", "matchit", "form_urlencoded", "base64")}
 ROW = re.compile(r"^ *([\d,]+) \([ \d.]+%\) +([<*]) +(\S+)")
 # how often each exchange is made
 TURNS = {"large": 2, "small": 20}
