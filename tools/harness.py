@@ -24,13 +24,13 @@ import time
 
 HERE = os.path.dirname(os.path.abspath(__file__))
 
-# Seconds after which a silent program or peer counts as hanging; and the same of what the scripts wait for in a loop.
+# Seconds after which a silent program or peer counts as hanging; and those after which what `wait_until` waits for counts as missing.
 PATIENCE, SOON = 60, 20
 
 # The first port that a service may get, and how many are tried.
-FIRST_PORT, TRIED_PORTS = 10_000, 1000
+FIRST_PORT, TRIED_PORTS = 10_000, 100
 
-# The bytes that wait at a peer that doesn't read.
+# The size of the buffer of a peer that doesn't read.
 SMALL_BUFFER = 4096
 
 # Lines of the error stream that several scripts expect.
@@ -75,7 +75,7 @@ def wait_until(holds, else_wrong, seconds=SOON):
 
 
 def look_at(doc, *looks):
-    """Makes these checks of the program that the script's one word names; ends with status 1 at the first thing that is wrong."""
+    """Runs these checks of the program that the script's one argument names. Ends with status 1 at the first thing that is wrong."""
     if len(sys.argv) != 2:
         sys.exit(doc)
     with Program(sys.argv[1]) as program:
@@ -121,11 +121,11 @@ class Program:
 
 
 class Service:
-    """`serve` over a file, at a port of its own. It ends by its count (it has none if that is None), and is killed at the end of `with`.
+    """`serve` over a file, at a port of its own. It ends by its count (None: it has no count). Its `with` block kills it at the end.
 
-    If `lines` names a file, standard output goes there. `how` is passed to `Program.start`."""
+    If `lines` names a file, standard output goes there. `Program.start` gets `how`."""
 
-    # Seconds that its peers wait, and whether they leave their side of the connection open behind a request.
+    # Seconds that its peers wait, and whether they keep their side of the connection open after a request.
     patience, stays = PATIENCE, False
 
     def __init__(self, program, path, count, *words, port=None, lines=None, **how):
@@ -155,7 +155,7 @@ class Service:
         self.process.wait()
 
     def left(self):
-        """Its status, and what came on both streams behind what was read of them, once it has ended."""
+        """Waits for its end: its status, and what came on both streams after what was read of them."""
         output, errors = self.process.communicate(timeout=self.patience)
         return self.process.returncode, output, errors
 
@@ -212,15 +212,14 @@ def closed_pipe():
 
 
 def free_port():
-    """A port at which nobody listens, below the ephemeral ports: no connection gets it as its own end before the service listens."""
+    """A port at which nobody listens. It is below the ephemeral ports, so no connection takes it before the service does."""
     with open("/proc/sys/net/ipv4/ip_local_port_range", encoding="ascii") as limits:
-        end = int(limits.read().split()[0])
-    for _ in range(TRIED_PORTS):
-        port = random.SystemRandom().randrange(FIRST_PORT, end)
+        ports = range(FIRST_PORT, int(limits.read().split()[0]))
+    for port in random.SystemRandom().sample(ports, min(TRIED_PORTS, len(ports))):
         with socket.socket() as one, contextlib.suppress(OSError):
             one.bind(("127.0.0.1", port))
             return port
-    raise Wrong("no port from %d to %d is free" % (FIRST_PORT, end))
+    raise Wrong("no port of %s is free" % ports)
 
 
 def request(head, body=b"", token=b"acme.adminadminadmin1"):
@@ -269,8 +268,8 @@ def moment_of(came):
 
 
 def connected(port, patience=PATIENCE, buffer=None, resets=False):
-    """A connection to a service: of a peer that reads into a buffer of this size; of one whose close is a reset, after which the
-    system keeps nothing of the connection."""
+    """A connection to a service. `buffer` is the size of the peer's buffer for what it reads. If `resets`, closing resets the
+    connection, and then the system keeps nothing of it."""
     stream = socket.socket()
     stream.settimeout(patience)
     if buffer:
@@ -294,7 +293,7 @@ def received(stream):
 
 
 def answered(port, sent, stays=False, **how):
-    """The reply to a request, with its date. The peer closes its side of the connection behind the request, unless it stays."""
+    """The reply to a request, with its date. Unless the peer stays, it closes its side of the connection after the request."""
     with connected(port, **how) as stream:
         stream.sendall(sent)
         if not stays:

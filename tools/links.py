@@ -87,7 +87,7 @@ LONG_HEAD = post(b"").replace(b"\r\n\r\n", b"\r\nContent-Length: %d\r\n\r\n" % T
 
 
 class Service(harness.Service):
-    """A service over the file of these looks, whose peers leave behind it. It can be stopped, and goes on."""
+    """A service over the file of these looks. Its peers close after it does, so its port remembers their connections."""
 
     patience, stays = SOON, True
 

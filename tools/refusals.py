@@ -329,7 +329,7 @@ def is_over(met, is_right):
 
 
 def exchanged(port, sent):
-    """What a request gets. The connection ends by a reset, after which the system keeps nothing of it."""
+    """What a request gets. The peer resets the connection at its end, so that the system keeps nothing of it."""
     return answered(port, sent, stays=True, patience=PATIENCE, resets=True)
 
 
