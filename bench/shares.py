@@ -5,7 +5,7 @@
 
 A service answers each kind of exchange some times under callgrind, after a few that warm it up. A row of markdown has the
 instructions of one, in thousands, and of these in a hundred: the file's pages, their sums, and the log; SQL's statements;
-SHA-256; messages and documents; our own code; the library of Rattle, for whichever of these. What the C library does
+SHA-256 (that of `lanes` is inlined into the function that asks for it); messages and documents; our own code; the library of Rattle, for whichever of these. What the C library does
 (copies, memory) is its caller's; what the system does isn't counted.
 """
 import argparse
@@ -18,7 +18,7 @@ import tempfile
 import exchanges
 
 FILE = ("sqlite_wal", "sqlite_pool", "sqlite_pager", "sqlite_pages", "sqlite_store", "sqlite_std_file", "sqlite_disk", "core::hash::sip")
-PARTS = {"file and log": FILE, "SQL": ("sqlite",), "SHA-256": ("sha2", "lanes"), "HTTP, JSON": ("http", "json", "serde_json", "fast_float", "itoa", "matchit", "form_urlencoded", "base64")}
+PARTS = {"file and log": FILE, "SQL": ("sqlite",), "SHA-256": ("sha2", "lanes", "texts::ahead::Ahead::key"), "HTTP, JSON": ("http", "json", "serde_json", "fast_float", "itoa", "matchit", "form_urlencoded", "base64")}
 ROW = re.compile(r"^ *([\d,]+) \([ \d.]+%\) +([<*]) +(\S+)")
 # how often each exchange is made
 TURNS = {"large": 2, "small": 20}
