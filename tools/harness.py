@@ -211,15 +211,24 @@ def closed_pipe():
 # ----------------------------------------------------------------------------------------------------
 
 
+def is_free(port):
+    """Whether a socket can be bound to a port, which neither another socket nor a connection that was closed there still has."""
+    with socket.socket() as one:
+        try:
+            one.bind(("127.0.0.1", port))
+        except OSError:
+            return False
+    return True
+
+
 def free_port():
     """A port at which nobody listens. It is below the ephemeral ports, so no connection takes it before the service does."""
     with open("/proc/sys/net/ipv4/ip_local_port_range", encoding="ascii") as limits:
         ports = range(FIRST_PORT, int(limits.read().split()[0]))
-    for port in random.SystemRandom().sample(ports, min(TRIED_PORTS, len(ports))):
-        with socket.socket() as one, contextlib.suppress(OSError):
-            one.bind(("127.0.0.1", port))
-            return port
-    raise Wrong("no port of %s is free" % ports)
+    found = next(filter(is_free, random.SystemRandom().sample(ports, min(TRIED_PORTS, len(ports)))), None)
+    if found is None:
+        raise Wrong("no port of %s is free" % ports)
+    return found
 
 
 def request(head, body=b"", token=b"acme.adminadminadmin1"):

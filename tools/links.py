@@ -23,7 +23,7 @@ import time
 
 import harness
 from harness import GET, MADE, PUT, READ_FAILED, SMALL_BUFFER, SOON, UNWRITTEN
-from harness import Program, Wrong, answered, moment_of, ok, post, received, reply, said, undated, wait_until
+from harness import Program, Wrong, answered, is_free, moment_of, ok, post, received, reply, said, undated, wait_until
 
 # Seconds after which all looks together are held for hanging; for one peer or one service they are SOON.
 LIMIT = 120
@@ -341,6 +341,7 @@ def look_at_again(program):
     with Service(program, 1) as first:
         said("a service", first.asked(GET) == ok(STATE), True)
         first.ends()
+    said("whether the port remembers no connection", is_free(first.port), False)
     with Service(program, 1, port=first.port) as second:
         said("the next one at its port", second.asked(GET) == ok(STATE), True)
         second.ends()
