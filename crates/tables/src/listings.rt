@@ -1,13 +1,12 @@
 //! The lists that are asked of the tables, outside a transaction.
 ghost use Rattle.std.specs.Prelude.{◌≡◌, false, None, List, [], ◌∷◌, ◌++◌, map, IfOk, OnOk};
 ghost use Rattle.sqlite.specs.Held.{state};
-ghost use Rattle.sqlite.specs.State.{HasCleanDisk};
 ghost use Rattle.basis.specs.Listings.{listing_of};
 ghost use Rattle.machine.specs.Showing.{holder_id};
 ghost use Rattle.statements.specs.Steps.{Equals, EqualsWhere, Sees};
 ghost use Rattle.statements.specs.Listings.{OrgsApart, TokensApart, WorkspacesApart, VersionsApart, RunsApart};
 ghost use Rattle.tables.specs.Inner.Lists.{versions_listed_in, runs_listed_in, newest_number_in, newest_by, newest_shown_in, ws_row_in, workspaces_listed_in, token_row_in, tokens_listed_in, tokens_told_in, org_row_in, organizations_listed_in};
-ghost use Rattle.tables.specs.Inner.Steps.{LooksAt};
+ghost use Rattle.tables.specs.Inner.Steps.{EndsIdle, LooksAt};
 
 use crate::looks::{caller_as, kept};
 use crate::transactions::assert_settled;
@@ -42,9 +41,7 @@ pub(crate) fn list_of_versions<S: Alter>(
     after: u32,
 ) -> Result<Listing<VersionRow>, Error>
     requires idle { conn.old.in_transaction ≡ false }
-    ensures idle { conn.new.in_transaction ≡ false }
-    ensures so_far { HasCleanDisk (state S.Store conn.new) → HasCleanDisk (state S.Store conn.old) }
-    ensures shield { (state S.Store conn.old).IsShielded → (state S.Store conn.new).IsShielded }
+    ensures ends { EndsIdle S.Store conn.old conn.new }
     ensures looks { LooksAt (EqualsWhere (VersionsApart org.now ws.now) (versions_listed_in after org.now ws.now)) (state S.Store conn.old) (state S.Store conn.new) result }
 {
     assert_settled(conn);
@@ -61,9 +58,7 @@ pub(crate) fn list_of_runs<S: Alter>(
     after: u32,
 ) -> Result<Listing<RunRow>, Error>
     requires idle { conn.old.in_transaction ≡ false }
-    ensures idle { conn.new.in_transaction ≡ false }
-    ensures so_far { HasCleanDisk (state S.Store conn.new) → HasCleanDisk (state S.Store conn.old) }
-    ensures shield { (state S.Store conn.old).IsShielded → (state S.Store conn.new).IsShielded }
+    ensures ends { EndsIdle S.Store conn.old conn.new }
     ensures looks { LooksAt (EqualsWhere (RunsApart org.now ws.now) (runs_listed_in after org.now ws.now)) (state S.Store conn.old) (state S.Store conn.new) result }
 {
     assert_settled(conn);
@@ -183,9 +178,7 @@ pub(crate) fn list_of_workspaces<S: Alter>(
     prefix: &WsPrefix,
 ) -> Result<Listing<WsRow>, Error>
     requires idle { conn.old.in_transaction ≡ false }
-    ensures idle { conn.new.in_transaction ≡ false }
-    ensures so_far { HasCleanDisk (state S.Store conn.new) → HasCleanDisk (state S.Store conn.old) }
-    ensures shield { (state S.Store conn.old).IsShielded → (state S.Store conn.new).IsShielded }
+    ensures ends { EndsIdle S.Store conn.old conn.new }
     ensures looks { LooksAt (EqualsWhere WorkspacesApart (workspaces_listed_in after.now prefix.now org.now)) (state S.Store conn.old) (state S.Store conn.new) result }
 {
     assert_settled(conn);
@@ -240,9 +233,7 @@ pub(crate) fn list_of_organizations<S: Alter>(
     alloc: Global,
 ) -> Result<Items<OrgRow>, Error>
     requires idle { conn.old.in_transaction ≡ false }
-    ensures idle { conn.new.in_transaction ≡ false }
-    ensures so_far { HasCleanDisk (state S.Store conn.new) → HasCleanDisk (state S.Store conn.old) }
-    ensures shield { (state S.Store conn.old).IsShielded → (state S.Store conn.new).IsShielded }
+    ensures ends { EndsIdle S.Store conn.old conn.new }
     ensures looks { LooksAt (EqualsWhere OrgsApart organizations_listed_in) (state S.Store conn.old) (state S.Store conn.new) result }
 {
     assert_settled(conn);
@@ -298,9 +289,7 @@ pub(crate) fn tokens_told<S: Alter>(
     org: &str,
 ) -> Result<AdminAnswer, Error>
     requires idle { conn.old.in_transaction ≡ false }
-    ensures idle { conn.new.in_transaction ≡ false }
-    ensures so_far { HasCleanDisk (state S.Store conn.new) → HasCleanDisk (state S.Store conn.old) }
-    ensures shield { (state S.Store conn.old).IsShielded → (state S.Store conn.new).IsShielded }
+    ensures ends { EndsIdle S.Store conn.old conn.new }
     ensures looks { LooksAt (EqualsWhere TokensApart (tokens_told_in org.now)) (state S.Store conn.old) (state S.Store conn.new) result }
 {
     assert_settled(conn);

@@ -13,7 +13,7 @@ ghost use Rattle.machine.specs.Units.{if_needed};
 ghost use Rattle.tables.specs.Defined.{TellsTables};
 ghost use Rattle.tables.specs.Records.{caller_with, bounds_at, IsBound};
 ghost use Rattle.tables.specs.Inner.Lists.{asker_in};
-ghost use Rattle.tables.specs.Inner.Steps.{LooksAt};
+ghost use Rattle.tables.specs.Inner.Steps.{EndsIdle, LooksAt};
 ghost use Rattle.tables.specs.Inner.Units.{holder_status_in, text_in, has_text, retention_in, number_before, has_version_in, number_behind, outgoing_in, keyed_run_in, asked_run_in};
 ghost use Rattle.tables.specs.Inner.Looks.{absent_in, runs_in, sized_by, sized_in, size_asked, around_in, unit_from, size_from, present_in, looked_in, text_by};
 
@@ -71,9 +71,7 @@ struct Surroundings {
 /// Whether a fault of the disk has shut the connection. It compiles a statement, and runs none.
 pub(crate) fn is_shut<S: Alter>(conn: &mut Connection<S>) -> Result<bool, Error>
     requires idle { conn.old.in_transaction ≡ false }
-    ensures idle { conn.new.in_transaction ≡ false }
-    ensures so_far { HasCleanDisk (state S.Store conn.new) → HasCleanDisk (state S.Store conn.old) }
-    ensures shield { (state S.Store conn.old).IsShielded → (state S.Store conn.new).IsShielded }
+    ensures ends { EndsIdle S.Store conn.old conn.new }
     ensures told { HasCleanDisk (state S.Store conn.new) → IfOk result (λ is_shut. (state S.Store conn.old).is_open ≡ not is_shut) }
     ensures kept { HasCleanDisk (state S.Store conn.new) → KeepsCommit (state S.Store conn.old) (state S.Store conn.new) }
 {
@@ -87,9 +85,7 @@ pub(crate) fn is_shut<S: Alter>(conn: &mut Connection<S>) -> Result<bool, Error>
 /// An error where the connection is shut. It compiles a statement, and runs none.
 fn assert_open<S: Alter>(conn: &mut Connection<S>) -> Result<(), Error>
     requires idle { conn.old.in_transaction ≡ false }
-    ensures idle { conn.new.in_transaction ≡ false }
-    ensures so_far { HasCleanDisk (state S.Store conn.new) → HasCleanDisk (state S.Store conn.old) }
-    ensures shield { (state S.Store conn.old).IsShielded → (state S.Store conn.new).IsShielded }
+    ensures ends { EndsIdle S.Store conn.old conn.new }
     ensures same { HasCleanDisk (state S.Store conn.new) → OnOk result (IsUnchanged (state S.Store conn.old) (state S.Store conn.new)) }
     ensures kept { HasCleanDisk (state S.Store conn.new) → KeepsCommit (state S.Store conn.old) (state S.Store conn.new) }
 {
@@ -105,9 +101,7 @@ pub(crate) fn other_tables<S: Alter>(
     alloc: Global,
 ) -> Result<Items<Text>, Error>
     requires idle { conn.old.in_transaction ≡ false }
-    ensures idle { conn.new.in_transaction ≡ false }
-    ensures so_far { HasCleanDisk (state S.Store conn.new) → HasCleanDisk (state S.Store conn.old) }
-    ensures shield { (state S.Store conn.old).IsShielded → (state S.Store conn.new).IsShielded }
+    ensures ends { EndsIdle S.Store conn.old conn.new }
     ensures told { HasCleanDisk (state S.Store conn.new) → IfOk result (TellsTables (state S.Store conn.old) (state S.Store conn.new)) }
     ensures kept { HasCleanDisk (state S.Store conn.new) → KeepsCommit (state S.Store conn.old) (state S.Store conn.new) }
 {
@@ -128,9 +122,7 @@ fn text_found<S: Alter>(
     number: Number,
 ) -> Result<Option<Bytes>, Error>
     requires idle { conn.old.in_transaction ≡ false }
-    ensures idle { conn.new.in_transaction ≡ false }
-    ensures so_far { HasCleanDisk (state S.Store conn.new) → HasCleanDisk (state S.Store conn.old) }
-    ensures shield { (state S.Store conn.old).IsShielded → (state S.Store conn.new).IsShielded }
+    ensures ends { EndsIdle S.Store conn.old conn.new }
     ensures looks { LooksAt (Equals (text_in org.now ws.now number)) (state S.Store conn.old) (state S.Store conn.new) result }
 {
     assert_settled(conn);
@@ -150,9 +142,7 @@ fn text_sized<S: Alter>(
     size: u64,
 ) -> Result<Option<Bytes>, Error>
     requires idle { conn.old.in_transaction ≡ false }
-    ensures idle { conn.new.in_transaction ≡ false }
-    ensures so_far { HasCleanDisk (state S.Store conn.new) → HasCleanDisk (state S.Store conn.old) }
-    ensures shield { (state S.Store conn.old).IsShielded → (state S.Store conn.new).IsShielded }
+    ensures ends { EndsIdle S.Store conn.old conn.new }
     ensures looks { LooksAt (Equals (λ t. Some (text_of org.now ws.now number size t))) (state S.Store conn.old) (state S.Store conn.new) result }
 {
     assert_settled(conn);
@@ -170,9 +160,7 @@ pub(crate) fn text<S: Alter>(
     known: Option<u64>,
 ) -> Result<Option<Bytes>, Error>
     requires idle { conn.old.in_transaction ≡ false }
-    ensures idle { conn.new.in_transaction ≡ false }
-    ensures so_far { HasCleanDisk (state S.Store conn.new) → HasCleanDisk (state S.Store conn.old) }
-    ensures shield { (state S.Store conn.old).IsShielded → (state S.Store conn.new).IsShielded }
+    ensures ends { EndsIdle S.Store conn.old conn.new }
     ensures looks { LooksAt (Equals (text_by known org.now ws.now number)) (state S.Store conn.old) (state S.Store conn.new) result }
 {
     match known {
@@ -375,9 +363,7 @@ pub(crate) fn caller<S: Alter>(
     digest: &[u8],
 ) -> Result<Option<TokenRow>, Error>
     requires idle { conn.old.in_transaction ≡ false }
-    ensures idle { conn.new.in_transaction ≡ false }
-    ensures so_far { HasCleanDisk (state S.Store conn.new) → HasCleanDisk (state S.Store conn.old) }
-    ensures shield { (state S.Store conn.old).IsShielded → (state S.Store conn.new).IsShielded }
+    ensures ends { EndsIdle S.Store conn.old conn.new }
     ensures looks { LooksAt (Equals (asker_in org.now digest.now)) (state S.Store conn.old) (state S.Store conn.new) result }
     ensures bound { HasCleanDisk (state S.Store conn.new) → OnOk result ((t : Tables) → Holds (state S.Store conn.old).now t → IsBound org.now digest.now t) }
 {
@@ -698,9 +684,7 @@ pub(crate) fn unit<S: Alter>(
     known: Option<u64>,
 ) -> Result<Looked, Error>
     requires idle { conn.old.in_transaction ≡ false }
-    ensures idle { conn.new.in_transaction ≡ false }
-    ensures so_far { HasCleanDisk (state S.Store conn.new) → HasCleanDisk (state S.Store conn.old) }
-    ensures shield { (state S.Store conn.old).IsShielded → (state S.Store conn.new).IsShielded }
+    ensures ends { EndsIdle S.Store conn.old conn.new }
     ensures looks { LooksAt (Equals (looked_in (needed_of needs.now) known org.now ws.now)) (state S.Store conn.old) (state S.Store conn.new) result }
 {
     assert_settled(conn);

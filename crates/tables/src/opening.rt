@@ -11,6 +11,7 @@ ghost use Rattle.statements.specs.declared.making.TheConstants.{NEWEST};
 ghost use Rattle.tables.specs.Opening.{any_there, all_there, newest_there, tells_edition, is_integer_column, is_null, is_plain_column, tells_schema_version, is_first_key, has_none, is_meta_table, is_meta, is_edition, have_names, version_names, has_versions, TellsIn, ToldBy, IsOther, GivesBack};
 ghost use Rattle.tables.specs.Stores.{is_in_schema};
 ghost use Rattle.tables.specs.Inner.Making.{is_there, IsMade, found_in, TellsFound, FindsOurs, IsClimbed, IsOnWay};
+ghost use Rattle.tables.specs.Inner.Steps.{EndsIdle};
 ghost use Rattle.tables.specs.Versions.{HoldsSchema, schema_records, KeepsBeside};
 
 use crate::transactions::{self, assert_settled};
@@ -267,9 +268,7 @@ fn found_in(schema_version: u64, told: Option<u64>) -> Found
 fn find_first<S: Alter>(conn: &mut Connection<S>) -> Result<Found, Error>
     requires idle { conn.old.in_transaction ≡ false }
     requires there { all_there 1 (state S.Store conn.old).now.schema ≡ true }
-    ensures idle { conn.new.in_transaction ≡ false }
-    ensures so_far { HasCleanDisk (state S.Store conn.new) → HasCleanDisk (state S.Store conn.old) }
-    ensures shield { (state S.Store conn.old).IsShielded → (state S.Store conn.new).IsShielded }
+    ensures ends { EndsIdle S.Store conn.old conn.new }
     ensures found { HasCleanDisk (state S.Store conn.new) → IfOk result (λ found. TellsFound found (state S.Store conn.old) (state S.Store conn.new)) }
     ensures err { HasCleanDisk (state S.Store conn.new) → OnErr result (KeepsCommit (state S.Store conn.old) (state S.Store conn.new)) }
 {
@@ -285,9 +284,7 @@ fn find_later<S: Alter>(conn: &mut Connection<S>, schema_version: u64) -> Result
     requires idle { conn.old.in_transaction ≡ false }
     requires there { all_there schema_version (state S.Store conn.old).now.schema ≡ true }
     requires later { 2 ≤ schema_version }
-    ensures idle { conn.new.in_transaction ≡ false }
-    ensures so_far { HasCleanDisk (state S.Store conn.new) → HasCleanDisk (state S.Store conn.old) }
-    ensures shield { (state S.Store conn.old).IsShielded → (state S.Store conn.new).IsShielded }
+    ensures ends { EndsIdle S.Store conn.old conn.new }
     ensures found { HasCleanDisk (state S.Store conn.new) → IfOk result (λ found. TellsFound found (state S.Store conn.old) (state S.Store conn.new)) }
     ensures err { HasCleanDisk (state S.Store conn.new) → OnErr result (KeepsCommit (state S.Store conn.old) (state S.Store conn.new)) }
 {
@@ -301,9 +298,7 @@ fn find_later<S: Alter>(conn: &mut Connection<S>, schema_version: u64) -> Result
 /// Which version's tables are there, and whether that is told.
 fn find_schema_version<S: Alter>(conn: &mut Connection<S>) -> Result<Found, Error>
     requires idle { conn.old.in_transaction ≡ false }
-    ensures idle { conn.new.in_transaction ≡ false }
-    ensures so_far { HasCleanDisk (state S.Store conn.new) → HasCleanDisk (state S.Store conn.old) }
-    ensures shield { (state S.Store conn.old).IsShielded → (state S.Store conn.new).IsShielded }
+    ensures ends { EndsIdle S.Store conn.old conn.new }
     ensures found { HasCleanDisk (state S.Store conn.new) → IfOk result (λ found. TellsFound found (state S.Store conn.old) (state S.Store conn.new)) }
     ensures err { HasCleanDisk (state S.Store conn.new) → OnErr result (KeepsCommit (state S.Store conn.old) (state S.Store conn.new)) }
     ensures edition { tells_edition (state S.Store conn.old).now.schema ≡ true → is_edition (state S.Store conn.old).now.schema ≡ false → IfOk result (λ found. found ≡ Found.Other) × IfErr result (λ _. ⊥) }
@@ -329,9 +324,7 @@ fn find_schema_version<S: Alter>(conn: &mut Connection<S>) -> Result<Found, Erro
 /// Finds what a database has of ours.
 fn find<S: Alter>(conn: &mut Connection<S>) -> Result<Found, Error>
     requires idle { conn.old.in_transaction ≡ false }
-    ensures idle { conn.new.in_transaction ≡ false }
-    ensures so_far { HasCleanDisk (state S.Store conn.new) → HasCleanDisk (state S.Store conn.old) }
-    ensures shield { (state S.Store conn.old).IsShielded → (state S.Store conn.new).IsShielded }
+    ensures ends { EndsIdle S.Store conn.old conn.new }
     ensures found { HasCleanDisk (state S.Store conn.new) → IfOk result (λ found. FindsOurs found (state S.Store conn.old) (state S.Store conn.new)) }
     ensures err { HasCleanDisk (state S.Store conn.new) → OnErr result (KeepsCommit (state S.Store conn.old) (state S.Store conn.new)) }
     ensures nothing { HasCleanDisk (state S.Store conn.new) → IfOk result (λ found. found ≡ Found.Nothing → conn.new ≡ conn.old) }
@@ -357,9 +350,7 @@ fn find<S: Alter>(conn: &mut Connection<S>) -> Result<Found, Error>
 /// Takes a database of a version to the newest one, a step at a time, each in one transaction.
 fn climb<S: Alter>(conn: &mut Connection<S>, from: u64) -> Result<(), Error>
     requires idle { conn.old.in_transaction ≡ false }
-    ensures idle { conn.new.in_transaction ≡ false }
-    ensures so_far { HasCleanDisk (state S.Store conn.new) → HasCleanDisk (state S.Store conn.old) }
-    ensures shield { (state S.Store conn.old).IsShielded → (state S.Store conn.new).IsShielded }
+    ensures ends { EndsIdle S.Store conn.old conn.new }
     ensures climbed { HasCleanDisk (state S.Store conn.new) → OnOk result (IsClimbed from (state S.Store conn.old) (state S.Store conn.new)) × OnErr result (IsOnWay from (state S.Store conn.old) (state S.Store conn.new)) }
     ensures newest { from ≡ NEWEST → (conn.new ≡ conn.old) × IfErr result (λ _. ⊥) }
 {
@@ -372,9 +363,7 @@ fn climb<S: Alter>(conn: &mut Connection<S>, from: u64) -> Result<(), Error>
 /// Makes the newest version where none of the tables is there, and otherwise takes the version that is there to it.
 pub(crate) fn ready<S: Alter>(conn: &mut Connection<S>) -> Result<(), Fault>
     requires idle { conn.old.in_transaction ≡ false }
-    ensures idle { conn.new.in_transaction ≡ false }
-    ensures so_far { HasCleanDisk (state S.Store conn.new) → HasCleanDisk (state S.Store conn.old) }
-    ensures shield { (state S.Store conn.old).IsShielded → (state S.Store conn.new).IsShielded }
+    ensures ends { EndsIdle S.Store conn.old conn.new }
     ensures made { HasCleanDisk (state S.Store conn.new) → OnOk result (any_there (state S.Store conn.old).now.schema ≡ false → IsMade (state S.Store conn.old) (state S.Store conn.new)) }
     ensures told { HasCleanDisk (state S.Store conn.new) → OnOk result ((n : ℕ) → all_there n (state S.Store conn.old).now.schema ≡ true
         → TellsIn n (state S.Store conn.old).now × ToldBy n (state S.Store conn.old).now) }

@@ -6,7 +6,7 @@ ghost use Rattle.tables.specs.Inner.Arrivals.{TakesCommitted, Copies, CommitsRel
 ghost use Rattle.tables.specs.Inner.Departures.{Leaves};
 ghost use Rattle.tables.specs.Inner.Keys.{KeepsKeys};
 ghost use Rattle.statements.specs.Steps.{Equals, Sees};
-ghost use Rattle.tables.specs.Inner.Steps.{ManagesBy, org_managed, limit_managed, token_managed, revocation_managed, is_taken};
+ghost use Rattle.tables.specs.Inner.Steps.{EndsIdle, ManagesBy, org_managed, limit_managed, token_managed, revocation_managed, is_taken};
 
 use crate::transactions::assert_settled;
 use crate::{departures, transactions};
@@ -24,9 +24,7 @@ pub(crate) fn org_add<S: Alter>(
     limit: Limit,
 ) -> Result<AdminAnswer, Error>
     requires idle { conn.old.in_transaction ≡ false }
-    ensures idle { conn.new.in_transaction ≡ false }
-    ensures so_far { HasCleanDisk (state S.Store conn.new) → HasCleanDisk (state S.Store conn.old) }
-    ensures shield { (state S.Store conn.old).IsShielded → (state S.Store conn.new).IsShielded }
+    ensures ends { EndsIdle S.Store conn.old conn.new }
     ensures done { ManagesBy (org_managed org.now limit) (state S.Store conn.old) (state S.Store conn.new) result }
 {
     assert_settled(conn);
@@ -48,9 +46,7 @@ pub(crate) fn copy<T: Alter, K: PageKey, S: Alter>(
 ) -> Result<AdminAnswer, Error>
     requires idle { conn.old.in_transaction ≡ false }
     requires source_idle { from.old.in_transaction ≡ false }
-    ensures idle { conn.new.in_transaction ≡ false }
-    ensures so_far { HasCleanDisk (state S.Store conn.new) → HasCleanDisk (state S.Store conn.old) }
-    ensures shield { (state S.Store conn.old).IsShielded → (state S.Store conn.new).IsShielded }
+    ensures ends { EndsIdle S.Store conn.old conn.new }
     ensures looks { Sees T.Store (λ _ _. ⊤) from.old from.new result }
     ensures done { HasCleanDisk (state S.Store conn.new)
         → IfOk result (λ answer. CommitsRelated (TakesCommitted T.Store (Copies answer org.now) from.old from.new) (state S.Store conn.old) (state S.Store conn.new)) × OnErr result (KeepsCommit (state S.Store conn.old) (state S.Store conn.new)) }
@@ -78,9 +74,7 @@ pub(crate) fn org_remove<S: Alter>(
     is_forced: bool,
 ) -> Result<AdminAnswer, Error>
     requires idle { conn.old.in_transaction ≡ false }
-    ensures idle { conn.new.in_transaction ≡ false }
-    ensures so_far { HasCleanDisk (state S.Store conn.new) → HasCleanDisk (state S.Store conn.old) }
-    ensures shield { (state S.Store conn.old).IsShielded → (state S.Store conn.new).IsShielded }
+    ensures ends { EndsIdle S.Store conn.old conn.new }
     ensures done { HasCleanDisk (state S.Store conn.new)
         → IfOk result (λ answer. CommitsRelated (Leaves answer is_forced org.now) (state S.Store conn.old) (state S.Store conn.new)) × OnErr result (KeepsCommit (state S.Store conn.old) (state S.Store conn.new)) }
 {
@@ -104,9 +98,7 @@ pub(crate) fn org_limit<S: Alter>(
     limit: Limit,
 ) -> Result<AdminAnswer, Error>
     requires idle { conn.old.in_transaction ≡ false }
-    ensures idle { conn.new.in_transaction ≡ false }
-    ensures so_far { HasCleanDisk (state S.Store conn.new) → HasCleanDisk (state S.Store conn.old) }
-    ensures shield { (state S.Store conn.old).IsShielded → (state S.Store conn.new).IsShielded }
+    ensures ends { EndsIdle S.Store conn.old conn.new }
     ensures done { ManagesBy (limit_managed org.now limit) (state S.Store conn.old) (state S.Store conn.new) result }
 {
     assert_settled(conn);
@@ -148,9 +140,7 @@ pub(crate) fn token_add<S: Alter>(
     bounds: &Bounds,
 ) -> Result<AdminAnswer, Error>
     requires idle { conn.old.in_transaction ≡ false }
-    ensures idle { conn.new.in_transaction ≡ false }
-    ensures so_far { HasCleanDisk (state S.Store conn.new) → HasCleanDisk (state S.Store conn.old) }
-    ensures shield { (state S.Store conn.old).IsShielded → (state S.Store conn.new).IsShielded }
+    ensures ends { EndsIdle S.Store conn.old conn.new }
     ensures done { ManagesBy (token_managed org.now name.now digest.now role bounds.now) (state S.Store conn.old) (state S.Store conn.new) result }
 {
     assert_settled(conn);
@@ -172,9 +162,7 @@ pub(crate) fn token_revoke<S: Alter>(
     name: &str,
 ) -> Result<AdminAnswer, Error>
     requires idle { conn.old.in_transaction ≡ false }
-    ensures idle { conn.new.in_transaction ≡ false }
-    ensures so_far { HasCleanDisk (state S.Store conn.new) → HasCleanDisk (state S.Store conn.old) }
-    ensures shield { (state S.Store conn.old).IsShielded → (state S.Store conn.new).IsShielded }
+    ensures ends { EndsIdle S.Store conn.old conn.new }
     ensures done { ManagesBy (revocation_managed org.now name.now) (state S.Store conn.old) (state S.Store conn.new) result }
 {
     assert_settled(conn);

@@ -6,7 +6,7 @@ ghost use Rattle.pages.specs.Heads.{head_in};
 ghost use Rattle.statements.specs.Steps.{Sees};
 ghost use Rattle.tables.specs.Scans.{AreRowsOf};
 ghost use Rattle.tables.specs.Inner.Scans.{no_rows, with_first, with_workspaces, with_others};
-ghost use Rattle.tables.specs.Inner.Steps.{LooksAt};
+ghost use Rattle.tables.specs.Inner.Steps.{EndsIdle, LooksAt};
 
 use crate::transactions::assert_settled;
 use basis::Items;
@@ -213,9 +213,7 @@ pub(crate) fn scan<S: Alter, K: PageKey>(
     alloc: Global,
 ) -> Result<Rows, Error>
     requires idle { conn.old.in_transaction ≡ false }
-    ensures idle { conn.new.in_transaction ≡ false }
-    ensures so_far { HasCleanDisk (state S.Store conn.new) → HasCleanDisk (state S.Store conn.old) }
-    ensures shield { (state S.Store conn.old).IsShielded → (state S.Store conn.new).IsShielded }
+    ensures ends { EndsIdle S.Store conn.old conn.new }
     ensures looks { LooksAt (λ rows t. AreRowsOf K.key_of t rows) (state S.Store conn.old) (state S.Store conn.new) result }
 {
     assert_settled(conn);

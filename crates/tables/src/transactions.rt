@@ -11,7 +11,7 @@ ghost use Rattle.tables.specs.Inner.Departures.{all_gone_of};
 ghost use Rattle.tables.specs.Inner.Edits.{changed_rows, TakesEdit};
 ghost use Rattle.tables.specs.Inner.Keys.{KeepsKeys};
 ghost use Rattle.tables.specs.Inner.Making.{IsMade, StepsFrom};
-ghost use Rattle.tables.specs.Inner.Steps.{IsSettled, Transacts};
+ghost use Rattle.tables.specs.Inner.Steps.{IsSettled, EndsIdle, Transacts};
 
 use crate::{arrivals, departures, steps};
 use basis::{Bounds, Limit, Role, WsName};
@@ -45,9 +45,7 @@ fn begin<S: Alter>(conn: &mut Connection<S>) -> Transaction<'_, S>
 /// Makes the tables of the newest version, and says that the database has it.
 pub(crate) fn make<S: Alter>(conn: &mut Connection<S>) -> Result<(), Error>
     requires idle { conn.old.in_transaction ≡ false }
-    ensures idle { conn.new.in_transaction ≡ false }
-    ensures so_far { HasCleanDisk (state S.Store conn.new) → HasCleanDisk (state S.Store conn.old) }
-    ensures shield { (state S.Store conn.old).IsShielded → (state S.Store conn.new).IsShielded }
+    ensures ends { EndsIdle S.Store conn.old conn.new }
     ensures made { HasCleanDisk (state S.Store conn.new) → OnOk result (IsMade (state S.Store conn.old) (state S.Store conn.new)) × OnErr result (KeepsCommit (state S.Store conn.old) (state S.Store conn.new)) }
 {
     let mut tx = begin(conn);
@@ -59,9 +57,7 @@ pub(crate) fn make<S: Alter>(conn: &mut Connection<S>) -> Result<(), Error>
 pub(crate) fn raise<S: Alter>(conn: &mut Connection<S>, from: u64) -> Result<(), Error>
     requires idle { conn.old.in_transaction ≡ false }
     requires older { from < NEWEST }
-    ensures idle { conn.new.in_transaction ≡ false }
-    ensures so_far { HasCleanDisk (state S.Store conn.new) → HasCleanDisk (state S.Store conn.old) }
-    ensures shield { (state S.Store conn.old).IsShielded → (state S.Store conn.new).IsShielded }
+    ensures ends { EndsIdle S.Store conn.old conn.new }
     ensures done { HasCleanDisk (state S.Store conn.new) → StepsFrom from (state S.Store conn.old) (state S.Store conn.new) result }
 {
     let mut tx = begin(conn);
@@ -72,9 +68,7 @@ pub(crate) fn raise<S: Alter>(conn: &mut Connection<S>, from: u64) -> Result<(),
 /// Says the newest version once more.
 pub(crate) fn retell<S: Alter>(conn: &mut Connection<S>) -> Result<(), Error>
     requires idle { conn.old.in_transaction ≡ false }
-    ensures idle { conn.new.in_transaction ≡ false }
-    ensures so_far { HasCleanDisk (state S.Store conn.new) → HasCleanDisk (state S.Store conn.old) }
-    ensures shield { (state S.Store conn.old).IsShielded → (state S.Store conn.new).IsShielded }
+    ensures ends { EndsIdle S.Store conn.old conn.new }
     ensures done { Transacts (edition_moved NEWEST) (λ _. AnyRows) (state S.Store conn.old) (state S.Store conn.new) result }
 {
     let mut tx = begin(conn);
@@ -90,9 +84,7 @@ pub(crate) fn change<K: PageKey, S: Alter>(
     change: &Change,
 ) -> Result<(), Error>
     requires idle { conn.old.in_transaction ≡ false }
-    ensures idle { conn.new.in_transaction ≡ false }
-    ensures so_far { HasCleanDisk (state S.Store conn.new) → HasCleanDisk (state S.Store conn.old) }
-    ensures shield { (state S.Store conn.old).IsShielded → (state S.Store conn.new).IsShielded }
+    ensures ends { EndsIdle S.Store conn.old conn.new }
     ensures done { (keys : ℕ → List ℕ) × Transacts (changed_rows keys org.now ws.now change.now) (λ _. TakesEdit keys org.now ws.now change.now.edit) (state S.Store conn.old) (state S.Store conn.new) result }
     ensures keyed { HasCleanDisk (state S.Store conn.new) → OnOk result (CommitsRelated (KeepsKeys K.key_of) (state S.Store conn.old) (state S.Store conn.new)) }
 {
@@ -108,9 +100,7 @@ pub(crate) fn add_organization<S: Alter>(
     limit: Limit,
 ) -> Result<(), Error>
     requires idle { conn.old.in_transaction ≡ false }
-    ensures idle { conn.new.in_transaction ≡ false }
-    ensures so_far { HasCleanDisk (state S.Store conn.new) → HasCleanDisk (state S.Store conn.old) }
-    ensures shield { (state S.Store conn.old).IsShielded → (state S.Store conn.new).IsShielded }
+    ensures ends { EndsIdle S.Store conn.old conn.new }
     ensures done { Transacts (org_row_added org.now limit) (λ _. AnyRows) (state S.Store conn.old) (state S.Store conn.new) result }
 {
     let mut tx = begin(conn);
@@ -127,9 +117,7 @@ pub(crate) fn copy_organization<T: Alter, K: PageKey, S: Alter>(
     cap: Limit,
 ) -> Result<(), Error>
     requires idle { conn.old.in_transaction ≡ false }
-    ensures idle { conn.new.in_transaction ≡ false }
-    ensures so_far { HasCleanDisk (state S.Store conn.new) → HasCleanDisk (state S.Store conn.old) }
-    ensures shield { (state S.Store conn.old).IsShielded → (state S.Store conn.new).IsShielded }
+    ensures ends { EndsIdle S.Store conn.old conn.new }
     ensures looks { Sees T.Store (λ _ _. ⊤) from.old from.new result }
     ensures done { HasCleanDisk (state S.Store conn.new)
         → OnOk result (CommitsRelated (TakesFrom T.Store (Brings org.now cap) from.old from.new) (state S.Store conn.old) (state S.Store conn.new)) × OnErr result (KeepsCommit (state S.Store conn.old) (state S.Store conn.new)) }
@@ -148,9 +136,7 @@ pub(crate) fn remove_organization<S: Alter>(
     list: &[NamedToken],
 ) -> Result<(), Error>
     requires idle { conn.old.in_transaction ≡ false }
-    ensures idle { conn.new.in_transaction ≡ false }
-    ensures so_far { HasCleanDisk (state S.Store conn.new) → HasCleanDisk (state S.Store conn.old) }
-    ensures shield { (state S.Store conn.old).IsShielded → (state S.Store conn.new).IsShielded }
+    ensures ends { EndsIdle S.Store conn.old conn.new }
     ensures done { HasCleanDisk (state S.Store conn.new)
         → OnOk result (CommitsRelated (AreMadeBy (all_gone_of org.now names.now list.now)) (state S.Store conn.old) (state S.Store conn.new)) × OnErr result (KeepsCommit (state S.Store conn.old) (state S.Store conn.new)) }
 {
@@ -166,9 +152,7 @@ pub(crate) fn set_limit<S: Alter>(
     limit: Limit,
 ) -> Result<(), Error>
     requires idle { conn.old.in_transaction ≡ false }
-    ensures idle { conn.new.in_transaction ≡ false }
-    ensures so_far { HasCleanDisk (state S.Store conn.new) → HasCleanDisk (state S.Store conn.old) }
-    ensures shield { (state S.Store conn.old).IsShielded → (state S.Store conn.new).IsShielded }
+    ensures ends { EndsIdle S.Store conn.old conn.new }
     ensures done { Transacts (org_capped org.now limit) (λ _. AnyRows) (state S.Store conn.old) (state S.Store conn.new) result }
 {
     let mut tx = begin(conn);
@@ -186,9 +170,7 @@ pub(crate) fn add_token<S: Alter>(
     bounds: &Bounds,
 ) -> Result<(), Error>
     requires idle { conn.old.in_transaction ≡ false }
-    ensures idle { conn.new.in_transaction ≡ false }
-    ensures so_far { HasCleanDisk (state S.Store conn.new) → HasCleanDisk (state S.Store conn.old) }
-    ensures shield { (state S.Store conn.old).IsShielded → (state S.Store conn.new).IsShielded }
+    ensures ends { EndsIdle S.Store conn.old conn.new }
     ensures done { Transacts (token_added org.now name.now digest.now role bounds.now.until bounds.now.prefix) (λ _. AnyRows) (state S.Store conn.old) (state S.Store conn.new) result }
 {
     let mut tx = begin(conn);
@@ -203,9 +185,7 @@ pub(crate) fn remove_token<S: Alter>(
     name: &str,
 ) -> Result<(), Error>
     requires idle { conn.old.in_transaction ≡ false }
-    ensures idle { conn.new.in_transaction ≡ false }
-    ensures so_far { HasCleanDisk (state S.Store conn.new) → HasCleanDisk (state S.Store conn.old) }
-    ensures shield { (state S.Store conn.old).IsShielded → (state S.Store conn.new).IsShielded }
+    ensures ends { EndsIdle S.Store conn.old conn.new }
     ensures done { Transacts (token_removed org.now name.now) (λ _. AnyRows) (state S.Store conn.old) (state S.Store conn.new) result }
 {
     let mut tx = begin(conn);

@@ -1,7 +1,7 @@
 -- What calls of a store do to the committed rows.
-use Rattle.std.specs.Prelude.{◌≡◌, ℕ, Bool, cond, ◌||◌, List, is_some, Option, Some, None, IsTrue, Result, IfOk, OnErr}
+use Rattle.std.specs.Prelude.{◌≡◌, ℕ, Bool, false, cond, ◌||◌, List, is_some, Option, Some, None, IsTrue, Result, IfOk, OnErr}
 use Rattle.sqlite_trees.specs.declared.store.Store.{Ghosts}
-use Rattle.sqlite.specs.Held.{state}
+use Rattle.sqlite.specs.Held.{Held, state}
 use Rattle.sqlite.specs.State.{State, HasCleanDisk, KeepsCommit}
 use Rattle.sqlite.specs.declared.transaction.Transaction.{Transaction}
 use Rattle.basis.specs.declared.roles.Role.{Role}
@@ -17,6 +17,12 @@ use Rattle.statements.specs.Tables.{Tables, Holds}
 -- between transactions nothing waits to be committed
 abbrev pub IsSettled : State → Type 0
 IsSettled s = IsTrue s.is_open → s.now ≡ s.committed
+
+-- A call outside a transaction, done or not: no transaction is open behind it, the disk was clean so far, and a shield stays.
+pub record EndsIdle {S : Type 0} (g : Ghosts S) (old new : Held S) : Type 0 where
+  pub idle : new.in_transaction ≡ false
+  pub so_far : HasCleanDisk (state g new) → HasCleanDisk (state g old)
+  pub shield : (state g old).IsShielded → (state g new).IsShielded
 
 -- The change is committed, and this is told of the rows that were committed before it.
 pub record Commits (change : Tables → Tables) (told : Tables → Type 0) (old new : State) : Type 0 where

@@ -9,11 +9,11 @@ pub loop-at-preserved : goal.loop-at-preserved
 loop-at-preserved g c =
     let so_far = c.loop-at.invariant.1 in
     let at = c.loop-at.at in
-    let before = c.raise.ensures.so_far in (
-      c.raise.ensures.idle,
+    let before = c.raise.ensures.ends.so_far in (
+      c.raise.ensures.ends.idle,
       record {
         so_far = λ clean. so_far.so_far (before clean);
-        shield = λ s. c.raise.ensures.shield (so_far.shield s);
+        shield = λ s. c.raise.ensures.ends.shield (so_far.shield s);
         climbs = λ clean. climbs_then c.args.from at (at + 1) (state g.S.Store c.args.conn.now) (state g.S.Store c.loop-at.conn) (state g.S.Store c.raise.new.conn) (so_far.climbs (before clean)) (c.in_ok-raise.ensures.done clean).0.0;
         is_open = λ clean was. (c.in_ok-raise.ensures.done clean).0.1;
       },

@@ -35,7 +35,7 @@ returns-clause-done g c clean =
     let a = state g.S.Store c.args.conn.now in
     let b = state g.S.Store c.cap-2.new.conn in
     let d = state g.S.Store c.copy_organization.new.conn in
-    let told = c.in_ok-there.ensures.read (c.copy_organization.ensures.so_far clean) in
+    let told = c.in_ok-there.ensures.read (c.copy_organization.ensures.ends.so_far clean) in
     let none : is_some there ≡ false = search rules in (
       copies_one g.T.Store org found there a b c.args.from.now c.cap.new.conn c.assert_settled.ensures c.assert_settled-2.ensures (λ clean. let read = c.in_ok-found.ensures.read clean in (read.0, read.1.0)) told.0 told.1.0
           c.in-Some.cap d c.copy_organization.new.from c.in-Some.is (none_of there none) c.copy_organization.ensures.looks.so_far (c.in_ok-copy_organization.ensures.done clean).0,
@@ -50,5 +50,5 @@ returns-then-is_some-clause-keyed g c clean = keyed_unchanged g.K.PageKey.key_of
 
 pub returns-clause-keyed : goal.returns-clause-keyed
 returns-clause-keyed g c clean =
-    let told = c.in_ok-there.ensures.read (c.copy_organization.ensures.so_far clean) in
+    let told = c.in_ok-there.ensures.read (c.copy_organization.ensures.ends.so_far clean) in
     keyed_behind g.K.PageKey.key_of (state g.S.Store c.args.conn.now) (state g.S.Store c.cap-2.new.conn) told.1.0 (state g.S.Store c.copy_organization.new.conn) (c.in_ok-copy_organization.ensures.keyed clean)

@@ -27,7 +27,7 @@ returns-clause-done g c clean =
     let b = state g.S.Store c.cap.new.conn in
     let d = state g.S.Store c.add_organization.new.conn in
     let settled = c.assert_settled.ensures in
-    let cap = c.in_ok-cap.ensures.read (c.add_organization.ensures.so_far clean) in
+    let cap = c.in_ok-cap.ensures.read (c.add_organization.ensures.ends.so_far clean) in
     let found : is_some c.in_ok-cap.cap ≡ false = search rules in (
       manages_one (org_managed org limit) a b d settled (org_row_added org limit) Done (one_look a b cap.1.0) (c.in_ok-add_organization.ensures.done clean).0
           (λ t held. org_missing org limit t c.in_ok-cap.cap found (cap.0 t held)),

@@ -27,7 +27,7 @@ returns-clause-done g c clean =
     let b = state g.S.Store c.cap.new.conn in
     let d = state g.S.Store c.set_limit.new.conn in
     let settled = c.assert_settled.ensures in
-    let cap = c.in_ok-cap.ensures.read (c.set_limit.ensures.so_far clean) in
+    let cap = c.in_ok-cap.ensures.read (c.set_limit.ensures.ends.so_far clean) in
     let found : is_none c.in_ok-cap.cap ≡ false = search rules in (
       manages_one (limit_managed org limit) a b d settled (org_capped org limit) Done (one_look a b cap.1.0) (c.in_ok-set_limit.ensures.done clean).0
           (λ t held. limit_there org limit t c.in_ok-cap.cap found (cap.0 t held)),

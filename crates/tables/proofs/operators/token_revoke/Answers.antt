@@ -29,7 +29,7 @@ returns-clause-done g c clean =
     let b = state g.S.Store c.role_of_name.new.conn in
     let d = state g.S.Store c.remove_token.new.conn in
     let settled = c.assert_settled.ensures in
-    let role = c.in_ok-role.ensures.read (c.remove_token.ensures.so_far clean) in
+    let role = c.in_ok-role.ensures.read (c.remove_token.ensures.ends.so_far clean) in
     let found : is_none c.in_ok-role.role ≡ false = search rules in (
       manages_one (revocation_managed org name) a b d settled (token_removed org name) Done (one_look a b role.1.0) (c.in_ok-remove_token.ensures.done clean).0
           (λ t held. revocation_there org name t c.in_ok-role.role found (role.0 t held)),

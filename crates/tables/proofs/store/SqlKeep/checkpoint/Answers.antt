@@ -5,12 +5,12 @@ use Rattle.tables.proofs.store.SqlKeep.checkpoint.Goals as goal
 
 pub returns-in-Ok-clause-lasts : goal.returns-in-Ok-clause-lasts
 returns-in-Ok-clause-lasts g c = record {
-  so_far = c.retell.ensures.so_far;
+  so_far = c.retell.ensures.ends.so_far;
   kept = rw c.of.ensures (λ clean sound.
       retold_keeps (state g.S.Store c.args.self.now.seen.value).committed (state g.S.Store c.args.self.now.conn) sound (state g.S.Store c.retell.new.conn) (c.in-Ok.ensures.done clean).0);
   keys = rw c.of.ensures (λ clean sound keyed.
       keyed_committed g.K.PageKey.key_of (state g.S.Store c.args.self.now.seen.value).committed (state g.S.Store c.args.self.now.conn) (state g.S.Store c.retell.new.conn) sound keyed _ _ (c.in-Ok.ensures.done clean).0 (λ t are. are));
-  shield = c.retell.ensures.shield;
+  shield = c.retell.ensures.ends.shield;
 }
 
 pub returns-in-Ok-clause-same : goal.returns-in-Ok-clause-same

@@ -5,13 +5,13 @@ use Rattle.tables.proofs.store.SqlKeep.copy_from.Goals as goal
 
 pub returns-in-Ok-clause-lasts : goal.returns-in-Ok-clause-lasts
 returns-in-Ok-clause-lasts g c = record {
-  so_far = c.copy.ensures.so_far;
+  so_far = c.copy.ensures.ends.so_far;
   kept = rw (c.of.ensures, c.new.ensures) (λ clean sound there.
       copied_keeps g.T.Store (state g.S.Store c.args.self.now.seen.value).committed (state g.T.Store c.args.from.now.seen.value).committed (state g.S.Store c.args.self.now.conn) (state g.S.Store c.copy.new.conn) c.args.from.now.conn c.copy.new.from sound there.1
       c.args.org.now c.in-Ok.answer (rw c.as_str.ensures.text at (c.in-Ok.ensures.done clean).0) there.0);
   keys = rw c.of.ensures (λ clean sound keyed.
       keyed_related g.K.PageKey.key_of (state g.S.Store c.args.self.now.seen.value).committed (state g.S.Store c.args.self.now.conn) (state g.S.Store c.copy.new.conn) sound keyed (c.in-Ok.ensures.keyed clean));
-  shield = c.copy.ensures.shield;
+  shield = c.copy.ensures.ends.shield;
 }
 
 pub returns-in-Ok-clause-own : goal.returns-in-Ok-clause-own

@@ -9,8 +9,8 @@ returns-in-Some-clause-ok g c clean sound =
 
 pub returns-in-Ok-clause-looks : goal.returns-in-Ok-clause-looks
 returns-in-Ok-clause-looks g c = record {
-  so_far = c.caller.ensures.so_far;
-  shield = c.caller.ensures.shield;
+  so_far = c.caller.ensures.ends.so_far;
+  shield = c.caller.ensures.ends.shield;
   kept = λ clean sound.
       asker_keeps (state g.S.Store c.args.self.now.seen.value).committed (state g.S.Store c.args.self.now.conn) sound (state g.S.Store c.caller.new.conn) c.args.org.now c.args.digest.now c.in-Ok.asker
       (rw (c.as_str-org.ensures.text, c.as_slice.ensures) at (c.in-Ok.ensures.looks clean).0) (c.in-Ok.ensures.looks clean).1 _ (rw c.as_str-org.ensures.text at c.keep.ensures);
