@@ -1,4 +1,4 @@
--- What a change does to a workspace, and when it is due: this is what a store's `apply` speaks of.
+-- What a change does to a workspace, and when a change is due. A store's `apply` promises this.
 use Rattle.std.specs.Prelude.{◌≡◌, ℕ, ◌+◌, nat_lt, List, [], ◌∷◌, ◌++◌, filter, map, cond, Option, Some, None, option_map}
 use Rattle.machine.specs.Workspaces.{new_workspace}
 use Rattle.machine.specs.Settling.{started_if}
@@ -13,7 +13,7 @@ use Rattle.basis.specs.declared.rows.Holder.TheVariants.{Nobody}
 use Rattle.machine.specs.declared.records.Version.{Version}
 use Rattle.machine.specs.declared.records.Workspace.{Workspace}
 
--- the versions that are left, where those up to a number go
+-- the versions that are left after those with numbers up to this one are removed
 abbrev pub left_above : Option ℕ → List Version → List Version
 left_above None versions = versions
 left_above (Some outgoing) versions = filter (λ (v : Version). nat_lt outgoing v.number) versions
@@ -36,7 +36,7 @@ edited (Report number action status frees) w =
 abbrev pub changed_by : Change → Option Workspace → Option Workspace
 changed_by change w = option_map (started_if change.start) (edited change.edit w)
 
--- a change is due where some act in its ranges, at some moment in range, has the workspace after it that the rules give
+-- a change is due if some act in its ranges, at some time in range, leaves the same workspace by the rules
 pub record IsDue (s : Seen) (change : Change) : Type 0 where
   pub act : Act
   pub now : ℕ

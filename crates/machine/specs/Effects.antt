@@ -1,4 +1,4 @@
--- What is answered, and what is left.
+-- An answer, and what is left after it.
 use Rattle.std.specs.Prelude.{}
 
 pub record Effect (A R : Type 0) : Type 0 where

@@ -2,8 +2,8 @@
 use Rattle.std.specs.Prelude.{◌≡◌, ℕ, List, Option}
 use Rattle.machine.specs.declared.records.Organization.{Organization}
 
--- a look at a store: what is promised of it holds so far, what was sound stays sound, what was keyed stays keyed, what was shielded stays
--- shielded, and no record changes
+-- A call that changes no record. A store that is clean afterwards was clean before; a sound one stays sound, a keyed one keyed, and a
+-- shielded one shielded.
 pub record Looks {S : Type 0} (rows : S → List ℕ → Option Organization) (clean sound keyed shielded : S → Type 0) (old new : S) : Type 0 where
   pub so_far : clean new → clean old
   pub kept : clean new → sound old → sound new
@@ -11,15 +11,15 @@ pub record Looks {S : Type 0} (rows : S → List ℕ → Option Organization) (c
   pub shield : shielded old → shielded new
   pub same : clean new → (org : List ℕ) → rows new org ≡ rows old org
 
--- a call that may change a store, done or not: what is promised of it holds so far, what was sound stays sound, what was keyed stays keyed,
--- and what was shielded stays shielded
+-- A call that may change a store, whether it succeeded or not. A store that is clean afterwards was clean before; a sound one stays sound,
+-- a keyed one keyed, and a shielded one shielded.
 pub record Lasts {S : Type 0} (clean sound keyed shielded : S → Type 0) (old new : S) : Type 0 where
   pub so_far : clean new → clean old
   pub kept : clean new → sound old → sound new
   pub keys : clean new → sound old → keyed old → keyed new
   pub shield : shielded old → shielded new
 
--- so it is where the call is due; elsewhere it need not stay sound
+-- the same, but the store is promised to stay sound only if the call is due
 pub record LastsWhere {S : Type 0} (due : Type 0) (clean sound keyed shielded : S → Type 0) (old new : S) : Type 0 where
   pub so_far : clean new → clean old
   pub kept : clean new → sound old → due → sound new

@@ -19,7 +19,7 @@ use Rattle.machine.specs.declared.records.Token.{Token}
 use Rattle.machine.specs.declared.records.Workspace.{Workspace}
 use Rattle.machine.specs.declared.records.Organization.{Organization}
 
--- the numbers rise, above `low` and below `next`
+-- the numbers rise, are above `low`, and below `next`
 abbrev pub Rises : ℕ → List ℕ → ℕ → Type 0
 Rises low [] next = ⊤
 Rises low (n ∷ ns) next = (low < n) × (n < next) × Rises n ns next
@@ -61,7 +61,7 @@ is_pending Canceled = false
 abbrev pub ends_in : List RunStep → RunAction → RunStatus → Bool
 ends_in steps action status = list_any (λ (s : RunStep). is_action s.action action && is_status s.to status) steps
 
--- a run that no action has reached is pending or planning; any other is where its last action ends
+-- a run without an action is pending or planning; any other run has a status in which its last action ends
 abbrev pub IsWhereActionEnds : Bool → Option RunAction → RunStatus → Type 0
 IsWhereActionEnds plan_only None Pending = ⊤
 IsWhereActionEnds plan_only None Planning = ⊤
@@ -69,7 +69,7 @@ IsWhereActionEnds plan_only None _ = IsTrue false
 IsWhereActionEnds true (Some action) status = IsTrue (ends_in plan_only_steps action status)
 IsWhereActionEnds false (Some action) status = IsTrue (ends_in auto_apply_steps action status || ends_in confirmed_steps action status)
 
--- the run of this number holds
+-- whether the run with this number is the holder
 abbrev pub holds : Holder → ℕ → Bool
 holds Nobody n = false
 holds (Lock id text) n = false
@@ -80,7 +80,8 @@ is_nobody Nobody = true
 is_nobody (Lock id text) = false
 is_nobody (HoldingRun n) = false
 
--- a queued run is active exactly where it holds, and none waits where nobody holds; a plan-only run never waits
+-- A queued run is active exactly if it is the holder. It is pending only while the workspace has a holder. A plan-only run is never
+-- pending.
 pub record IsRun (holder : Holder) (r : Run) : Type 0 where
   pub key : IfSome r.key (λ key. IsTrue (has_length 1 64 key))
   pub message : length r.message ≤ 1_000
@@ -89,12 +90,12 @@ pub record IsRun (holder : Holder) (r : Run) : Type 0 where
   pub active : r.plan_only ≡ false → is_active r.status ≡ holds holder r.number
   pub waiting : is_pending r.status ≡ true → (r.plan_only ≡ false) × (is_nobody holder ≡ false)
 
--- no two runs have one key
+-- no two runs have the same key
 abbrev pub KeysDiffer : List Run → Type 0
 KeysDiffer [] = ⊤
 KeysDiffer (r ∷ runs) = IfSome r.key (λ key. AllByRecursion (λ (s : Run). IfSome s.key (λ other. bytes_eq key other ≡ false)) runs) × KeysDiffer runs
 
--- a lock's ID is one that names no run, and a holding run is a queued run of the list
+-- a lock's ID is not the ID of a run, and a run that is the holder is a queued run of the list
 abbrev pub IsHolder : Holder → List Run → Type 0
 IsHolder Nobody runs = ⊤
 IsHolder (Lock id text) runs = IsTrue (is_free_id id)
@@ -109,7 +110,7 @@ pub record AreRuns (holder : Holder) (next_run : ℕ) (runs : List Run) : Type 0
   pub keys : KeysDiffer runs
   pub held : IsHolder holder runs
 
--- the laws of the versions, of which a workspace keeps so many
+-- the laws of the versions of a workspace that keeps at most `most`
 pub record AreVersions (most next_version : ℕ) (versions : List Version) : Type 0 where
   pub keep : IsRetention most
   pub next : IsNext next_version
@@ -123,29 +124,29 @@ pub record IsLawful (w : Workspace) : Type 0 where
   pub runs : AreRuns w.holder w.next_run w.runs
   pub released : IfSome w.released (λ id. IsTrue (is_free_id id))
 
--- a token's name is one, its digest has 32 bytes, its end is a moment, if it ends, and its prefix is one
+-- the token's name and prefix are valid, its digest has 32 bytes, and its expiry, if any, is in range
 pub record IsToken (name : List ℕ) (t : Token) : Type 0 where
   pub named : IsTrue (is_org_name name)
   pub digest : length t.digest ≡ 32
   pub until : IfSome t.caller.until (λ until. IsMoment until)
   pub prefix : IsTrue (is_prefix t.caller.prefix)
 
--- a workspace's name is one, and the workspace is lawful
+-- the workspace's name is valid, and the workspace is lawful
 pub record IsNamedWorkspace (name : List ℕ) (w : Workspace) : Type 0 where
   pub named : IsTrue (is_ws_name name)
   pub lawful : IsLawful w
 
--- the laws of an organization: no two of its tokens have one digest
+-- the laws of an organization; among them: no two of its tokens have the same digest
 pub record IsLawfulOrganization (o : Organization) : Type 0 where
   pub limit : o.limit ≤ 100_000
   pub tokens : (name : List ℕ) (t : Token) → get o.tokens name ≡ Some t → IsToken name t
   pub digests : (name other : List ℕ) (t u : Token) → get o.tokens name ≡ Some t → get o.tokens other ≡ Some u → t.digest ≡ u.digest → name ≡ other
   pub workspaces : (name : List ℕ) (w : Workspace) → get o.workspaces name ≡ Some w → IsNamedWorkspace name w
 
--- every record that is there is lawful
+-- every record that exists is lawful
 abbrev pub AreLawful : (List ℕ → Option Organization) → Type 0
 AreLawful rows = (org : List ℕ) (o : Organization) → rows org ≡ Some o → IsLawfulOrganization o
 
--- a workspace is lawful, where it is there
+-- the workspace is lawful, if it exists
 abbrev pub IsLawfulIfThere : Option Workspace → Type 0
 IsLawfulIfThere w = IfSome w IsLawful

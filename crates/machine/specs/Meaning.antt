@@ -1,4 +1,4 @@
--- What a decision means for its workspace, and when it is the model's.
+-- What a decision means for its workspace, and when it is as the rules say.
 use Rattle.std.specs.Prelude.{◌≡◌, ℕ, Option, Some, None, IfSome, ⊤}
 use Rattle.std.specs.Option.{option_map_or}
 use Rattle.machine.specs.Effects.{effect}
@@ -23,7 +23,7 @@ abbrev pub changed : Option Change → Option Workspace → Option Workspace
 changed None w = w
 changed (Some change) w = changed_by change w
 
--- what an accepted act is answered, in the workspace as it stands before the act
+-- the answer to an accepted act, read from the workspace as it is before the act
 abbrev pub answered : Answer → Option Workspace → Outcome
 answered Done w = done
 answered NoState w = no_state
@@ -33,26 +33,26 @@ answered (ShownRun r) w = the_run r
 answered (Versions after) w = versions (versions_after after w)
 answered (Runs after) w = runs (runs_after after w)
 
--- who holds, as a refused writer is told
+-- the holder that a refusal names
 abbrev pub holder_of : Option Workspace → Holder
 holder_of None = Nobody
 holder_of (Some w) = w.holder
 
--- what a decision means for the workspace, if there is one
+-- the answer that a decision means, and the workspace after it, if there is one
 abbrev pub meaning : Decision → Option Workspace → Ruling
 meaning (Refused refusal) w = effect (refused_by refusal (holder_of w)) w
 meaning (Accepted answer change) w = effect (answered answer w) (changed change w)
 
--- each change that is to be made is due
+-- the change of an accepted act, if it has one, is due
 abbrev pub ChangeIsDue : Seen → Decision → Type 0
 ChangeIsDue s (Refused refusal) = ⊤
 ChangeIsDue s (Accepted answer change) = IfSome change (IsDue s)
 
--- a decision on a workspace is the model's
+-- a decision on a workspace is as the rules say
 pub record Meets (s : Seen) (act : Act) (now : ℕ) (decision : Decision) : Type 0 where
   -- the answer, every refusal included, and the workspace after it are those of the rules
   pub model : meaning decision (standing s) ≡ rules act now s
-  -- a change is one that `Keep::apply` takes
+  -- `Keep::apply` accepts the change
   pub due : IsInRange act → IsMoment now → ChangeIsDue s decision
-  -- the workspace after it is lawful where the one before is
+  -- the workspace after it is lawful if the one before is
   pub lawful : IsInRange act → IsMoment now → IsLawfulIfThere (standing s) → IsLawfulIfThere (rules act now s).left

@@ -1,4 +1,4 @@
--- What an act needs of its workspace besides the workspace's own row: a store is asked for nothing else.
+-- What an act needs of its workspace besides the workspace's own row. A store reads nothing else.
 use Rattle.std.specs.Prelude.{ℕ, Bool, true, false, List, Option, Some, None, is_none, option_copied}
 use Rattle.basis.specs.declared.acts.Look.{Look as AnyLook}
 use Rattle.basis.specs.declared.acts.Look.TheVariants as look
@@ -9,32 +9,32 @@ use Rattle.machine.specs.declared.acts.Staying.{Staying}
 use Rattle.machine.specs.declared.acts.Staying.TheVariants.{StayAll, MakeRoom, StayAtMost}
 
 pub record Needed : Type 0 where
-  -- the act makes the workspace where there is none: how many the organization has there, and how many it may have
+  -- the act creates a missing workspace: then the number of the organization's workspaces and its limit
   pub makes : Bool
-  -- how many versions the workspace keeps
+  -- the number of versions that the workspace keeps
   pub retention : Bool
-  -- the status of the run that holds
+  -- the status of the holding run
   pub holder_status : Bool
   -- the newest version
   pub newest : Bool
-  -- the text that the newest version's text is compared with
+  -- the text that is compared with that of the newest version
   pub text : Option (List ℕ)
-  -- which versions go: none, those that make room for one more, or all but the last so many
+  -- which versions are removed: none, those that make room for one more, or all but the newest so many
   pub outgoing : Staying
-  -- the version of a number
+  -- the version with this number
   pub version : Option ℕ
-  -- the run of a number, or the one that has a key
+  -- the run with this number, or the run that has this key
   pub run : Option ℕ
   pub key : Option (List ℕ)
-  -- the first run that waits
+  -- the first waiting run
   pub waiting : Bool
-  -- how many runs are open
+  -- the number of open runs
   pub open_runs : Bool
 
 abbrev pub nothing : Needed
 nothing = record { makes = false; retention = false; holder_status = false; newest = false; text = None; outgoing = StayAll; version = None; run = None; key = None; waiting = false; open_runs = false }
 
--- what is told of a workspace needs what it tells
+-- a read-only act needs what it shows
 abbrev pub needs_of_look : AnyLook → Needed
 needs_of_look look.Workspace = record nothing { retention = true; newest = true }
 needs_of_look look.State = record nothing { newest = true }
@@ -43,7 +43,7 @@ needs_of_look (look.Versions after) = nothing
 needs_of_look (look.Run n) = record nothing { run = Some n }
 needs_of_look (look.Runs after) = nothing
 
--- a PUT that asks for no number of versions lets none go, and leaves the number that the workspace has
+-- a PUT that does not set the number of versions removes none, and the workspace keeps as many as before
 abbrev pub staying_for : Option ℕ → Staying
 staying_for None = StayAll
 staying_for (Some keep) = StayAtMost keep
@@ -60,7 +60,7 @@ needs ForceUnlock = record nothing { waiting = true }
 needs (MakeRun ask) = record nothing { key = ask.key; open_runs = true }
 needs (ReportRun n action) = record nothing { run = Some n; waiting = true }
 
--- the same, as the code has it
+-- the needs of the code's type
 abbrev pub needed_of : Needs → Needed
 needed_of n = record {
   makes = n.makes;

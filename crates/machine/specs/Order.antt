@@ -1,4 +1,4 @@
--- The order of names: that of their bytes.
+-- The order of names: by their bytes.
 use Rattle.std.specs.Prelude.{ℕ, List}
 use Rattle.std.specs.Ordering.{nat_cmp}
 use Rattle.std.specs.Cmp.Lexicographic.{slice_cmp}

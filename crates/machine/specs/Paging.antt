@@ -1,5 +1,5 @@
--- Pages of a list follow one another: what comes after a page's last item is what that page left out, and who goes on from page to page sees
--- each item once.
+-- Pages of a list follow one another: the list after a page's last item is what that page left out. A reader that asks for one page after
+-- the other sees each item once.
 use Rattle.std.specs.Prelude.{◌≡◌, ◌≤◌, ◌-◌, ℕ, nat_lt, true, false, List, [], ◌∷◌, ◌++◌, length, map, drop, filter, slice_get, Option, Some, None, IsSomeAnd}
 use Rattle.std.specs.FinMap.{entries}
 use Rattle.basis.specs.Listings.{max_items}
@@ -13,7 +13,7 @@ use Rattle.machine.specs.declared.records.Organization.{Organization}
 use Rattle.machine.specs.declared.records.Version.{Version}
 use Rattle.machine.specs.declared.records.Workspace.{Workspace}
 
--- what there is to list after a place; of workspaces, those that a prefix admits
+-- the items of the list after a place; for workspaces, those whose names start with the prefix
 abbrev pub workspaces_from : Option (List ℕ) → List ℕ → Organization → List (List ℕ × Workspace)
 workspaces_from after prefix o = filter (λ (e : List ℕ × Workspace). is_listed after prefix e.0) (entries o.workspaces)
 
@@ -23,7 +23,7 @@ versions_from after w = filter (λ (v : Version). nat_lt after v.number) w.versi
 abbrev pub runs_from : ℕ → Workspace → List Run
 runs_from after w = filter (λ (r : Run). nat_lt after r.number) w.runs
 
--- the last item of a full page: after it comes what is behind that page, so no item is left out and none comes twice
+-- the list after the last item of a full page is what follows that page: no item is left out, and none comes twice
 abbrev pub WorkspacePagesFollow : Type 0
 WorkspacePagesFollow = (after : Option (List ℕ)) (prefix : List ℕ) (o : Organization) (e : List ℕ × Workspace) → slice_get (workspaces_from after prefix o) (max_items - 1) ≡ Some e
     → workspaces_from (Some e.0) prefix o ≡ drop max_items (workspaces_from after prefix o)
@@ -36,7 +36,7 @@ abbrev pub RunPagesFollow : Type 0
 RunPagesFollow = (after : ℕ) (w : Workspace) (r : Run) → IsLawful w → slice_get (runs_from after w) (max_items - 1) ≡ Some r
     → runs_from r.number w ≡ drop max_items (runs_from after w)
 
--- a page has at most 50 items, and 50 where it says that more follow
+-- a page has at most 50 items, and exactly 50 if it says that more follow
 pub record IsPage {X : Type 0} (page : Listing X) : Type 0 where
   pub no_more : length page.items ≤ 50
   pub no_fewer : page.more ≡ true → length page.items ≡ 50
@@ -46,25 +46,27 @@ last_item [] = None
 last_item (x ∷ []) = Some x
 last_item (x ∷ y ∷ xs) = last_item (y ∷ xs)
 
--- pages, one after the other, from a place on: as long as a page says that more follow, the next one is asked for by the place of its last item
+-- pages, one after the other, from a place on: as long as a page says that more follow, the next one is asked for from the place of its
+-- last item
 abbrev pub ArePages : {P X : Type 0} → (P → Listing X) → (X → P) → P → List (Listing X) → Type 0
 ArePages page place from [] = ⊥
 ArePages page place from (p ∷ []) = (p ≡ page from) × (p.more ≡ false)
 ArePages page place from (p ∷ q ∷ ps) = (p ≡ page from) × (p.more ≡ true) × IsSomeAnd (last_item p.items) (λ x. ArePages page place (place x) (q ∷ ps))
 
--- what is seen on pages
+-- the items of all pages
 abbrev pub items_of : {X : Type 0} → List (Listing X) → List X
 items_of [] = []
 items_of (p ∷ ps) = p.items ++ items_of ps
 
--- a list is shown by pages: who goes on from page to page while more follow comes to an end, and has then seen the whole list, each item once, in order
+-- Pages show a list: a reader that asks for the next page while more follow comes to an end. It has then seen the whole list, each item
+-- once, in order.
 pub record ShowsAll {P X : Type 0} (page : P → Listing X) (place : X → P) (from : P) (all : List X) : Type 0 where
   pub sizes : (at : P) → IsPage (page at)
   pub pages : List (Listing X)
   pub ends : ArePages page place from pages
   pub seen : (any : List (Listing X)) → ArePages page place from any → items_of any ≡ all
 
--- the lists of workspaces, of versions and of runs are shown so, from whatever place on
+-- pages show the lists of workspaces, of versions and of runs, from any place on
 abbrev pub WorkspacesAreShown : Type 0
 WorkspacesAreShown = (after : Option (List ℕ)) (prefix : List ℕ) (o : Organization)
     → ShowsAll (λ (from : Option (List ℕ)). workspaces_after from prefix (Some o)) (λ (row : WsRow). Some row.name) after

@@ -8,27 +8,27 @@ use Rattle.basis.specs.declared.rows.StateHead.{StateHead}
 use Rattle.machine.specs.declared.acts.Act.{Act}
 use Rattle.machine.specs.declared.acts.Act.TheVariants.{PutWorkspace, UpdateState, Lock as LockAct, MakeRun}
 
--- what a state's head says is in range
+-- the head of a state is in range
 abbrev pub IsHeadInRange : StateHead → Type 0
 IsHeadInRange head = (head.serial < 2 ^ 63) × (length head.lineage ≤ 256)
 
--- what the creation of a run asks is in range
+-- what the creation of a run asks for is in range
 abbrev pub IsRunAsk : RunAsk → Type 0
 IsRunAsk ask = IfSome ask.key (λ key. IsTrue (has_length 1 64 key)) × (length ask.message ≤ 1_000)
 
--- how many versions a workspace keeps
+-- the range of the number of versions that a workspace keeps
 abbrev pub IsRetention : ℕ → Type 0
 IsRetention keep = (1 ≤ keep) × (keep ≤ MAX_KEPT)
 
--- what a PUT asks of a workspace's settings is in range
+-- the settings that a PUT asks for are in range
 abbrev pub IsSettingsAsk : SettingsAsk → Type 0
 IsSettingsAsk ask = IfSome ask.retention IsRetention
 
--- a moment, in seconds since 1970
+-- a time in range, in seconds since 1970
 abbrev pub IsMoment : ℕ → Type 0
 IsMoment now = now ≤ MAX_MOMENT
 
--- the documents of an act are in their ranges, where it has any
+-- the act's documents, if it has any, are in range
 abbrev pub IsInRange : Act → Type 0
 IsInRange (PutWorkspace ask) = IsSettingsAsk ask
 IsInRange (UpdateState head text id) = IsHeadInRange head

@@ -1,4 +1,4 @@
--- The rules: what an act on a workspace is answered, and the workspace after it. A refusal changes nothing.
+-- The rules: the answer to an act on a workspace, and the workspace after it. A refusal changes nothing.
 use Rattle.std.specs.Prelude.{ℕ, ◌+◌, ◌-◌, Bool, false, not, ◌&&◌, nat_lt, ◌==◌, cond, List, [], ◌∷◌, ◌++◌, length, map, Option, Some, None}
 use Rattle.std.specs.Str.{bytes_eq}
 use Rattle.basis.specs.Numbers.{within}
@@ -36,11 +36,11 @@ use Rattle.basis.specs.declared.rows.Holder.TheVariants.{Nobody, Lock, Run as Ho
 use Rattle.machine.specs.declared.records.Version.{Version}
 use Rattle.machine.specs.declared.records.Workspace.{Workspace}
 
--- what an act is answered
+-- the answer to an act
 pub data Outcome : Type 0 where
-  -- refused, for another reason than that somebody holds
+  -- refused, for another reason than the holder
   refused : Refusal → Outcome
-  -- refused, since this holder holds
+  -- refused, because this holder holds the workspace
   held : Holder → Outcome
   -- done, and there is nothing to show
   done : Outcome
@@ -65,7 +65,8 @@ Ruling = Effect Outcome (Option Workspace)
 abbrev pub max_number : ℕ
 max_number = MAX_NUMBER
 
--- an accepted update: the version gets the next number, and of those before it the oldest go, so that with it no more stay than the workspace keeps
+-- an accepted update: the version gets the next number, and the oldest versions are removed, so that the workspace has no more than it
+-- keeps
 abbrev pub with_version : Workspace → ℕ → StateHead → List ℕ → ℕ → Workspace
 with_version w number head text now =
     record w {
@@ -73,14 +74,14 @@ with_version w number head text now =
       versions = last_of (w.settings.retention - 1) w.versions ++ (record { number = number; serial = head.serial; lineage = head.lineage; created = now; text = text }) ∷ [];
     }
 
--- an accepted change: the workspace settles, and what is shown is the workspace after that
+-- an accepted change: the workspace settles, and the answer shows the workspace after that
 abbrev pub done_with : Workspace → Ruling
 done_with w = effect done (Some (settled w))
 
 abbrev pub shown_with : Workspace → Ruling
 shown_with w = effect (workspace (shown_of (settled w))) (Some (settled w))
 
--- nothing changes, and that is an answer too
+-- nothing changes, and the act is accepted
 abbrev pub done_already : Workspace → Ruling
 done_already w = effect done (Some w)
 
@@ -102,7 +103,7 @@ by_succession other_lineage w head text now = effect (refused OtherLineage) (Som
 by_succession old_serial w head text now = effect (refused OldSerial) (Some w)
 by_succession next w head text now = accepted_update w head text now
 
--- a refusal: of `Locked` the answer has the holder
+-- the answer to a refusal; for `Locked` it has the holder
 abbrev pub refused_by : Refusal → Holder → Outcome
 refused_by Locked holder = held holder
 refused_by refusal holder = refused refusal
@@ -118,7 +119,7 @@ abbrev pub state_answer : Option Version → Outcome
 state_answer None = no_state
 state_answer (Some v) = state v.text
 
--- how many versions are kept: as many as are asked for; where none are, as many as before, and FIRST_KEPT of a workspace that is made
+-- the number of versions to keep: the number asked for; if none is given, that from before, or FIRST_KEPT for a new workspace
 abbrev pub kept_before : Option Settings → ℕ
 kept_before None = FIRST_KEPT
 kept_before (Some settings) = settings.retention
@@ -127,23 +128,23 @@ abbrev pub kept_for : Option ℕ → ℕ → ℕ
 kept_for None before = before
 kept_for (Some asked) before = asked
 
--- the settings that a PUT asks for, of a workspace that is there with settings or is to be made
+-- the settings that a PUT asks for, of a workspace with these settings or of a new one
 abbrev pub settings_for : SettingsAsk → Option Settings → Settings
 settings_for ask before = record { runs = ask.runs; retention = kept_for ask.retention (kept_before before) }
 
--- other settings: of more versions than they keep, the oldest go
+-- other settings: if the workspace has more versions than they keep, the oldest are removed
 abbrev pub with_settings : Workspace → Settings → Workspace
 with_settings w settings = record w { settings = settings; versions = last_of settings.retention w.versions }
 
--- whether versions would go while somebody holds, where no more than so many stay
+-- whether keeping only so many versions would remove one while the workspace has a holder
 abbrev pub takes_held : ℕ → Workspace → Bool
 takes_held keep w = not (is_nobody w.holder) && nat_lt keep (length w.versions)
 
--- PUT of a workspace that is there: it gets the settings, but while somebody holds no version goes by them
+-- PUT of an existing workspace sets its settings, but is refused if this would remove a version while the workspace has a holder
 abbrev pub put : Settings → Workspace → Ruling
 put settings w = cond (takes_held settings.retention w) (effect (refused_by Locked w.holder) (Some w)) (shown_with (with_settings w settings))
 
--- a purge: every version goes, and the next number stays
+-- a purge: every version is removed, and the next number is unchanged
 abbrev pub purged : Workspace → Workspace
 purged w = record w { versions = [] }
 
@@ -151,12 +152,12 @@ abbrev pub purge : Option Refusal → Workspace → Ruling
 purge (Some refusal) w = effect (refused_by refusal w.holder) (Some w)
 purge None w = done_with (purged w)
 
--- the text of a version that is asked of by its number
+-- the answer to GET of a version by its number
 abbrev pub version_answer : Option Version → Outcome
 version_answer None = refused NotFound
 version_answer (Some v) = state v.text
 
--- DELETE of a workspace: it goes, with its versions and runs, where no lock holds and no run is open
+-- DELETE of a workspace: it is deleted, with its versions and runs, if no lock holds it and no run is open
 abbrev pub delete_idle : ℕ → Workspace → Ruling
 delete_idle busy w = cond (nat_lt 0 busy) (effect (refused OpenRuns) (Some w)) (effect done None)
 
@@ -165,17 +166,17 @@ delete Nobody w = delete_idle (open_runs w.runs) w
 delete (Lock id text) w = effect (refused_by Locked w.holder) (Some w)
 delete (HoldingRun n) w = delete_idle (open_runs w.runs) w
 
--- the lock of an ID holds; its text is what took it
+-- the lock with this ID holds the workspace; its text is that of the LOCK that took it
 abbrev pub locked : List ℕ → List ℕ → Workspace → Workspace
 locked id text w = record w { holder = Lock id text }
 
--- LOCK: it takes hold where nobody holds, and is repeated where it holds
+-- LOCK: it takes the lock if the workspace has no holder, and is accepted again while the same ID holds
 abbrev pub lock : Holder → List ℕ → List ℕ → Workspace → Ruling
 lock Nobody id text w = done_with (locked id text w)
 lock (Lock id_held text_held) id text w = cond (bytes_eq id id_held) (done_already w) (effect (refused_by Locked w.holder) (Some w))
 lock (HoldingRun n) id text w = effect (refused_by Locked w.holder) (Some w)
 
--- nobody holds any more, and the lock's ID is the one released last
+-- the workspace has no holder any more, and the lock's ID is the one released last
 abbrev pub released : List ℕ → Workspace → Workspace
 released id w = record w { holder = Nobody; released = Some id }
 
@@ -183,7 +184,7 @@ abbrev pub is_released : Option (List ℕ) → List ℕ → Bool
 is_released None id = false
 is_released (Some last) id = bytes_eq id last
 
--- UNLOCK by an ID: it releases the lock that it names, and is repeated where nobody holds or where it was released last
+-- UNLOCK by an ID: it releases the lock with this ID, and is accepted again if the workspace has no holder or the ID was released last
 abbrev pub unlock : Holder → List ℕ → Workspace → Ruling
 unlock Nobody id w = done_already w
 unlock (Lock id_held text) id w =
@@ -191,30 +192,30 @@ unlock (Lock id_held text) id w =
     (cond (is_released w.released id) (done_already w) (effect (refused_by Locked w.holder) (Some w)))
 unlock (HoldingRun n) id w = cond (is_released w.released id) (done_already w) (effect (refused HeldByRun) (Some w))
 
--- UNLOCK with an empty body: it releases whatever lock holds
+-- UNLOCK with an empty body: it releases whichever lock holds
 abbrev pub force_unlock : Holder → Workspace → Ruling
 force_unlock Nobody w = done_already w
 force_unlock (Lock id_held text) w = done_with (released id_held w)
 force_unlock (HoldingRun n) w = effect (refused HeldByRun) (Some w)
 
--- what is told of a run: it, as it is in a workspace
+-- the answer that shows a run
 abbrev pub run_answer : Option Run → Outcome
 run_answer None = refused NotFound
 run_answer (Some r) = the_run r
 
--- an accepted change: the workspace settles, and a run is told as it is after that
+-- an accepted change: the workspace settles, and the answer shows a run as it is after that
 abbrev pub told_with : ℕ → Workspace → Ruling
 told_with n w = effect (run_answer (run_of n (settled w).runs)) (Some (settled w))
 
--- nothing changes, and the run is told as it is
+-- nothing changes, and the answer shows the run as it is
 abbrev pub told_already : Run → Workspace → Ruling
 told_already r w = effect (the_run r) (Some w)
 
--- a run at its creation: a plan-only run plans at once, and a queued one is pending
+-- a run at its creation: a plan-only run is planning, and a queued run is pending
 abbrev pub new_run : ℕ → RunAsk → ℕ → Run
 new_run number ask now = record { number = number; plan_only = ask.plan_only; key = ask.key; message = ask.message; created = now; status = cond ask.plan_only Planning Pending; action = None }
 
--- a run more, behind the others
+-- one more run, after the others
 abbrev pub with_run : Run → Workspace → Workspace
 with_run r w = record w { next_run = r.number + 1; runs = w.runs ++ r ∷ [] }
 
@@ -222,21 +223,21 @@ abbrev pub numbered_run : Option ℕ → Workspace → RunAsk → ℕ → Ruling
 numbered_run None w ask now = effect (refused OverLimit) (Some w)
 numbered_run (Some number) w ask now = told_with number (with_run (new_run number ask now) w)
 
--- the creation of a run: the one that has the key is told, before any limit is judged
+-- the creation of a run: if a run has the key, the answer shows it, before any limit is tested
 abbrev pub make_run : Option Run → Workspace → RunAsk → ℕ → Ruling
 make_run (Some r) w ask now = told_already r w
 make_run None w ask now =
     cond (nat_lt (open_runs w.runs) max_open_runs) (numbered_run (number_left w.next_run) w ask now) (effect (refused OverLimit) (Some w))
 
--- the run of a number took an action last, and is in the status after it
+-- the run with this number has taken this action last and has this status
 abbrev pub reported : ℕ → RunAction → RunStatus → Run → Run
 reported n action status r = record r { status = cond (r.number == n) status r.status; action = cond (r.number == n) (Some action) r.action }
 
--- whether the run of a number holds, and a status ends it
+-- whether the run with this number is the holder and this status ends it
 abbrev pub frees : ℕ → RunStatus → Holder → Bool
 frees n status holder = holds holder n && not (is_open status)
 
--- a holding run that ends leaves nobody holding
+-- if the holding run ends, the workspace has no holder
 abbrev pub with_report : ℕ → RunAction → RunStatus → Workspace → Workspace
 with_report n action status w = record w { holder = cond (frees n status w.holder) Nobody w.holder; runs = map (reported n action status) w.runs }
 
@@ -244,12 +245,12 @@ abbrev pub by_step : Option RunStatus → ℕ → RunAction → Workspace → Ru
 by_step None n action w = effect (refused WrongState) (Some w)
 by_step (Some status) n action w = told_with n (with_report n action status w)
 
--- an action on a run: the one that it took last is answered again; auto-apply is the workspace's setting as it is now
+-- an action on a run: the action that it took last is accepted again; auto-apply is as the workspace's settings are now
 abbrev pub report : Option Run → ℕ → RunAction → Workspace → Ruling
 report None n action w = effect (refused NotFound) (Some w)
 report (Some r) n action w = cond (is_last action r.action) (told_already r w) (by_step (next_status r.plan_only w.settings.runs.auto_apply r.status action) n action w)
 
--- what is told of a workspace
+-- the answer to a read-only act
 abbrev pub told : AnyLook → Workspace → Outcome
 told look.Workspace w = workspace (shown_of w)
 told look.State w = state_answer (newest w.versions)
@@ -258,7 +259,7 @@ told (look.Versions after) w = versions (versions_listed after w.versions)
 told (look.Run n) w = run_answer (run_of n w.runs)
 told (look.Runs after) w = runs (runs_listed after w.runs)
 
--- a workspace that is missing is made by PUT where there is room, and nothing else finds it
+-- PUT creates a missing workspace if there is room; any other act does not find it
 abbrev pub rules_missing : Act → Bool → Ruling
 rules_missing (PutWorkspace ask) room = cond room (shown_with (new_workspace (settings_for ask None))) (effect (refused OverLimit) None)
 rules_missing act room = effect (refused NotFound) None
@@ -275,7 +276,7 @@ rules_there DeleteWorkspace now w = delete w.holder w
 rules_there (MakeRun ask) now w = make_run (keyed_run ask.key w.runs) w ask now
 rules_there (ReportRun n action) now w = report (run_of n w.runs) n action w
 
--- the rules: of an act and a moment, on a workspace
+-- the rules: for an act at a time, on a workspace
 abbrev pub rules : Act → ℕ → Seen → Ruling
 rules act now (missing room) = rules_missing act room
 rules act now (there w) = rules_there act now w

@@ -1,5 +1,5 @@
--- The steps of runs: three finite sets of a status, an action, and the status after it (HCP Terraform, 'Run States and
--- Stages', a subset). An action that no run_step of a status has is refused there.
+-- The steps of runs: three finite sets of a status, an action, and the status after it (HCP Terraform, 'Run States and Stages', a subset).
+-- An action that has no step from a status is refused there.
 use Rattle.std.specs.Prelude.{Bool, true, false, ◌&&◌, List, [], ◌∷◌, find, Option, Some, None, option_map}
 use Rattle.std.specs.Str.{bytes_eq}
 use Rattle.basis.specs.Runs.{status_word, action_word}
@@ -8,7 +8,7 @@ use Rattle.basis.specs.declared.runs.RunStatus.TheVariants.{Pending, Planning, P
 use Rattle.basis.specs.declared.runs.RunAction.{RunAction}
 use Rattle.basis.specs.declared.runs.RunAction.TheVariants.{ReportPlanned, ReportUnchanged, Fail, Confirm, ReportApplied, Discard, Cancel}
 
--- a run in a status takes an action, and is in a status after it
+-- a run in one status takes an action, and has the other status after it
 pub record RunStep : Type 0 where
   pub from : RunStatus
   pub action : RunAction
@@ -17,7 +17,7 @@ pub record RunStep : Type 0 where
 abbrev pub run_step : RunStatus → RunAction → RunStatus → RunStep
 run_step from action to = record { from = from; action = action; to = to }
 
--- of a plan-only run
+-- the steps of a plan-only run
 abbrev pub plan_only_steps : List RunStep
 plan_only_steps =
     run_step Planning ReportPlanned PlannedAndFinished
@@ -26,7 +26,7 @@ plan_only_steps =
     ∷ run_step Planning Cancel Canceled
     ∷ []
 
--- of a queued run, by where it goes once its plan is made
+-- the steps of a queued run, by the status that follows its plan
 abbrev pub queued_steps : RunStatus → List RunStep
 queued_steps planned =
     run_step Pending Discard Discarded
@@ -41,11 +41,11 @@ queued_steps planned =
     ∷ run_step Applying Cancel Canceled
     ∷ []
 
--- of a queued run under auto-apply: it applies at once
+-- the steps of a queued run under auto-apply: it applies at once
 abbrev pub auto_apply_steps : List RunStep
 auto_apply_steps = queued_steps Applying
 
--- of any other queued run: it waits for Confirm
+-- the steps of any other queued run: it waits for Confirm
 abbrev pub confirmed_steps : List RunStep
 confirmed_steps = queued_steps Planned
 
@@ -54,7 +54,7 @@ steps_of true auto_apply = plan_only_steps
 steps_of false true = auto_apply_steps
 steps_of false false = confirmed_steps
 
--- two statuses, or two actions, that have one word
+-- whether two statuses, or two actions, have the same word
 abbrev pub is_status : RunStatus → RunStatus → Bool
 is_status a b = bytes_eq (status_word a) (status_word b)
 
@@ -67,11 +67,11 @@ is_step status action s = is_status s.from status && is_action s.action action
 abbrev pub step_in : List RunStep → RunStatus → RunAction → Option RunStatus
 step_in steps status action = option_map (λ (s : RunStep). s.to) (find (is_step status action) steps)
 
--- where an action takes a run, if it takes it anywhere
+-- the status that an action leads to; none if there is no such step
 abbrev pub next_status : (plan_only auto_apply : Bool) → RunStatus → RunAction → Option RunStatus
 next_status plan_only auto_apply status action = step_in (steps_of plan_only auto_apply) status action
 
--- whether the action is the one that a run took last
+-- whether the action is the run's last
 abbrev pub is_last : RunAction → Option RunAction → Bool
 is_last action None = false
 is_last action (Some last) = is_action last action

@@ -1,4 +1,4 @@
--- When two records hold the same things, in whatever order these were made: then they are equal.
+-- When two records hold the same things, whatever the order in which these were created: such records are equal.
 use Rattle.std.specs.Prelude.{◌≡◌, ◌↔◌, ◌⊎◌, ℕ, List, [], ◌∷◌, Option, Some, None, ⊤}
 use Rattle.std.specs.FinMap.{get}
 use Rattle.machine.specs.Laws.{IsLawfulOrganization}
@@ -12,7 +12,7 @@ abbrev pub IsOneOf : {A : Type 0} → A → List A → Type 0
 IsOneOf x [] = ⊥
 IsOneOf x (y ∷ ys) = (x ≡ y) ⊎ IsOneOf x ys
 
--- the same settings, holder, numbers and released ID; and what is a version or a run of the one is one of the other
+-- the same settings, holder, numbers and released ID; and a version or a run of one is a version or a run of the other
 pub record HoldTheSame (w v : Workspace) : Type 0 where
   pub settings : w.settings ≡ v.settings
   pub holder : w.holder ≡ v.holder
@@ -22,14 +22,14 @@ pub record HoldTheSame (w v : Workspace) : Type 0 where
   pub versions : (x : Version) → IsOneOf x w.versions ↔ IsOneOf x v.versions
   pub runs : (x : Run) → IsOneOf x w.runs ↔ IsOneOf x v.runs
 
--- both are there and hold the same, or neither is there
+-- both exist and hold the same, or neither exists
 abbrev pub HoldTheSameIfThere : Option Workspace → Option Workspace → Type 0
 HoldTheSameIfThere None None = ⊤
 HoldTheSameIfThere None (Some v) = ⊥
 HoldTheSameIfThere (Some w) None = ⊥
 HoldTheSameIfThere (Some w) (Some v) = HoldTheSame w v
 
--- lawful organizations of one limit, of which each token and each workspace of a name is the same, are equal
+-- lawful organizations with the same limit, whose tokens and workspaces are the same by name, are equal
 abbrev pub SameThingsAreEqualRecords : Type 0
 SameThingsAreEqualRecords = (o p : Organization) → IsLawfulOrganization o → IsLawfulOrganization p
     → o.limit ≡ p.limit → ((name : List ℕ) → get o.tokens name ≡ get p.tokens name)

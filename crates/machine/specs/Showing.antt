@@ -19,7 +19,7 @@ use Rattle.machine.specs.declared.records.Version.{Version}
 use Rattle.machine.specs.declared.records.Workspace.{Workspace}
 use Rattle.machine.specs.declared.records.Organization.{Organization}
 
--- who holds, as it is shown
+-- the holder, as it is shown
 abbrev pub holder_id : Holder → Option HolderId
 holder_id Nobody = None
 holder_id (Lock id text) = Some (LockHolder id)
@@ -29,11 +29,11 @@ holder_id (HoldingRun n) = Some (RunHolder n)
 abbrev pub shown_of : Workspace → Shown
 shown_of w = record { settings = w.settings; holder = holder_id w.holder; version = option_map (λ (v : Version). v.number) (newest w.versions) }
 
--- with its name
+-- a workspace as it is shown, with its name
 abbrev pub row_of : List ℕ → Shown → WsRow
 row_of name shown = record { settings = shown.settings; holder = shown.holder; name = name; version = shown.version }
 
--- a version as it is listed; its size is the number of its text's bytes
+-- a version as it is listed; its size is the number of bytes of its text
 abbrev pub version_row : Version → VersionRow
 version_row v = record { created = v.created; lineage = v.lineage; number = v.number; serial = v.serial; size = length v.text }
 
@@ -42,11 +42,11 @@ abbrev pub comes_after : Option (List ℕ) → List ℕ → Bool
 comes_after None name = true
 comes_after (Some after) name = is_lt (name_cmp after name)
 
--- whether a name is to be listed: a prefix admits it, and it comes after another, if there is another
+-- whether a name is listed: it starts with the prefix, and comes after another, if there is another
 abbrev pub is_listed : Option (List ℕ) → List ℕ → List ℕ → Bool
 is_listed after prefix name = admits prefix name && comes_after after name
 
--- the list of an organization's workspaces that a prefix admits, after a name, in the order of the names' bytes
+-- the list of an organization's workspaces whose names start with the prefix and come after another, in the order of the names' bytes
 abbrev pub workspaces_listed : Option (List ℕ) → List ℕ → List (List ℕ × Workspace) → Listing WsRow
 workspaces_listed after prefix es = listing_of (map (λ (e : List ℕ × Workspace). row_of e.0 (shown_of e.1)) (filter (λ (e : List ℕ × Workspace). is_listed after prefix e.0) es))
 
@@ -54,7 +54,7 @@ abbrev pub workspaces_after : Option (List ℕ) → List ℕ → Option Organiza
 workspaces_after after prefix None = listing_of []
 workspaces_after after prefix (Some o) = workspaces_listed after prefix (entries o.workspaces)
 
--- the list of a workspace's versions with numbers after another, and that of its runs
+-- the list of a workspace's versions with numbers greater than this one, and that of its runs
 abbrev pub versions_listed : ℕ → List Version → Listing VersionRow
 versions_listed after versions = listing_of (map version_row (filter (λ (v : Version). nat_lt after v.number) versions))
 

@@ -18,11 +18,11 @@ pub data Succession : Type 0 where
   -- a further version
   next : Succession
 
--- lineages that differ, and of which none is empty
+-- both lineages are non-empty, and they differ
 abbrev pub lineages_differ : List ℕ → List ℕ → Bool
 lineages_differ a b = nat_lt 0 (length a) && nat_lt 0 (length b) && not (bytes_eq a b)
 
--- a serial that is greater than another
+-- the serial is greater than the other
 abbrev pub is_newer : (before after : ℕ) → Bool
 is_newer before after = nat_lt before after
 

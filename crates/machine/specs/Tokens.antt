@@ -16,40 +16,40 @@ use Rattle.machine.specs.declared.keeps.AdminAnswer.TheVariants.{Done, Exists, A
 use Rattle.machine.specs.declared.keeps.OrgRow.{OrgRow}
 use Rattle.machine.specs.declared.keeps.TokenRow.{TokenRow}
 
--- the first entry with a digest
+-- the first entry with this digest
 abbrev pub token_with : List ℕ → List (List ℕ × Token) → Option Token
 token_with digest [] = None
 token_with digest (e ∷ es) = cond (bytes_eq e.1.digest digest) (Some e.1) (token_with digest es)
 
--- an organization's token with a digest, if there is one
+-- the organization's token with this digest, if there is one
 abbrev pub caller_of : Option Organization → List ℕ → Option Token
 caller_of None digest = None
 caller_of (Some o) digest = token_with digest (entries o.tokens)
 
--- a token as an operator's list shows it: its name and who asks by it, and no digest
+-- a token as an operator's list shows it: its name and its caller, without its digest
 abbrev pub token_row : List ℕ → Token → TokenRow
 token_row name token = record { name = name; caller = token.caller }
 
--- the first entry with a digest, as an operator's list shows it
+-- the first entry with this digest, as an operator's list shows it
 abbrev pub row_with : List ℕ → List (List ℕ × Token) → Option TokenRow
 row_with digest [] = None
 row_with digest (e ∷ es) = cond (bytes_eq e.1.digest digest) (Some (token_row e.0 e.1)) (row_with digest es)
 
--- who asks by an organization's token with a digest, and the token's name, if there is one
+-- the name and the caller of the organization's token with this digest, if there is one
 abbrev pub asker_of : Option Organization → List ℕ → Option TokenRow
 asker_of None digest = None
 asker_of (Some o) digest = row_with digest (entries o.tokens)
 
--- who asks by a digest is who asks by the token with it, whatever its name
+-- the caller found by a digest is that of the token with this digest, whatever its name
 abbrev pub AskersAskByTheirTokens : Type 0
 AskersAskByTheirTokens = (r : Option Organization) (digest : List ℕ)
     → option_map (λ row. row.caller) (asker_of r digest) ≡ option_map (λ token. token.caller) (caller_of r digest)
 
--- whether an organization has a token with a digest
+-- whether the organization has a token with this digest
 abbrev pub has_digest : List ℕ → Organization → Bool
 has_digest digest o = is_some (token_with digest (entries o.tokens))
 
--- an operator's answer, and the organization after it
+-- the answer to an operator, and the organization after it
 abbrev pub Managed : Type 0
 Managed = Effect AdminAnswer (Option Organization)
 
@@ -57,12 +57,12 @@ Managed = Effect AdminAnswer (Option Organization)
 abbrev pub new_organization : ℕ → Organization
 new_organization limit = record { limit = limit; tokens = empty; workspaces = empty }
 
--- adding an organization with a limit
+-- adding an organization with this limit
 abbrev pub org_added : ℕ → Option Organization → Managed
 org_added limit None = effect Done (Some (new_organization limit))
 org_added limit (Some o) = effect Exists (Some o)
 
--- setting the limit of an organization: what it has stays, also where that is more
+-- setting the limit of an organization: it keeps what it has, even if that is more
 abbrev pub with_limit : Organization → ℕ → Organization
 with_limit o limit = record o { limit = limit }
 
@@ -73,7 +73,7 @@ org_limited limit (Some o) = effect Done (Some (with_limit o limit))
 abbrev pub token_of : List ℕ → Role → Bounds → Token
 token_of digest role bounds = record { digest = digest; caller = record { role = role; until = bounds.until; prefix = bounds.prefix } }
 
--- adding a token: neither its name nor its digest may be there
+-- adding a token: neither its name nor its digest may exist
 abbrev pub with_token : Organization → List ℕ → Token → Organization
 with_token o name token = record o { tokens = insert o.tokens name token }
 
@@ -82,7 +82,7 @@ token_added name token None = effect Absent None
 token_added name token (Some o) =
     cond (is_some (get o.tokens name) || has_digest token.digest o) (effect Exists (Some o)) (effect Done (Some (with_token o name token)))
 
--- taking a token away, by its name
+-- removing a token, by its name
 abbrev pub without_token : Organization → List ℕ → Organization
 without_token o name = record o { tokens = remove o.tokens name }
 
@@ -98,7 +98,8 @@ abbrev pub tokens_told : Option Organization → AdminAnswer
 tokens_told None = Absent
 tokens_told (Some o) = Tokens (tokens_listed (entries o.tokens))
 
--- the list of all organizations: exactly those that are there, in the order of their names' bytes, each with how many workspaces it has and its limit
+-- the list of all organizations: exactly those that exist, in the order of their names' bytes, each with its number of workspaces and its
+-- limit
 abbrev pub is_row_of : List ℕ → OrgRow → Bool
 is_row_of org row = bytes_eq row.name org
 

@@ -1,4 +1,4 @@
--- What a decision sees of a workspace.
+-- What a decision needs of a workspace.
 use Rattle.std.specs.Prelude.{ℕ, ◌-◌, Bool, true, false, ◌==◌, cond, List, [], ◌∷◌, Option, Some, None, is_some, option_map, option_and_then}
 use Rattle.std.specs.Option.{option_or}
 use Rattle.std.specs.FinMap.{get}
@@ -21,40 +21,40 @@ use Rattle.basis.specs.declared.rows.RunRow.{RunRow as Run}
 use Rattle.machine.specs.declared.records.Version.{Version}
 use Rattle.machine.specs.declared.records.Workspace.{Workspace}
 
--- whether a text is the one that it is compared with
+-- whether a text equals the one that it is compared with
 abbrev pub is_text : Option (List ℕ) → List ℕ → Bool
 is_text None text = false
 is_text (Some asked) text = bytes_eq text asked
 
--- the last that passes a test
+-- the last item that passes a test
 abbrev pub find_last : {X : Type 0} → (X → Bool) → List X → Option X
 find_last test [] = None
 find_last test (x ∷ xs) = option_or (find_last test xs) (cond (test x) (Some x) None)
 
--- the version of a number
+-- the version with this number
 abbrev pub version_of : ℕ → List Version → Option Version
 version_of n versions = find_last (λ (v : Version). v.number == n) versions
 
--- whether a version of a number is kept, if one is asked of
+-- whether the version with this number is kept; false if no number is given
 abbrev pub has_version : Option ℕ → List Version → Bool
 has_version None versions = false
 has_version (Some n) versions = is_some (version_of n versions)
 
--- the run that is asked of: by its number, or, where none is given, by its key
+-- the run with this number, or, if none is given, the run with this key
 abbrev pub asked_run : Option ℕ → Option (List ℕ) → List Run → Option Run
 asked_run (Some n) key runs = run_of n runs
 asked_run None key runs = keyed_run key runs
 
--- a part, where it is needed
+-- a part, if it is needed
 abbrev pub if_needed : {X : Type 0} → Bool → Option X → Option X
 if_needed true part = part
 if_needed false part = None
 
--- the settings of a workspace, with the number of versions kept where that is needed, else with that of one that is made
+-- the settings of a workspace; the number of versions kept is that of a new workspace unless it is needed
 abbrev pub settings_unit : Bool → Settings → Settings
 settings_unit needed s = record s { retention = cond needed s.retention FIRST_KEPT }
 
--- the greatest number of the versions that go, of a workspace that keeps so many: one more that comes is one of those
+-- the greatest number of the versions to be removed from a workspace that keeps `keep`; a version that is added counts as one of those
 abbrev pub outgoing_by : Staying → ℕ → List Version → Option ℕ
 outgoing_by StayAll keep versions = None
 outgoing_by MakeRoom keep versions = outgoing (keep - 1) versions
@@ -82,15 +82,15 @@ unit_for need w = record {
 abbrev pub workspace_unit : Act → Workspace → WorkspaceUnit
 workspace_unit act w = unit_for (needs act) w
 
--- of a workspace that is missing, how many there are and how many there may be, where the act makes one
+-- for a missing workspace: the organization's number of workspaces and its limit if the act creates a workspace, otherwise 0 and 0
 abbrev pub unit_by : Organization → Act → Option Workspace → AnyUnit
 unit_by o act None = Absent (cond (needs act).makes (count_of o) 0) (cond (needs act).makes o.limit 0)
 unit_by o act (Some w) = Present (workspace_unit act w)
 
--- what a decision on an act sees of the workspace of a name
+-- what a decision on an act needs of the workspace with this name
 abbrev pub unit_of : Organization → List ℕ → Act → AnyUnit
 unit_of o name act = unit_by o act (get o.workspaces name)
 
--- the text of a version, if the workspace is there and keeps it
+-- the text of a version, if the workspace exists and keeps the version
 abbrev pub version_text : ℕ → Option Workspace → Option (List ℕ)
 version_text n w = option_and_then (λ (v : Workspace). option_map (λ (u : Version). u.text) (version_of n v.versions)) w

@@ -1,5 +1,5 @@
--- What becomes of the versions and the settings of a workspace, as laws of the rules: how a version follows the one before it, which stay, and
--- that a PUT leaves what it asks for.
+-- What becomes of the versions and the settings of a workspace, as laws of the rules: how a version follows the one before it, which
+-- versions are kept, and that a PUT sets what it asks for.
 use Rattle.std.specs.Prelude.{◌≡◌, ◌<◌, ◌≤◌, ◌⊎◌, ◌+◌, ℕ, Bool, List, [], ◌∷◌, ◌++◌, length, Option, Some, None, IfSome, ⊤}
 use Rattle.basis.specs.declared.rows.SettingsAsk.{SettingsAsk}
 use Rattle.basis.specs.declared.rows.Settings.{Settings}
@@ -19,47 +19,47 @@ pub record Follows (older newer : Version) : Type 0 where
   pub serial : older.serial < newer.serial
   pub lineage : (older.lineage ≡ newer.lineage) ⊎ ((older.lineage ≡ []) ⊎ (newer.lineage ≡ []))
 
--- each follows the one before it
+-- each version follows the one before it
 abbrev pub EachFollows : List Version → Type 0
 EachFollows [] = ⊤
 EachFollows (v ∷ []) = ⊤
 EachFollows (v ∷ w ∷ vs) = Follows v w × EachFollows (w ∷ vs)
 
--- after every act the newest version is the one from before, or it follows that one, be that one kept or not
+-- after every act the newest version is the same as before, or it follows that one, whether that one is kept or not
 abbrev pub NewestVersionsFollow : Type 0
 NewestVersionsFollow = (act : Act) (now : ℕ) (w v : Workspace) (older newer : Version) → (rules act now (there w)).left ≡ Some v
     → newest w.versions ≡ Some older → newest v.versions ≡ Some newer → (newer ≡ older) ⊎ Follows older newer
 
--- every act leaves versions of which each follows the one before it, as they were before the act
+-- if each version follows the one before it, the same holds of those that an act leaves
 abbrev pub KeptVersionsFollow : Type 0
 KeptVersionsFollow = (act : Act) (now : ℕ) (s : Seen) (v : Workspace) → IfSome (standing s) (λ w. EachFollows w.versions)
     → (rules act now s).left ≡ Some v → EachFollows v.versions
 
--- of all versions the newest are left, so many and no fewer: those that are gone stood before them, and none is gone where fewer than so many are left
+-- the newest of all versions are left, at most `most`: those that are gone came before them, and if any is gone, exactly `most` are left
 pub record AreNewest (most : ℕ) (all left : List Version) : Type 0 where
   pub gone : List Version
   pub is : all ≡ gone ++ left
   pub no_more : length left ≤ most
   pub no_fewer : (gone ≡ []) ⊎ (length left ≡ most)
 
--- the version that a text becomes, by its number, its head and the moment
+-- the version that a posted text becomes, by its number, its head and the time
 abbrev pub posted : ℕ → StateHead → List ℕ → ℕ → Version
 posted number head text now = record { number = number; serial = head.serial; lineage = head.lineage; created = now; text = text }
 
--- a text comes: it is there under the next number, and with those before it the newest stay, as many as the workspace keeps
+-- a text is added: it is kept under the next number, and with it the newest versions before it, as many as the workspace keeps
 pub record TextComes (head : StateHead) (text : List ℕ) (now : ℕ) (w v : Workspace) : Type 0 where
   pub stay : AreNewest w.settings.retention (w.versions ++ posted w.next_version head text now ∷ []) v.versions
   pub found : version_of w.next_version v.versions ≡ Some (posted w.next_version head text now)
   pub next : v.next_version ≡ w.next_version + 1
 
--- a text is there already: it is that of the newest version, and nothing changes
+-- a text is not new: it is that of the newest version, and nothing changes
 pub record TextIsThere (text : List ℕ) (w v : Workspace) : Type 0 where
   pub version : Version
   pub is : newest w.versions ≡ Some version
   pub text_is : version.text ≡ text
   pub same : v ≡ w
 
--- a text that is accepted is there afterwards
+-- an accepted text is kept afterwards
 abbrev pub AcceptedTextsStand : Type 0
 AcceptedTextsStand = (head : StateHead) (text : List ℕ) (id : Option (List ℕ)) (now : ℕ) (w v : Workspace) → 1 ≤ w.settings.retention
     → (rules (UpdateState head text id) now (there w)).answer ≡ done → (rules (UpdateState head text id) now (there w)).left ≡ Some v
@@ -71,18 +71,18 @@ FollowingTextsAreAccepted = (head : StateHead) (text : List ℕ) (id : Option (L
     → 1 ≤ w.next_version → w.next_version ≤ 1_000_000_000 → IfSome (newest w.versions) (λ older. Follows older (posted w.next_version head text now))
     → (rules (UpdateState head text id) now (there w)).answer ≡ done
 
--- the settings that a PUT asks for: how runs go as asked, and as many versions as asked, or as before where no number is given
+-- the settings that a PUT asks for: those of runs as asked, and as many versions as asked, or as before if no number is given
 pub record AreAsked (ask : SettingsAsk) (before : ℕ) (settings : Settings) : Type 0 where
   pub runs : settings.runs ≡ ask.runs
   pub given : (keep : ℕ) → ask.retention ≡ Some keep → settings.retention ≡ keep
   pub not_given : ask.retention ≡ None → settings.retention ≡ before
 
--- an accepted PUT leaves the settings asked for, and of the versions the newest, as many as the workspace keeps then
+-- after an accepted PUT the settings are those asked for, and of the versions the newest are left, as many as the workspace then keeps
 abbrev pub PutsLeaveWhatTheyAsk : Type 0
 PutsLeaveWhatTheyAsk = (ask : SettingsAsk) (now : ℕ) (w v : Workspace)
     → (IsRefusal (rules (PutWorkspace ask) now (there w)).answer → ⊥) → (rules (PutWorkspace ask) now (there w)).left ≡ Some v
     → AreAsked ask w.settings.retention v.settings × AreNewest v.settings.retention w.versions v.versions
 
--- one that makes the workspace leaves the settings asked for, and 100 versions where no number is given
+-- a PUT that creates the workspace sets the settings asked for, and 100 versions if no number is given
 abbrev pub PutsMakeWhatTheyAsk : Type 0
 PutsMakeWhatTheyAsk = (ask : SettingsAsk) (now : ℕ) (room : Bool) (v : Workspace) → (rules (PutWorkspace ask) now (missing room)).left ≡ Some v → AreAsked ask 100 v.settings

@@ -1,5 +1,5 @@
--- Who may write (update or purge a state), by the holder and the ID that the request gives
--- (Terraform documentation, 'Backend Type: http': the ID of the held lock is added to updates).
+-- Who may write (update or purge a state), by the holder and the ID that the request gives (Terraform documentation, 'Backend Type: http':
+-- the ID of the held lock is added to updates).
 use Rattle.std.specs.Prelude.{ℕ, Bool, true, false, cond, List, Option, Some, None}
 use Rattle.std.specs.Str.{bytes_eq}
 use Rattle.basis.specs.Names.{run_id}
@@ -22,7 +22,7 @@ is_applying (Some Errored) = false
 is_applying (Some Discarded) = false
 is_applying (Some Canceled) = false
 
--- why a write is refused, if it is: by the holder, the status of the holding run and the ID given
+-- why a write is refused, or none if it is allowed: by the holder, the status of the holding run and the ID given
 abbrev pub may_write : Holder → Option RunStatus → Option (List ℕ) → Option Refusal
 may_write Nobody status None = None
 may_write Nobody status (Some id) = Some NotHeld

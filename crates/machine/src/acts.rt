@@ -1,4 +1,4 @@
-//! What is asked of a workspace, what a decision needs of it, and what is decided.
+//! What a request asks of a workspace, what a decision on it needs, and what is decided.
 
 use crate::records::Version;
 use crate::texts::StateText;
@@ -7,14 +7,14 @@ use basis::{
     RunAsk, RunRow, RunStatus, Serial, Settings, SettingsAsk, StateHead, Text,
 };
 
-/// What is asked of one workspace, its documents read.
+/// What a request asks of one workspace. Its documents have been read.
 #[derive(Drop)]
 pub enum Act {
-    /// Something is told of it, and nothing changes.
+    /// Reads something of the workspace, and changes nothing.
     Look(Look),
-    /// Makes the workspace, or sets the settings of the one that is there.
+    /// Creates the workspace, or sets its settings if it exists.
     PutWorkspace(SettingsAsk),
-    /// The workspace goes, with its versions and runs.
+    /// Deletes the workspace, with its versions and runs.
     DeleteWorkspace,
     /// Terraform's `POST` of a state, with the ID of the lock that the caller says it holds.
     UpdateState {
@@ -22,7 +22,7 @@ pub enum Act {
         text: StateText,
         lock_id: Option<LockId>,
     },
-    /// `DELETE` of a state: every version goes.
+    /// `DELETE` of a state: removes every version.
     PurgeState {
         lock_id: Option<LockId>,
     },
@@ -33,49 +33,49 @@ pub enum Act {
     },
     /// Terraform's `UNLOCK`, by the lock's ID.
     Unlock(LockId),
-    /// `UNLOCK` of whatever lock holds.
+    /// `UNLOCK` with an empty body: releases whichever lock holds.
     ForceUnlock,
-    /// Makes a run, or shows the one that has the key.
+    /// Creates a run, or returns the run that has the key.
     MakeRun(RunAsk),
-    /// An action on a run.
+    /// Reports an action on a run.
     ReportRun(Number, RunAction),
 }
 
-/// Which versions stay, where it is asked which go: those before them.
+/// Which versions are kept. A decision that asks which versions are removed means those before them.
 #[derive(Clone, Copy)]
 pub enum Staying {
-    /// All of them: it isn't asked.
+    /// All of them: the decision does not ask which are removed.
     StayAll,
-    /// One more comes: the last that stay beside it, of as many as the workspace keeps.
+    /// The newest, one fewer than the workspace keeps, because a version is added.
     MakeRoom,
-    /// The last so many.
+    /// The newest, at most this many.
     StayAtMost(KeepCount),
 }
 
-/// What a decision on an act needs of its workspace besides the workspace's own row: a store is asked
-/// for nothing else.
+/// What a decision on an act needs of its workspace besides the workspace's own row. A store reads nothing
+/// else.
 #[derive(Drop)]
 pub struct Needs<'a> {
-    /// Whether the act makes the workspace where there is none, so that it is asked there how many the
-    /// organization has, and how many it may have.
+    /// Whether the act creates a missing workspace. If so, the number of the organization's workspaces and
+    /// its limit are needed if the workspace is missing.
     pub makes: bool,
-    /// Whether it is needed how many versions the workspace keeps.
+    /// Whether the number of versions that the workspace keeps is needed.
     pub retention: bool,
-    /// Whether the status of the run that holds is needed.
+    /// Whether the status of the holding run is needed.
     pub holder_status: bool,
     /// Whether the newest version is needed.
     pub newest: bool,
     /// The text that the newest version's text is compared with.
     pub text: Option<&'a [u8]>,
-    /// Whether it is needed which versions go, and by which that stay.
+    /// Whether the versions to be removed are needed, and which versions are kept.
     pub outgoing: Staying,
-    /// The number of the version that is asked of.
+    /// The number of the version that the act names.
     pub version: Option<Number>,
-    /// The number of the run that is asked of.
+    /// The number of the run that the act names.
     pub run: Option<Number>,
-    /// The key of the run that is asked of.
+    /// The key of the run that the act names.
     pub key: Option<&'a Text>,
-    /// Whether the first run that waits is needed.
+    /// Whether the first waiting run is needed.
     pub waiting: bool,
     /// Whether the number of open runs is needed.
     pub open_runs: bool,
@@ -87,47 +87,45 @@ pub struct Newest {
     pub number: Number,
     pub serial: Serial,
     pub lineage: Text,
-    /// Whether its text is the asked one, byte for byte.
+    /// Whether its text equals `Needs::text`, byte for byte.
     pub is_same: bool,
 }
 
-/// What a decision needs of a workspace that is there. A part that the act doesn't need is `None`, 0
-/// or false.
+/// What a decision needs of a workspace that exists. A part that the act does not need is `None`, 0 or false.
 #[derive(Drop)]
 pub struct WorkspaceUnit {
-    /// Where the act doesn't need how many versions the workspace keeps, the number is that of one that
-    /// is made.
+    /// If the act does not need the number of versions kept, `retention` is that of a new workspace.
     pub settings: Settings,
     pub holder: Holder,
     /// The status of the holding run.
     pub holder_status: Option<RunStatus>,
-    /// The ID of the lock that was released last.
+    /// The ID of the last lock that was released.
     pub released: Option<LockId>,
     pub next_version: u64,
     pub next_run: u64,
     pub newest: Option<Newest>,
-    /// The greatest number of the versions that go.
+    /// The greatest number of the versions to be removed.
     pub outgoing: Option<Number>,
-    /// The first run that waits: queued, pending, and of the least number.
+    /// The number of the first waiting run: the least number of the queued runs that are pending.
     pub first_waiting: Option<Number>,
-    /// Whether the version that is asked of is kept.
+    /// Whether the workspace keeps the version that the act names.
     pub has_version: bool,
-    /// The run that is asked of: by its number, or, where one is to be made, by its key.
+    /// The run that the act names by its number; if the act creates a run, the run that has its key.
     pub asked_run: Option<RunRow>,
-    /// How many runs are open.
+    /// The number of open runs.
     pub open_runs: usize,
 }
 
-/// What a decision needs of one workspace, or that it isn't there.
+/// What a decision needs of one workspace, or that the workspace does not exist.
 #[derive(Drop)]
 pub enum Unit {
-    /// How many workspaces the organization has and how many it may have, where the act makes one: for
-    /// any other act 0 and 0, since nothing asks for them.
+    /// The number of the organization's workspaces and its limit if the act creates a workspace; 0 and 0 for
+    /// any other act, which needs neither.
     Absent { workspaces: usize, limit: Limit },
     Present(WorkspaceUnit),
 }
 
-/// A workspace as it is shown, but for its name.
+/// A workspace as it is shown, without its name.
 #[derive(Drop)]
 pub struct Shown {
     pub settings: Settings,
@@ -135,59 +133,59 @@ pub struct Shown {
     pub version: Option<Number>,
 }
 
-/// What an accepted act is answered.
+/// The answer to an accepted act.
 #[derive(Drop)]
 pub enum Answer {
-    /// Nothing but that it is done.
+    /// The act is done, and there is nothing to show.
     Done,
     /// There is no state.
     NoState,
-    /// The text of the version of this number.
+    /// The text of the version with this number.
     State(Number),
     /// The workspace after the act.
     Workspace(Shown),
     /// The run after the act.
     Run(RunRow),
-    /// The list of the versions whose numbers come after this one.
+    /// The list of the versions with greater numbers than this one.
     Versions(u64),
-    /// The list of the runs whose numbers come after this one.
+    /// The list of the runs with greater numbers than this one.
     Runs(u64),
 }
 
-/// What an accepted act does to its workspace.
+/// How an accepted act changes its workspace.
 #[derive(Drop)]
 pub enum Edit {
-    /// Makes the workspace.
+    /// Creates the workspace.
     Make(Settings),
-    /// Sets the settings of the workspace that is there, and lets the versions with numbers up to
-    /// `outgoing` go.
+    /// Sets the settings of an existing workspace, and removes the versions with numbers up to `outgoing`.
     Configure {
         settings: Settings,
         outgoing: Option<Number>,
     },
-    /// The workspace goes, with its versions and runs.
+    /// Deletes the workspace, with its versions and runs.
     Remove,
-    /// Puts a version behind the others, and lets those with numbers up to `outgoing` go.
+    /// Adds a version after the others, and removes those with numbers up to `outgoing`.
     AddVersion {
         version: Version,
         outgoing: Option<Number>,
     },
-    /// Takes every version away.
+    /// Removes every version.
     Purge,
-    /// The lock of this ID holds, and its text is kept.
+    /// The lock with this ID holds the workspace. The lock's text is stored.
     Hold {
         id: LockId,
         text: Bytes,
     },
-    /// Nobody holds any more, and this is the ID released last.
+    /// The workspace has no holder any more. This ID is that of the last lock that was released.
     Release(LockId),
-    /// Puts a new run behind the others.
+    /// Adds a run after the others.
     AddRun {
         number: Number,
         ask: RunAsk,
         created: Moment,
     },
-    /// A run took this action last and is in this status; where it `frees` the workspace, nobody holds any more.
+    /// Sets the run's last action and its status. If the report `frees` the workspace, it has no holder any
+    /// more.
     Report {
         number: Number,
         action: RunAction,
@@ -196,14 +194,15 @@ pub enum Edit {
     },
 }
 
-/// How an accepted act changes its workspace: an edit, and the run that then starts, since nobody holds.
+/// How an accepted act changes its workspace: an edit, and the run that starts after it because the workspace
+/// has no holder.
 #[derive(Drop)]
 pub struct Change {
     pub edit: Edit,
     pub start: Option<Number>,
 }
 
-/// What becomes of an act.
+/// The outcome of an act.
 #[derive(Drop)]
 pub enum Decision {
     /// Nothing changes. The body of `Locked` is the holder's text.

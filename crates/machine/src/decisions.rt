@@ -1,4 +1,4 @@
-//! Decisions: what becomes of an act, from the few values that it depends on, and which these are.
+//! Decisions: the outcome of an act, from the few values that it depends on, and which values these are.
 ghost use Rattle.std.specs.Prelude.{◌≡◌, ◌-◌, ℕ, List, ◌<◌, Option, Some, None, IfSome, IfOk, cond, is_some, option_map, option_copied};
 ghost use Rattle.machine.specs.Needs.{needs, needs_of_look, nothing, staying_for, needed_of};
 ghost use Rattle.machine.specs.Units.{unit_of};
@@ -35,10 +35,10 @@ use basis::{
 };
 use std::alloc::Global;
 
-/// The most open runs of a workspace.
+/// The greatest number of open runs of a workspace.
 pub const MAX_OPEN_RUNS: usize = 100;
 
-/// Nothing but the workspace's row is needed.
+/// Only the workspace's row is needed.
 fn nothing<'a>() -> Needs<'a>
     ensures { needed_of result ≡ nothing }
 {
@@ -91,7 +91,7 @@ fn key_of(ask: &RunAsk) -> Option<&Text>
     }
 }
 
-// A PUT that asks for no number of versions lets none go.
+// A PUT that does not set the number of versions removes none.
 fn staying_for(retention: Option<KeepCount>) -> Staying
     ensures { result ≡ staying_for retention }
 {
@@ -156,7 +156,7 @@ fn is_applying(status: Option<RunStatus>) -> bool
     matches!(status, Some(RunStatus::Applying))
 }
 
-// Why a write is refused, if it is.
+// Why a write is refused, or `None` if it is allowed.
 fn may_write(holder: &Holder, status: Option<RunStatus>, id: &Option<LockId>) -> Option<Refusal>
     ensures { result ≡ may_write holder.now status id.now }
 {
@@ -210,7 +210,7 @@ pub(crate) fn holder_id(holder: &Holder) -> Result<Option<HolderId>, Down>
     }
 }
 
-// The run that is to start: none while somebody holds.
+// The run to start; none if the workspace has a holder.
 fn to_start(holder: &Holder, first_waiting: Option<Number>) -> Option<Number>
     ensures { result ≡ to_start holder.now first_waiting }
 {
@@ -230,7 +230,7 @@ fn accept(answer: Answer, edit: Edit, start: Option<Number>) -> Decision
     }
 }
 
-// It is done already: nothing changes.
+// The act was done before: nothing changes.
 fn accept_again() -> Decision
     ensures { result ≡ Accepted Done None }
 {
@@ -334,7 +334,7 @@ fn decide_read(newest: &Option<Newest>) -> Decision
     }
 }
 
-// The settings that a PUT asks for, of a workspace that has settings or is to be made.
+// The settings after a PUT, of a workspace that has settings (`before`) or is created.
 fn settings_for(ask: SettingsAsk, before: Option<Settings>) -> Settings
     ensures is { result ≡ settings_for ask before }
     ensures range { IsSettingsAsk ask }
@@ -373,7 +373,7 @@ fn is_nobody(holder: &Holder) -> bool
     matches!(holder, Holder::Nobody)
 }
 
-// While somebody holds, no version goes by a PUT.
+// A PUT removes no version while the workspace has a holder.
 fn decide_settings(unit: &WorkspaceUnit, settings: &Settings) -> Result<Decision, Down>
     ensures { IfOk result (λ decision. decision ≡ decided_put settings.now unit.now) }
 {
@@ -415,7 +415,7 @@ fn decide_purge(unit: &WorkspaceUnit, id: &Option<LockId>) -> Decision
     }
 }
 
-// The workspace goes where none of its runs is open.
+// The workspace is deleted if none of its runs is open.
 fn remove_idle(open_runs: usize) -> Decision
     ensures { result ≡ decided_idle open_runs }
 {
@@ -436,7 +436,7 @@ fn decide_delete(unit: &WorkspaceUnit) -> Decision
     }
 }
 
-// What is only told, and changes nothing.
+// A read-only answer: nothing changes.
 fn tell(answer: Answer) -> Decision
     ensures { result ≡ Accepted answer None }
 {
@@ -486,7 +486,7 @@ fn is_released(released: &Option<LockId>, id: &LockId) -> bool
     }
 }
 
-// The lock of this ID goes, and the first run that waits starts.
+// Releases the lock with this ID, and starts the first waiting run.
 fn release(unit: &WorkspaceUnit, held: &LockId) -> Result<Decision, Down>
     ensures { IfOk result (λ decision. decision ≡ changing Done (Release held.now) unit.now.first_waiting) }
 {
@@ -494,7 +494,7 @@ fn release(unit: &WorkspaceUnit, held: &LockId) -> Result<Decision, Down>
     Ok(accept(Answer::Done, edit, unit.first_waiting))
 }
 
-// An ID that doesn't hold: it is done already where it was released last.
+// The ID is not the holder's. If it is the one released last, the act was done before.
 fn decide_again(unit: &WorkspaceUnit, id: &LockId, refusal: Refusal) -> Decision
     ensures { result ≡ cond (is_released unit.now.released id.now) (Accepted Done None) (Refused refusal) }
 {
@@ -547,7 +547,7 @@ fn status_begun(start: Option<Number>, number: Number, status: RunStatus) -> Run
     }
 }
 
-// A run as it is after an act: in a status, or planning where it is the one that starts.
+// A run after an act: in this status, or planning if it is the run that starts.
 fn run_after(
     run: &RunRow,
     action: Option<RunAction>,
@@ -596,7 +596,7 @@ pub(crate) fn new_run(number: Number, ask: &RunAsk, now: Moment) -> Result<RunRo
     })
 }
 
-// The run that starts once a run has come behind the others: no other one waits where nobody holds.
+// The run that starts after a run has been added. If the workspace has no holder, no other run is waiting.
 fn start_with(unit: &WorkspaceUnit, run: &RunRow) -> Option<Number>
     ensures { result ≡ start_with unit.now run.now }
 {
@@ -608,7 +608,7 @@ fn start_with(unit: &WorkspaceUnit, run: &RunRow) -> Option<Number>
     to_start(&unit.holder, own)
 }
 
-// A run comes behind the others, and is told as it is once one has started.
+// Adds a run, and answers with the run as it is after a run has started, if one starts.
 fn add_run(run: &RunRow, ask: &RunAsk, now: Moment, start: Option<Number>) -> Result<Decision, Down>
     ensures { IfOk result (λ decision. decision ≡ changing (ShownRun (begun_by start run.now)) (AddRun run.now.number ask.now now) start) }
 {
@@ -675,7 +675,8 @@ fn holds(holder: &Holder, n: Number) -> bool
     }
 }
 
-// A run took an action that leads it to a status: where it held and has ended, the first run that waits starts.
+// A run took an action that leads to this status. If it held the workspace and has ended, the first waiting
+// run starts.
 fn decide_step(
     unit: &WorkspaceUnit,
     run: &RunRow,
@@ -726,7 +727,7 @@ fn decide_report(unit: &WorkspaceUnit, n: Number, action: RunAction) -> Result<D
     }
 }
 
-// What is told; nothing changes.
+// The answer to a read-only act: nothing changes.
 fn decide_look(unit: &WorkspaceUnit, look: Look) -> Result<Decision, Down>
     ensures { IfOk result (λ decision. decision ≡ decided_look look unit.now) }
 {
@@ -815,8 +816,8 @@ fn decided(unit: &Unit, act: &Act, now: Moment) -> Result<Decision, Down>
     }
 }
 
-/// What becomes of an act at a moment, from what it needs of its workspace. Of a lawful organization
-/// it is what the rules say.
+/// The outcome of an act at this time, from what it needs of its workspace. In a lawful organization it is
+/// the outcome that the rules give.
 pub fn decide(unit: &Unit, act: &Act, now: Moment) -> Result<Decision, Down>
     ensures { IfOk result (λ decision. (o : AnyOrganization) (name : List ℕ) → IsLawfulOrganization o → unit.now ≡ unit_of o name act.now
         → Meets (seen_in o name) act.now now decision) }

@@ -1,4 +1,4 @@
-//! What keeps organizations: the interface of a store, and what an operator is answered.
+//! The interface of a store of organizations, and the answers to an operator's commands.
 ghost use Rattle.std.specs.Prelude.{◌≡◌, ◌≢◌, ℕ, List, Option, Some, IfOk, OnOk, OnErr, option_copied};
 ghost use Rattle.std.specs.FinMap.{get};
 ghost use Rattle.machine.specs.Effects.{effect};
@@ -19,10 +19,10 @@ use basis::{
 };
 use std::alloc::Global;
 
-/// Why a store wasn't opened.
+/// Why a store was not opened.
 #[derive(Clone, Copy, PartialEq, Eq)]
 pub enum Fault {
-    /// What is kept there is of another schema, or of none.
+    /// The store has another schema, or none.
     Schema,
     Down,
 }
@@ -31,28 +31,28 @@ pub enum Fault {
 #[derive(Drop)]
 pub struct OrgRow {
     pub name: Text,
-    /// How many workspaces it has.
+    /// The number of its workspaces.
     pub workspaces: usize,
-    /// How many it may have.
+    /// The greatest number of workspaces that it may have.
     pub limit: Limit,
 }
 
-/// A token by its name, and who asks by it: never its digest.
+/// A token's name and its caller, without the digest.
 #[derive(Drop)]
 pub struct TokenRow {
     pub name: Text,
     pub caller: Caller,
 }
 
-/// What an operator's command is answered.
+/// The answer to an operator's command.
 #[derive(Drop)]
 pub enum AdminAnswer {
     Done,
-    /// The organization, the token's name or its digest is there already.
+    /// The organization, the token's name or its digest exists already.
     Exists,
-    /// The organization, or its token, isn't there.
+    /// The organization or the token does not exist.
     Absent,
-    /// A lock holds in the organization, or a run is open.
+    /// A lock holds a workspace of the organization, or a run is open.
     InUse,
     /// All organizations, in the order of their names' bytes.
     Organizations(Items<OrgRow>),
@@ -60,32 +60,33 @@ pub enum AdminAnswer {
     Tokens(Items<TokenRow>),
 }
 
-/// What keeps organizations. It is seen as a map from the names of organizations to their records
-/// (`rows`). What it promises holds as long as it is clean, and what it promises of the values of
-/// records holds of a store that was sound: a store in memory always is both, once it is made here.
-/// A store in files is clean where nobody else wrote them and the disk gave back what was written.
+/// A store of organizations, seen as a map from the names of organizations to their records (`rows`). Its
+/// promises hold while it is clean. What it promises about the values of records also needs a store that was
+/// sound before. A store in memory that was made here is always clean and sound. A store in files is clean if
+/// nobody else wrote the files and the disk gave back what was written.
 pub trait Keep {
-    /// The record of each organization that is there.
+    /// The record of each organization that exists.
     ghost rows: { Self → List ℕ → Option AnyOrganization };
 
-    /// Whether what is promised of the store holds so far.
+    /// Whether the store's promises hold so far.
     ghost clean: { Self → Type 0 };
 
-    /// Whether the store finds out where what it reads isn't what was written, so that it then stays clean, or a digest
-    /// has collided. Each call keeps it, whatever the disk does. A store in memory always is.
+    /// Whether the store tests what it reads, so that it is clean or a digest has collided. Each call keeps
+    /// this, whatever the disk does. It always holds of a store in memory.
     ghost shielded: { Self → Type 0 };
 
-    /// Whether what the store holds obeys its laws. Each call keeps it.
+    /// Whether what the store holds obeys its laws. Each call keeps this.
     ghost sound: { Self → Type 0 };
 
-    /// Whether a store that keeps texts in pages has each page under the key of its bytes. Each call keeps it.
+    /// Whether each page of a store that keeps texts in pages is under the key of its bytes. Each call keeps
+    /// this.
     ghost keyed: { Self → Type 0 };
 
     /// In a clean and sound store every record is lawful.
     fn records_are_lawful(&self)
         ensures { clean self.now → sound self.now → AreLawful (rows self.now) };
 
-    /// Who asks by the organization's token with this digest, and the token's name, be it that the token has ended.
+    /// The caller and the name of the organization's token with this digest, even if the token has expired.
     fn caller(
         &mut self,
         alloc: Global,
@@ -95,13 +96,13 @@ pub trait Keep {
         ensures looks { Looks rows clean sound keyed shielded self.old self.new }
         ensures ok { clean self.new → sound self.old → IfOk result (λ row. row ≡ asker_of (rows self.old org.now) digest.now) };
 
-    /// What a decision on the act needs of the workspace. The organization is there.
+    /// What a decision on the act needs of the workspace. The organization has to exist.
     fn unit(&mut self, alloc: Global, org: &OrgName, ws: &WsName, act: &Act) -> Result<Unit, Down>
         ensures looks { Looks rows clean sound keyed shielded self.old self.new }
         ensures ok { clean self.new → sound self.old → IfOk result (λ unit. (o : AnyOrganization) → rows self.old org.now ≡ Some o
             → unit ≡ unit_of o ws.now act.now) };
 
-    /// The text of a version, if it is kept.
+    /// The text of a version; none if the version is not kept.
     fn text(
         &mut self,
         alloc: Global,
@@ -112,7 +113,8 @@ pub trait Keep {
         ensures looks { Looks rows clean sound keyed shielded self.old self.new }
         ensures ok { clean self.new → sound self.old → IfOk result (λ text. text ≡ version_text n (workspace_in (rows self.old org.now) ws.now)) };
 
-    /// The organization's workspaces that a prefix admits, after a name, in the order of the names' bytes.
+    /// A page of the list of the organization's workspaces whose names start with the prefix and come after
+    /// `after`, in the order of their names' bytes.
     fn workspaces(
         &mut self,
         alloc: Global,
@@ -123,7 +125,7 @@ pub trait Keep {
         ensures looks { Looks rows clean sound keyed shielded self.old self.new }
         ensures ok { clean self.new → sound self.old → IfOk result (λ list. list ≡ workspaces_after (option_copied after.entry) prefix.now (rows self.old org.now)) };
 
-    /// The versions kept of a workspace whose numbers are greater than this one.
+    /// A page of the list of a workspace's versions with numbers greater than `after`.
     fn versions(
         &mut self,
         alloc: Global,
@@ -134,7 +136,7 @@ pub trait Keep {
         ensures looks { Looks rows clean sound keyed shielded self.old self.new }
         ensures ok { clean self.new → sound self.old → IfOk result (λ list. list ≡ versions_after after (workspace_in (rows self.old org.now) ws.now)) };
 
-    /// The runs of a workspace whose numbers are greater than this one.
+    /// A page of the list of a workspace's runs with numbers greater than `after`.
     fn runs(
         &mut self,
         alloc: Global,
@@ -145,7 +147,7 @@ pub trait Keep {
         ensures looks { Looks rows clean sound keyed shielded self.old self.new }
         ensures ok { clean self.new → sound self.old → IfOk result (λ list. list ≡ runs_after after (workspace_in (rows self.old org.now) ws.now)) };
 
-    /// Changes a workspace, in one transaction. The organization is there, and the change is due.
+    /// Changes a workspace, in one transaction. The organization has to exist, and the change has to be due.
     fn apply(
         &mut self,
         alloc: Global,
@@ -164,22 +166,23 @@ pub trait Keep {
         ensures others { clean self.new → sound self.old → (o : List ℕ) → o ≢ org.now → rows self.new o ≡ rows self.old o }
         ensures err { clean self.new → OnErr result ((o : List ℕ) → rows self.new o ≡ rows self.old o) };
 
-    /// Adds an organization, with no token and no workspace.
+    /// Adds an organization, without tokens or workspaces.
     fn org_add(&mut self, alloc: Global, org: &OrgName, limit: Limit) -> Result<AdminAnswer, Down>
         ensures lasts { Lasts clean sound keyed shielded self.old self.new }
         ensures own { clean self.new → sound self.old → IfOk result (λ answer. effect answer (rows self.new org.now) ≡ org_added limit (rows self.old org.now)) }
         ensures others { clean self.new → sound self.old → (o : List ℕ) → o ≢ org.now → rows self.new o ≡ rows self.old o }
         ensures err { clean self.new → OnErr result ((o : List ℕ) → rows self.new o ≡ rows self.old o) };
 
-    /// Sets how many workspaces an organization may have. Those that it has stay, also where they are more.
+    /// Sets the greatest number of workspaces that an organization may have. It keeps the workspaces that it
+    /// has, even if they are more.
     fn org_limit(&mut self, alloc: Global, org: &OrgName, limit: Limit) -> Result<AdminAnswer, Down>
         ensures lasts { Lasts clean sound keyed shielded self.old self.new }
         ensures own { clean self.new → sound self.old → IfOk result (λ answer. effect answer (rows self.new org.now) ≡ org_limited limit (rows self.old org.now)) }
         ensures others { clean self.new → sound self.old → (o : List ℕ) → o ≢ org.now → rows self.new o ≡ rows self.old o }
         ensures err { clean self.new → OnErr result ((o : List ℕ) → rows self.new o ≡ rows self.old o) };
 
-    /// Removes an organization, with all that it has, in one transaction. One in which a lock holds or a run is open goes
-    /// only by force.
+    /// Removes an organization and everything in it, in one transaction. Unless it is forced, an organization
+    /// with a lock or an open run is not removed.
     fn org_remove(
         &mut self,
         alloc: Global,
@@ -196,7 +199,7 @@ pub trait Keep {
         ensures looks { Looks rows clean sound keyed shielded self.old self.new }
         ensures ok { clean self.new → sound self.old → IfOk result (ListsOrganizations (rows self.old)) };
 
-    /// Adds a token to an organization, with its end and the prefix of its workspaces.
+    /// Adds a token to an organization, with its expiry and the prefix of its workspaces.
     fn token_add(
         &mut self,
         alloc: Global,
@@ -211,7 +214,7 @@ pub trait Keep {
         ensures others { clean self.new → sound self.old → (o : List ℕ) → o ≢ org.now → rows self.new o ≡ rows self.old o }
         ensures err { clean self.new → OnErr result ((o : List ℕ) → rows self.new o ≡ rows self.old o) };
 
-    /// Takes a token away from an organization, by the token's name.
+    /// Removes a token of an organization, by the token's name.
     fn token_revoke(
         &mut self,
         alloc: Global,

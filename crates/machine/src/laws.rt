@@ -1,4 +1,4 @@
-//! Laws of the rules, each the contract of a call that does nothing.
+//! Laws of the rules. Each is the contract of a function that does nothing.
 ghost use Rattle.machine.specs.Sameness.{SameThingsAreEqualRecords};
 ghost use Rattle.machine.specs.Removal.{DeleteAsksTheSame};
 ghost use Rattle.machine.specs.Settling.{SettlesOnce};
@@ -13,24 +13,25 @@ pub fn refusals_change_nothing()
     ensures { RefusalsChangeNothing }
 {}
 
-/// Who is told that another holds is told of the holder.
+/// A refusal that names a holder names the workspace's holder.
 pub fn refusals_tell_the_holder()
     ensures { RefusalsTellTheHolder }
 {}
 
-/// An accepted update or purge carried the holder's ID, and none while nobody holds; a run that
-/// holds was applying.
+/// An accepted update or purge carried the holder's ID, or none if the workspace has no holder. If a run is
+/// the holder, it was applying.
 pub fn writes_carry_the_id()
     ensures { WritesCarryTheId }
 {}
 
-/// While somebody holds, versions change by an accepted update or purge that carried the holder's ID,
-/// and by nothing else.
+/// While a workspace has a holder, its versions change only by an accepted update or purge that carried the
+/// holder's ID.
 pub fn held_versions_change_by_the_id()
     ensures { HeldVersionsChangeByTheId }
 {}
 
-/// Under a lock, versions change by an update or a purge that carried its ID, and by nothing else.
+/// While a lock holds a workspace, its versions change only by an update or a purge that carried the lock's
+/// ID.
 pub fn versions_change_by_the_id()
     ensures { VersionsChangeByTheId }
 {}
@@ -40,74 +41,76 @@ pub fn holds_until_released()
     ensures { HoldsUntilReleased }
 {}
 
-/// No act takes a workspace away that a lock holds.
+/// No act deletes a workspace that a lock holds.
 pub fn locked_workspaces_stay()
     ensures { LockedWorkspacesStay }
 {}
 
-/// A workspace goes by DELETE alone, where no lock holds and no run is open.
+/// A workspace is deleted only by DELETE, and only if no lock holds it and no run is open.
 pub fn workspaces_go_by_delete()
     ensures { WorkspacesGoByDelete }
 {}
 
-/// A workspace is in use where DELETE of it is refused, and one that isn't goes by DELETE.
+/// DELETE of a workspace that is in use is refused. DELETE of one that is not in use deletes it.
 pub fn delete_asks_the_same()
     ensures { DeleteAsksTheSame }
 {}
 
-/// What is made where no workspace was, be it that one of its name was deleted, begins anew.
+/// A workspace that is created starts empty, even if one of the same name was deleted before.
 pub fn workspaces_begin_anew()
     ensures { WorkspacesBeginAnew }
 {}
 
-/// What is posted is what GET gives.
+/// GET returns the text that was posted.
 pub fn what_is_posted_is_read()
     ensures { WhatIsPostedIsRead }
 {}
 
-/// After a purge there is nothing to give.
+/// After a purge GET finds no state.
 pub fn nothing_is_read_of_a_purge()
     ensures { NothingIsReadOfAPurge }
 {}
 
-/// The next numbers never fall, that of versions rises exactly where one is made, and a version that
-/// stays is unchanged.
+/// The next numbers never fall. The next number of versions rises exactly if a version is added. A version
+/// that is kept is unchanged.
 pub fn numbers_rise()
     ensures { NumbersRise }
 {}
 
-/// Each version follows the one before it: its serial is greater, and their lineages are equal or one
-/// is empty. So of the newest version before and after every act, and of those that are kept.
+/// Each version follows the one before it: its serial is greater, and their lineages are equal or one is
+/// empty. This holds for the newest version before and after every act, and for the versions that are kept.
 pub fn versions_follow()
     ensures newest { NewestVersionsFollow }
     ensures kept { KeptVersionsFollow }
 {}
 
-/// A text that is accepted is there afterwards, under the next number and with its moment, and the
-/// newest versions stay, as many as the workspace keeps and no fewer. One that follows is accepted.
+/// An accepted text is kept under the next number and with its time, or it is that of the newest version
+/// already. Of the versions the newest are kept, as many as the workspace keeps and no fewer. A text that the
+/// holder posts and that follows the newest version is accepted while a number is left.
 pub fn accepted_texts_stand()
     ensures stands { AcceptedTextsStand }
     ensures accepted { FollowingTextsAreAccepted }
 {}
 
-/// A PUT leaves the settings asked for, and of the versions the newest, as many as the workspace keeps
-/// then and no fewer.
+/// An accepted PUT sets the settings that it asks for. Of the versions the newest are kept, as many as the
+/// workspace then keeps and no fewer.
 pub fn puts_leave_what_they_ask()
     ensures there { PutsLeaveWhatTheyAsk }
     ensures made { PutsMakeWhatTheyAsk }
 {}
 
-/// An act that comes again, at whatever moment, changes nothing more.
+/// If an act is repeated on the workspace that it left, at any time, it changes nothing more. The only
+/// exception is the creation of a run without a key.
 pub fn repeats_change_nothing()
     ensures { RepeatsChangeNothing }
 {}
 
-/// What was accepted and comes again, at whatever moment, to what it left, changes nothing more.
+/// The same holds for an accepted act that left no workspace.
 pub fn accepted_acts_come_again()
     ensures { AcceptedActsComeAgain }
 {}
 
-/// Settling allows one workspace, and the rules give that one.
+/// In a workspace whose runs have rising numbers, settling has exactly one result, and the rules give it.
 pub fn settles_once()
     ensures { SettlesOnce }
 {}
@@ -117,40 +120,44 @@ pub fn one_run_is_active()
     ensures { OneRunIsActive }
 {}
 
-/// After every act a plan-only run neither waits nor holds.
+/// After every act a plan-only run neither waits nor holds the workspace.
 pub fn plan_only_runs_stay_out()
     ensures { PlanOnlyRunsStayOut }
 {}
 
-/// A run that starts waited, or the act makes it, and those that wait after it have greater numbers.
+/// A run that starts was waiting, or the act creates it. The runs that are still waiting have greater
+/// numbers.
 pub fn runs_start_in_order()
     ensures { RunsStartInOrder }
 {}
 
-/// A run that is there stays there, and goes on by one step at most: it starts, or takes an action.
+/// No act that leaves the workspace removes a run. It takes a run at most one step further: the run starts,
+/// or takes an action.
 pub fn runs_stay()
     ensures { RunsStay }
 {}
 
-/// An action that was accepted comes again, after whatever else, and changes nothing.
+/// If an accepted action is repeated, whatever happened in between, it changes nothing.
 pub fn actions_come_again()
     ensures { ActionsComeAgain }
 {}
 
-/// A creation with a key that was accepted comes again, after whatever else, and changes nothing.
+/// If an accepted creation of a run with a key is repeated, whatever happened in between, it changes nothing.
 pub fn keyed_creations_come_again()
     ensures { KeyedCreationsComeAgain }
 {}
 
-/// While fewer than 100 runs are open a run is made, and while 100 are none is.
+/// A run with a new key is created if fewer than 100 runs are open and a number is left. It is refused if 100
+/// are open.
 pub fn hundred_runs_are_let_in()
     ensures let_in { HundredRunsAreLetIn }
     ensures no_more { NoMoreRunsAreLetIn }
 {}
 
-/// Pages of a list follow one another: what comes after a page's last item is what the page left out,
-/// of workspaces, of versions and of runs. Who goes on from each page's last item while more follow
-/// sees the whole list, each item once, in order; a page behind which more follow has 50 items.
+/// Pages of a list follow one another: the list after a page's last item is what the page left out. This
+/// holds for workspaces, versions and runs. A reader that asks for the next page after each page's last item,
+/// while more follow, sees the whole list, each item once, in order. A page that more items follow has 50
+/// items.
 pub fn pages_follow()
     ensures workspaces { WorkspacePagesFollow }
     ensures versions { VersionPagesFollow }
@@ -160,13 +167,14 @@ pub fn pages_follow()
     ensures all_runs { RunsAreShown }
 {}
 
-/// Lawful organizations that hold the same things are equal records, in whatever order these were made:
-/// so two stores that hold the same have equal records.
+/// Lawful organizations that hold the same things are equal records, whatever the order in which these were
+/// created. So two stores that hold the same things have equal records.
 pub fn same_things_are_equal_records()
     ensures { SameThingsAreEqualRecords }
 {}
 
-/// Who asks by a digest, as it is given with the token's name, is who asks by the organization's token with that digest.
+/// The caller that is found with a token's name by a digest is the caller of the organization's token with
+/// that digest.
 pub fn askers_ask_by_their_tokens()
     ensures { AskersAskByTheirTokens }
 {}

@@ -1,5 +1,5 @@
-//! The rules of custody over one organization's workspaces, with no store, no message and no document:
-//! what each act does to a workspace, who may write, and the trait `Keep` of what keeps organizations.
+//! The rules of custody over one organization's workspaces, without store, messages or documents: what each
+//! act does to a workspace, who may write, and `Keep`, the trait of a store of organizations.
 #![tactic(auto)]
 
 pub mod acts;

@@ -10,7 +10,7 @@ use std::alloc::Global;
 use std::cmp::Ordering;
 use std::marker::Model;
 
-/// A name and the value at it.
+/// A name and its value.
 #[derive(Drop)]
 pub(crate) struct Entry<T> {
     pub(crate) name: Text,
@@ -59,7 +59,7 @@ impl<T> NameMap<T> {
         }
     }
 
-    /// Puts the value at the name. What was there before goes.
+    /// Sets the value of the name, and drops the value that it had before.
     pub fn insert(&mut self, name: Text, value: T) -> Result<(), Down>
     where
         T: Drop,
@@ -73,7 +73,7 @@ impl<T> NameMap<T> {
         Ok(())
     }
 
-    /// Takes the value at the name away, and says whether there was one.
+    /// Removes the name and its value. Returns whether the name was in the map.
     pub fn remove(&mut self, name: &str) -> bool
     where
         T: Drop,
@@ -89,14 +89,14 @@ impl<T> NameMap<T> {
         }
     }
 
-    /// The entries, in the order of their names.
+    /// The entries, in the order of their names' bytes.
     pub(crate) fn entries(&self) -> &[Entry<T>]
         ensures { map_list (λ e. (e.name, e.value)) result.now ≡ map.entries self.now }
     {
         self.entries.as_slice()
     }
 
-    /// Where the name stands, or where it would go.
+    /// The index of the name's entry, or the index at which it would be inserted.
     pub(crate) fn place_of(&self, name: &str) -> Result<usize, usize>
         ensures found { IfOk result (λ i. IsAt name.now (map.entries self.now) i) }
         ensures absent { IfErr result (λ i. IsGapFor name.now (map.entries self.now) i) }

@@ -36,14 +36,14 @@ use basis::{
 use std::alloc::Global;
 use std::cmp::Ordering;
 
-/// A store in memory. It is always clean, and sound where every record is lawful.
+/// A store in memory. It is always clean, and it is sound if every record is lawful.
 #[derive(Drop)]
 pub struct PlainKeep {
     organizations: NameMap<Organization>,
 }
 
 impl PlainKeep {
-    /// The store with no organization.
+    /// A store without organizations.
     pub fn new(alloc: Global) -> PlainKeep
         ensures empty { (o : List ℕ) → ⟦<PlainKeep as Keep>⟧.rows result o ≡ None }
         ensures sound { ⟦<PlainKeep as Keep>⟧.sound result }
@@ -53,7 +53,7 @@ impl PlainKeep {
         }
     }
 
-    /// What is promised of a store in memory always holds, and it finds out what isn't as it was written.
+    /// The promises of a store in memory always hold. It is always shielded and keyed.
     pub fn is_always_clean(&self)
         ensures clean { ⟦<PlainKeep as Keep>⟧.clean self.now }
         ensures shielded { ⟦<PlainKeep as Keep>⟧.shielded self.now }
@@ -444,7 +444,7 @@ impl NameMap<Workspace> {
                     workspace.start(change.start);
                     self.insert(name, workspace)
                 }
-                // Nothing changes of what isn't there.
+                // A missing workspace stays as it is.
                 Edit::Configure { .. } => Ok(()),
                 Edit::Remove => Ok(()),
                 Edit::AddVersion { .. } => Ok(()),
@@ -458,7 +458,7 @@ impl NameMap<Workspace> {
     }
 }
 
-// Lets the versions with numbers up to this one go.
+// Removes the versions with numbers up to this one.
 fn forget_up_to(versions: &mut Items<Version>, last: Number)
     ensures { versions.new ≡ left_above (Some last) versions.old }
 {
@@ -603,7 +603,7 @@ impl Workspace {
         match edit {
             Edit::Make(settings) => *self = Workspace::new(alloc, *settings),
             Edit::Configure { settings, outgoing } => self.configure(*settings, *outgoing),
-            // The map of the workspaces lets it go.
+            // The workspace is removed from the map of workspaces.
             Edit::Remove => {}
             Edit::AddVersion { version, outgoing } => self.add_version(version, *outgoing)?,
             Edit::Purge => self.purge(),
@@ -624,7 +624,7 @@ impl Workspace {
         Ok(())
     }
 
-    /// The run of this number starts, if there is one that is to start.
+    /// Starts the run with this number, if there is a run to start.
     fn start(&mut self, start: Option<Number>)
         ensures { self.new ≡ started_if start self.old }
     {
@@ -644,7 +644,7 @@ impl Workspace {
     }
 }
 
-// Whether a lock holds in the workspace, or a run is open.
+// Whether a lock holds the workspace, or a run is open.
 fn is_in_use(workspace: &Workspace) -> bool
     ensures { result ≡ is_in_use workspace.now }
 {
@@ -663,7 +663,7 @@ fn is_removal(edit: &Edit) -> bool
     matches!(edit, Edit::Remove)
 }
 
-// The run of this number is planning.
+// Sets the status of the run with this number to planning.
 fn begin(runs: &mut Items<RunRow>, n: Number)
     ensures { runs.new ≡ map_list (begun n) runs.old }
 {
@@ -678,7 +678,7 @@ fn begun_status(starts: bool, status: RunStatus) -> RunStatus
     if starts { RunStatus::Planning } else { status }
 }
 
-// The run of this number took this action last, and is in this status.
+// Sets the last action and the status of the run with this number.
 fn record(runs: &mut Items<RunRow>, n: Number, action: RunAction, status: RunStatus)
     ensures { runs.new ≡ map_list (reported n action status) runs.old }
 {
@@ -743,7 +743,7 @@ fn newest_if(
     }
 }
 
-// The settings, with the number of versions kept where that is needed.
+// The settings, with the number of versions kept if that is needed.
 fn settings_unit(needed: bool, settings: &Settings) -> Settings
     ensures { result ≡ settings_unit needed settings.now }
 {
@@ -757,7 +757,7 @@ fn settings_unit(needed: bool, settings: &Settings) -> Settings
     }
 }
 
-// The greatest number of the versions that go where the last `staying` stay.
+// The greatest number of the versions to be removed if the newest `staying` are kept.
 fn outgoing(staying: usize, versions: &[Version]) -> Option<Number>
     ensures { result ≡ outgoing staying versions.now }
 {
@@ -765,7 +765,7 @@ fn outgoing(staying: usize, versions: &[Version]) -> Option<Number>
     number_of_newest(&versions[..going])
 }
 
-// The greatest number of the versions that go, of a workspace that keeps so many.
+// The greatest number of the versions to be removed from a workspace that keeps `retention` versions.
 fn outgoing_by(staying: Staying, retention: KeepCount, versions: &[Version]) -> Option<Number>
     ensures { result ≡ outgoing_by staying retention versions.now }
 {
@@ -815,7 +815,7 @@ fn copy_run(run: Option<&RunRow>) -> Result<Option<RunRow>, Down>
     }
 }
 
-// The run that is asked of: by its number, or, where none is given, by its key.
+// The run that the act names: by its number, or by its key if it gives no number.
 fn asked_run(
     number: Option<Number>,
     key: Option<&Text>,
@@ -868,7 +868,7 @@ fn version_of(n: Number, versions: &[Version]) -> Option<&Version>
     found
 }
 
-// Whether a version of this number is kept, if one is asked of.
+// Whether the workspace keeps the version with this number; false if the act names none.
 fn has_version(number: Option<Number>, versions: &[Version]) -> bool
     ensures { result ≡ has_version number versions.now }
 {
@@ -911,7 +911,7 @@ fn comes_after(after: Option<&WsName>, name: &str) -> bool
     }
 }
 
-// Whether a workspace of this name is to be listed.
+// Whether a list that starts after `after` and is filtered by the prefix has a workspace with this name.
 fn is_listed(after: Option<&WsName>, prefix: &WsPrefix, name: &str) -> bool
     ensures { result ≡ is_listed (option_copied after.entry) prefix.now name.now }
 {
@@ -999,7 +999,7 @@ fn list_tokens(alloc: Global, entries: &[Entry<Token>]) -> Result<Items<TokenRow
     Ok(rows)
 }
 
-// A token by its name, and who asks by it.
+// A token's name and its caller.
 fn token_row(name: &Text, token: &Token) -> Result<TokenRow, Down>
     ensures { IfOk result (λ row. row ≡ token_row name.now token.now) }
 {

@@ -1,4 +1,4 @@
-//! What an organization is: its limit, its tokens and its workspaces, as nested values.
+//! The record of an organization: its limit, its tokens and its workspaces, as nested values.
 ghost use Rattle.std.specs.Prelude.{◌≡◌};
 ghost use Rattle.machine.specs.Settling.{is_waiting};
 
@@ -18,36 +18,36 @@ pub struct Version {
     pub text: StateText,
 }
 
-/// Whether it is a queued run that is pending.
+/// Whether the run waits: it is queued and pending.
 pub(crate) fn is_waiting(run: &RunRow) -> bool
     ensures { result ≡ is_waiting run.now }
 {
     matches!(run.status, RunStatus::Pending) && !run.plan_only
 }
 
-/// What a workspace holds.
+/// The contents of a workspace.
 #[derive(Drop)]
 pub struct Workspace {
     pub settings: Settings,
     pub holder: Holder,
-    /// The ID of the lock that was released last.
+    /// The ID of the last lock that was released.
     pub released: Option<LockId>,
     pub next_version: u64,
     pub next_run: u64,
-    /// The versions kept, rising by number.
+    /// The versions kept, with rising numbers.
     pub versions: Items<Version>,
-    /// The runs, rising by number.
+    /// The runs, with rising numbers.
     pub runs: Items<RunRow>,
 }
 
-/// A bearer token: the SHA-256 of its secret, and who asks by it.
+/// A bearer token: the SHA-256 of its secret, and its caller.
 #[derive(Drop)]
 pub struct Token {
     pub digest: [u8; 32],
     pub caller: Caller,
 }
 
-/// All that custody keeps of one organization.
+/// Everything that custody keeps of one organization.
 #[derive(Drop)]
 pub struct Organization {
     pub limit: Limit,

@@ -1,4 +1,4 @@
-//! The steps of runs: where an action takes a run (HCP Terraform, 'Run States and Stages', a subset).
+//! The steps of runs: the status that an action leads to (HCP Terraform, 'Run States and Stages', a subset).
 ghost use Rattle.std.specs.Prelude.{◌≡◌};
 ghost use Rattle.machine.specs.RunSteps.{next_status, queued_steps, plan_only_steps, step_in};
 ghost use Rattle.basis.specs.declared.runs.RunStatus.{RunStatus as AnyStatus};
@@ -6,8 +6,8 @@ ghost use Rattle.basis.specs.declared.runs.RunStatus.TheVariants.{Pending, Plann
 
 use basis::{RunAction, RunStatus};
 
-/// Where an action takes a run, if it takes it anywhere. A queued run's plan is applied without being
-/// asked for under auto-apply.
+/// The status that an action leads to; `None` if the status has no such step. Under auto-apply, a queued run
+/// applies once it is reported as planned.
 pub fn next_status(
     plan_only: bool,
     auto_apply: bool,

@@ -1,4 +1,4 @@
-//! The text of a state, which whoever has it shares.
+//! The text of a state, which is shared instead of copied.
 ghost use Rattle.std.specs.Prelude.{◌≡◌, ℕ, List, IfOk};
 
 use basis::{Bytes, Down};
@@ -6,8 +6,8 @@ use std::alloc::{AllocError, Global};
 use std::marker::Model;
 use std::rc::Rc;
 
-/// The text of a state, seen as its bytes. A clone shares them: from the buffer that a request was read into to the pages
-/// of its version no byte is copied.
+/// The text of a state, seen as its bytes. A clone shares them: no byte is copied between the buffer that a
+/// request was read into and the pages of its version.
 #[derive(Clone, Drop)]
 pub struct StateText {
     bytes: Rc<Bytes>,
@@ -35,7 +35,7 @@ impl StateText {
         self.bytes.as_ref().as_slice()
     }
 
-    /// The bytes of its own, copied.
+    /// A copy of the bytes.
     pub fn copied(&self) -> Result<Bytes, Down>
         ensures { IfOk result (λ bytes. bytes ≡ self.now) }
     {

@@ -1,5 +1,5 @@
--- Contracts between functions: decisions in the shape of the code that makes them, and what they mean for a workspace.
--- What a decision has to be is said by the rules; `Meets` ties the two.
+-- Contracts between functions: decisions in the shape of the code that makes them, and what they mean for a workspace. The rules say what a
+-- decision has to be; `Meets` ties the two.
 use Rattle.std.specs.Prelude.{ℕ, Bool, not, ◌&&◌, nat_lt, ◌==◌, cond, List, Option, Some, None, is_some, option_map, ⊤}
 use Rattle.std.specs.Str.{bytes_eq}
 use Rattle.basis.specs.declared.refusals.Refusal.{Refusal}
@@ -49,16 +49,16 @@ shown_as settings u = record { settings = settings; holder = holder_id u.holder;
 abbrev pub new_shown : Settings → Shown
 new_shown settings = record { settings = settings; holder = None; version = None }
 
--- a workspace that is there gets settings, where no version goes from under a holder
+-- an existing workspace gets settings, unless that would remove a version while it has a holder
 abbrev pub decided_put : Settings → WorkspaceUnit → Decision
 decided_put settings u = cond (not (is_nobody u.holder) && is_some u.outgoing) (Refused Locked) (changing (ShownWorkspace (shown_as settings u)) (Configure settings u.outgoing) None)
 
--- the settings that are asked for are in range
+-- the settings that an act asks for are in range
 abbrev pub AsksInRange : Act → Type 0
 AsksInRange (PutWorkspace ask) = IsSettingsAsk ask
 AsksInRange act = ⊤
 
--- a version more, if a number is left
+-- one more version, if a number is left
 abbrev pub decided_number : Option ℕ → WorkspaceUnit → StateHead → List ℕ → ℕ → Decision
 decided_number None u head text now = Refused OverLimit
 decided_number (Some number) u head text now =
@@ -114,11 +114,11 @@ decided_force Nobody u = Accepted Done None
 decided_force (Lock id_held text) u = changing Done (Release id_held) u.first_waiting
 decided_force (HoldingRun n) u = Refused HeldByRun
 
--- the run that starts once a run has come behind the others, of which none waits where nobody holds
+-- the run that starts after a run has been added; if the workspace has no holder, no other run is waiting
 abbrev pub start_with : WorkspaceUnit → Run → Option ℕ
 start_with u r = to_start u.holder (cond (is_waiting r) (Some r.number) None)
 
--- a run, once one has started
+-- the status of a run after this run, if any, has started
 abbrev pub status_begun : Option ℕ → ℕ → RunStatus → RunStatus
 status_begun None number status = status
 status_begun (Some n) number status = cond (number == n) Planning status
@@ -142,7 +142,7 @@ decided_read_run (Some r) = Accepted (ShownRun r) None
 abbrev pub acted : RunAction → RunStatus → Run → Run
 acted action status r = record r { status = status; action = Some action }
 
--- the run that starts once a run has ended
+-- the run that starts after a run has ended
 abbrev pub start_freed : Bool → WorkspaceUnit → Option ℕ
 start_freed freed u = cond freed u.first_waiting None
 
@@ -155,7 +155,7 @@ abbrev pub decided_report : Option Run → WorkspaceUnit → ℕ → RunAction �
 decided_report None u n action = Refused NotFound
 decided_report (Some r) u n action = cond (is_last action r.action) (Accepted (ShownRun r) None) (decided_step (next_status r.plan_only u.settings.runs.auto_apply r.status action) u r n action)
 
--- what is told; nothing changes
+-- the answer to a read-only act; nothing changes
 abbrev pub decided_look : AnyLook → WorkspaceUnit → Decision
 decided_look look.Workspace u = Accepted (ShownWorkspace (shown_as u.settings u)) None
 decided_look look.State u = decided_read u.newest

@@ -1,4 +1,4 @@
--- Contracts between functions: where a name stands among entries that rise by their names, and where it would go.
+-- Contracts between functions: where a name is among entries with rising names, and where it would be inserted.
 use Rattle.std.specs.Prelude.{◌≡◌, ℕ, Bool, true, false, ◌<◌, ◌≤◌, List, get_or, set, length, Some, None}
 use Rattle.std.specs.List.{insert}
 use Rattle.std.specs.FinMap.{find, put}
@@ -9,24 +9,24 @@ use Rattle.machine.specs.declared.acts.Edit.TheVariants.{Make, Configure, Remove
 use Rattle.machine.specs.declared.keeps.OrgRow.{OrgRow}
 use Rattle.machine.specs.declared.records.Organization.{Organization}
 
--- the entry of the name is the i-th: it gives the value, and a value put at the name replaces it
+-- entry i has the name: it gives the value, and a new value of the name replaces its value
 pub record IsAt {X : Type 0} (name : List ℕ) (es : List (List ℕ × X)) (i : ℕ) : Type 0 where
   pub within : i < length es
   pub named : (d : List ℕ × X) → (get_or es i d).0 ≡ name
   pub found : (d : List ℕ × X) → find name_cmp name es ≡ Some (get_or es i d).1
   pub replaced : (v : X) → put name_cmp name v es ≡ set es i (name, v)
 
--- no entry has the name, and one that is put there becomes the i-th
+-- no entry has the name, and an entry that is inserted for it becomes entry i
 pub record IsGapFor {X : Type 0} (name : List ℕ) (es : List (List ℕ × X)) (i : ℕ) : Type 0 where
   pub within : i ≤ length es
   pub absent : find name_cmp name es ≡ None
   pub inserted : (v : X) → put name_cmp name v es ≡ insert es i (name, v)
 
--- an organization in the list of all
+-- an organization's row in the list of all organizations
 abbrev pub org_row : List ℕ → Organization → OrgRow
 org_row name o = record { name = name; workspaces = count_of o; limit = o.limit }
 
--- the workspace goes
+-- whether the edit deletes the workspace
 abbrev pub is_removal : Edit → Bool
 is_removal (Make settings) = false
 is_removal (Configure settings outgoing) = false
