@@ -1,10 +1,10 @@
--- Which tables stand in a schema otherwise than they are defined.
+-- Which tables a schema lacks, or defines differently.
 use Rattle.std.specs.Prelude.{◌≡◌, ℕ, List, Contains}
 use Rattle.sqlite_schema.specs.declared.schema.Schema.{Schema}
 use Rattle.sqlite_schema.specs.declared.schema.Table.{Table}
 use Rattle.statements.specs.Place.{IsOwn}
 
--- One of these tables has this name, and it doesn't stand in the schema as it is defined.
+-- One of these tables has this name, and the schema lacks it or defines it differently.
 pub record IsOther (s : Schema) (tables : List Table) (name : List ℕ) : Type 0 where
   pub table : Table
   pub listed : Contains tables table

@@ -1,4 +1,4 @@
-//! Whether two tables are defined alike, wherever their rows stand.
+//! Whether two tables have the same definition, wherever their rows are stored.
 ghost use Rattle.std.specs.Prelude.{◌≡◌, ◌↔◌, IsTrue, IfOk};
 ghost use Rattle.definitions.specs.Alike.{AreAlike};
 ghost use Rattle.sqlite_sql.specs.Syntax.{term_at, terms_of};
@@ -183,7 +183,7 @@ fn same_rules(a: &Table, b: &Table) -> bool
         && same_places(&a.computed, &b.computed)
 }
 
-/// Whether two tables have one definition, whatever their trees are.
+/// Whether two tables have the same definition, wherever their rows are stored.
 pub fn are_alike(alloc: Global, a: &Table, b: &Table) -> Result<bool, AllocError>
     ensures { IfOk result (λ same. IsTrue same ↔ AreAlike a.now b.now) }
 {

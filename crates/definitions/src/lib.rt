@@ -1,4 +1,5 @@
-//! Whether the tables in a database are defined as ours: the definition of each is compared with that which our text has, part by part.
+//! Whether the tables of a database are defined as ours: each definition is compared part by part with that
+//! of our text.
 #![tactic(auto)]
 
 mod alike;

@@ -1,4 +1,4 @@
-//! Which of our tables don't stand in a schema as they are defined.
+//! Which of our tables a schema lacks, or defines differently.
 ghost use Rattle.std.specs.Prelude.{◌≡◌, ◌↔◌, List, [], IfOk};
 ghost use Rattle.std.specs.List.{AllByRecursion, AllZip};
 ghost use Rattle.sqlite_schema.specs.declared.schema.Table.{Table};
@@ -35,8 +35,8 @@ fn our_tables(alloc: Global) -> Result<Items<Table>, Down>
     defined_by(alloc, TABLE_TEXTS)
 }
 
-/// The names of our tables that don't stand in the schema exactly as they are defined, whatever else stands there. An error where
-/// memory was refused.
+/// The names of our tables that the schema lacks or defines differently, whatever else it has. Fails if
+/// memory is refused.
 pub fn others(alloc: Global, schema: &Schema) -> Result<BasisItems<Text>, Down>
     ensures none { IfOk result (λ names. (names ≡ []) ↔ IsOurs schema.now) }
     ensures named { IfOk result (AllByRecursion (IsOther schema.now our_tables)) }

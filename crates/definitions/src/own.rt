@@ -1,4 +1,4 @@
-//! Whether tables stand in a schema as they are defined.
+//! Whether a schema has tables as they are defined.
 ghost use Rattle.std.specs.Prelude.{◌≡◌, ◌↔◌, [], IsTrue, IfOk, OnOk};
 ghost use Rattle.std.specs.List.{AllByRecursion};
 ghost use Rattle.statements.specs.Place.{tree_of, IsOwn};
@@ -10,10 +10,11 @@ use basis::{Down, Items, Text};
 use sqlite_schema::schema::{Reference, Schema, Table};
 use std::alloc::{AllocError, Global};
 
-/// Below it are the trees of tables that the database keeps.
+/// Trees with smaller numbers are those of tables that the database stores.
 const COMPUTED: u32 = 2147483648;
 
-/// The tree of the table that a table's name means.
+/// The tree of the schema's table with this table's name: the number of the B-tree that stores its rows. 0 if
+/// there is no such table.
 fn tree_of(schema: &Schema, table: &Table) -> u32
     ensures { result ≡ tree_of schema.now table.now.name }
 {
@@ -24,7 +25,7 @@ fn tree_of(schema: &Schema, table: &Table) -> u32
     }
 }
 
-/// Whether the table's name means a table that is defined like it.
+/// Whether the schema's table with this name has the same definition.
 fn is_found(alloc: Global, schema: &Schema, table: &Table) -> Result<bool, AllocError>
     ensures { IfOk result (λ yes. IsTrue yes ↔ IsFound schema.now table.now) }
 {
@@ -37,7 +38,7 @@ fn is_found(alloc: Global, schema: &Schema, table: &Table) -> Result<bool, Alloc
     }
 }
 
-/// Whether the first table with this tree is defined like this one.
+/// Whether the first table with this tree has the same definition as this one.
 fn is_first(alloc: Global, tables: &[Table], tree: u32, table: &Table) -> Result<bool, AllocError>
     ensures { IfOk result (λ yes. IsTrue yes ↔ IsFirst tables.now tree table.now) }
 {
@@ -59,7 +60,7 @@ fn refers_alike(table: &Table, tree: u32, references: &[Reference]) -> bool
     table.tree != tree || same_references(table.references.as_slice(), references)
 }
 
-/// Whether each table with this tree has these references.
+/// Whether every table with this tree has these references.
 fn refer_alike(tables: &[Table], tree: u32, references: &[Reference]) -> bool
     ensures { IsTrue result ↔ AllByRecursion (λ t. t.tree ≡ tree → t.references ≡ references.now) tables.now }
 {
@@ -71,7 +72,7 @@ fn refer_alike(tables: &[Table], tree: u32, references: &[Reference]) -> bool
     }
 }
 
-/// Whether the tree of the table that a table's name means is the tree of one that is defined like it.
+/// Whether the first table with the tree of the schema's table of this name has the same definition.
 fn is_treed(alloc: Global, schema: &Schema, table: &Table) -> Result<bool, AllocError>
     ensures { IfOk result (λ yes. IsTrue yes ↔ IsFirst schema.now.tables (tree_of schema.now table.now.name) table.now) }
 {
@@ -83,14 +84,14 @@ fn is_treed(alloc: Global, schema: &Schema, table: &Table) -> Result<bool, Alloc
     )
 }
 
-/// Whether that tree is none of a computed table.
+/// Whether that tree is not the tree of a computed table.
 fn is_kept(schema: &Schema, table: &Table) -> bool
     ensures { IsTrue result ↔ IsKept (tree_of schema.now table.now.name) }
 {
     tree_of(schema, table) < COMPUTED
 }
 
-/// Whether each table with that tree has the references of this one.
+/// Whether every table with that tree has the references of this one.
 fn has_references(schema: &Schema, table: &Table) -> bool
     ensures { IsTrue result ↔ AllByRecursion (λ t. t.tree ≡ tree_of schema.now table.now.name → t.references ≡ table.now.references) schema.now.tables }
 {
@@ -98,7 +99,7 @@ fn has_references(schema: &Schema, table: &Table) -> bool
     refer_alike(schema.tables.as_slice(), tree, table.references.as_slice())
 }
 
-/// Whether a table stands in the schema as it is defined.
+/// Whether the schema has the table as it is defined.
 fn is_own(alloc: Global, schema: &Schema, table: &Table) -> Result<bool, AllocError>
     ensures { IfOk result (λ yes. IsTrue yes ↔ IsOwn schema.now table.now) }
 {
@@ -111,7 +112,7 @@ fn is_own(alloc: Global, schema: &Schema, table: &Table) -> Result<bool, AllocEr
     Ok(is_kept(schema, table) && has_references(schema, table))
 }
 
-/// Names a table that doesn't stand in the schema as it is defined.
+/// Adds the table's name if the schema lacks it or defines it differently.
 fn name_other(
     alloc: Global,
     schema: &Schema,
@@ -129,7 +130,8 @@ fn name_other(
     names.push(Text::copy_of(alloc, name)?)
 }
 
-/// The names of these tables that don't stand in the schema as they are defined.
+/// The names of those of these tables that the schema lacks or defines differently. Fails if memory is
+/// refused.
 pub fn others_among(alloc: Global, schema: &Schema, tables: &[Table]) -> Result<Items<Text>, Down>
     ensures none { IfOk result (λ names. (names ≡ []) ↔ AllByRecursion (IsOwn schema.now) tables.now) }
     ensures named { IfOk result (AllByRecursion (IsOther schema.now tables.now)) }
