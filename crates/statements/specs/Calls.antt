@@ -1,4 +1,5 @@
--- What a text that is run does; what a query gives: the first row of its answer, or none, and the value that this row is read as.
+-- What a statement does when it is run, and what a query returns: the first row of its result, or none, and the value that this row is read
+-- as.
 use Rattle.std.specs.Prelude.{◌≡◌, ◌⊎◌, ◌+◌, ◌<◌, ◌≤◌, ◌==◌, ◌^◌, length, ⊤, ℕ, ℤ, pos, negsuc, Bool, not, List, [], ◌∷◌, Option, Some, None, Result, Ok, Err, IfOk, OnOk, OnErr}
 use Rattle.std.specs.List.{AllZip}
 use Rattle.std.specs.Ordering.{int_eq}
@@ -26,15 +27,15 @@ use Rattle.basis.specs.declared.roles.Bounds.{Bounds}
 use Rattle.statements.specs.Rows.{number, role_code, status_code, action_code, run_settings_at}
 use Rattle.sqlite.specs.State.{State, IsUnchanged, IsRolledBack, KeepsCommit, ExecutesInside, QueriesRow, Shown, Begins}
 
--- a text that was run in a transaction
+-- the text was run in a transaction
 abbrev pub Wrote : {X E : Type 0} → List ℕ → Row → State → State → Result X E → Type 0
 Wrote text params old new result = OnOk result ((count : ℕ) × ExecutesInside 0 text params old new (Ok count)) × OnErr result (KeepsCommit old new)
 
--- the same, and whether there were rows to write
+-- the same, and whether it wrote any rows
 abbrev pub WroteAny : {E : Type 0} → List ℕ → Row → State → State → Result Bool E → Type 0
 WroteAny text params old new result = IfOk result (λ any. (count : ℕ) × ExecutesInside 0 text params old new (Ok count) × (any ≡ not (count == 0))) × OnErr result (KeepsCommit old new)
 
--- the text is a SELECT, in each schema
+-- the text is a SELECT, in every schema
 abbrev pub IsQuery : List ℕ → Type 0
 IsQuery text = (q : Select) × (p : Parsed) × (first text ≡ Ok (record p { statement = written.Select q; formats = [] }))
 
@@ -42,19 +43,19 @@ abbrev pub FirstRow : List ℕ → Row → State → State → Option Row → Ty
 FirstRow text params old new None = Shown text params old new []
 FirstRow text params old new (Some row) = QueriesRow text params old new (Ok row)
 
--- The rows begin an answer, and are as many as were wanted; or they are all of it, and no more than that.
+-- The rows are the first of a result, as many as were asked for; or they are the whole result, and at most that many.
 abbrev pub FirstRows : ℕ → List ℕ → Row → State → State → List Row → Type 0
 FirstRows most text params old new rows = (Begins text params old rows × (length rows ≡ most)) ⊎ (Shown text params old new rows × (length rows ≤ most))
 
--- by this number LIMIT lets so many rows through; where SQL has no number for so many it is -1, which lets all through
+-- with this number LIMIT allows so many rows; if SQL has no such number, it is -1, which allows any number
 abbrev pub LimitsTo : ℕ → ℤ → Type 0
 LimitsTo most n = ((most < 2 ^ 63) × (n ≡ pos most)) ⊎ ((2 ^ 63 ≤ most) × (n ≡ negsuc 0))
 
--- A query leaves what it reads as it was; where it fails, a transaction may be rolled back.
+-- A query does not change what it reads. If it fails, the transaction may have been rolled back.
 abbrev pub IsCalm : {X E : Type 0} → State → State → Result X E → Type 0
 IsCalm old new result = OnOk result (IsUnchanged old new) × OnErr result (IsUnchanged old new ⊎ IsRolledBack old new)
 
--- the row that a query gave is read as a value, and no row as none
+-- the row of a query is read as a value, and no row as none
 abbrev pub IsRead : {X E F : Type 0} → (Row → X → Type 0) → Result (Option Row) E → Result (Option X) F → Type 0
 IsRead Is row (Err f) = ⊤
 IsRead Is (Err e) (Ok found) = ⊥
@@ -63,20 +64,20 @@ IsRead Is (Ok None) (Ok (Some x)) = ⊥
 IsRead Is (Ok (Some row)) (Ok None) = ⊥
 IsRead Is (Ok (Some row)) (Ok (Some x)) = Is row x
 
--- the only row that a query gave is read as a value, and no row as none
+-- the only row of a query is read as a value, and no row as none
 abbrev pub IsOnly : {X E F : Type 0} → (Row → X → Type 0) → Result (List Row) E → Result (Option X) F → Type 0
 IsOnly Is rows (Err f) = ⊤
 IsOnly Is (Err e) (Ok found) = ⊥
 IsOnly Is (Ok rows) (Ok None) = rows ≡ []
 IsOnly Is (Ok rows) (Ok (Some x)) = (row : Row) × (rows ≡ row ∷ []) × Is row x
 
--- each row that a query gave is read as a value
+-- each row of a query is read as a value
 abbrev pub AreRead : {X E F : Type 0} → (Row → X → Type 0) → Result (List Row) E → Result (List X) F → Type 0
 AreRead Is rows (Err f) = ⊤
 AreRead Is (Err e) (Ok xs) = ⊥
 AreRead Is (Ok rows) (Ok xs) = AllZip Is rows xs
 
--- all rows that a query gave, which has no parameters, are read as these values
+-- all rows of a query without parameters are read as these values
 abbrev pub AreAllRead : {X : Type 0} → (Row → X → Type 0) → List ℕ → State → State → List X → Type 0
 AreAllRead Is text old new xs = (rows : List Row) × Shown text [] old new rows × AllZip Is rows xs
 
@@ -97,13 +98,13 @@ abbrev pub IsActionOrNull : Value → Option RunAction → Type 0
 IsActionOrNull v None = v ≡ cell.Null
 IsActionOrNull v (Some action) = v ≡ number (action_code action)
 
--- who holds a workspace, of which the first column is this one: kind, lock_id, lock_text and run
+-- the holder of a workspace, from this column on: kind, lock_id, lock_text and run
 abbrev pub IsHolderIn : ℕ → Row → Holder → Type 0
 IsHolderIn at row Nobody = column row at ≡ number 0
 IsHolderIn at row (Lock id text) = (column row at ≡ number 1) × (column row (at + 1) ≡ cell.Text id) × (column row (at + 2) ≡ cell.Blob text)
 IsHolderIn at row (HeldByRun n) = (column row at ≡ number 2) × (column row (at + 3) ≡ number n)
 
--- a workspace, of which the holder begins in this column and how its runs go in the other
+-- a workspace: its holder from column `at` on, and the settings of its runs from column `settings` on
 pub record IsWorkspaceIn (at settings : ℕ) (row : Row) (w : Workspace) : Type 0 where
   pub runs : w.runs ≡ run_settings_at row settings
   pub holder : IsHolderIn at row w.holder
@@ -127,7 +128,7 @@ pub record IsOrganization (row : Row) (o : Organization) : Type 0 where
   pub name : column row 0 ≡ cell.Text o.name
   pub cap : column row 1 ≡ number o.cap
 
--- a version, of which the first column is this one
+-- a version, from this column on
 pub record IsVersionIn (at : ℕ) (row : Row) (v : Version) : Type 0 where
   pub number_is : column row at ≡ number v.number
   pub serial : column row (at + 1) ≡ number v.serial
@@ -138,7 +139,7 @@ pub record IsVersionIn (at : ℕ) (row : Row) (v : Version) : Type 0 where
 abbrev pub IsVersionRow : Row → Version → Type 0
 IsVersionRow row v = IsVersionIn 0 row v
 
--- a run, of which the first column is this one
+-- a run, from this column on
 pub record IsRunIn (at : ℕ) (row : Row) (r : Run) : Type 0 where
   pub number_is : column row at ≡ number r.number
   pub plan_only : IsFlagCell (column row (at + 1)) r.plan_only
@@ -182,7 +183,7 @@ IsRole row role = column row 0 ≡ number (role_code role)
 abbrev pub IsStatus : Row → RunStatus → Type 0
 IsStatus row status = column row 0 ≡ number (status_code status)
 
--- the number in the row that a count gives
+-- the number in the row of a count
 abbrev pub IsCount : {E F : Type 0} → Result (Option Row) E → Result ℕ F → Type 0
 IsCount row (Err f) = ⊤
 IsCount (Err e) (Ok n) = ⊥

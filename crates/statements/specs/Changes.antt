@@ -17,18 +17,18 @@ use Rattle.basis.specs.declared.rows.RunRow.{RunRow as Run}
 use Rattle.statements.specs.Rows.{Kept, id_of, OrgRow, TokenRow, WsRow, VersionRow, RunRow, BoundRow, KeepingRow}
 use Rattle.statements.specs.Tables.{Tables}
 
--- one more row, behind the others and with the next rowid
+-- one more row, after the others and with the next rowid
 abbrev pub with_next : {R : Type 0} → R → List (Kept R) → List (Kept R)
 with_next r xs = xs ++ (next_key id_of xs, r) ∷ []
 
--- several rows, one behind the other
+-- several rows, one after the other
 abbrev pub with_all : {R : Type 0} → List R → List (Kept R) → List (Kept R)
 with_all [] xs = xs
 with_all (r ∷ rs) xs = with_all rs (with_next r xs)
 
 -- ---- the version
 
--- edition tells this version, where it told one
+-- edition has this version, if it had one
 abbrev pub edition_moved : ℕ → Tables → Tables
 edition_moved version t = record t { editions = map (λ x. (x.0, version)) t.editions }
 
@@ -43,7 +43,7 @@ org_row_added name cap t = record t { orgs = with_next (record { name = name; ca
 abbrev pub org_row_removed : List ℕ → Tables → Tables
 org_row_removed name t = record t { orgs = delete_where (is_org name) t.orgs }
 
--- the organization may have so many workspaces
+-- the organization's limit of workspaces is this number
 abbrev pub org_capped : List ℕ → ℕ → Tables → Tables
 org_capped name cap t = record t { orgs = update_where (is_org name) (λ x. (x.0, record x.1 { cap = cap })) t.orgs }
 
@@ -61,7 +61,7 @@ token_row_added org name digest role t = record t { tokens = with_next (record {
 abbrev pub token_row_removed : List ℕ → List ℕ → Tables → Tables
 token_row_removed org name t = record t { tokens = delete_where (is_token org name) t.tokens }
 
--- ---- how far tokens reach
+-- ---- the expiry and the prefix of tokens
 
 abbrev pub is_bound : List ℕ → List ℕ → Kept BoundRow → Bool
 is_bound org name x = bytes_eq x.1.org org && bytes_eq x.1.name name
@@ -72,7 +72,7 @@ bound_row_added org name until prefix t = record t { bounds = with_next (record 
 abbrev pub bound_row_removed : List ℕ → List ℕ → Tables → Tables
 bound_row_removed org name t = record t { bounds = delete_where (is_bound org name) t.bounds }
 
--- a token that doesn't end, for all workspaces
+-- no expiry, and the empty prefix
 abbrev pub unbounded : TokenRow → BoundRow
 unbounded r = record { org = r.org; name = r.name; until = None; prefix = [] }
 
@@ -80,14 +80,14 @@ unbounded r = record { org = r.org; name = r.name; until = None; prefix = [] }
 abbrev pub bounds_filled : Tables → Tables
 bounds_filled t = record t { bounds = with_all (map (λ x. unbounded x.1) t.tokens) t.bounds }
 
--- a token with how far it reaches
+-- a token with its expiry and prefix
 abbrev pub token_added : List ℕ → List ℕ → List ℕ → Role → Option ℕ → List ℕ → Tables → Tables
 token_added org name digest role until prefix t = bound_row_added org name until prefix (token_row_added org name digest role t)
 
 abbrev pub HasNoBound : List ℕ → List ℕ → Tables → Type 0
 HasNoBound org name t = AllByRecursion (λ x. is_bound org name x ≡ false) t.bounds
 
--- how far it reaches goes first
+-- the expiry and the prefix are removed first
 abbrev pub token_removed : List ℕ → List ℕ → Tables → Tables
 token_removed org name t = token_row_removed org name (bound_row_removed org name t)
 
@@ -99,7 +99,7 @@ is_ws_of org x = bytes_eq x.1.org org
 abbrev pub is_ws : List ℕ → List ℕ → Kept WsRow → Bool
 is_ws org name x = bytes_eq x.1.org org && bytes_eq x.1.name name
 
--- one function over what the row of a workspace holds
+-- a function that is applied to what the row of a workspace holds
 abbrev pub ws_changed : (Workspace → Workspace) → List ℕ → List ℕ → Tables → Tables
 ws_changed f org name t = record t { wss = update_where (is_ws org name) (λ x. (x.0, record x.1 { it = f x.1.it })) t.wss }
 
@@ -109,7 +109,7 @@ with_run_settings runs w = record w { runs = runs }
 abbrev pub held_by : Holder → Workspace → Workspace
 held_by holder w = record w { holder = holder }
 
--- nobody holds it, and this is the ID released last
+-- the workspace has no holder, and this is the ID released last
 abbrev pub released_from : List ℕ → Workspace → Workspace
 released_from id w = record w { holder = Nobody; released = Some id }
 
@@ -119,7 +119,7 @@ with_next_version n w = record w { next_version = n }
 abbrev pub with_next_run : ℕ → Workspace → Workspace
 with_next_run n w = record w { next_run = n }
 
--- a workspace that nobody holds or held, whose versions and runs begin at 1
+-- a workspace that has no holder and never had one; its next version and its next run are 1
 abbrev pub workspace_made : RunSettings → Workspace
 workspace_made runs = record { runs = runs; holder = Nobody; released = None; next_version = 1; next_run = 1 }
 
@@ -129,7 +129,7 @@ ws_row_added org name runs t = record t { wss = with_next (record { org = org; n
 abbrev pub ws_row_removed : List ℕ → List ℕ → Tables → Tables
 ws_row_removed org name t = record t { wss = delete_where (is_ws org name) t.wss }
 
--- ---- how many versions workspaces keep
+-- ---- the number of versions that workspaces keep
 
 abbrev pub is_keeping : List ℕ → List ℕ → Kept KeepingRow → Bool
 is_keeping org ws x = bytes_eq x.1.org org && bytes_eq x.1.ws ws
@@ -137,14 +137,14 @@ is_keeping org ws x = bytes_eq x.1.org org && bytes_eq x.1.ws ws
 abbrev pub keeping_row_added : List ℕ → List ℕ → ℕ → Tables → Tables
 keeping_row_added org ws keep t = record t { keepings = with_next (record { org = org; ws = ws; keep = keep }) t.keepings }
 
--- the workspace keeps so many
+-- the workspace keeps this many versions
 abbrev pub keeping_changed : ℕ → List ℕ → List ℕ → Tables → Tables
 keeping_changed keep org ws t = record t { keepings = update_where (is_keeping org ws) (λ x. (x.0, record x.1 { keep = keep })) t.keepings }
 
 abbrev pub keeping_row_removed : List ℕ → List ℕ → Tables → Tables
 keeping_row_removed org ws t = record t { keepings = delete_where (is_keeping org ws) t.keepings }
 
--- a workspace that keeps what one keeps at first
+-- the number of versions that a new workspace keeps
 abbrev pub kept_first : WsRow → KeepingRow
 kept_first r = record { org = r.org; ws = r.name; keep = FIRST_KEPT }
 
@@ -152,14 +152,14 @@ kept_first r = record { org = r.org; ws = r.name; keep = FIRST_KEPT }
 abbrev pub keepings_filled : Tables → Tables
 keepings_filled t = record t { keepings = with_all (map (λ x. kept_first x.1) t.wss) t.keepings }
 
--- a workspace with how many versions it keeps
+-- a workspace with the number of versions that it keeps
 abbrev pub ws_added : List ℕ → List ℕ → RunSettings → ℕ → Tables → Tables
 ws_added org name runs keep t = keeping_row_added org name keep (ws_row_added org name runs t)
 
 abbrev pub HasNoKeeping : List ℕ → List ℕ → Tables → Type 0
 HasNoKeeping org ws t = AllByRecursion (λ x. is_keeping org ws x ≡ false) t.keepings
 
--- how many it keeps goes first
+-- the number of versions is removed first
 abbrev pub ws_removed : List ℕ → List ℕ → Tables → Tables
 ws_removed org name t = ws_row_removed org name (keeping_row_removed org name t)
 
@@ -194,11 +194,11 @@ is_run_row org ws n x = bytes_eq x.1.org org && (bytes_eq x.1.ws ws && x.1.it.nu
 abbrev pub run_changed_to : RunStatus → List ℕ → List ℕ → ℕ → Tables → Tables
 run_changed_to status org ws n t = record t { runs = update_where (is_run_row org ws n) (λ x. (x.0, record x.1 { it = record x.1.it { status = status } })) t.runs }
 
--- the run took this action last, and it left the run in this status
+-- the run's last action, and the status that follows it
 abbrev pub run_acted : RunStatus → RunAction → List ℕ → List ℕ → ℕ → Tables → Tables
 run_acted status action org ws n t = record t { runs = update_where (is_run_row org ws n) (λ x. (x.0, record x.1 { it = record x.1.it { status = status; action = Some action } })) t.runs }
 
--- a run with all its parts, of which the last is the action that it took last
+-- a run with all its parts, the last of which is its last action
 abbrev pub run_made : ℕ → Bool → Option (List ℕ) → List ℕ → ℕ → RunStatus → Option RunAction → Run
 run_made number plan_only key message created status action = record { number = number; plan_only = plan_only; key = key; message = message; created = created; status = status; action = action }
 

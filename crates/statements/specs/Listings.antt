@@ -1,4 +1,4 @@
--- What each list reads of the rows, and the law of the rows under which it does.
+-- What each list reads of the rows, and the law that the rows must obey for this.
 use Rattle.std.specs.Prelude.{◌+◌, ◌==◌, ◌&&◌, ℕ, Bool, List, [], ◌∷◌, map, filter, take, nat_lt, if◌then◌else◌}
 use Rattle.std.specs.declared.cmp.Ordering.{Ordering}
 use Rattle.std.specs.Ordering.{nat_cmp, is_lt}
@@ -21,7 +21,7 @@ use Rattle.statements.specs.Tables.{Tables}
 use Rattle.statements.specs.Finds.{retention_of, version_before, version_cmp, run_cmp}
 use Rattle.statements.specs.Changes.{is_org, is_token, is_ws_of, is_ws, is_keeping, is_version_of, is_version, is_run_of}
 
--- the order of names: that of their bytes
+-- the order of names: by their bytes
 abbrev pub text_cmp : List ℕ → List ℕ → Ordering
 text_cmp = slice_cmp nat_cmp
 
@@ -36,7 +36,7 @@ caps t = from_entries (map (λ x. (x.1.name, x.1.cap)) t.orgs)
 abbrev pub organization_row : List ℕ × ℕ → Organization
 organization_row e = record { name = e.0; cap = e.1 }
 
--- in the order of their names
+-- in the order of their names' bytes
 abbrev pub organizations_in : Tables → List Organization
 organizations_in t = map organization_row (entries (caps t))
 
@@ -54,7 +54,7 @@ roles_by_name org t = from_entries (map (λ x. (x.1.name, x.1.it.role)) (filter 
 abbrev pub role_row : List ℕ × Role → NamedRole
 role_row e = record { name = e.0; role = e.1 }
 
--- those of an organization, in the order of their names
+-- those of an organization, in the order of their names' bytes
 abbrev pub token_rows_of : List ℕ → Tables → List NamedRole
 token_rows_of org t = map role_row (entries (roles_by_name org t))
 
@@ -79,15 +79,16 @@ workspaces_by_name org t = from_entries (map (λ x. (x.1.name, x.1.it)) (filter 
 abbrev pub named_row : List ℕ → Tables → List ℕ × Workspace → NamedWorkspace
 named_row org t e = record { name = e.0; it = e.1; keep = retention_of org e.0 t; last = version_before org e.0 e.1.next_version t }
 
--- those of an organization that come after a name and begin with a prefix, each with how many versions it keeps and the number before its next one's, in the order of their names and no more than so many
+-- those of an organization whose names come after a name and begin with a prefix, each with the number of versions that it keeps and the
+-- number before its next version's, in the order of their names' bytes, at most so many
 abbrev pub workspace_rows_after : List ℕ → List ℕ → List ℕ → ℕ → Tables → List NamedWorkspace
 workspace_rows_after org after prefix most t = take most (map (named_row org t) (filter (λ e. is_behind after e.0 && admits prefix e.0) (entries (workspaces_by_name org t))))
 
--- the names of those of an organization, in their order
+-- the names of those of an organization, in the order of their bytes
 abbrev pub workspace_names_of : List ℕ → Tables → List (List ℕ)
 workspace_names_of org t = map (λ e. e.0) (entries (workspaces_by_name org t))
 
--- no two workspaces of an organization have one name
+-- no two workspaces of an organization have the same name
 abbrev pub NamesApart : Tables → Type 0
 NamesApart t = AreApart (λ a b. is_ws a.1.org a.1.name b) t.wss
 
@@ -95,13 +96,13 @@ NamesApart t = AreApart (λ a b. is_ws a.1.org a.1.name b) t.wss
 abbrev pub later_of : List ℕ → List ℕ → List ℕ
 later_of after prefix = if is_lt (text_cmp after prefix) then prefix else after
 
--- the least text behind all that begin with a prefix: its last byte is one more
+-- the least text that comes after every text with this prefix: its last byte is increased by one
 abbrev pub end_of : List ℕ → List ℕ
 end_of [] = []
 end_of (b ∷ []) = (b + 1) ∷ []
 end_of (b ∷ c ∷ bytes) = b ∷ end_of (c ∷ bytes)
 
--- a workspace has one row, and so have how many versions it keeps and each of its versions
+-- a workspace has at most one row, at most one row of keeping, and at most one row for each of its versions
 pub record WorkspacesApart (t : Tables) : Type 0 where
   pub wss : AreApart (λ a b. is_ws a.1.org a.1.name b) t.wss
   pub keepings : AreApart (λ a b. is_keeping a.1.org a.1.ws b) t.keepings
@@ -109,11 +110,11 @@ pub record WorkspacesApart (t : Tables) : Type 0 where
 
 -- ---- versions
 
--- those of a workspace whose numbers are above this one, in the order of their numbers and no more than so many
+-- those of a workspace with numbers greater than this one, in the order of their numbers, at most so many
 abbrev pub version_rows_after : List ℕ → List ℕ → ℕ → ℕ → Tables → List Version
 version_rows_after org ws after most t = take most (filter (λ v. nat_lt after v.number) (map (λ x. x.1.it) (sort_by version_cmp (filter (is_version_of org ws) t.versions))))
 
--- no two of them have one number
+-- no two of them have the same number
 abbrev pub VersionsApart : List ℕ → List ℕ → Tables → Type 0
 VersionsApart org ws t = AreApart (λ a b. a.1.it.number == b.1.it.number) (filter (is_version_of org ws) t.versions)
 

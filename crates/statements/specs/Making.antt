@@ -1,4 +1,4 @@
--- How the tables are made, in a database that may hold tables of others.
+-- How the tables are created, in a database that may also have other tables.
 use Rattle.std.specs.Prelude.{◌≡◌, ◌≢◌, ◌≤◌, ℕ, zero, suc, pos, false, List, [], ◌∷◌, ◌++◌, codes, map, IsTrue, Result, OnOk, OnErr, Option, None, option_map}
 use Rattle.std.specs.List.{AllByRecursion}
 use Rattle.sqlite_schema.specs.declared.schema.Table.{Table}
@@ -18,28 +18,28 @@ use Rattle.statements.specs.Rows.{Kept, id_of, stored, meta_cells, edition_cells
 use Rattle.statements.specs.Tables.{Tables, Holds, HoldsIn, StoredTable, schema_tables, added_by, no_rows}
 use Rattle.statements.specs.Changes.{with_all, unbounded, kept_first}
 
--- a table with no row
+-- a table without rows
 abbrev pub bare_table : Table → StoredTable
 bare_table table = record { table = table; rows = [] }
 
--- Each table that was there stands where it stood, and keeps its rows.
+-- Each table that existed before keeps its place and its rows.
 pub record KeepsTables (old new : Database) : Type 0 where
   pub more : List Table
   pub tables : new.schema.tables ≡ old.schema.tables ++ more
   pub rows : KeepsRows old.schema.tables old.trees new.trees
 
--- the table in which the engine counts rowids, and which it may make beside another
+-- the table in which SQLite counts rowids, which it may create together with another table
 abbrev pub sequence_name : List ℕ
 sequence_name = codes "sqlite_sequence"
 
 abbrev pub IsNotNamed : List ℕ → Table → Type 0
 IsNotNamed name t = same_name t.name name ≡ false
 
--- No name comes but those of these tables, and that of the engine's own.
+-- The only new names are those of these tables and that of SQLite's own table.
 abbrev pub NamesNoOther : List Table → Database → Database → Type 0
 NamesNoOther added old new = (name : List ℕ) → same_name sequence_name name ≡ false → AllByRecursion (IsNotNamed name) added → table_named old.schema name ≡ None → table_named new.schema name ≡ None
 
--- the schema changes inside the transaction, which goes on
+-- the schema changes inside the transaction, which stays open
 pub record Alters (Change : Database → Database → Type 0) (old new : State) : Type 0 where
   pub change : Change old.now new.now
   pub was_open : IsTrue old.is_open
@@ -47,42 +47,44 @@ pub record Alters (Change : Database → Database → Type 0) (old new : State) 
   pub committed : new.committed ≡ old.committed
   pub inside : IsTrue new.in_transaction
 
--- after a failure nothing is committed
+-- if it fails, nothing is committed
 abbrev pub AltersBy : {X E : Type 0} → (Database → Database → Type 0) → State → State → Result X E → Type 0
 AltersBy Change old new result = HasCleanDisk new → IsTrue old.in_transaction → OnOk result (Alters Change old new) × OnErr result (KeepsCommit old new)
 
--- What making tables promises: the transaction stays that of the same connection, the schema changes so, no fault is forgotten, and a shield stays.
+-- What creating tables promises: the transaction is still that of the same connection, the schema changes as said, no fault is forgotten,
+-- and a shielded store stays shielded.
 pub record MakesBy {S X E : Type 0} (g : Ghosts S) (Change : Database → Database → Type 0) (old new : Transaction S) (result : Result X E) : Type 0 where
   pub same_reference : new.conn.ghost_name ≡ old.conn.ghost_name
   pub made : AltersBy Change (state g old.conn.now) (state g new.conn.now) result
   pub clean : doubt (state g old.conn.now).is_clean ≤ doubt (state g new.conn.now).is_clean
   pub shield : (state g old.conn.now).IsShielded → (state g new.conn.now).IsShielded
 
--- The database has the newest schema, with no row but the one that says so, and each table that was there is kept.
+-- The database has the newest schema, with no row but that of its version. Each table that existed before is kept.
 pub record HasSchema (old new : Database) : Type 0 where
   pub holds : Holds new (record no_rows { editions = (pos 1, NEWEST) ∷ [] })
   pub kept : KeepsTables old new
 
--- The rows of a version as those of the next. From the first to the second no token ends, each is for all workspaces, and edition tells the version
--- in meta's place; from the second to the third each workspace keeps what one keeps at first, and edition tells the version.
+-- The rows of a version as those of the next. From the first to the second, no token expires, each is for all workspaces, and edition has
+-- the version in place of meta. From the second to the third, each workspace keeps as many versions as a new one, and edition has the new
+-- version.
 abbrev pub raised : ℕ → Tables → Tables
 raised (suc zero) t = record t { metas = []; bounds = with_all (map (λ x. unbounded x.1) t.tokens) []; editions = (pos 1, 2) ∷ [] }
 raised (suc (suc zero)) t = record t { keepings = with_all (map (λ x. kept_first x.1) t.wss) []; editions = map (λ x. (x.0, 3)) t.editions }
 raised n t = t
 
--- the table's tree is none of those of these tables
+-- the table's tree is none of the trees of these tables
 abbrev pub IsBeside : Database → Table → List Table → Type 0
 IsBeside db other tables = AllByRecursion (λ (ours : Table). tree_of db.schema other.name ≢ tree_of db.schema ours.name) tables
 
--- Where tables of ours became others, each table of others keeps its place beside them, and the rows of one to which no write elsewhere is passed on
--- stay.
+-- Some of our tables became others, and each table that is not ours keeps its place and its tree beside them. Its rows are unchanged if its
+-- foreign keys have no CASCADE or SET action.
 pub record KeepsForeign (before after : List Table) (old new : Database) : Type 0 where
   pub owns : (other : Table) → IsOwn old.schema other → IsOwn new.schema other
   pub stands : (other : Table) → IsOwn old.schema other → (at_of new.schema other.name ≡ at_of old.schema other.name) × (tree_of new.schema other.name ≡ tree_of old.schema other.name)
   pub beside : (other : Table) → IsOwn old.schema other → IsBeside old other before → IsBeside new other after
   pub rows : (other : Table) → IsOwn old.schema other → RefersPassively other → IsBeside old other before → new.trees (tree_of old.schema other.name) ≡ old.trees (tree_of old.schema other.name)
 
--- The tables of a version have become those of the next, no table of another name has come, and what is not ours is left.
+-- The tables of a version became those of the next, no other table but SQLite's own was added, and what is not ours is unchanged.
 pub record Raises (n : ℕ) (old new : Database) : Type 0 where
   pub holds : (t : Tables) → HoldsIn n old t → HoldsIn (suc n) new (raised n t)
   pub names : (t : Tables) → HoldsIn n old t → NamesNoOther (added_by (suc n)) old new
@@ -95,26 +97,26 @@ told_schema_version metas = option_map (λ x. x.1) (get_by id_of metas (pos 1))
 abbrev pub schema_version_in : Tables → Option ℕ
 schema_version_in t = told_schema_version t.metas
 
--- a table of meta's name and columns, whatever it checks, refers to and keeps unique
+-- a table with the name and the columns of meta, whatever its checks, references and unique keys are
 abbrev pub like_meta : Table → Table
 like_meta t = record t { name = meta_table.name; columns = meta_table.columns; key = meta_table.key; computed = meta_table.computed }
 
--- The name meta means such a table, which has these rows, in the order of their rowids; whatever else the database has.
+-- The database's table meta is such a table and has these rows, in the order of their rowids, whatever else the database has.
 pub record HasMeta (db : Database) (table : Table) (metas : List (Kept ℕ)) : Type 0 where
   pub place : StandsAt db.schema meta_table.name (like_meta table) (at_of db.schema meta_table.name) (tree_of db.schema meta_table.name)
   pub rows : db.trees (tree_of db.schema meta_table.name) ≡ map (stored meta_cells) metas
   pub keyed : IsKeyedBy id_of metas
 
--- ---- and of edition likewise
+-- ---- the same of edition
 
 abbrev pub edition_in : Tables → Option ℕ
 edition_in t = told_schema_version t.editions
 
--- a table of edition's name and columns, whatever it checks, refers to and keeps unique
+-- a table with the name and the columns of edition, whatever its checks, references and unique keys are
 abbrev pub like_edition : Table → Table
 like_edition t = record t { name = edition_table.name; columns = edition_table.columns; key = edition_table.key; computed = edition_table.computed }
 
--- The name edition means such a table, which has these rows, in the order of their rowids; whatever else the database has.
+-- The database's table edition is such a table and has these rows, in the order of their rowids, whatever else the database has.
 pub record HasEdition (db : Database) (table : Table) (editions : List (Kept ℕ)) : Type 0 where
   pub place : StandsAt db.schema edition_table.name (like_edition table) (at_of db.schema edition_table.name) (tree_of db.schema edition_table.name)
   pub rows : db.trees (tree_of db.schema edition_table.name) ≡ map (stored edition_cells) editions

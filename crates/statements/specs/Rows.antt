@@ -1,4 +1,4 @@
--- The rows of the tables as typed values, the cells that keep them, and the typed row that cells stand for.
+-- The rows of the tables as typed values, the cells that store them, and the typed row that cells stand for.
 use Rattle.std.specs.Prelude.{ℕ, ℤ, pos, Bool, Option, List, [], ◌∷◌, ◌++◌, length, if◌then◌else◌, zero, suc, not, unsigned_abs, ◌+◌, ◌==◌}
 use Rattle.sqlite_value.specs.declared.value.Value.{Value}
 use Rattle.sqlite_value.specs.declared.value.Value.TheVariants as cell
@@ -53,7 +53,7 @@ VersionRow = ItsVersionRow
 abbrev pub RunRow : Type 0
 RunRow = ItsRunRow
 
--- a page of texts, and how often it is named
+-- a page of texts, and the number of rows that name it
 pub record PageRow : Type 0 where
   pub key : List ℕ
   pub twin : ℕ
@@ -64,11 +64,11 @@ pub record PageRow : Type 0 where
 abbrev pub VpageRow : Type 0
 VpageRow = ItsVpageRow
 
--- until which moment a token counts, if it ends, and how the names of its workspaces begin
+-- when a token expires, if it does, and the prefix of its workspaces
 abbrev pub BoundRow : Type 0
 BoundRow = ItsBoundRow
 
--- how many versions a workspace keeps
+-- the number of versions that a workspace keeps
 abbrev pub KeepingRow : Type 0
 KeepingRow = ItsKeepingRow
 
@@ -126,7 +126,7 @@ run_cell Nobody = cell.Null
 run_cell (Lock id text) = cell.Null
 run_cell (HeldByRun n) = number n
 
--- the columns that say how runs go
+-- the columns of the settings of runs
 abbrev pub run_settings_cells : RunSettings → Row
 run_settings_cells s = flag s.auto_apply ∷ []
 
@@ -162,15 +162,15 @@ bound_cells r = cell.Text r.org ∷ cell.Text r.name ∷ or_null number r.until 
 abbrev pub keeping_cells : KeepingRow → Row
 keeping_cells r = cell.Text r.org ∷ cell.Text r.ws ∷ number r.keep ∷ []
 
--- meta's column `one` is its rowid, and the row keeps Null in its place
+-- meta's column `one` is its rowid, and the stored row has Null in its place
 abbrev pub meta_cells : ℕ → Row
 meta_cells version = cell.Null ∷ number version ∷ []
 
--- and so is edition's
+-- the same holds for edition
 abbrev pub edition_cells : ℕ → Row
 edition_cells version = cell.Null ∷ number version ∷ []
 
--- a row as its tree keeps it
+-- a row as its tree stores it
 abbrev pub stored : {R : Type 0} → (R → Row) → Kept R → Row
 stored cells x = cell.Int x.0 ∷ cells x.1
 
@@ -199,15 +199,15 @@ abbrev pub action_at : ℕ → RunAction
 action_at n =
     if n == 0 then ReportPlanned else (if n == 1 then ReportUnchanged else (if n == 2 then Fail else (if n == 3 then Confirm else (if n == 4 then ReportApplied else (if n == 5 then Discard else Cancel)))))
 
--- how runs go, of which the first column is this one
+-- the settings of runs, from this column on
 abbrev pub run_settings_at : Row → ℕ → RunSettings
 run_settings_at r at = record { auto_apply = flag_at r at }
 
--- how many columns say how runs go
+-- the number of columns that hold the settings of runs
 abbrev pub run_settings_width : ℕ
 run_settings_width = length (run_settings_cells (run_settings_at [] 0))
 
--- the column of a row of ws behind those
+-- the column of a row of ws after those
 abbrev pub behind_run_settings : ℕ
 behind_run_settings = 3 + run_settings_width
 
@@ -217,7 +217,7 @@ holder_of zero id text run = Nobody
 holder_of (suc zero) id text run = Lock id text
 holder_of (suc (suc n)) id text run = HeldByRun run
 
--- who holds a workspace, of which the first column is this one
+-- the holder of a workspace, from this column on
 abbrev pub holder_at : Row → ℕ → Holder
 holder_at r at = holder_of (number_at r at) (bytes_at r (at + 1)) (bytes_at r (at + 2)) (number_at r (at + 3))
 
@@ -229,7 +229,7 @@ some_bytes_at r at = unless_null bytes_of (column r at)
 abbrev pub some_action_at : Row → ℕ → Option RunAction
 some_action_at r at = unless_null (λ v. action_at (unsigned_abs (int_of v))) (column r at)
 
--- what a row holds of a workspace, of which the holder begins in this column and how its runs go in the other
+-- what a row holds of a workspace: its holder from one column on, and the settings of its runs from the other
 abbrev pub workspace_in_row : Row → ℕ → ℕ → Workspace
 workspace_in_row r at settings = record {
   runs = run_settings_at r settings;
@@ -239,11 +239,11 @@ workspace_in_row r at settings = record {
   next_run = number_at r (at + 6);
 }
 
--- what a row holds of a version, of which the first column is this one
+-- what a row holds of a version, from this column on
 abbrev pub version_in_row : Row → ℕ → Version
 version_in_row r at = record { number = number_at r at; serial = number_at r (at + 1); lineage = bytes_at r (at + 2); created = number_at r (at + 3); size = number_at r (at + 4) }
 
--- what a row holds of a run, of which the first column is this one
+-- what a row holds of a run, from this column on
 abbrev pub run_in_row : Row → ℕ → Run
 run_in_row r at = record {
   number = number_at r at;
@@ -255,7 +255,7 @@ run_in_row r at = record {
   action = some_action_at r (at + 6);
 }
 
--- a row with its rowid, from the row that a tree keeps
+-- a row with its rowid, from the row that a tree stores
 abbrev pub kept_by : {R : Type 0} → (Row → R) → Row → Kept R
 kept_by read r = (int_of (column r 0), read r)
 

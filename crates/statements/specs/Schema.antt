@@ -35,7 +35,7 @@ keyed_table name columns primary uniques orders checks = record {
   is_counted = false;
 }
 
--- the column at a place lies between two numbers
+-- the value of this column is between two numbers
 abbrev pub is_between : ℕ → ℕ → ℕ → Term
 is_between place least most = op2 And (op2 (Compare Ge Binary) (col 1 place) (lit (Int (pos least)))) (op2 (Compare Le Binary) (col 1 place) (lit (Int (pos most))))
 
@@ -49,15 +49,15 @@ token_table = keyed_table (codes "token")
     (column (codes "org") Text true ∷ column (codes "name") Text true ∷ column (codes "digest") Blob true ∷ column (codes "role") Integer true ∷ [])
     (1 ∷ 2 ∷ []) ((1 ∷ 2 ∷ []) ∷ (1 ∷ 3 ∷ []) ∷ []) (plain ∷ plain ∷ []) (is_between 4 0 2 ∷ [])
 
--- the columns of a workspace that say how runs go
+-- the columns of the settings of a workspace's runs
 abbrev pub run_settings_columns : List Column
 run_settings_columns = column (codes "auto") Integer true ∷ []
 
--- the place of the column `kind`, which stands behind them
+-- the place of the column `kind`, which comes after them
 abbrev pub kind_place : ℕ
 kind_place = 3 + length run_settings_columns
 
--- the column so many places behind `kind` is not null exactly where `kind` is the number
+-- the column so many places after `kind` is not null exactly if `kind` is this number
 abbrev pub is_given_for : ℕ → ℕ → Term
 is_given_for behind kind = op2 (Compare Eq Binary) (op1 Not (op2 (Is Binary) (col 1 (kind_place + behind)) (lit Null))) (op2 (Compare Eq Binary) (col 1 kind_place) (lit (Int (pos kind))))
 
@@ -83,13 +83,13 @@ run_table = keyed_table (codes "run")
     (1 ∷ 2 ∷ 3 ∷ []) ((1 ∷ 2 ∷ 3 ∷ []) ∷ (1 ∷ 2 ∷ 5 ∷ []) ∷ []) (plain ∷ plain ∷ [])
     (is_between 8 0 8 ∷ is_between 9 0 6 ∷ [])
 
--- the pages of texts, each by its key and the number that tells it from others of that key
+-- the pages of texts, each with its key and the number that distinguishes it from others with that key
 abbrev pub page_table : Table
 page_table = keyed_table (codes "page")
     (column (codes "pkey") Blob true ∷ column (codes "twin") Integer true ∷ column (codes "bytes") Blob true ∷ column (codes "uses") Integer true ∷ [])
     (1 ∷ 2 ∷ []) ((1 ∷ 2 ∷ []) ∷ []) (plain ∷ []) (op2 (Compare Ge Binary) (col 1 4) (lit (Int (pos 1))) ∷ [])
 
--- Which page stands at which place of a version's text. A page that is named can't go.
+-- Which page is at which place of a version's text. A page that a row names cannot be deleted.
 abbrev pub vpage_table : Table
 vpage_table = record (keyed_table (codes "vpage")
     (column (codes "org") Text true ∷ column (codes "ws") Text true ∷ column (codes "number") Integer true ∷ column (codes "place") Integer true
@@ -122,11 +122,11 @@ meta_table = record {
   is_counted = false;
 }
 
--- the row of a token, with which a row goes
+-- a reference to the row of a token; if that is deleted, so is the row that refers to it
 abbrev pub to_token : Reference
 to_token = record { columns = 1 ∷ 2 ∷ []; parent = codes "token"; parent_columns = codes "org" ∷ codes "name" ∷ []; on_delete = Cascade; on_update = NoAction; is_deferred = false }
 
--- How far each token reaches: until which moment it counts, and how the names of its workspaces begin. The row goes with the token's.
+-- For each token, when it expires and the prefix of its workspaces. The row is deleted with the token's.
 abbrev pub bound_table : Table
 bound_table = record (keyed_table (codes "bound")
     (column (codes "org") Text true ∷ column (codes "name") Text true ∷ column (codes "until") Integer false ∷ column (codes "prefix") Text true ∷ [])
@@ -149,11 +149,11 @@ edition_table = record {
   is_counted = false;
 }
 
--- the row of a workspace, with which a row goes
+-- a reference to the row of a workspace; if that is deleted, so is the row that refers to it
 abbrev pub to_ws : Reference
 to_ws = record { columns = 1 ∷ 2 ∷ []; parent = codes "ws"; parent_columns = codes "org" ∷ codes "name" ∷ []; on_delete = Cascade; on_update = NoAction; is_deferred = false }
 
--- How many versions each workspace keeps. The row goes with the workspace's.
+-- The number of versions that each workspace keeps. The row is deleted with the workspace's.
 abbrev pub keeping_table : Table
 keeping_table = record (keyed_table (codes "keeping")
     (column (codes "org") Text true ∷ column (codes "ws") Text true ∷ column (codes "keep") Integer true ∷ [])

@@ -1,4 +1,4 @@
--- Our tables with their rows, and the databases that hold them, or those of an earlier version of the schema.
+-- Our tables with their rows, and the databases that have them, or those of an earlier version of the schema.
 use Rattle.std.specs.Prelude.{◌≡◌, ℕ, zero, suc, nat_lt, ℤ, Bool, false, cond, is_some, List, [], ◌∷◌, map, take, drop, slice_get, unwrap_or}
 use Rattle.std.specs.List.{AllByRecursion}
 use Rattle.sqlite_value.specs.Order.{Row, column}
@@ -11,7 +11,7 @@ use Rattle.statements.specs.Place.{tree_of, AreOwn}
 use Rattle.statements.specs.Schema.{meta_table, org_table, token_table, ws_table, version_table, run_table, page_table, vpage_table, bound_table, edition_table, keeping_table}
 use Rattle.statements.specs.Rows.{Kept, OrgRow, TokenRow, WsRow, VersionRow, RunRow, PageRow, VpageRow, BoundRow, KeepingRow, stored, meta_cells, org_cells, token_cells, ws_cells, version_cells, run_cells, page_cells, vpage_cells, bound_cells, edition_cells, keeping_cells, kept_by, meta_at, org_at, token_at, ws_at, version_at, run_at, page_at, vpage_at, bound_at, edition_at, keeping_at}
 
--- A table of ours: its definition, the cells that keep a row, and the row that cells keep.
+-- One of our tables: its definition, the cells that store a row, and the row that cells stand for.
 pub record Layout (R : Type 0) : Type 0 where
   pub table : Table
   pub cells : R → Row
@@ -67,7 +67,7 @@ pub record Tables : Type 0 where
 abbrev pub no_rows : Tables
 no_rows = record { metas = []; orgs = []; tokens = []; wss = []; versions = []; runs = []; pages = []; vpages = []; bounds = []; editions = []; keepings = [] }
 
--- a table, and the rows that its tree keeps
+-- a table, and the rows that its tree stores
 pub record StoredTable : Type 0 where
   pub table : Table
   pub rows : List Row
@@ -75,7 +75,7 @@ pub record StoredTable : Type 0 where
 abbrev pub stored_table : {R : Type 0} → Layout R → List (Kept R) → StoredTable
 stored_table layout xs = record { table = layout.table; rows = map (stored layout.cells) xs }
 
--- our tables with these rows, in the order in which they are made
+-- our tables with these rows, in the order in which they are created
 abbrev pub stored_tables : Tables → List StoredTable
 stored_tables t =
     stored_table meta_layout t.metas ∷ stored_table org_layout t.orgs ∷ stored_table token_layout t.tokens ∷ stored_table ws_layout t.wss
@@ -88,8 +88,8 @@ tables_in = map (λ (x : StoredTable). x.table)
 abbrev pub our_tables : List Table
 our_tables = tables_in (stored_tables no_rows)
 
--- How many of them each version of the schema has, from version 0 on, which has none: they are the first ones, since those that a version adds are
--- made behind those that there were.
+-- The number of our tables in each version of the schema, from version 0 on, which has none. They are the first ones, since a version
+-- creates its tables after the earlier ones.
 abbrev pub table_counts : List ℕ
 table_counts = 0 ∷ 8 ∷ 10 ∷ 11 ∷ []
 
@@ -100,11 +100,11 @@ is_known (suc n) = is_some (slice_get table_counts (suc n))
 abbrev pub count_in : ℕ → ℕ
 count_in n = unwrap_or (slice_get table_counts n) 0
 
--- the tables of a version with these rows
+-- the tables of a version, with these rows
 abbrev pub stored_in : ℕ → Tables → List StoredTable
 stored_in n t = take (count_in n) (stored_tables t)
 
--- the tables of a version, those that later ones add, and those that it added
+-- the tables of a version, those that later versions add, and those that it added
 abbrev pub schema_tables : ℕ → List Table
 schema_tables n = take (count_in n) our_tables
 
@@ -126,25 +126,25 @@ pub record HasRows (db : Database) (x : StoredTable) : Type 0 where
   pub rows : db.trees (tree_of db.schema x.table.name) ≡ x.rows
   pub keyed : IsKeyedBy rowid_of x.rows
 
--- These tables stand in the database, and have these rows; whatever else it has.
+-- The database has these tables with these rows, whatever else it has.
 pub record HoldsAll (db : Database) (xs : List StoredTable) : Type 0 where
   pub own : AreOwn db.schema (tables_in xs)
   pub rows : AllByRecursion (HasRows db) xs
 
--- The database has our tables with these rows; whatever else it has.
+-- The database has our tables with these rows, whatever else it has.
 pub record Holds (db : Database) (t : Tables) : Type 0 where
   pub ours : IsOurs db.schema
   pub rows : AllByRecursion (HasRows db) (stored_tables t)
 
--- The database has the tables of a version with these rows; whatever else it has.
+-- The database has the tables of a version with these rows, whatever else it has.
 abbrev pub HoldsIn : ℕ → Database → Tables → Type 0
 HoldsIn n db t = HoldsAll db (stored_in n t)
 
--- the typed rows that a table's tree stands for
+-- the typed rows that the rows of a table's tree stand for
 abbrev pub rows_of : {R : Type 0} → Layout R → Database → List (Kept R)
 rows_of layout db = map (kept_by layout.read) (db.trees (tree_of db.schema layout.table.name))
 
--- the rows of our tables in a database: they are those that it holds, if it holds any
+-- the rows of our tables in a database: the rows that it has, if it has our tables
 abbrev pub tables_of : Database → Tables
 tables_of db = record {
   metas = rows_of meta_layout db;
@@ -160,7 +160,7 @@ tables_of db = record {
   keepings = rows_of keeping_layout db;
 }
 
--- the rows of the table at a place, as a version has them: none where it hasn't that table
+-- the rows of the table at a place, in a version; none if the version does not have the table
 abbrev pub rows_in : {X : Type 0} → ℕ → ℕ → List X → List X
 rows_in n place xs = cond (nat_lt place (count_in n)) xs []
 

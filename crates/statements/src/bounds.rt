@@ -1,4 +1,4 @@
-//! Statements on the table bound: how far each token reaches.
+//! Statements on the table bound: the expiry of each token and the prefix of its workspaces.
 ghost use Rattle.statements.specs.Steps.{AnyRows, Equals, Writes, Queries};
 ghost use Rattle.statements.specs.Making.{MakesBy};
 ghost use Rattle.statements.specs.Inner.Making.{Moved};
@@ -12,7 +12,7 @@ use sqlite::{Alter, Connection, Error, Transaction, params};
 const FIND_BOUND: &str =
     "SELECT until, prefix FROM bound WHERE org = ?1 AND name = ?2 ORDER BY rowid";
 
-/// How far the token of this name reaches.
+/// The expiry and the prefix of the token with this name.
 pub fn find<S: Alter>(
     conn: &mut Connection<S>,
     org: &str,
@@ -26,7 +26,7 @@ pub fn find<S: Alter>(
 
 const ADD_BOUND: &str = "INSERT INTO bound (org, name, until, prefix) VALUES (?1, ?2, ?3, ?4)";
 
-/// Adds how far a token reaches.
+/// Adds the expiry and the prefix of a token.
 pub fn add<'v, S: Alter>(
     tx: &mut Transaction<'_, S>,
     org: &'v str,
@@ -42,7 +42,7 @@ pub fn add<'v, S: Alter>(
 
 const REMOVE_BOUND: &str = "DELETE FROM bound WHERE org = ?1 AND name = ?2";
 
-/// Removes how far a token reaches.
+/// Removes the expiry and the prefix of a token.
 pub fn remove<S: Alter>(tx: &mut Transaction<'_, S>, org: &str, name: &str) -> Result<(), Error>
     ensures { Writes S.Store AnyRows (bound_row_removed org.now name.now) tx.old tx.new result }
 {
@@ -52,7 +52,8 @@ pub fn remove<S: Alter>(tx: &mut Transaction<'_, S>, org: &str, name: &str) -> R
 const FILL_BOUNDS: &str =
     "INSERT INTO bound (org, name, until, prefix) SELECT org, name, NULL, '' FROM token ORDER BY rowid";
 
-/// Says of each token that it doesn't end and is for all workspaces, in a database that has the tables of schema 2.
+/// Adds a row for each token: no expiry, and the empty prefix, which all workspaces have. The database has
+/// the tables of schema 2.
 pub(crate) fn fill<S: Alter>(tx: &mut Transaction<'_, S>) -> Result<(), Error>
     ensures { MakesBy S.Store (Moved 2 bounds_filled) tx.old tx.new result }
 {

@@ -1,4 +1,4 @@
-//! How a text is run, and how the row that it gives is read.
+//! How statements are run, and how the rows that queries return are read.
 ghost use Rattle.std.specs.Prelude.{◌≡◌, false, ◌^◌, ◌<◌, ◌≤◌, pos, option_map, string_bytes, IsTrue, IfOk};
 ghost use Rattle.std.specs.List.{AllZip};
 ghost use Rattle.sqlite_value.specs.Order.{column, Row as SqlRow};
@@ -34,7 +34,7 @@ pub fn write<S: Alter>(
     Ok(())
 }
 
-/// Runs a write in a transaction, and tells whether there were rows to write.
+/// Runs a write in a transaction. Returns whether it wrote any rows.
 pub fn update<S: Alter>(
     tx: &mut Transaction<'_, S>,
     sql: &str,
@@ -48,7 +48,7 @@ pub fn update<S: Alter>(
     Ok(count != 0)
 }
 
-/// The first row of a query's answer, or none.
+/// The first row of a query's result, or none.
 pub fn first_row<S: Alter>(
     conn: &mut Connection<S>,
     sql: &str,
@@ -66,7 +66,7 @@ pub fn first_row<S: Alter>(
     }
 }
 
-/// The first row of a query's answer inside a transaction, or none.
+/// The first row of a query's result inside a transaction, or none.
 pub fn first_row_inside<S: Alter>(
     tx: &mut Transaction<'_, S>,
     sql: &str,
@@ -84,7 +84,7 @@ pub fn first_row_inside<S: Alter>(
     }
 }
 
-/// The first rows of a query's answer, no more than `most`. The others are not read.
+/// The first rows of a query's result, at most `most`. The others are not read.
 pub(crate) fn first_rows<S: Alter>(
     alloc: Global,
     conn: &mut Connection<S>,
@@ -108,7 +108,7 @@ pub(crate) fn first_rows<S: Alter>(
     Ok(Items::new(first))
 }
 
-/// All rows of a query's answer.
+/// All rows of a query's result.
 pub fn all_rows<S: Alter>(
     conn: &mut Connection<S>,
     sql: &str,
@@ -125,7 +125,7 @@ pub fn all_rows<S: Alter>(
     }
 }
 
-/// A number as SQL has it.
+/// A number as SQL's signed integer.
 pub fn signed(n: u64) -> i64
     requires { n < 2 ^ 63 }
     ensures { result ≡ pos n }
@@ -133,7 +133,8 @@ pub fn signed(n: u64) -> i64
     n as i64
 }
 
-/// How many rows a query gives at most, as LIMIT has it. SQL has no number from 2^63 on: for such it is -1, which is no limit.
+/// The argument of LIMIT for at most `most` rows. SQL has no integers from 2^63 on; for these it is -1, which
+/// is no limit.
 pub(crate) fn limit(most: usize) -> i64
     ensures { LimitsTo most result }
 {
@@ -145,7 +146,7 @@ pub(crate) fn limit(most: usize) -> i64
     }
 }
 
-/// The seconds of a moment since 1970 (UTC), as SQL has them.
+/// A time in seconds since 1970 (UTC), as SQL's integer.
 pub(crate) fn seconds(moment: Moment) -> i64
     ensures number { result ≡ pos moment }
     ensures most { moment ≤ MAX_MOMENT }
@@ -153,7 +154,7 @@ pub(crate) fn seconds(moment: Moment) -> i64
     signed(moment.seconds())
 }
 
-/// The serial of a state, as SQL has it.
+/// The serial of a state, as SQL's integer.
 pub(crate) fn signed_serial(serial: Serial) -> i64
     ensures number { result ≡ pos serial }
     ensures most { serial ≤ MAX_SERIAL }
@@ -161,7 +162,7 @@ pub(crate) fn signed_serial(serial: Serial) -> i64
     signed(serial.get())
 }
 
-/// The same of a moment that may be absent.
+/// The same for a time that may be absent.
 pub(crate) fn optional_seconds(moment: Option<Moment>) -> Option<i64>
     ensures { result ≡ option_map pos moment }
 {
@@ -226,7 +227,7 @@ pub(crate) fn optional_text(row: &Row, at: usize) -> Result<Option<Text>, Error>
     }
 }
 
-/// The number of a version or of a run.
+/// The number of a version or of a run. Fails with `IntegralValueOutOfRange` if it is out of range.
 pub(crate) fn number_of(number: u64, at: usize) -> Result<Number, Error>
     ensures { IfOk result (λ x. x ≡ number) }
 {
@@ -236,7 +237,7 @@ pub(crate) fn number_of(number: u64, at: usize) -> Result<Number, Error>
     }
 }
 
-/// A moment, from the seconds since 1970 (UTC).
+/// A time, from the seconds since 1970 (UTC). Fails with `IntegralValueOutOfRange` if it is out of range.
 pub(crate) fn moment_of(seconds: u64, at: usize) -> Result<Moment, Error>
     ensures { IfOk result (λ x. x ≡ seconds) }
 {
@@ -246,7 +247,7 @@ pub(crate) fn moment_of(seconds: u64, at: usize) -> Result<Moment, Error>
     }
 }
 
-/// How many versions a workspace keeps.
+/// The number of versions that a workspace keeps. Fails with `IntegralValueOutOfRange` if it is out of range.
 pub(crate) fn retention_of(count: u64, at: usize) -> Result<KeepCount, Error>
     ensures { IfOk result (λ x. x ≡ count) }
 {
@@ -256,7 +257,8 @@ pub(crate) fn retention_of(count: u64, at: usize) -> Result<KeepCount, Error>
     }
 }
 
-/// How many workspaces an organization may have.
+/// The greatest number of workspaces of an organization. Fails with `IntegralValueOutOfRange` if it is out of
+/// range.
 pub(crate) fn limit_of(cap: u32, at: usize) -> Result<Limit, Error>
     ensures { IfOk result (λ x. x ≡ cap) }
 {
@@ -266,7 +268,7 @@ pub(crate) fn limit_of(cap: u32, at: usize) -> Result<Limit, Error>
     }
 }
 
-/// The ID of a lock.
+/// The ID of a lock. Fails with `InvalidColumnType` if the text is not a valid ID.
 pub(crate) fn lock_id_of(id: String, at: usize) -> Result<LockId, Error>
     ensures { IfOk result (λ x. x ≡ string_bytes id) }
 {
@@ -276,7 +278,7 @@ pub(crate) fn lock_id_of(id: String, at: usize) -> Result<LockId, Error>
     }
 }
 
-/// How the names of a token's workspaces begin.
+/// The prefix of a token's workspaces. Fails with `InvalidColumnType` if the text is not a valid prefix.
 fn prefix_of(prefix: String, at: usize) -> Result<WsPrefix, Error>
     ensures { IfOk result (λ x. x ≡ string_bytes prefix) }
 {
@@ -286,7 +288,7 @@ fn prefix_of(prefix: String, at: usize) -> Result<WsPrefix, Error>
     }
 }
 
-/// A workspace's name.
+/// A workspace's name. Fails with `InvalidColumnType` if the text is not a valid name.
 pub(crate) fn name_of(name: String, at: usize) -> Result<WsName, Error>
     ensures { IfOk result (λ x. x ≡ string_bytes name) }
 {
@@ -333,7 +335,7 @@ pub(crate) fn optional_lock_id(row: &Row, at: usize) -> Result<Option<LockId>, E
     }
 }
 
-/// The role that a number in a row stands for.
+/// The role with the number in this column.
 pub(crate) fn role_in(row: &Row, at: usize) -> Result<Role, Error>
     ensures { IfOk result (λ role. column row.now at ≡ number (role_code role)) }
 {
@@ -345,7 +347,8 @@ pub(crate) fn role_in(row: &Row, at: usize) -> Result<Role, Error>
     }
 }
 
-/// Whether a number in a row is 1, not 0. No other is kept, so a row that has one was written by another program.
+/// Whether the number in this column is 1 and not 0. Our statements write no other number, so a row with
+/// another one was written by another program.
 pub(crate) fn flag_in(row: &Row, at: usize) -> Result<bool, Error>
     ensures is { IfOk result (λ b. b ≡ flag_at row.now at) }
     ensures cell { IfOk result (IsFlagCell (column row.now at)) }
@@ -399,7 +402,7 @@ fn status_of_row(row: &Row, at: usize) -> Result<RunStatus, Error>
     status_in(row, at)
 }
 
-/// A version in a row, of which the first column is this one.
+/// The version in a row, from this column on.
 pub(crate) fn version_in(row: &Row, at: u8) -> Result<VersionRow, Error>
     ensures is { IfOk result (λ x. x ≡ version_in_row row.now at) }
     ensures cells { IfOk result (IsVersionIn at row.now) }
@@ -414,7 +417,7 @@ pub(crate) fn version_in(row: &Row, at: u8) -> Result<VersionRow, Error>
     })
 }
 
-/// A run in a row, of which the first column is this one.
+/// The run in a row, from this column on.
 pub(crate) fn run_in(row: &Row, at: u8) -> Result<RunRow, Error>
     ensures is { IfOk result (λ x. x ≡ run_in_row row.now at) }
     ensures cells { IfOk result (IsRunIn at row.now) }
@@ -431,9 +434,9 @@ pub(crate) fn run_in(row: &Row, at: u8) -> Result<RunRow, Error>
     })
 }
 
-/// A value that a row of an answer holds.
+/// A value that is read from a row of a query's result.
 pub trait Read: Sized {
-    // Whether the row holds this one.
+    // Whether the row has this value.
     ghost is_in: { SqlRow → Self → Type 0 };
 
     fn of_row(row: &Row) -> Result<Self, Error>
@@ -574,7 +577,7 @@ impl Read for KeepCount {
     }
 }
 
-/// The value that the row holds, or none where there is no row.
+/// The value in the row; none if there is no row.
 pub fn read_one<T: Read + Drop>(row: Result<Option<Row>, Error>) -> Result<Option<T>, Error>
     ensures { IsRead T.Read.is_in row result }
 {
@@ -584,7 +587,8 @@ pub fn read_one<T: Read + Drop>(row: Result<Option<Row>, Error>) -> Result<Optio
     }
 }
 
-/// The value that the only row holds, or none where there is no row. It is an error where there are more.
+/// The value in the only row; none if there is no row. Fails with `InvalidQuery` if there is more than one
+/// row.
 pub(crate) fn read_only<T: Read + Drop>(rows: Result<Items<Row>, Error>) -> Result<Option<T>, Error>
     ensures { IsOnly T.Read.is_in rows result }
 {
@@ -606,7 +610,7 @@ fn read_each<T: Read + Drop>(alloc: Global, rows: &[Row]) -> Result<Items<T>, Er
     Ok(Items::new(read))
 }
 
-/// The values that the rows hold.
+/// The values in the rows.
 pub fn read_all<T: Read + Drop>(
     alloc: Global,
     rows: Result<Items<Row>, Error>,
@@ -617,7 +621,7 @@ pub fn read_all<T: Read + Drop>(
     read_each(alloc, rows.as_slice())
 }
 
-/// The values that all rows of a query's answer hold, in their order. The query has no parameters.
+/// The values in all rows of a query's result, in their order. The query has no parameters.
 pub fn scan<T: Read + Drop, S: Alter>(
     alloc: Global,
     conn: &mut Connection<S>,
@@ -629,7 +633,7 @@ pub fn scan<T: Read + Drop, S: Alter>(
     read_all(alloc, rows)
 }
 
-/// Zero stands for no row, which a count never gives.
+/// The number in the row of a `count` query. It is 0 if there is no row, but such a query always returns one.
 pub(crate) fn count_of(row: Result<Option<Row>, Error>) -> Result<u64, Error>
     ensures { IsCount row result }
 {
@@ -639,7 +643,7 @@ pub(crate) fn count_of(row: Result<Option<Row>, Error>) -> Result<u64, Error>
     }
 }
 
-/// The number by which SQL keeps a role.
+/// The number of a role in the database.
 pub(crate) fn role_number(role: Role) -> u32
     ensures { result ≡ role_code role }
 {
@@ -650,7 +654,7 @@ pub(crate) fn role_number(role: Role) -> u32
     }
 }
 
-/// The number by which SQL keeps a status.
+/// The number of a run's status in the database.
 pub(crate) fn status_number(status: RunStatus) -> u32
     ensures { result ≡ status_code status }
 {
@@ -667,7 +671,7 @@ pub(crate) fn status_number(status: RunStatus) -> u32
     }
 }
 
-/// The number by which SQL keeps an action.
+/// The number of an action in the database.
 pub(crate) fn action_number(action: RunAction) -> u32
     ensures { result ≡ action_code action }
 {
@@ -682,7 +686,7 @@ pub(crate) fn action_number(action: RunAction) -> u32
     }
 }
 
-/// The same of an action that may be absent.
+/// The same for an action that may be absent.
 pub(crate) fn optional_action_number(action: Option<RunAction>) -> Option<u32>
     ensures { result ≡ option_map action_code action }
 {

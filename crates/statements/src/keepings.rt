@@ -1,4 +1,4 @@
-//! Statements on the table keeping: how many versions each workspace keeps.
+//! Statements on the table keeping: the number of versions that each workspace keeps.
 ghost use Rattle.statements.specs.Steps.{AnyRows, Equals, Writes, Queries};
 ghost use Rattle.statements.specs.Changes.{keeping_row_added, keeping_changed, keeping_row_removed, keepings_filled};
 ghost use Rattle.statements.specs.Finds.{retention_of};
@@ -11,7 +11,7 @@ use sqlite::{Alter, Connection, Error, Transaction, params};
 
 const FIND_KEEPING: &str = "SELECT keep FROM keeping WHERE org = ?1 AND ws = ?2 ORDER BY rowid";
 
-/// How many versions the workspace of this name keeps.
+/// The number of versions that the workspace with this name keeps.
 pub fn find<S: Alter>(
     conn: &mut Connection<S>,
     org: &str,
@@ -25,7 +25,7 @@ pub fn find<S: Alter>(
 
 const ADD_KEEPING: &str = "INSERT INTO keeping (org, ws, keep) VALUES (?1, ?2, ?3)";
 
-/// Adds how many versions a workspace keeps.
+/// Adds the number of versions that a workspace keeps.
 pub fn add<S: Alter>(
     tx: &mut Transaction<'_, S>,
     org: &str,
@@ -40,7 +40,7 @@ pub fn add<S: Alter>(
 
 const SET_KEEPING: &str = "UPDATE keeping SET keep = ?3 WHERE org = ?1 AND ws = ?2";
 
-/// Sets how many versions a workspace keeps.
+/// Sets the number of versions that a workspace keeps.
 pub fn set<S: Alter>(
     tx: &mut Transaction<'_, S>,
     org: &str,
@@ -55,7 +55,7 @@ pub fn set<S: Alter>(
 
 const REMOVE_KEEPING: &str = "DELETE FROM keeping WHERE org = ?1 AND ws = ?2";
 
-/// Removes how many versions a workspace keeps.
+/// Removes the number of versions that a workspace keeps.
 pub fn remove<S: Alter>(tx: &mut Transaction<'_, S>, org: &str, ws: &str) -> Result<(), Error>
     ensures { Writes S.Store AnyRows (keeping_row_removed org.now ws.now) tx.old tx.new result }
 {
@@ -65,7 +65,8 @@ pub fn remove<S: Alter>(tx: &mut Transaction<'_, S>, org: &str, ws: &str) -> Res
 const FILL_KEEPINGS: &str =
     "INSERT INTO keeping (org, ws, keep) SELECT org, name, 100 FROM ws ORDER BY rowid";
 
-/// Says of each workspace that it keeps what one keeps at first, in a database that has the tables of schema 3.
+/// Adds a row for each workspace, with the number of versions that a new workspace keeps. The database has
+/// the tables of schema 3.
 pub(crate) fn fill<S: Alter>(tx: &mut Transaction<'_, S>) -> Result<(), Error>
     ensures { MakesBy S.Store (Moved 3 keepings_filled) tx.old tx.new result }
 {

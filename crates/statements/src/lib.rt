@@ -1,5 +1,6 @@
-//! The statements of schema 3, and those that take schema 1 to schema 2 and that to it: each one fixed text in a function of its own, whose
-//! contract is the text's meaning over typed rows, in every schema in which the tables stand somewhere.
+//! The statements of schema 3, and those that upgrade schema 1 to 2 and 2 to 3. Each is one fixed text in a
+//! function of its own. The function's contract is the meaning of the text over typed rows, in every schema
+//! that has the tables.
 #![tactic(auto)]
 
 pub mod bounds;

@@ -1,5 +1,5 @@
-//! Statements that make the tables of the newest schema, or take those of a version to the next, and
-//! those on the tables edition and meta, which tell the version.
+//! Statements that create the tables of the newest schema, statements that upgrade a schema to the next
+//! version, and those on the tables edition and meta, which have the version.
 ghost use Rattle.std.specs.Prelude.{◌≡◌, ◌≤◌, ◌<◌, ℕ, List, length, IfOk};
 ghost use Rattle.std.specs.List.{AllZip};
 ghost use Rattle.sqlite_schema.specs.declared.schema.Table.{Table};
@@ -20,12 +20,12 @@ use sqlite::{Alter, Connection, Error, Transaction, params};
 /// The newest version of the schema.
 pub const NEWEST: u64 = 3;
 
-/// The names of the tables, in the order in which they are made.
+/// The names of the tables, in the order of their creation.
 pub const TABLES: &[&str] = &[
     "meta", "org", "token", "ws", "version", "run", "page", "vpage", "bound", "edition", "keeping",
 ];
 
-/// How many of them each version has, from version 0 on: the first ones.
+/// The number of tables of each version, from version 0 on. A version has the first ones of `TABLES`.
 pub const TABLE_COUNTS: &[usize] = &[0, 8, 10, 11];
 
 const MAKE_META: &str =
@@ -61,14 +61,14 @@ const MAKE_EDITION: &str =
 const MAKE_KEEPING: &str =
     "CREATE TABLE keeping (org TEXT NOT NULL, ws TEXT NOT NULL, keep INTEGER NOT NULL CHECK (keep BETWEEN 1 AND 1000), PRIMARY KEY (org, ws), FOREIGN KEY (org, ws) REFERENCES ws (org, name) ON DELETE CASCADE) STRICT";
 
-/// By it a waiting run is found.
+/// The index by which the first waiting run is found.
 const MAKE_RUN_INDEX: &str =
     "CREATE INDEX IF NOT EXISTS run_by_status ON run (org, ws, status, number)";
 
-/// By it it is known whether a page is still named, when it goes.
+/// The index by which a page that is removed is tested for remaining references.
 const MAKE_VPAGE_INDEX: &str = "CREATE INDEX IF NOT EXISTS vpage_page ON vpage (pkey, twin)";
 
-/// The texts that make the tables, in the order in which they are run.
+/// The texts that create the tables, in the order in which they are run.
 pub const TABLE_TEXTS: &[&str] = &[
     MAKE_META,
     MAKE_ORG,
@@ -83,8 +83,8 @@ pub const TABLE_TEXTS: &[&str] = &[
     MAKE_KEEPING,
 ];
 
-/// The texts that make the tables of schema 1 and the indexes on them, in the order in which they are run.
-/// An index is left out where one of others has its name.
+/// The texts that create the tables of schema 1 and their indexes, in the order in which they are run. An
+/// index is not created if one that is not ours has its name.
 const FIRST: &[&str] = &[
     MAKE_META,
     MAKE_ORG,
@@ -98,20 +98,20 @@ const FIRST: &[&str] = &[
     MAKE_VPAGE_INDEX,
 ];
 
-/// Those of the tables that schema 2 has besides.
+/// The texts of the tables that schema 2 adds.
 const SECOND: &[&str] = &[MAKE_BOUND, MAKE_EDITION];
 
-/// Those of the table that schema 3 has besides.
+/// The text of the table that schema 3 adds.
 const THIRD: &[&str] = &[MAKE_KEEPING];
 
-/// Makes a table or an index.
+/// Creates a table or an index.
 fn make<S: Alter>(tx: &mut Transaction<'_, S>, text: &str) -> Result<(), Error>
     ensures { (made : List Table) → IsMaker text.now made → MakesBy S.Store (Grows made) tx.old tx.new result }
 {
     write(tx, text, &[])
 }
 
-/// Makes tables and indexes, one behind the other.
+/// Creates tables and indexes, in this order.
 fn make_all<S: Alter>(tx: &mut Transaction<'_, S>, texts: &[&str]) -> Result<(), Error>
     ensures { (made : List (List Table)) → AllZip IsMaker (texts_in texts.now) made → 1 ≤ length made → MakesBy S.Store (Grows (all_of made)) tx.old tx.new result }
 {
@@ -121,7 +121,8 @@ fn make_all<S: Alter>(tx: &mut Transaction<'_, S>, texts: &[&str]) -> Result<(),
     Ok(())
 }
 
-/// Makes the tables that a version adds, and the indexes on them.
+/// Creates the tables that a version adds, and their indexes. Fails with `InvalidQuery` if there is no such
+/// version.
 fn make_tables_of<S: Alter>(tx: &mut Transaction<'_, S>, schema_version: u64) -> Result<(), Error>
     ensures { MakesBy S.Store (Grows (added_by schema_version)) tx.old tx.new result }
 {
@@ -133,7 +134,7 @@ fn make_tables_of<S: Alter>(tx: &mut Transaction<'_, S>, schema_version: u64) ->
     }
 }
 
-/// Makes the tables of all versions, one version behind the other.
+/// Creates the tables of all versions, in the order of the versions.
 fn make_tables<S: Alter>(tx: &mut Transaction<'_, S>) -> Result<(), Error>
     ensures { MakesBy S.Store (Grows our_tables) tx.old tx.new result }
 {
@@ -145,7 +146,7 @@ fn make_tables<S: Alter>(tx: &mut Transaction<'_, S>) -> Result<(), Error>
 
 const SET_VERSION: &str = "INSERT INTO edition (one, version) VALUES (1, ?1)";
 
-/// Says which version a database has, in one that has the tables of that and tells none.
+/// Stores the version of a database that has the tables of that version and no version yet.
 fn set_schema_version<S: Alter>(
     tx: &mut Transaction<'_, S>,
     schema_version: u32,
@@ -158,7 +159,7 @@ fn set_schema_version<S: Alter>(
 
 const MOVE_VERSION: &str = "UPDATE edition SET version = ?1";
 
-/// Says which version a database has, in one that has the tables of that and tells another.
+/// Stores the version of a database that has the tables of that version and the number of another.
 fn move_schema_version<S: Alter>(
     tx: &mut Transaction<'_, S>,
     schema_version: u32,
@@ -169,7 +170,7 @@ fn move_schema_version<S: Alter>(
     write(tx, MOVE_VERSION, params![schema_version])
 }
 
-/// Says the newest version once more. In a database that says it already no row changes, and yet one is written.
+/// Stores the newest version again. If the database has it already, no row changes, but the row is written.
 pub fn retell_newest<S: Alter>(tx: &mut Transaction<'_, S>) -> Result<(), Error>
     ensures { Writes S.Store AnyRows (edition_moved NEWEST) tx.old tx.new result }
 {
@@ -178,14 +179,14 @@ pub fn retell_newest<S: Alter>(tx: &mut Transaction<'_, S>) -> Result<(), Error>
 
 const CLEAR_VERSION: &str = "DELETE FROM meta";
 
-/// Takes away what meta tells, in a database that has the tables of schema 2.
+/// Removes the version from meta, in a database that has the tables of schema 2.
 fn clear_schema_version<S: Alter>(tx: &mut Transaction<'_, S>) -> Result<(), Error>
     ensures { MakesBy S.Store (Moved 2 schema_version_cleared) tx.old tx.new result }
 {
     write(tx, CLEAR_VERSION, &[])
 }
 
-/// Makes the newest schema: its tables, and the row that tells its version.
+/// Creates the newest schema: its tables, and the row with its version.
 pub fn make_schema<S: Alter>(tx: &mut Transaction<'_, S>) -> Result<(), Error>
     ensures { MakesBy S.Store HasSchema tx.old tx.new result }
 {
@@ -193,7 +194,8 @@ pub fn make_schema<S: Alter>(tx: &mut Transaction<'_, S>) -> Result<(), Error>
     set_schema_version(tx, NEWEST as u32)
 }
 
-/// Takes schema 1 to schema 2: each token gets its row of bound, and edition tells the version in meta's place.
+/// Upgrades schema 1 to schema 2: each token gets its row of bound, and edition has the version in place of
+/// meta.
 fn raise_first<S: Alter>(tx: &mut Transaction<'_, S>) -> Result<(), Error>
     ensures { MakesBy S.Store (Raises 1) tx.old tx.new result }
 {
@@ -203,7 +205,7 @@ fn raise_first<S: Alter>(tx: &mut Transaction<'_, S>) -> Result<(), Error>
     set_schema_version(tx, 2)
 }
 
-/// Takes schema 2 to schema 3: each workspace gets its row of keeping, and edition tells the version.
+/// Upgrades schema 2 to schema 3: each workspace gets its row of keeping, and edition has the new version.
 fn raise_second<S: Alter>(tx: &mut Transaction<'_, S>) -> Result<(), Error>
     ensures { MakesBy S.Store (Raises 2) tx.old tx.new result }
 {
@@ -212,7 +214,7 @@ fn raise_second<S: Alter>(tx: &mut Transaction<'_, S>) -> Result<(), Error>
     move_schema_version(tx, 3)
 }
 
-/// Takes a schema to the next, if there is one.
+/// Upgrades a schema to the next version. Fails with `InvalidQuery` if there is none.
 pub fn raise<S: Alter>(tx: &mut Transaction<'_, S>, from: u64) -> Result<(), Error>
     ensures { MakesBy S.Store (Raises from) tx.old tx.new result }
 {
@@ -225,7 +227,7 @@ pub fn raise<S: Alter>(tx: &mut Transaction<'_, S>, from: u64) -> Result<(), Err
 
 const VERSION: &str = "SELECT version FROM meta WHERE one = 1 ORDER BY rowid";
 
-/// The version that meta tells, if it tells one: schema 1 does.
+/// The version in meta, or none. Only schema 1 has it there.
 pub fn schema_version<S: Alter>(conn: &mut Connection<S>) -> Result<Option<u64>, Error>
     ensures reads { Queries S.Store (Equals schema_version_in) conn.old conn.new result }
     ensures told { HasCleanDisk (state S.Store conn.new) → IfOk result (λ schema_version. (table : Table) (metas : List (Kept ℕ)) → HasMeta (state S.Store conn.old).now table metas → schema_version ≡ told_schema_version metas) }
@@ -236,7 +238,7 @@ pub fn schema_version<S: Alter>(conn: &mut Connection<S>) -> Result<Option<u64>,
 
 const EDITION: &str = "SELECT version FROM edition WHERE one = 1 ORDER BY rowid";
 
-/// The version that edition tells, if it tells one: each schema from 2 on does.
+/// The version in edition, or none. Each schema from 2 on has it there.
 pub fn edition<S: Alter>(conn: &mut Connection<S>) -> Result<Option<u64>, Error>
     ensures reads { Queries S.Store (Equals edition_in) conn.old conn.new result }
     ensures told { HasCleanDisk (state S.Store conn.new) → IfOk result (λ schema_version. (table : Table) (editions : List (Kept ℕ)) → HasEdition (state S.Store conn.old).now table editions → schema_version ≡ told_schema_version editions) }

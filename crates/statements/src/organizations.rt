@@ -12,7 +12,7 @@ use std::alloc::Global;
 
 const ORG_CAP: &str = "SELECT cap FROM org WHERE name = ?1 ORDER BY rowid";
 
-/// How many workspaces an organization may have, if there is one of the name.
+/// The greatest number of workspaces of an organization; none if there is no organization with this name.
 pub fn cap<S: Alter>(conn: &mut Connection<S>, name: &str) -> Result<Option<Limit>, Error>
     ensures { Queries S.Store (Equals (cap_of name.now)) conn.old conn.new result }
 {
@@ -22,7 +22,7 @@ pub fn cap<S: Alter>(conn: &mut Connection<S>, name: &str) -> Result<Option<Limi
 
 const LIST_ORGS: &str = "SELECT name, cap FROM org ORDER BY name";
 
-/// All organizations, in the order of their names.
+/// All organizations, in the order of their names' bytes.
 pub fn list<S: Alter>(alloc: Global, conn: &mut Connection<S>) -> Result<Items<Organization>, Error>
     ensures { Queries S.Store (EqualsWhere OrgsApart organizations_in) conn.old conn.new result }
 {
@@ -32,7 +32,7 @@ pub fn list<S: Alter>(alloc: Global, conn: &mut Connection<S>) -> Result<Items<O
 
 const ADD_ORG: &str = "INSERT INTO org (name, cap) VALUES (?1, ?2)";
 
-/// Adds an organization, and how many workspaces it may have.
+/// Adds an organization and its limit of workspaces.
 pub fn add<S: Alter>(tx: &mut Transaction<'_, S>, name: &str, cap: Limit) -> Result<(), Error>
     ensures { Writes S.Store AnyRows (org_row_added name.now cap) tx.old tx.new result }
 {
@@ -42,7 +42,7 @@ pub fn add<S: Alter>(tx: &mut Transaction<'_, S>, name: &str, cap: Limit) -> Res
 
 const SET_CAP: &str = "UPDATE org SET cap = ?2 WHERE name = ?1";
 
-/// Sets how many workspaces an organization may have.
+/// Sets an organization's limit of workspaces.
 pub fn set_cap<S: Alter>(tx: &mut Transaction<'_, S>, name: &str, cap: Limit) -> Result<(), Error>
     ensures { Writes S.Store AnyRows (org_capped name.now cap) tx.old tx.new result }
 {
@@ -52,7 +52,7 @@ pub fn set_cap<S: Alter>(tx: &mut Transaction<'_, S>, name: &str, cap: Limit) ->
 
 const REMOVE_ORG: &str = "DELETE FROM org WHERE name = ?1";
 
-/// Removes the row of an organization. What it has is to go before it.
+/// Removes the row of an organization. Everything in the organization has to be removed first.
 pub fn remove<S: Alter>(tx: &mut Transaction<'_, S>, name: &str) -> Result<(), Error>
     ensures { Writes S.Store AnyRows (org_row_removed name.now) tx.old tx.new result }
 {

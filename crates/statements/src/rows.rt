@@ -1,4 +1,4 @@
-//! What rows hold that nothing above has a type for, as values.
+//! The values of rows, if no crate above has a type for them.
 use basis::{
     Bounds, Bytes, Holder, Items, KeepCount, Limit, LockId, Moment, Number, Role, RunSettings,
     Text, WsName,
@@ -50,7 +50,7 @@ pub struct RunRow {
     pub it: basis::RunRow,
 }
 
-/// A row of vpage: the page at a place of a version's text, by its key and twin number.
+/// A row of vpage: the page at a place of a version's text, by the page's key and twin number.
 #[derive(Drop)]
 pub struct VpageRow {
     pub org: Text,
@@ -61,7 +61,7 @@ pub struct VpageRow {
     pub twin: u64,
 }
 
-/// A row of bound: until which moment a token counts, if it ends, and how the names of its workspaces begin.
+/// A row of bound: when a token expires, if it does, and the prefix of its workspaces.
 #[derive(Drop)]
 pub struct BoundRow {
     pub org: Text,
@@ -70,7 +70,7 @@ pub struct BoundRow {
     pub prefix: Text,
 }
 
-/// A row of keeping: how many versions a workspace keeps.
+/// A row of keeping: the number of versions that a workspace keeps.
 #[derive(Drop)]
 pub struct KeepingRow {
     pub org: Text,
@@ -78,22 +78,22 @@ pub struct KeepingRow {
     pub keep: KeepCount,
 }
 
-/// What a row of page says of its page, without the bytes.
+/// A row of page without the page's bytes.
 #[derive(Drop)]
 pub struct PageHead {
     pub key: Bytes,
     pub twin: u64,
-    /// How many bytes the page has.
+    /// The number of the page's bytes.
     pub size: u64,
-    /// How many rows of vpage name it, by its own row.
+    /// The number of rows of vpage that name the page, as its own row has it.
     pub uses: u64,
-    /// Whether the key is that of the bytes.
+    /// Whether the key is that of the page's bytes.
     pub is_keyed: bool,
-    /// Whether the first page of the key with these bytes has this twin number.
+    /// Whether this twin number is that of the first page with the same key and the same bytes.
     pub is_first: bool,
 }
 
-/// The rows of all tables, each with its rowid, and of pages their heads.
+/// The rows of all tables, each with its rowid; of page, the rows without bytes.
 #[derive(Drop)]
 pub struct Rows {
     pub metas: Items<(i64, u64)>,
@@ -114,19 +114,19 @@ pub struct Rows {
 pub struct Workspace {
     pub runs: RunSettings,
     pub holder: Holder,
-    /// The ID of the lock that was released last.
+    /// The ID of the last lock that was released.
     pub released: Option<LockId>,
     pub next_version: u64,
     pub next_run: u64,
 }
 
-/// A workspace with its name, and how many versions it keeps, if it is set to keep a number.
+/// A workspace with its name, and the number of versions that it keeps, if it has a row of keeping.
 #[derive(Drop)]
 pub struct NamedWorkspace {
     pub name: WsName,
     pub it: Workspace,
     pub keep: Option<KeepCount>,
-    /// The number before the next version's, if there is a version of it.
+    /// The number before the next version's, if a version has it.
     pub last: Option<Number>,
 }
 
@@ -144,14 +144,14 @@ pub struct NamedRole {
     pub role: Role,
 }
 
-/// A token without its digest, and how far it reaches.
+/// A token without its digest, with its expiry and prefix.
 #[derive(Drop)]
 pub struct BoundedRole {
     pub token: NamedRole,
     pub bounds: Bounds,
 }
 
-/// An organization, and how many workspaces it may have.
+/// An organization and its limit of workspaces.
 #[derive(Drop)]
 pub struct Organization {
     pub name: Text,

@@ -16,7 +16,7 @@ use std::alloc::Global;
 const FIRST_WAITING: &str =
     "SELECT number FROM run WHERE org = ?1 AND ws = ?2 AND status = 0 AND plan_only = 0 ORDER BY number, rowid LIMIT 1";
 
-/// The least number of a queued run of a workspace that is pending.
+/// The least number of the waiting runs of a workspace: queued, and pending.
 pub fn first_waiting<S: Alter>(
     conn: &mut Connection<S>,
     org: &str,
@@ -31,7 +31,7 @@ pub fn first_waiting<S: Alter>(
 const RUN_STATUS: &str =
     "SELECT status FROM run WHERE org = ?1 AND ws = ?2 AND number = ?3 ORDER BY rowid";
 
-/// The status of a run.
+/// The status of a run; none if there is no such run.
 pub fn status<S: Alter>(
     conn: &mut Connection<S>,
     org: &str,
@@ -48,7 +48,7 @@ pub fn status<S: Alter>(
 const FIND_RUN: &str =
     "SELECT number, plan_only, rkey, message, created, status, action FROM run WHERE org = ?1 AND ws = ?2 AND number = ?3 ORDER BY rowid";
 
-/// A run by its number.
+/// The run with this number; none if there is no such run.
 pub fn find<S: Alter>(
     conn: &mut Connection<S>,
     org: &str,
@@ -65,7 +65,7 @@ pub fn find<S: Alter>(
 const LIST_RUNS: &str =
     "SELECT number, plan_only, rkey, message, created, status, action FROM run WHERE org = ?1 AND ws = ?2 AND number > ?3 ORDER BY number";
 
-/// The runs of a workspace whose numbers are above `after`, in the order of their numbers and no more than `most`.
+/// The runs of a workspace with numbers greater than `after`, in the order of their numbers, at most `most`.
 pub fn list<S: Alter>(
     alloc: Global,
     conn: &mut Connection<S>,
@@ -83,7 +83,7 @@ pub fn list<S: Alter>(
 const FIND_KEYED_RUN: &str =
     "SELECT number, plan_only, rkey, message, created, status, action FROM run WHERE org = ?1 AND ws = ?2 AND rkey = ?3 ORDER BY rowid";
 
-/// A run by its key.
+/// The run with this key; none if there is no such run.
 pub fn find_by_key<S: Alter>(
     conn: &mut Connection<S>,
     org: &str,
@@ -98,7 +98,7 @@ pub fn find_by_key<S: Alter>(
 
 const COUNT_OPEN_RUNS: &str = "SELECT count(*) FROM run WHERE org = ?1 AND ws = ?2 AND status < 4";
 
-/// How many runs of a workspace are open.
+/// The number of a workspace's open runs.
 pub fn count_open<S: Alter>(conn: &mut Connection<S>, org: &str, ws: &str) -> Result<u64, Error>
     ensures { Queries S.Store (Equals (open_runs_of org.now ws.now)) conn.old conn.new result }
 {
@@ -127,7 +127,7 @@ pub fn set_status<S: Alter>(
 const RECORD_ACTION: &str =
     "UPDATE run SET status = ?4, action = ?5 WHERE org = ?1 AND ws = ?2 AND number = ?3";
 
-/// Records the action that a run took last, and the status that it left the run in.
+/// Stores a run's last action, and the status that follows it.
 pub fn record_action<S: Alter>(
     tx: &mut Transaction<'_, S>,
     org: &str,
@@ -147,7 +147,7 @@ pub fn record_action<S: Alter>(
 const ADD_RUN: &str =
     "INSERT INTO run (org, ws, number, plan_only, rkey, message, created, status, action) VALUES (?1, ?2, ?3, ?4, ?5, ?6, ?7, ?8, ?9)";
 
-/// Adds a run with the action that it took last, if any.
+/// Adds a run, with its last action, if any.
 pub fn add<'v, S: Alter>(
     tx: &mut Transaction<'_, S>,
     org: &'v str,

@@ -19,7 +19,7 @@ use basis::{Items, KeepCount, Limit, Moment, Role, Text};
 use sqlite::{Alter, Connection, Error, Row};
 use std::alloc::Global;
 
-/// The rowid, which stands in the first column.
+/// The rowid, from the first column.
 pub fn id_in(row: &Row) -> Result<i64, Error>
     ensures is { IfOk result (λ x. x ≡ int_of (column row.now 0)) }
     ensures cell { IfOk result (λ x. column row.now 0 ≡ Int x) }
@@ -62,7 +62,7 @@ fn head_in(row: &Row) -> Result<(i64, Text, Text), Error>
     Ok((id_in(row)?, text_in(row, 1)?, text_in(row, 2)?))
 }
 
-// Of a row of meta or edition: its rowid, and the version.
+// A row of meta or edition: its rowid, and the version.
 impl Read for (i64, u64) {
     ghost is_in = { λ row x. x ≡ kept_by (λ r. number_at r 1) row };
 
@@ -177,7 +177,7 @@ impl Read for (i64, KeepingRow) {
 
 const ALL_METAS: &str = "SELECT rowid, version FROM meta ORDER BY rowid";
 
-/// All rows of meta, in the order of their rowids: each is the number of a version.
+/// All rows of meta, in the order of their rowids: each has the number of a version.
 pub fn metas<S: Alter>(alloc: Global, conn: &mut Connection<S>) -> Result<Items<(i64, u64)>, Error>
     ensures { Queries S.Store (Equals (λ t. t.metas)) conn.old conn.new result }
 {
@@ -258,7 +258,7 @@ pub fn bounds<S: Alter>(
 
 const ALL_EDITIONS: &str = "SELECT rowid, version FROM edition ORDER BY rowid";
 
-/// All rows of edition, in the order of their rowids: each is the number of a version.
+/// All rows of edition, in the order of their rowids: each has the number of a version.
 pub fn editions<S: Alter>(
     alloc: Global,
     conn: &mut Connection<S>,

@@ -1,4 +1,4 @@
-//! Statements on the table token. Where a token is added or goes, so is how far it reaches.
+//! Statements on the table token. When a token is added or removed, so is its row of bound.
 ghost use Rattle.statements.specs.Steps.{AnyRows, Equals, EqualsWhere, Writes, Queries};
 ghost use Rattle.statements.specs.Changes.{token_row_added, token_row_removed, token_added, token_removed, HasNoBound};
 ghost use Rattle.statements.specs.Listings.{token_rows_of, whole_tokens_of, TokensApart};
@@ -13,7 +13,7 @@ use std::alloc::Global;
 
 const TOKEN_ROLE: &str = "SELECT role FROM token WHERE org = ?1 AND digest = ?2 ORDER BY rowid";
 
-/// The role of the token of an organization that has this digest.
+/// The role of the organization's token with this digest.
 pub fn role_of_digest<S: Alter>(
     conn: &mut Connection<S>,
     org: &str,
@@ -27,7 +27,7 @@ pub fn role_of_digest<S: Alter>(
 
 const NAMED_TOKEN_ROLE: &str = "SELECT role FROM token WHERE org = ?1 AND name = ?2 ORDER BY rowid";
 
-/// The role of the token of an organization that has this name.
+/// The role of the organization's token with this name.
 pub fn role_of_name<S: Alter>(
     conn: &mut Connection<S>,
     org: &str,
@@ -42,8 +42,8 @@ pub fn role_of_name<S: Alter>(
 const FIND_TOKEN: &str =
     "SELECT token.name, role, until, prefix FROM token LEFT JOIN bound ON bound.org = ?1 AND bound.name = token.name WHERE token.org = ?1 AND digest = ?2";
 
-/// The token of an organization that has this digest, and how far it reaches. It is an error where it has no row of
-/// bound, and where more than one row is found.
+/// The organization's token with this digest, with its expiry and prefix. Fails if the token has no row of
+/// bound, or if more than one row is found.
 pub fn find_by_digest<S: Alter>(
     conn: &mut Connection<S>,
     org: &str,
@@ -57,7 +57,7 @@ pub fn find_by_digest<S: Alter>(
 
 const LIST_TOKENS: &str = "SELECT name, role FROM token WHERE org = ?1 ORDER BY name";
 
-/// All tokens of an organization, in the order of their names.
+/// All tokens of an organization, in the order of their names' bytes.
 pub fn list<S: Alter>(
     alloc: Global,
     conn: &mut Connection<S>,
@@ -85,7 +85,7 @@ pub fn list_whole<S: Alter>(
 
 const ADD_TOKEN: &str = "INSERT INTO token (org, name, digest, role) VALUES (?1, ?2, ?3, ?4)";
 
-/// Adds the row of a token, of which only the digest is kept.
+/// Adds the row of a token, with its digest instead of its secret.
 fn add_row<'v, S: Alter>(
     tx: &mut Transaction<'_, S>,
     org: &'v str,
@@ -99,7 +99,7 @@ fn add_row<'v, S: Alter>(
     write(tx, ADD_TOKEN, params![org, name, digest, role])
 }
 
-/// Adds a token, and how far it reaches.
+/// Adds a token, with its expiry and prefix.
 pub fn add<'v, S: Alter>(
     tx: &mut Transaction<'_, S>,
     org: &'v str,
@@ -116,14 +116,14 @@ pub fn add<'v, S: Alter>(
 
 const REMOVE_TOKEN: &str = "DELETE FROM token WHERE org = ?1 AND name = ?2";
 
-/// Removes the row of a token: what is told of it holds where how far it reaches has no row.
+/// Removes the row of a token. The contract holds if the token has no row of bound.
 fn remove_row<S: Alter>(tx: &mut Transaction<'_, S>, org: &str, name: &str) -> Result<(), Error>
     ensures { Writes S.Store (HasNoBound org.now name.now) (token_row_removed org.now name.now) tx.old tx.new result }
 {
     write(tx, REMOVE_TOKEN, params![org, name])
 }
 
-/// Removes how far a token reaches, and then the token.
+/// Removes the expiry and the prefix of a token, and then the token.
 pub fn remove<S: Alter>(tx: &mut Transaction<'_, S>, org: &str, name: &str) -> Result<(), Error>
     ensures { Writes S.Store AnyRows (token_removed org.now name.now) tx.old tx.new result }
 {

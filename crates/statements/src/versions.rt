@@ -33,7 +33,8 @@ pub fn newest<S: Alter>(
 const LIST_VERSIONS: &str =
     "SELECT number, serial, lineage, created, size FROM version WHERE org = ?1 AND ws = ?2 AND number > ?3 ORDER BY number";
 
-/// The versions of a workspace whose numbers are above `after`, without their texts, in the order of their numbers and no more than `most`.
+/// The versions of a workspace with numbers greater than `after`, without their texts, in the order of their
+/// numbers, at most `most`.
 pub fn list<S: Alter>(
     alloc: Global,
     conn: &mut Connection<S>,
@@ -51,7 +52,7 @@ pub fn list<S: Alter>(
 const VERSION_SIZE: &str =
     "SELECT size FROM version WHERE org = ?1 AND ws = ?2 AND number = ?3 ORDER BY rowid";
 
-/// How many bytes the text of a version has, if it is there.
+/// The number of bytes of a version's text; none if there is no such version.
 pub fn size<S: Alter>(
     conn: &mut Connection<S>,
     org: &str,
@@ -68,8 +69,8 @@ pub fn size<S: Alter>(
 const OLDEST_VERSION_BELOW: &str =
     "SELECT number, serial, lineage, created, size FROM version WHERE org = ?1 AND ws = ?2 AND number < ?3 ORDER BY number, rowid LIMIT 1";
 
-/// Of the versions of a workspace with numbers below this one, which may be one more than the greatest, that with the
-/// least number, without its text.
+/// The version with the least number among those of a workspace with numbers below `number`, without its
+/// text. `number` may be one more than the greatest number.
 pub fn oldest_below<S: Alter>(
     tx: &mut Transaction<'_, S>,
     org: &str,
@@ -87,7 +88,7 @@ pub fn oldest_below<S: Alter>(
 const ADD_VERSION: &str =
     "INSERT INTO version (org, ws, number, serial, lineage, created, size) VALUES (?1, ?2, ?3, ?4, ?5, ?6, ?7)";
 
-/// Adds a version whose text has so many bytes. There was none of its number.
+/// Adds a version whose text has `size` bytes. If this succeeds, there was no version with its number.
 pub fn add<'v, S: Alter>(
     tx: &mut Transaction<'_, S>,
     org: &'v str,
@@ -115,7 +116,7 @@ pub fn add<'v, S: Alter>(
 
 const REMOVE_VERSION: &str = "DELETE FROM version WHERE org = ?1 AND ws = ?2 AND number = ?3";
 
-/// Removes a version. The pages of its text are named in rows of their own.
+/// Removes a version. The rows that name the pages of its text are removed separately.
 pub fn remove<S: Alter>(
     tx: &mut Transaction<'_, S>,
     org: &str,

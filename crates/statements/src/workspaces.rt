@@ -1,4 +1,4 @@
-//! Statements on the table ws. Where a workspace is added or goes, so is how many versions it keeps.
+//! Statements on the table ws. When a workspace is added or removed, so is its row of keeping.
 ghost use Rattle.std.specs.Prelude.{◌≡◌, ◌≢◌, [], ◌∷◌, None, IfOk, is_some, string_bytes};
 ghost use Rattle.sqlite.specs.Held.{state};
 ghost use Rattle.sqlite.specs.Values.{bound};
@@ -24,13 +24,13 @@ use sqlite::types::{ToSql, ValueRef};
 use sqlite::{Alter, Connection, Error, Row, Transaction, params};
 use std::alloc::Global;
 
-/// How many columns say how runs go.
+/// The number of columns that hold the settings of runs.
 const RUN_SETTINGS_WIDTH: usize = 1;
 
-/// The first column of a row of ws behind those, where the rowid is the first of all.
+/// The first column of a row of ws after those, if the rowid is the first column.
 pub(crate) const BEHIND_RUN_SETTINGS: u8 = 3 + RUN_SETTINGS_WIDTH as u8;
 
-/// The settings of runs in a row of an answer, of which the first stands in this column.
+/// The settings of runs in a row of a query's result, from this column on.
 fn run_settings_in(row: &Row, at: u8) -> Result<RunSettings, Error>
     ensures { IfOk result (λ runs. runs ≡ run_settings_at row.now at) }
 {
@@ -40,7 +40,8 @@ fn run_settings_in(row: &Row, at: u8) -> Result<RunSettings, Error>
     })
 }
 
-/// The parameters of a text that writes the settings of the runs of a workspace, behind its name.
+/// The parameters of a statement that writes the settings of a workspace's runs: the workspace's name, then
+/// the settings.
 fn params_of<'v>(
     org: &'v str,
     name: &'v str,
@@ -58,7 +59,7 @@ fn lock_id_in(row: &Row, at: usize) -> Result<LockId, Error>
     lock_id_of(row.get(at)?, at)
 }
 
-/// Who holds a workspace, of which the first column is this one.
+/// The holder of a workspace, from this column on.
 fn holder_in(row: &Row, at: u8) -> Result<Holder, Error>
     ensures is { IfOk result (λ x. x ≡ holder_at row.now at) }
     ensures cells { IfOk result (IsHolderIn at row.now) }
@@ -75,7 +76,8 @@ fn holder_in(row: &Row, at: u8) -> Result<Holder, Error>
     }
 }
 
-/// A workspace in a row, of which the holder begins in this column and how its runs go in the other.
+/// A workspace in a row: its holder from column `at` on, and the settings of its runs from column `settings`
+/// on.
 pub(crate) fn workspace_in(row: &Row, at: u8, settings: u8) -> Result<Workspace, Error>
     ensures is { IfOk result (λ x. x ≡ workspace_in_row row.now at settings) }
     ensures cells { IfOk result (IsWorkspaceIn at settings row.now) }
@@ -122,7 +124,7 @@ impl Read for WsName {
 const FIND_WS: &str =
     "SELECT kind, lock_id, lock_text, run, released, next_version, next_run, auto FROM ws WHERE org = ?1 AND name = ?2 ORDER BY rowid";
 
-/// What a workspace of an organization holds, if there is one of the name.
+/// The row of the organization's workspace with this name; none if there is no such workspace.
 pub fn find<S: Alter>(
     conn: &mut Connection<S>,
     org: &str,
@@ -151,11 +153,11 @@ fn list_all<S: Alter>(
     read_all(alloc, rows)
 }
 
-// Of the two lower bounds the last is where the scan begins.
+// The scan begins at the second of the two lower bounds.
 const LIST_WS_WITHIN: &str =
     "SELECT kind, lock_id, lock_text, run, released, next_version, next_run, name, keep, number, auto FROM ws LEFT JOIN keeping ON keeping.org = ?1 AND keeping.ws = name LEFT JOIN version ON version.org = ?1 AND version.ws = name AND number = next_version - 1 WHERE ws.org = ?1 AND name > ?2 AND name >= ?3 AND name < ?4 ORDER BY name LIMIT ?5";
 
-/// Where a scan for names that begin with a prefix and come after a name begins: at the greater of the two.
+/// Where a scan for the names with this prefix that come after `after` begins: at the greater of the two.
 fn beginning<'v>(after: &'v str, prefix: &'v str) -> &'v str
     ensures { result.now ≡ later_of after.now prefix.now }
 {
@@ -166,7 +168,8 @@ fn beginning<'v>(after: &'v str, prefix: &'v str) -> &'v str
     }
 }
 
-/// The least text behind all that begin with a prefix, which isn't empty: its last byte is the next one.
+/// The least text that comes after every text with this prefix, which is not empty. The prefix's last byte is
+/// increased by one.
 fn end_of(alloc: Global, prefix: &WsPrefix) -> Result<String, Error>
     requires some { prefix.now ≢ [] }
     ensures { IfOk result (λ end. string_bytes end ≡ end_of prefix.now) }
@@ -192,7 +195,7 @@ fn list_within<'v, S: Alter>(
     let end = match end_of(alloc, prefix) {
         Ok(end) => end,
         Err(error) => {
-            // The connection is looked at all the same: so it is left as any query that fails leaves it.
+            // The connection is used all the same. So it is left as it is after any query that fails.
             let _looked = count(conn, org);
             return Err(error);
         }
@@ -209,9 +212,9 @@ fn list_within<'v, S: Alter>(
     read_all(alloc, rows)
 }
 
-/// The workspaces of an organization that come after a name and begin with a prefix, each with how many versions it
-/// keeps and the number before its next one's, in the order of their names and no more than `most`. All names come after
-/// the empty one. No other name is looked at.
+/// The workspaces of an organization whose names come after `after` and begin with `prefix`, each with the
+/// number of versions that it keeps and the number before its next version's. They are in the order of their
+/// names' bytes, at most `most`. Every name comes after the empty one. The scan reads no other names.
 pub fn list<'v, S: Alter>(
     alloc: Global,
     conn: &mut Connection<S>,
@@ -244,7 +247,7 @@ pub fn names<S: Alter>(
 
 const COUNT_WS: &str = "SELECT count(*) FROM ws WHERE org = ?1";
 
-/// How many workspaces an organization has.
+/// The number of an organization's workspaces.
 pub fn count<S: Alter>(conn: &mut Connection<S>, org: &str) -> Result<u64, Error>
     ensures { Queries S.Store (Equals (workspaces_of org.now)) conn.old conn.new result }
 {
@@ -255,7 +258,8 @@ pub fn count<S: Alter>(conn: &mut Connection<S>, org: &str) -> Result<u64, Error
 const ADD_WS: &str =
     "INSERT INTO ws (org, name, auto, kind, next_version, next_run) VALUES (?1, ?2, ?3, 0, 1, 1)";
 
-/// Adds the row of a workspace that nobody holds, whose versions and runs begin at 1. There was none of the name.
+/// Adds the row of a workspace without a holder; its next version and its next run are 1. If this succeeds,
+/// there was no workspace with its name.
 fn add_row<S: Alter>(
     tx: &mut Transaction<'_, S>,
     org: &str,
@@ -268,8 +272,8 @@ fn add_row<S: Alter>(
     write(tx, ADD_WS, &params_of(org, name, runs))
 }
 
-/// Adds a workspace that nobody holds, whose versions and runs begin at 1, and how many versions it keeps. There was none
-/// of the name.
+/// Adds a workspace without a holder, and the number of versions that it keeps; its next version and its next
+/// run are 1. If this succeeds, there was no workspace with its name.
 pub fn add<S: Alter>(
     tx: &mut Transaction<'_, S>,
     org: &str,
@@ -286,7 +290,7 @@ pub fn add<S: Alter>(
 
 const SET_RUN_SETTINGS: &str = "UPDATE ws SET auto = ?3 WHERE org = ?1 AND name = ?2";
 
-/// Sets how the runs of a workspace go.
+/// Sets the settings of a workspace's runs.
 pub fn set_run_settings<S: Alter>(
     tx: &mut Transaction<'_, S>,
     org: &str,
@@ -301,7 +305,7 @@ pub fn set_run_settings<S: Alter>(
 const HOLD: &str =
     "UPDATE ws SET kind = ?3, lock_id = ?4, lock_text = ?5, run = ?6 WHERE org = ?1 AND name = ?2";
 
-/// Lets a lock hold a workspace, with the text that took it.
+/// Makes a lock the holder of a workspace, with the text of its LOCK.
 pub fn hold_by_lock<S: Alter>(
     tx: &mut Transaction<'_, S>,
     org: &str,
@@ -316,7 +320,7 @@ pub fn hold_by_lock<S: Alter>(
     write(tx, HOLD, params![org, name, 1, id, text, none])
 }
 
-/// Lets the holder, or nobody, hold a workspace. The ID released last stays.
+/// Sets or removes the holder of a workspace. The ID of the last released lock is unchanged.
 pub fn hold<S: Alter>(
     tx: &mut Transaction<'_, S>,
     org: &str,
@@ -339,7 +343,7 @@ pub fn hold<S: Alter>(
 const RELEASE_LOCK: &str =
     "UPDATE ws SET kind = 0, lock_id = NULL, lock_text = NULL, run = NULL, released = ?3 WHERE org = ?1 AND name = ?2";
 
-/// Lets nobody hold a workspace, and keeps the ID of the lock that was released.
+/// Removes the holder of a workspace, and stores the ID of the lock that was released.
 pub fn release_lock<S: Alter>(
     tx: &mut Transaction<'_, S>,
     org: &str,
@@ -354,7 +358,7 @@ pub fn release_lock<S: Alter>(
 
 const SET_NEXT_VERSION: &str = "UPDATE ws SET next_version = ?3 WHERE org = ?1 AND name = ?2";
 
-/// Sets the number of the next version of a workspace, and tells whether there is such a workspace.
+/// Sets the number of the next version of a workspace. Returns whether there is such a workspace.
 pub fn set_next_version<S: Alter>(
     tx: &mut Transaction<'_, S>,
     org: &str,
@@ -369,7 +373,7 @@ pub fn set_next_version<S: Alter>(
 
 const SET_NEXT_RUN: &str = "UPDATE ws SET next_run = ?3 WHERE org = ?1 AND name = ?2";
 
-/// Sets the number of the next run of a workspace, and tells whether there is such a workspace.
+/// Sets the number of the next run of a workspace. Returns whether there is such a workspace.
 pub fn set_next_run<S: Alter>(
     tx: &mut Transaction<'_, S>,
     org: &str,
@@ -384,14 +388,15 @@ pub fn set_next_run<S: Alter>(
 
 const REMOVE_WS: &str = "DELETE FROM ws WHERE org = ?1 AND name = ?2";
 
-/// Removes the row of a workspace: what is told of it holds where how many versions it keeps has no row.
+/// Removes the row of a workspace. The contract holds if the workspace has no row of keeping.
 fn remove_row<S: Alter>(tx: &mut Transaction<'_, S>, org: &str, name: &str) -> Result<(), Error>
     ensures { Writes S.Store (HasNoKeeping org.now name.now) (ws_row_removed org.now name.now) tx.old tx.new result }
 {
     write(tx, REMOVE_WS, params![org, name])
 }
 
-/// Removes how many versions a workspace keeps, and then the workspace. Its versions and runs have rows of their own.
+/// Removes the number of versions that a workspace keeps, and then the workspace. The rows of its versions
+/// and runs are removed separately.
 pub fn remove<S: Alter>(tx: &mut Transaction<'_, S>, org: &str, name: &str) -> Result<(), Error>
     ensures { Writes S.Store AnyRows (ws_removed org.now name.now) tx.old tx.new result }
 {
