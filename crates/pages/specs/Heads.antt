@@ -11,7 +11,8 @@ abbrev pub has_twin : Option PageUse → ℕ → Bool
 has_twin None twin = false
 has_twin (Some found) twin = found.twin == twin
 
--- under the keys that the function names pages by: whether the key is that of the bytes, and whether the first page of the key with these bytes has this twin number
+-- for keys that this function computes: whether the key is that of the bytes, and whether the first page with this key and these bytes has
+-- this twin number
 abbrev pub head_in : (List ℕ → List ℕ) → Tables → Kept PageRow → PageHead
 head_in key_of t x = record {
   key = x.1.key;

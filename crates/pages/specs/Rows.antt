@@ -11,11 +11,11 @@ use Rattle.pages.specs.declared.rows.FirstPage.{FirstPage}
 use Rattle.pages.specs.declared.rows.PageUse.{PageUse}
 use Rattle.pages.specs.declared.store.PageId.{PageId}
 
--- the page of a key and a twin number
+-- the page with this key and this twin number
 abbrev pub is_page : List ℕ → ℕ → Kept PageRow → Bool
 is_page key twin x = bytes_eq x.1.key key && x.1.twin == twin
 
--- a page of the key with these bytes
+-- a page with this key and these bytes
 abbrev pub is_equal_page : List ℕ → List ℕ → Kept PageRow → Bool
 is_equal_page key bytes x = bytes_eq x.1.key key && bytes_eq x.1.bytes bytes
 
@@ -28,7 +28,7 @@ page_used key twin uses t = record t { pages = update_where (is_page key twin) (
 abbrev pub page_removed : List ℕ → ℕ → Tables → Tables
 page_removed key twin t = record t { pages = delete_where (is_page key twin) t.pages }
 
--- that page, if it is in use once at most
+-- that page, if it has at most one use
 abbrev pub is_last : List ℕ → ℕ → Kept PageRow → Bool
 is_last key twin x = bytes_eq x.1.key key && (x.1.twin == twin && nat_lt x.1.uses 2)
 
@@ -50,11 +50,11 @@ page_use x = record { twin = x.1.twin; uses = x.1.uses }
 abbrev pub equal_page : List ℕ → List ℕ → Tables → Option PageUse
 equal_page key bytes t = option_map page_use (find (is_equal_page key bytes) t.pages)
 
--- a page of the key
+-- a page with this key
 abbrev pub is_of_key : List ℕ → Kept PageRow → Bool
 is_of_key key x = bytes_eq x.1.key key
 
--- the twin number of the page of the key that was added first
+-- the twin number of the page with this key that was added first
 abbrev pub first_twin : List ℕ → Tables → Option ℕ
 first_twin key t = option_map (λ x. x.1.twin) (find (is_of_key key) t.pages)
 
@@ -62,11 +62,11 @@ first_twin key t = option_map (λ x. x.1.twin) (find (is_of_key key) t.pages)
 abbrev pub compared : List ℕ → Kept PageRow → FirstPage
 compared bytes x = record { found = page_use x; same = bytes_eq x.1.bytes bytes }
 
--- the page of the key that was added first
+-- the page with this key that was added first
 abbrev pub first_page : List ℕ → List ℕ → Tables → Option FirstPage
 first_page key bytes t = option_map (compared bytes) (find (is_of_key key) t.pages)
 
--- A row of an answer that names a page: its key, and then its twin number.
+-- A row of a query's result that names a page: its key, then its twin number.
 pub record IsPageName (row : Row) (id : PageId) : Type 0 where
   pub key : column row 0 ≡ Blob id.key
   pub twin : column row 1 ≡ number id.twin

@@ -1,11 +1,12 @@
-//! The keys under which pages are looked for.
+//! The keys by which pages are found.
 ghost use Rattle.std.specs.Prelude.{◌≡◌, ℕ, List, map};
 ghost use Rattle.sha2.specs.Sha256.{sha256};
 
 use lanes::digests;
 use sha2::{Digest, Sha256};
 
-/// Gives a page the key under which it is looked for: equal pages have equal keys. Other pages may have it too.
+/// Computes the key by which a page is found. Equal pages have equal keys; different pages may have the same
+/// key.
 pub trait PageKey {
     // The key of a page's bytes.
     ghost key_of: { List ℕ → List ℕ };
@@ -13,7 +14,7 @@ pub trait PageKey {
     fn key(page: &[u8]) -> [u8; 32]
         ensures { result ≡ key_of page.now };
 
-    /// The keys of four pages, which may cost less than four times one.
+    /// The keys of four pages. Computing them at once may cost less than four calls of `key`.
     fn keys(pages: [&[u8]; 4]) -> [[u8; 32]; 4]
         ensures { result ≡ map (λ page. key_of page.now) pages.entry };
 }

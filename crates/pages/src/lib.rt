@@ -1,4 +1,5 @@
-//! Pages of texts, shared by all organizations: a page is kept once, under its key and a twin number, with how often it is in use.
+//! Pages of texts, shared by all organizations. A page is stored once, under its key and a twin number, with
+//! the number of its uses.
 #![tactic(auto)]
 
 pub mod keys;

@@ -12,7 +12,7 @@ use basis::Bytes;
 use sqlite::{Alter, Connection, Error, Row, Transaction, params};
 use statements::calls::{Read, first_row, first_row_inside, read_one, signed, update, write};
 
-/// The twin number of a page, and how often it is in use.
+/// The twin number of a page, and the number of its uses.
 #[derive(Clone, Copy)]
 pub(crate) struct PageUse {
     pub twin: Twin,
@@ -32,7 +32,7 @@ impl Read for PageUse {
 
 const ADD_PAGE: &str = "INSERT INTO page (pkey, twin, bytes, uses) VALUES (?1, ?2, ?3, 1)";
 
-/// Adds a page in its first use.
+/// Adds a page with one use.
 pub(crate) fn add<'v, S: Alter>(
     tx: &mut Transaction<'_, S>,
     key: &'v [u8],
@@ -47,7 +47,7 @@ pub(crate) fn add<'v, S: Alter>(
 
 const SET_PAGE_USES: &str = "UPDATE page SET uses = ?3 WHERE pkey = ?1 AND twin = ?2";
 
-/// A page is in use so often.
+/// Sets the number of a page's uses.
 pub(crate) fn set_uses<'v, S: Alter>(
     tx: &mut Transaction<'_, S>,
     key: &'v [u8],
@@ -80,7 +80,7 @@ pub(crate) fn remove<'v, S: Alter>(
 
 const REMOVE_LAST_PAGE: &str = "DELETE FROM page WHERE pkey = ?1 AND twin = ?2 AND uses < 2";
 
-/// Removes a page that is in use once at most, and tells whether there was one.
+/// Removes a page that has at most one use. Returns whether there was such a page.
 pub(crate) fn remove_last<'v, S: Alter>(
     tx: &mut Transaction<'_, S>,
     key: &'v [u8],
@@ -96,7 +96,7 @@ pub(crate) fn remove_last<'v, S: Alter>(
 
 const PAGE_BYTES: &str = "SELECT bytes FROM page WHERE pkey = ?1 AND twin = ?2 ORDER BY rowid";
 
-/// The bytes of a page.
+/// The bytes of a page; none if there is no such page.
 pub(crate) fn bytes<'v, S: Alter>(
     conn: &mut Connection<S>,
     key: &'v [u8],
@@ -111,7 +111,7 @@ pub(crate) fn bytes<'v, S: Alter>(
 
 const PAGE_USES: &str = "SELECT uses FROM page WHERE pkey = ?1 AND twin = ?2 ORDER BY rowid";
 
-/// How often a page is in use, if it is there.
+/// The number of a page's uses; none if there is no such page.
 pub(crate) fn uses<'v, S: Alter>(
     tx: &mut Transaction<'_, S>,
     key: &'v [u8],
@@ -128,7 +128,7 @@ pub(crate) fn uses<'v, S: Alter>(
 
 const FIRST_TWIN: &str = "SELECT twin FROM page WHERE pkey = ?1 ORDER BY rowid";
 
-/// The twin number of the first page of this key.
+/// The twin number of the first page with this key.
 pub(crate) fn first_twin<S: Alter>(
     tx: &mut Transaction<'_, S>,
     key: &[u8],
@@ -141,7 +141,7 @@ pub(crate) fn first_twin<S: Alter>(
     read_one(row)
 }
 
-/// The page of a key that comes first among its rows, and whether it has the bytes that were asked for.
+/// The first page with a key, in the order of their rows, and whether it has the bytes asked for.
 #[derive(Clone, Copy)]
 pub(crate) struct FirstPage {
     pub found: PageUse,
@@ -164,7 +164,7 @@ impl Read for FirstPage {
 
 const FIRST_PAGE: &str = "SELECT twin, uses, bytes = ?2 FROM page WHERE pkey = ?1 ORDER BY rowid";
 
-/// The first page of this key, compared with these bytes.
+/// The first page with this key, compared with these bytes.
 pub(crate) fn first<S: Alter>(
     tx: &mut Transaction<'_, S>,
     key: &[u8],
@@ -181,7 +181,7 @@ pub(crate) fn first<S: Alter>(
 pub(crate) const EQUAL_PAGE: &str =
     "SELECT twin, uses FROM page WHERE pkey = ?1 AND bytes = ?2 ORDER BY rowid";
 
-/// The page of this key that has these bytes.
+/// The page with this key and these bytes.
 pub(crate) fn equal<S: Alter>(
     tx: &mut Transaction<'_, S>,
     key: &[u8],

@@ -1,4 +1,4 @@
-//! All pages are read, one at a time, for what is said of them without their bytes.
+//! Reads all pages, one at a time, and keeps what is said of each without its bytes.
 ghost use Rattle.std.specs.Prelude.{◌≡◌, map, Some, None};
 ghost use Rattle.statements.specs.Steps.{Equals, Queries, Sees};
 ghost use Rattle.pages.specs.Rows.{equal_page};
@@ -23,7 +23,7 @@ pub(crate) struct PageRow {
     pub uses: u64,
 }
 
-/// What is said of a page, with the rowid of its row.
+/// The head of a page, with the rowid of its row.
 #[derive(Drop)]
 pub(crate) struct HeadRow {
     pub id: i64,
@@ -57,7 +57,7 @@ fn lowest<S: Alter>(conn: &mut Connection<S>) -> Result<Option<PageRow>, Error>
 const ROW_AFTER: &str =
     "SELECT rowid, pkey, twin, bytes, uses FROM page WHERE rowid > ?1 ORDER BY rowid LIMIT 1";
 
-/// The first row of page with a rowid above this one.
+/// The first row of page with a rowid greater than this one.
 fn after<S: Alter>(conn: &mut Connection<S>, id: i64) -> Result<Option<PageRow>, Error>
     ensures { Queries S.Store (Equals (page_row_behind (Some id))) conn.old conn.new result }
 {
@@ -65,7 +65,7 @@ fn after<S: Alter>(conn: &mut Connection<S>, id: i64) -> Result<Option<PageRow>,
     read_one(row)
 }
 
-/// The first row of page, or the first behind that with this rowid.
+/// The first row of page, or the first one after the row with this rowid.
 fn row_behind<S: Alter>(conn: &mut Connection<S>, id: Option<i64>) -> Result<Option<PageRow>, Error>
     ensures { Queries S.Store (Equals (page_row_behind id)) conn.old conn.new result }
 {
@@ -75,7 +75,7 @@ fn row_behind<S: Alter>(conn: &mut Connection<S>, id: Option<i64>) -> Result<Opt
     }
 }
 
-/// The page of this key that has these bytes.
+/// The page with this key and these bytes.
 fn equal<S: Alter>(
     conn: &mut Connection<S>,
     key: &[u8],
@@ -96,7 +96,7 @@ fn has_twin(found: Option<PageUse>, twin: u64) -> bool
     }
 }
 
-/// What is said of a page, by the first page of its key that has its bytes.
+/// The head of a page, computed from its row and from the first page that has its key and its bytes.
 fn head_from<K: PageKey>(page: PageRow, found: Option<PageUse>) -> PageHead
     ensures { result ≡ head_from K.key_of page found }
 {
@@ -121,7 +121,7 @@ fn head<S: Alter, K: PageKey>(conn: &mut Connection<S>, page: PageRow) -> Result
     }
 }
 
-/// The head of the first page, or of the first behind that whose row has this rowid.
+/// The head of the first page, or of the first one after the row with this rowid.
 fn head_behind<S: Alter, K: PageKey>(
     conn: &mut Connection<S>,
     id: Option<i64>,
@@ -139,7 +139,7 @@ fn head_behind<S: Alter, K: PageKey>(
     }
 }
 
-/// The heads of all pages, in the order of their rowids. A page is read at a time.
+/// The heads of all pages, in the order of their rowids. Only one page is in memory at a time.
 pub fn heads<S: Alter, K: PageKey>(
     alloc: Global,
     conn: &mut Connection<S>,

@@ -1,4 +1,4 @@
-//! Pages are put, read, compared and released.
+//! Adds, reads, compares and releases pages.
 ghost use Rattle.std.specs.Prelude.{◌≡◌, ◌+◌, false, ℕ, List, None, IsSome, IfOk, OnOk};
 ghost use Rattle.sqlite_value.specs.declared.value.Value.TheVariants.{Blob};
 ghost use Rattle.sqlite_value.specs.Order.{column};
@@ -21,7 +21,7 @@ use sqlite::types::{Type, ValueRef};
 use sqlite::{Alter, Connection, Error, Row, Transaction};
 use statements::calls::Read;
 
-/// The name of a page: its key, and the number that tells it from other pages of that key.
+/// The name of a page: its key, and the number that distinguishes it from other pages with that key.
 #[derive(Clone, Copy, PartialEq, Eq)]
 pub struct PageId {
     pub key: [u8; 32],
@@ -52,7 +52,7 @@ impl Read for PageId {
     }
 }
 
-/// The greatest number of uses: SQL has no integer above it.
+/// The greatest number of uses: SQL has no greater integer.
 const MOST_USES: u64 = 9_223_372_036_854_775_807;
 
 /// The places of the columns in the table page.
@@ -60,7 +60,7 @@ const TWIN_COLUMN: usize = 1;
 
 const USES_COLUMN: usize = 3;
 
-/// The least number under which no page of this key is kept.
+/// The least twin number that no page with this key has.
 fn free<S: Alter>(tx: &mut Transaction<'_, S>, key: &[u8]) -> Result<Twin, Error>
     ensures same_reference { tx.new.conn.ghost_name ≡ tx.old.conn.ghost_name }
     ensures looks { OnlyLooks (state S.Store tx.old.conn.now) (state S.Store tx.new.conn.now) result }
@@ -79,7 +79,7 @@ fn free<S: Alter>(tx: &mut Transaction<'_, S>, key: &[u8]) -> Result<Twin, Error
     Err(Error::IntegralValueOutOfRange(TWIN_COLUMN))
 }
 
-/// One use more of a page that is there.
+/// Adds a use to an existing page.
 fn use_again<S: Alter>(
     tx: &mut Transaction<'_, S>,
     key: &[u8],
@@ -95,7 +95,7 @@ fn use_again<S: Alter>(
     Ok(found.twin)
 }
 
-/// A page under the least number that is free.
+/// Adds a page under the least free twin number.
 fn add_new<S: Alter>(tx: &mut Transaction<'_, S>, key: &[u8], page: &[u8]) -> Result<Twin, Error>
     ensures steps { Steps S.Store (λ t. page_added key.now (free_twin key.now t) page.now t) tx.old tx.new result }
     ensures twin { TellsBy (free_twin key.now) (state S.Store tx.old.conn.now) (state S.Store tx.new.conn.now) result }
@@ -105,7 +105,7 @@ fn add_new<S: Alter>(tx: &mut Transaction<'_, S>, key: &[u8], page: &[u8]) -> Re
     Ok(twin)
 }
 
-/// The only page of a key, under the number 0.
+/// Adds the only page with a key, under the twin number 0.
 fn add_first<S: Alter>(tx: &mut Transaction<'_, S>, key: &[u8], page: &[u8]) -> Result<Twin, Error>
     ensures steps { Steps S.Store (page_added key.now 0 page.now) tx.old tx.new result }
     ensures twin { IfOk result (λ twin. twin ≡ 0) }
@@ -130,7 +130,7 @@ fn put_beside<S: Alter>(
     }
 }
 
-/// Puts a page of a key that has others.
+/// Adds a use of a page, or the page, if other pages have its key.
 fn put_among<S: Alter>(tx: &mut Transaction<'_, S>, key: &[u8], page: &[u8]) -> Result<Twin, Error>
     ensures steps { Steps S.Store (page_put key.now page.now) tx.old tx.new result }
     ensures twin { TellsBy (twin_for key.now page.now) (state S.Store tx.old.conn.now) (state S.Store tx.new.conn.now) result }
@@ -139,7 +139,7 @@ fn put_among<S: Alter>(tx: &mut Transaction<'_, S>, key: &[u8], page: &[u8]) -> 
     put_beside(tx, key, found, page)
 }
 
-/// Puts a page, by the first page of its key, if there is one.
+/// Adds a use of a page, or the page, given the first page with its key, if there is one.
 fn put_with<S: Alter>(
     tx: &mut Transaction<'_, S>,
     key: &[u8],
@@ -155,7 +155,8 @@ fn put_with<S: Alter>(
     }
 }
 
-/// Puts a page. Whether its key has others is asked without its bytes: most pages are new.
+/// Adds a use of a page, or the page. Whether other pages have its key is asked without reading their bytes,
+/// since most pages are new.
 fn put_under<S: Alter>(tx: &mut Transaction<'_, S>, key: &[u8], page: &[u8]) -> Result<Twin, Error>
     ensures steps { Steps S.Store (page_put key.now page.now) tx.old tx.new result }
     ensures twin { TellsBy (twin_for key.now page.now) (state S.Store tx.old.conn.now) (state S.Store tx.new.conn.now) result }
@@ -164,7 +165,7 @@ fn put_under<S: Alter>(tx: &mut Transaction<'_, S>, key: &[u8], page: &[u8]) -> 
     put_with(tx, key, first, page)
 }
 
-/// The first page of a key, if it has the bytes that were asked for.
+/// The first page with a key, if it has the bytes asked for.
 fn alike(first: Option<FirstPage>) -> Option<PageUse>
     ensures { result ≡ alike first }
 {
@@ -174,7 +175,8 @@ fn alike(first: Option<FirstPage>) -> Option<PageUse>
     }
 }
 
-/// Puts a page under its own key. Where its uses or its twin number would pass 9,223,372,036,854,775,807, it is an error.
+/// Adds a use of a page, or the page, under its own key. Fails if the number of its uses or its twin number
+/// would exceed 9,223,372,036,854,775,807.
 pub fn put_own<S: Alter>(
     tx: &mut Transaction<'_, S>,
     key: &[u8; 32],
@@ -187,7 +189,7 @@ pub fn put_own<S: Alter>(
     Ok(PageId { key: *key, twin })
 }
 
-/// One use more of a page that is there under a known key.
+/// Adds a use to an existing page with a known key.
 fn use_known<S: Alter>(
     tx: &mut Transaction<'_, S>,
     known: &[u8; 32],
@@ -200,8 +202,8 @@ fn use_known<S: Alter>(
     Ok(PageId { key: *known, twin })
 }
 
-/// Puts a page under a known key, if the first page of that has its bytes, or else under its own.
-/// Comparing its bytes costs less than a key.
+/// Adds a use of a page, or the page: under a known key, if the first page with that key has its bytes,
+/// otherwise under its own key. Comparing the bytes costs less than computing a key.
 pub fn put_known<K: PageKey, S: Alter>(
     tx: &mut Transaction<'_, S>,
     known: &[u8; 32],
@@ -224,7 +226,7 @@ pub fn put_known<K: PageKey, S: Alter>(
     }
 }
 
-/// The bytes of a page. It is an error where the page isn't there.
+/// The bytes of a page. Fails if there is no such page.
 pub fn get<S: Alter>(conn: &mut Connection<S>, id: &PageId) -> Result<Bytes, Error>
     ensures mode { conn.old.in_transaction ≡ false → conn.new.in_transaction ≡ false }
     ensures gets { GetsBy (page_bytes id.now.key id.now.twin) (state S.Store conn.old) (state S.Store conn.new) result }
@@ -237,7 +239,7 @@ pub fn get<S: Alter>(conn: &mut Connection<S>, id: &PageId) -> Result<Bytes, Err
     }
 }
 
-/// Whether a page's bytes are these. It is an error where the page isn't there.
+/// Whether a page has these bytes. Fails if there is no such page.
 pub fn same<S: Alter>(conn: &mut Connection<S>, id: &PageId, page: &[u8]) -> Result<bool, Error>
     ensures mode { conn.old.in_transaction ≡ false → conn.new.in_transaction ≡ false }
     ensures gets { GetsBy (is_bytes_of id.now.key id.now.twin page.now) (state S.Store conn.old) (state S.Store conn.new) result }
@@ -248,7 +250,7 @@ pub fn same<S: Alter>(conn: &mut Connection<S>, id: &PageId, page: &[u8]) -> Res
     Ok(bytes.as_slice() == page)
 }
 
-/// One use less of a page that is used so often. It goes with the last.
+/// Removes one of `uses` uses of a page. With the last use the page is removed.
 fn lessen<S: Alter>(
     tx: &mut Transaction<'_, S>,
     key: &[u8],
@@ -284,7 +286,7 @@ fn release_found<S: Alter>(
     }
 }
 
-/// Whether a page stays where one use of it goes.
+/// Whether a page is kept if one of its uses is removed.
 fn stays(uses: Option<u64>) -> bool {
     match uses {
         None => false,
@@ -292,7 +294,7 @@ fn stays(uses: Option<u64>) -> bool {
     }
 }
 
-/// Takes one use of a page, whose uses are looked up. `shared` is whether it has others.
+/// Removes one use of a page after reading the number of its uses. Sets `shared` to whether it has others.
 fn release_counted<S: Alter>(
     tx: &mut Transaction<'_, S>,
     key: &[u8],
@@ -308,7 +310,7 @@ fn release_counted<S: Alter>(
     release_found(tx, key, twin, found)
 }
 
-/// Tells that no page of this name is left.
+/// Fails unless there is no page with this name.
 fn none_left<S: Alter>(tx: &mut Transaction<'_, S>, key: &[u8], twin: Twin) -> Result<(), Error>
     ensures same_reference { tx.new.conn.ghost_name ≡ tx.old.conn.ghost_name }
     ensures looks { OnlyLooks (state S.Store tx.old.conn.now) (state S.Store tx.new.conn.now) result }
@@ -323,7 +325,7 @@ fn none_left<S: Alter>(tx: &mut Transaction<'_, S>, key: &[u8], twin: Twin) -> R
     }
 }
 
-/// Takes the only use of a page, and the page, without a look at its row, or else one of more.
+/// Removes a page that has one use without reading its row first. Otherwise removes one of its uses.
 fn release_alone<S: Alter>(
     tx: &mut Transaction<'_, S>,
     key: &[u8],
@@ -342,10 +344,10 @@ fn release_alone<S: Alter>(
     }
 }
 
-/// Takes one use of a page, and the page with the last. It is an error where the page isn't there,
-/// and where the last use would go of a page that a row of vpage names.
-/// `shared` is whether the page released before stayed, and then whether this one does: where it did, the uses of
-/// this one are looked up first. So a page in one use, whose row is long, is read once, and one in more twice.
+/// Removes one use of a page; with the last use, the page. Fails if there is no such page, or if the page
+/// would be removed while a row of vpage names it. `shared` is whether the page released before was kept, and
+/// is set to whether this one is. If it is true, the number of uses is read first. So a page with one use,
+/// whose row is long, is read once, and a page with more uses twice.
 pub fn release<S: Alter>(
     tx: &mut Transaction<'_, S>,
     id: &PageId,

@@ -1,4 +1,4 @@
-//! The number that tells a page from others of its key.
+//! The number that distinguishes a page from others with the same key.
 ghost use Rattle.std.specs.Prelude.{◌≡◌, ℕ, ◌≤◌, ◌<◌, ◌^◌, pos, IfOk};
 ghost use Rattle.sqlite_value.specs.Order.{column};
 ghost use Rattle.basis.specs.Numbers.{within};
@@ -10,10 +10,10 @@ use sqlite::{Error, Row};
 use statements::calls::{Read, signed};
 use std::marker::Model;
 
-/// The greatest twin number: SQL has no integer above it.
+/// The greatest twin number: SQL has no greater integer.
 pub const MAX_TWIN: u64 = 9_223_372_036_854_775_807;
 
-/// The number that tells a page from others of its key: 0 to 9,223,372,036,854,775,807.
+/// The number that distinguishes a page from others with the same key: 0 to 9,223,372,036,854,775,807.
 #[derive(Clone, Copy, PartialEq, Eq)]
 pub struct Twin {
     value: u64,
@@ -30,7 +30,7 @@ impl Model for Twin {
 }
 
 impl Twin {
-    /// The number of the first page of a key: 0.
+    /// The twin number of the first page with a key: 0.
     pub fn first() -> Twin
         ensures { result ≡ 0 }
     {
@@ -54,7 +54,7 @@ impl Twin {
         self.value
     }
 
-    /// The number as SQL has it.
+    /// The number as SQL's integer.
     pub fn signed(self) -> i64
         ensures value { result ≡ pos self }
         ensures fits { self < 2 ^ 63 }

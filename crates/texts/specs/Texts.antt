@@ -1,4 +1,4 @@
--- The texts of versions, in pages: the rows of vpage that name the pages of a text in turn, and what putting and taking a text does to the rows.
+-- The texts of versions, in pages: the rows of vpage that name the pages of a text in order, and the rows after a text is added or removed.
 use Rattle.std.specs.Prelude.{◌≡◌, ◌<◌, ℕ, zero, suc, ◌+◌, ◌-◌, ◌*◌, ◌/◌, min, ⊤, Bool, true, ◌&&◌, ◌==◌, List, [], ◌++◌, length, filter, find, take, drop, Option, Some, None, IsSome, option_map, unwrap_or, Result}
 use Rattle.std.specs.Str.{bytes_eq}
 use Rattle.sqlite_keyed.specs.Rules.{AreApart}
@@ -45,7 +45,7 @@ page_at org ws n place t = option_map page_name (find (is_place org ws n place) 
 
 -- ---- pieces of a text
 
--- how many pages a text of this size has
+-- the number of pages of a text of this size
 abbrev pub pages_for : ℕ → ℕ
 pages_for size = (size + 16_383) / PAGE_BYTES
 
@@ -53,16 +53,16 @@ pages_for size = (size + 16_383) / PAGE_BYTES
 abbrev pub piece_at : List ℕ → ℕ → List ℕ
 piece_at text place = take PAGE_BYTES (drop (place * PAGE_BYTES) text)
 
--- how many bytes the piece at a place has, of a text of this size
+-- the number of bytes of the piece at a place of a text of this size
 abbrev pub piece_size : ℕ → ℕ → ℕ
 piece_size size place = min PAGE_BYTES (size - place * PAGE_BYTES)
 
--- ---- putting a text: the piece at each place is put under a key
+-- ---- adding a text: the piece at each place is added under a key
 
 abbrev pub piece_added : (ℕ → List ℕ) → List ℕ → List ℕ → ℕ → List ℕ → ℕ → Tables → Tables
 piece_added keys org ws n text place t = place_added org ws n place (keys place) (twin_for (keys place) (piece_at text place) t) (page_put (keys place) (piece_at text place) t)
 
--- the first pieces of a text, so many, are put, and the rows that name them are there
+-- the first pieces of a text, so many, are added, and so are the rows that name them
 abbrev pub pieces_added : (ℕ → List ℕ) → List ℕ → List ℕ → ℕ → List ℕ → ℕ → Tables → Tables
 pieces_added keys org ws n text zero t = t
 pieces_added keys org ws n text (suc place) t = piece_added keys org ws n text place (pieces_added keys org ws n text place t)
@@ -70,29 +70,29 @@ pieces_added keys org ws n text (suc place) t = piece_added keys org ws n text p
 abbrev pub text_added : (ℕ → List ℕ) → List ℕ → List ℕ → ℕ → List ℕ → Tables → Tables
 text_added keys org ws n text t = pieces_added keys org ws n text (pages_for (length text)) t
 
--- of the first pieces, so many, each was put under a twin number that SQL has
+-- each of the first pieces, so many, was added under a twin number that SQL has
 abbrev pub TwinsFit : (ℕ → List ℕ) → List ℕ → List ℕ → ℕ → List ℕ → ℕ → Tables → Type 0
 TwinsFit keys org ws n text zero t = ⊤
 TwinsFit keys org ws n text (suc place) t = TwinsFit keys org ws n text place t × (twin_for (keys place) (piece_at text place) (pieces_added keys org ws n text place t) < twin_limit)
 
--- of the first pieces, so many, each was put under its own key, or under one of a page that had its bytes
+-- each of the first pieces, so many, was added under its own key, or under that of a page that had its bytes
 abbrev pub KeysFit : (List ℕ → List ℕ) → (ℕ → List ℕ) → List ℕ → List ℕ → ℕ → List ℕ → ℕ → Tables → Type 0
 KeysFit key_of keys org ws n text zero t = ⊤
 KeysFit key_of keys org ws n text (suc place) t = KeysFit key_of keys org ws n text place t × IsKeyFor key_of (piece_at text place) (keys place) (pieces_added keys org ws n text place t)
 
--- What adding a text under these keys promises: each piece is put, under a key that it may have, and a twin number that SQL has.
+-- What adding a text under these keys promises: each piece is added, under a key that it may have and a twin number that SQL has.
 pub record AddsText {S E : Type 0} (g : Ghosts S) (key_of : List ℕ → List ℕ) (keys : ℕ → List ℕ) (org ws : List ℕ) (n : ℕ) (text : List ℕ) (old new : Transaction S) (result : Result ⊤ E) : Type 0 where
   pub steps : Steps g (text_added keys org ws n text) old new result
   pub fits : Tells (λ _. TwinsFit keys org ws n text (pages_for (length text))) (state g old.conn.now) (state g new.conn.now) result
   pub keyed : Tells (λ _. KeysFit key_of keys org ws n text (pages_for (length text))) (state g old.conn.now) (state g new.conn.now) result
 
--- ---- taking a text away
+-- ---- removing a text
 
 abbrev pub released_at : Option PageId → Tables → Tables
 released_at None t = t
 released_at (Some id) t = page_released id.key id.twin t
 
--- the row at the place goes, and then a use of the page that it named
+-- the row at the place is removed, and then a use of the page that it named
 abbrev pub piece_removed : List ℕ → List ℕ → ℕ → ℕ → Tables → Tables
 piece_removed org ws n place t = released_at (page_at org ws n place t) (place_removed org ws n place t)
 
@@ -109,24 +109,24 @@ abbrev pub bytes_named : Option PageId → Tables → Option (List ℕ)
 bytes_named None t = None
 bytes_named (Some id) t = page_bytes id.key id.twin t
 
--- the bytes of the page at a place of a version, if it is there
+-- the bytes of the page at a place of a version, if it exists
 abbrev pub piece_of : List ℕ → List ℕ → ℕ → ℕ → Tables → Option (List ℕ)
 piece_of org ws n place t = bytes_named (page_at org ws n place t) t
 
--- the first pages of a version, so many, are there
+-- the first pages of a version, so many, exist
 abbrev pub AreThere : List ℕ → List ℕ → ℕ → ℕ → Tables → Type 0
 AreThere org ws n places t = (place : ℕ) → place < places → IsSome (piece_of org ws n place t)
 
--- each of the first pages of a version, so many, is there as its row is removed
+-- each of the first pages of a version, so many, exists when its row is removed
 abbrev pub WereThere : List ℕ → List ℕ → ℕ → ℕ → Tables → Type 0
 WereThere org ws n places t = (place : ℕ) → place < places → IsSome (piece_of org ws n place (pieces_removed org ws n place t))
 
--- the bytes of the first pages of a version, so many
+-- the bytes of the first pages of a version, so many, one after the other
 abbrev pub joined : List ℕ → List ℕ → ℕ → ℕ → Tables → List ℕ
 joined org ws n zero t = []
 joined org ws n (suc place) t = joined org ws n place t ++ unwrap_or (piece_of org ws n place t) []
 
--- the text of a version whose text has this size
+-- the text of a version, of this size
 abbrev pub text_of : List ℕ → List ℕ → ℕ → ℕ → Tables → List ℕ
 text_of org ws n size t = joined org ws n (pages_for size) t
 
@@ -137,7 +137,7 @@ are_pieces org ws n text (suc place) t = are_pieces org ws n text place t && byt
 
 -- ---- sound texts
 
--- each page of the text is there: all have 16,384 bytes but the last, which has the rest
+-- every page of the text exists; each has 16,384 bytes but the last, which has the rest
 abbrev pub IsWhole : List ℕ → List ℕ → ℕ → ℕ → Tables → Type 0
 IsWhole org ws n size t = (place : ℕ) → place < pages_for size → (bytes : List ℕ) × (piece_of org ws n place t ≡ Some bytes) × (length bytes ≡ piece_size size place)
 
@@ -145,7 +145,7 @@ IsWhole org ws n size t = (place : ℕ) → place < pages_for size → (bytes : 
 abbrev pub HasNoPlaces : List ℕ → List ℕ → ℕ → Tables → Type 0
 HasNoPlaces org ws n t = find (is_place_of org ws n) t.vpages ≡ None
 
--- Pages are sound, the uses of each page are the rows that name it, and each place of a version has one row.
+-- The pages are sound, the uses of each page are the number of rows that name it, and each place of a version has at most one row.
 pub record HasSoundPlaces (t : Tables) : Type 0 where
   pub pages : HasSoundPages t
   pub counted : (key : List ℕ) (twin : ℕ) → unwrap_or (page_uses key twin t) 0 ≡ length (filter (names_page key twin) t.vpages)

@@ -1,4 +1,4 @@
-//! The keys of a text's pages, made four at a time.
+//! The keys of a text's pages, computed four at a time.
 ghost use Rattle.std.specs.Prelude.{◌≡◌, ◌≤◌, ◌<◌, ◌+◌, ◌*◌, ℕ, List, IsTrue, length};
 ghost use Rattle.texts.specs.Texts.{piece_at};
 ghost use Rattle.texts.specs.Inner.Ahead.{AreKeysOf};
@@ -6,7 +6,7 @@ ghost use Rattle.texts.specs.Inner.Ahead.{AreKeysOf};
 use crate::texts::{PAGE_BYTES, piece_at};
 use pages::PageKey;
 
-/// The keys of four pages of a text, from a place on, once they are made.
+/// The keys of four pages of a text, from a place on, after they are computed.
 #[derive(Clone, Copy)]
 pub(crate) struct Ahead {
     keys: [[u8; 32]; 4],
@@ -14,7 +14,7 @@ pub(crate) struct Ahead {
     is_made: bool,
 }
 
-/// The piece of a text at a place, which is empty behind the text's end.
+/// The piece of a text at a place. It is empty after the end of the text.
 fn piece_behind(text: &[u8], place: u64) -> &[u8]
     ensures { result.now ≡ piece_at text.now place }
 {
@@ -25,7 +25,7 @@ fn piece_behind(text: &[u8], place: u64) -> &[u8]
 }
 
 impl Ahead {
-    /// No key is made.
+    /// No key has been computed.
     pub(crate) fn new() -> Ahead
         ensures { (key_of : List ℕ → List ℕ) (text : List ℕ) → AreKeysOf key_of text result }
     {
@@ -36,7 +36,7 @@ impl Ahead {
         }
     }
 
-    /// Whether the key of the page at a place is made.
+    /// Whether the key of the page at a place has been computed.
     fn has(&self, place: u64) -> bool
         ensures made { IsTrue result → IsTrue self.now.is_made }
         ensures there { IsTrue result → (self.now.from ≤ place) × (place < self.now.from + 4) }
@@ -44,7 +44,8 @@ impl Ahead {
         self.is_made && place >= self.from && place - self.from < 4
     }
 
-    /// The known key of a page, unless its own is made: then that costs nothing more.
+    /// The known key of a page; none if its own key has been computed, because then that one costs nothing
+    /// more.
     pub(crate) fn or_known<'a>(
         &self,
         place: u64,
@@ -53,8 +54,9 @@ impl Ahead {
         if self.has(place) { None } else { known }
     }
 
-    /// The key of the page at a place. Those of the three behind it are made with it, where they are likely to be asked for
-    /// and two of them are there: four keys cost what two cost one by one.
+    /// The key of the page at a place. If `more` says that keys of the pages after it are likely to be
+    /// needed, and at least two such pages exist, those of the next three are computed with it: four keys
+    /// cost as much as two that are computed one by one.
     pub(crate) fn key<K: PageKey>(&mut self, text: &[u8], place: u64, more: bool) -> [u8; 32]
         requires is_there { place * PAGE_BYTES ≤ length text.now }
         ensures key { AreKeysOf K.key_of text.now self.old → result ≡ K.key_of (piece_at text.now place) }

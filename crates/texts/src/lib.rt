@@ -1,4 +1,4 @@
-//! Texts of versions, kept as pages that they share.
+//! Texts of versions, stored as pages that they share.
 #![tactic(auto)]
 
 mod ahead;

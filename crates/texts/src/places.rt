@@ -16,7 +16,7 @@ use sqlite::{Alter, Connection, Error, Row, Transaction, params};
 use statements::calls::{first_row, first_row_inside, read_one, signed, write};
 use std::marker::Model;
 
-/// The place of a page in a text: that of the first is 0. SQL has an integer for each.
+/// The place of a page in a text; the first page is at 0. Every place fits into SQL's integer.
 #[derive(Clone, Copy)]
 pub(crate) struct Place {
     value: u64,
@@ -33,7 +33,7 @@ impl Model for Place {
 }
 
 impl Place {
-    /// The place of the page that has the byte at this offset. So it is far below the greatest offset.
+    /// The place of the page that has the byte at this offset. So a place is far below the greatest offset.
     pub(crate) fn of_byte(offset: u64) -> Place
         ensures { result ≡ offset / PAGE_BYTES }
     {
@@ -48,7 +48,7 @@ impl Place {
         self.value
     }
 
-    /// The place as SQL has it.
+    /// The place as SQL's integer.
     pub(crate) fn signed(self) -> i64
         ensures value { result ≡ pos self }
         ensures fits { self < 2 ^ 63 }
@@ -60,7 +60,7 @@ impl Place {
 const ADD_PLACE: &str =
     "INSERT INTO vpage (org, ws, number, place, pkey, twin) VALUES (?1, ?2, ?3, ?4, ?5, ?6)";
 
-/// A place of a version gets a page.
+/// Adds the row that names the page at a place of a version.
 pub(crate) fn add<'v, S: Alter>(
     tx: &mut Transaction<'_, S>,
     org: &'v str,
@@ -80,7 +80,7 @@ pub(crate) fn add<'v, S: Alter>(
 
 const REMOVE_PLACES: &str = "DELETE FROM vpage WHERE org = ?1 AND ws = ?2 AND number = ?3";
 
-/// All places of a version lose their pages.
+/// Removes all rows that name pages of a version.
 pub(crate) fn remove_all<S: Alter>(
     tx: &mut Transaction<'_, S>,
     org: &str,
@@ -96,7 +96,7 @@ pub(crate) fn remove_all<S: Alter>(
 const PLACES: &str =
     "SELECT pkey, twin, place FROM vpage WHERE org = ?1 AND ws = ?2 AND number = ?3 ORDER BY place";
 
-/// The rows of a version: its pages' names, and the places. They stand in the order of their places.
+/// The rows of a version, in the order of their places: the names of its pages, and the places.
 pub(crate) fn all<S: Alter>(
     tx: &mut Transaction<'_, S>,
     org: &str,
@@ -116,7 +116,7 @@ pub(crate) fn all<S: Alter>(
 const PAGE_AT: &str =
     "SELECT pkey, twin FROM vpage WHERE org = ?1 AND ws = ?2 AND number = ?3 AND place = ?4 ORDER BY rowid";
 
-/// The page at a place of a version.
+/// The page at a place of a version; none if the place has no row.
 pub(crate) fn find<S: Alter>(
     conn: &mut Connection<S>,
     org: &str,
@@ -132,7 +132,7 @@ pub(crate) fn find<S: Alter>(
     read_one(row)
 }
 
-/// The page at a place of a version, inside a transaction.
+/// The page at a place of a version, inside a transaction; none if the place has no row.
 pub(crate) fn find_inside<S: Alter>(
     tx: &mut Transaction<'_, S>,
     org: &str,

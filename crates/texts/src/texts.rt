@@ -1,4 +1,4 @@
-//! A version's text is put, taken away, read and compared, page by page.
+//! Adds, removes, reads and compares the text of a version, page by page.
 ghost use Rattle.std.specs.Prelude.{◌≡◌, ◌≤◌, ◌*◌, ℕ, List, length, false, IsTrue, IfOk, OnOk};
 ghost use Rattle.sqlite_value.specs.Order.{column};
 ghost use Rattle.sqlite.specs.Held.{state};
@@ -21,10 +21,10 @@ use sqlite::{Alter, Connection, Error, Row, Transaction};
 use statements::calls::Read;
 use std::alloc::Global;
 
-/// The most bytes of a page.
+/// The greatest number of bytes of a page.
 pub const PAGE_BYTES: usize = 16_384;
 
-/// How many pages a text of this size has.
+/// The number of pages of a text of this size.
 fn pages_for(size: u64) -> u64
     ensures { result ≡ pages_for size }
 {
@@ -48,18 +48,18 @@ pub(crate) fn piece_at(text: &[u8], place: u64) -> &[u8]
     piece
 }
 
-/// How often the places that are looked at get twice as far apart.
+/// How often at most the distance between compared places is doubled.
 const MOST_MOVED: u64 = 16;
 
-/// Whether the page at a place is looked at, where so many in a row differed from those at their places in the version before:
-/// each one, then each second, each fourth. Where something was put in, all that follows has moved. None is looked at for the
-/// first place: it holds the serial.
+/// Whether the page at a place is compared with that of the version before, after `moved` compared pages in a
+/// row differed. At first every page is compared, then every second, every fourth, and so on: if something
+/// was inserted, everything after it has moved. The first page is never compared: it holds the serial.
 fn is_looked_at(place: u64, moved: u64) -> bool {
     let last = (1u64 << moved.min(MOST_MOVED)) - 1;
     place != 0 && place & last == last
 }
 
-/// The page at a place of the version before, if it is looked at.
+/// The page at a place of the version before, if it is to be compared.
 fn look_at<S: Alter>(
     tx: &mut Transaction<'_, S>,
     org: &str,
@@ -92,7 +92,8 @@ fn key_in(found: &Option<PageId>) -> Option<&[u8; 32]> {
     }
 }
 
-/// How many pages in a row differ of those that were looked at, by this one and the one that was put.
+/// How many compared pages in a row differ, after this page of the version before and the page that was
+/// added.
 fn moved_after(moved: u64, found: &Option<PageId>, put: &PageId) -> u64 {
     match found {
         None => moved,
@@ -106,8 +107,9 @@ fn moved_after(moved: u64, found: &Option<PageId>, put: &PageId) -> u64 {
     }
 }
 
-/// Puts the page of a text that has this number: under the known key, if the first page of that has its bytes, or under its own.
-/// Where more pages behind it are likely to need keys, theirs are made with its own.
+/// Adds a page of a text by its number: under the known key, if the first page with that key has its bytes,
+/// otherwise under its own key. If more pages after it are likely to need keys, theirs are computed together
+/// with its own.
 fn put_nth<K: PageKey, S: Alter>(
     tx: &mut Transaction<'_, S>,
     known: Option<&[u8; 32]>,
@@ -132,8 +134,9 @@ fn put_nth<K: PageKey, S: Alter>(
     }
 }
 
-/// Puts the page of a version's text that has this number, at a place that has none. Nothing else adds a row to the table vpage.
-/// It needs no key of its own where it is the piece at the same place of the version before.
+/// Adds a page of a version's text by its number, at a place that has none. No other function adds a row to
+/// the table vpage. The page needs no key of its own if it equals the page at the same place of the version
+/// before.
 fn add_nth<K: PageKey, S: Alter>(
     tx: &mut Transaction<'_, S>,
     org: &str,
@@ -159,8 +162,8 @@ fn add_nth<K: PageKey, S: Alter>(
     add(tx, org, ws, number, place, id.key.as_slice(), id.twin)
 }
 
-/// Puts a version's text. The version has none yet. Pages that are those of the version before need no key of their own.
-/// Where the uses or the twin number of a page would pass 9,223,372,036,854,775,807, it is an error.
+/// Adds the text of a version that has none yet. Pages that equal those of the version before need no key of
+/// their own. Fails if a page's number of uses or twin number would exceed 9,223,372,036,854,775,807.
 pub fn add_text<K: PageKey, S: Alter>(
     tx: &mut Transaction<'_, S>,
     org: &str,
@@ -186,7 +189,7 @@ pub fn add_text<K: PageKey, S: Alter>(
     Ok(())
 }
 
-/// The page that a row names, which is that of this place.
+/// The page that a row names, if the row is that of this place.
 fn named_at(row: &Row, place: u64) -> Result<PageId, Error>
     ensures place { OnOk result (column row.now 2 ≡ number place) }
     ensures name { IfOk result (λ id. id ≡ name_in row.now) }
@@ -197,7 +200,8 @@ fn named_at(row: &Row, place: u64) -> Result<PageId, Error>
     PageId::of_row(row)
 }
 
-/// Takes a use of each page that the rows name, which are those of the places from 0 on, so many.
+/// Removes one use of each page that the rows name. The rows are those of the places from 0 up to the number
+/// of rows.
 fn release_each<S: Alter>(
     tx: &mut Transaction<'_, S>,
     rows: &[Row],
@@ -218,8 +222,8 @@ fn release_each<S: Alter>(
     Ok(())
 }
 
-/// Takes a version's text of this size away. It is an error where one of its pages isn't there, or one stands behind them.
-/// Nothing else removes a row of the table vpage.
+/// Removes the text of a version, of this size. Fails if one of its pages is missing, or if the version has a
+/// page after them. No other function removes a row of the table vpage.
 pub fn remove_text<S: Alter>(
     tx: &mut Transaction<'_, S>,
     org: &str,
@@ -242,7 +246,8 @@ pub fn remove_text<S: Alter>(
     release_each(tx, rows.as_slice(), pages)
 }
 
-/// The text of a version whose text has this size. It is an error where one of its pages isn't there, and where one stands behind them.
+/// The text of a version, of this size. Fails if one of its pages is missing, or if the version has a page
+/// after them.
 pub fn text<S: Alter>(
     alloc: Global,
     conn: &mut Connection<S>,
@@ -258,7 +263,7 @@ pub fn text<S: Alter>(
     read_whole(alloc, conn, org, ws, number, pages_for(size), size as usize)
 }
 
-/// Whether the page at a place of a version's text has these bytes. It is an error where the page isn't there.
+/// Whether the page at a place of a version's text has these bytes. Fails if there is no such page.
 fn same_piece<S: Alter>(
     conn: &mut Connection<S>,
     org: &str,
@@ -279,9 +284,9 @@ fn same_piece<S: Alter>(
     }
 }
 
-/// Whether a version has this text, of a version whose text has the size of this one.
-/// The pages behind the first that differs are not read. It is an error where a page that is looked at isn't there,
-/// so a version that lacks a page has no text.
+/// Whether a version has this text, if its text has the same size. The pages after the first that differs are
+/// not read. Fails if a page that is read is missing. So the answer is never true for a version that lacks a
+/// page.
 pub fn same_text<S: Alter>(
     conn: &mut Connection<S>,
     org: &str,

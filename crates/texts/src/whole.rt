@@ -1,4 +1,4 @@
-//! A text is read by one query, whose rows are taken one at a time.
+//! Reads a text by one query, one row at a time.
 ghost use Rattle.std.specs.Prelude.{◌≡◌, IsTrue, IfOk, OnOk, option_copied};
 ghost use Rattle.sqlite_value.specs.declared.value.Value.TheVariants.{Blob};
 ghost use Rattle.sqlite_value.specs.Order.{column};
@@ -16,7 +16,7 @@ use sqlite::types::ValueRef;
 use sqlite::{Alter, Connection, Error, Row, params};
 use std::alloc::Global;
 
-/// The bytes that a row has beside this place.
+/// The bytes in a row, which has to be that of this place.
 fn bytes_at(row: &Row, place: u64) -> Result<&[u8], Error>
     ensures place { OnOk result (column row.now 0 ≡ number place) }
     ensures bytes { IfOk result (λ bytes. column row.now 1 ≡ Blob bytes.now) }
@@ -30,7 +30,7 @@ fn bytes_at(row: &Row, place: u64) -> Result<&[u8], Error>
     }
 }
 
-/// Adds the bytes that a row has beside this place to the text. It is an error where there is no row.
+/// Adds the bytes in a row, which has to be that of this place, to the text. Fails if there is no row.
 fn add_row(text: &mut Vec<u8>, row: Option<&Row>, place: u64) -> Result<(), Error>
     ensures { OnOk result (AddsRow (option_copied row.entry) place text.old.items text.new.items) }
 {
@@ -42,7 +42,8 @@ fn add_row(text: &mut Vec<u8>, row: Option<&Row>, place: u64) -> Result<(), Erro
     Ok(())
 }
 
-/// The bytes of all rows of a query, which has one for each place from 0 on, in turn, and so many.
+/// The bytes of all rows of a query, which has to return one row for each place from 0 up to `places`, in
+/// order.
 fn join_rows<S: Alter>(
     alloc: Global,
     conn: &mut Connection<S>,
@@ -68,7 +69,8 @@ fn join_rows<S: Alter>(
 const WHOLE_TEXT: &str =
     "SELECT place, bytes FROM vpage LEFT JOIN page ON page.pkey = vpage.pkey AND page.twin = vpage.twin WHERE org = ?1 AND ws = ?2 AND number = ?3 ORDER BY place";
 
-/// The bytes of the pages of a version, one behind the other. It is an error where it has another number of them.
+/// The bytes of a version's pages, one page after the other. Fails if the version has another number of
+/// pages.
 pub(crate) fn read_whole<S: Alter>(
     alloc: Global,
     conn: &mut Connection<S>,

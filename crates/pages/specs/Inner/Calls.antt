@@ -1,4 +1,4 @@
--- What calls inside a transaction leave and tell.
+-- What calls inside a transaction leave and return.
 use Rattle.std.specs.Prelude.{◌≡◌, ℕ, cond, List, Option, Some, None, Result, IfOk, OnOk, OnErr}
 use Rattle.sqlite_value.specs.Order.{Row, column}
 use Rattle.sqlite.specs.State.{State, HasCleanDisk, KeepsCommit}
@@ -19,7 +19,7 @@ pub record IsFirstPage (row : Row) (first : FirstPage) : Type 0 where
   pub found : IsPageUse row first.found
   pub same : IsFlagCell (column row 2) first.same
 
--- what a page that is put leaves, by the twin number of the first page of its key: there is none, or it has others
+-- the tables after a page is added, given the twin number of the first page with its key: no page has the key, or others have it
 abbrev pub put_with : List ℕ → List ℕ → Option ℕ → Tables → Tables
 put_with key bytes None t = page_added key 0 bytes t
 put_with key bytes (Some first) t = page_put key bytes t
@@ -28,7 +28,7 @@ abbrev pub twin_with : List ℕ → List ℕ → Option ℕ → Tables → ℕ
 twin_with key bytes None t = 0
 twin_with key bytes (Some first) t = twin_for key bytes t
 
--- the first page of a key, if it has the bytes that were asked for
+-- the first page with a key, if it has the bytes asked for
 abbrev pub alike : Option FirstPage → Option PageUse
 alike None = None
 alike (Some first) = cond first.same (Some first.found) None
@@ -37,6 +37,6 @@ alike (Some first) = cond first.same (Some first.found) None
 abbrev pub OnlyLooks : {X E : Type 0} → State → State → Result X E → Type 0
 OnlyLooks old new result = HasCleanDisk new → OnOk result (LeavesAsIs old new) × OnErr result (KeepsCommit old new)
 
--- the value is that of the rows before the call
+-- the value is computed from the rows before the call
 abbrev pub TellsBy : {X E : Type 0} → (Tables → X) → State → State → Result X E → Type 0
 TellsBy read old new result = HasCleanDisk new → IfOk result (λ x. (t : Tables) → Holds old.now t → x ≡ read t)

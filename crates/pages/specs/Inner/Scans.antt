@@ -1,4 +1,4 @@
--- How the rows of page are gone through.
+-- How the rows of page are read one after the other.
 use Rattle.std.specs.Prelude.{◌≡◌, ℕ, ℤ, int_lt, Bool, true, List, length, find, Option, Some, None, option_map}
 use Rattle.std.specs.Str.{bytes_eq}
 use Rattle.sqlite_value.specs.declared.value.Value.TheVariants.{Int, Blob}
@@ -19,7 +19,7 @@ pub record IsPageRow (row : Row) (page : ReadRow) : Type 0 where
   pub bytes : column row 3 ≡ Blob page.bytes
   pub uses : column row 4 ≡ number page.uses
 
--- whether a row's rowid is above this one, if one is given
+-- whether a row's rowid is greater than this one, if one is given
 abbrev pub is_behind : {R : Type 0} → Option ℤ → Kept R → Bool
 is_behind None x = true
 is_behind (Some id) x = int_lt id x.0
@@ -28,7 +28,7 @@ is_behind (Some id) x = int_lt id x.0
 abbrev pub page_row : Kept PageRow → ReadRow
 page_row x = record { id = x.0; key = x.1.key; twin = x.1.twin; bytes = x.1.bytes; uses = x.1.uses }
 
--- the first row of page behind that with this rowid
+-- the first row of page after the row with this rowid
 abbrev pub page_row_behind : Option ℤ → Tables → Option ReadRow
 page_row_behind id t = option_map page_row (find (is_behind id) t.pages)
 
