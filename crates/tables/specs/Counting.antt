@@ -1,11 +1,11 @@
--- When what is kept in memory of an organization's workspaces is so.
+-- When what is kept in memory about an organization's workspaces is right.
 use Rattle.std.specs.Prelude.{◌≡◌, ℕ, List, Option, Some, None, IfSome}
 use Rattle.std.specs.FinMap.{get}
 use Rattle.machine.specs.Records.{count_of}
 use Rattle.machine.specs.declared.records.Organization.{Organization}
 use Rattle.tables.specs.declared.counts.Counted.{Counted}
 
--- of the organization that it names, it is how many workspaces there are, and the one that it names is absent
+-- for the organization that it names, the count is the number of workspaces, and the workspace that it names does not exist
 pub record IsCount (rows : List ℕ → Option Organization) (c : Counted) : Type 0 where
   pub count : (o : Organization) → rows c.org ≡ Some o → c.count ≡ count_of o
   pub absent : (o : Organization) → rows c.org ≡ Some o → IfSome c.absent (λ ws. get o.workspaces ws ≡ None)

@@ -1,11 +1,12 @@
--- What is told of the tables that stand in a database.
+-- What is said of the tables of a database.
 use Rattle.std.specs.Prelude.{◌≡◌, ◌↔◌, ℕ, List, []}
 use Rattle.std.specs.List.{AllByRecursion}
 use Rattle.sqlite.specs.State.{State}
 use Rattle.statements.specs.Tables.{our_tables, IsOurs}
 use Rattle.definitions.specs.Others.{IsOther}
 
--- No name is told exactly where our tables stand in what is committed as they are defined, and each is that of one which doesn't. Nothing is committed.
+-- There is no name exactly if the committed database has our tables as they are defined. Each name is that of a table that it lacks or
+-- defines differently. Nothing is committed.
 pub record TellsTables (old new : State) (names : List (List ℕ)) : Type 0 where
   pub none : (names ≡ []) ↔ IsOurs old.committed.schema
   pub named : AllByRecursion (IsOther old.committed.schema our_tables) names

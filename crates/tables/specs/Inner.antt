@@ -1,4 +1,4 @@
--- Contracts between functions: nothing here has to be believed, since what it says of public calls is tied to the definitions beside this folder.
+-- Contracts between functions. Nobody has to believe this folder: the definitions beside it say what public functions promise.
 pub mod Arrivals
 pub mod Copies
 pub mod Counting

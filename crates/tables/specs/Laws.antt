@@ -11,12 +11,12 @@ use Rattle.tables.specs.Sound.{IsSound}
 abbrev pub SoundTablesAreLawful : Type 0
 SoundTablesAreLawful = (t : Tables) → IsSound t → AreLawful (record_of t)
 
--- these tables are sound and denote the records of those
+-- these tables are sound, and denote the same records as those
 pub record StandFor (t u : Tables) : Type 0 where
   pub sound : IsSound u
   pub records : (org : List ℕ) → record_of u org ≡ record_of t org
 
--- The rows of versions and of runs may stand in any order.
+-- The rows of versions and of runs may be in any order.
 abbrev pub RowsStandInAnyOrder : Type 0
 RowsStandInAnyOrder = (t : Tables) (versions : List (Kept VersionRow)) (runs : List (Kept RunRow)) → IsSound t → IsPermutation t.versions versions → IsPermutation t.runs runs
     → StandFor t (record t { versions = versions; runs = runs })

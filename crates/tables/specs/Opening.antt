@@ -24,23 +24,23 @@ use Rattle.tables.specs.Remembered.{IsRemembered, nothing_kept}
 use Rattle.tables.specs.Stores.{IsSoundStore, is_in_schema}
 use Rattle.tables.specs.Versions.{Becomes, KeepsBeside}
 
--- The database that was seen last is sound, and it is what the connection has committed, as long as no fault has shut it. What is kept in memory is
--- so of its tables.
+-- The database that was last seen is sound. As long as no disk error has closed the connection, it is what the connection has committed.
+-- What is kept in memory is right for its tables.
 pub record IsSoundKeep (seen : Database) (memo : Memo) (s : State) : Type 0 where
   pub store : IsSoundStore seen
   pub remembered : IsRemembered (tables_of seen) memo
   pub tied : IsTrue s.is_open → s.committed ≡ seen
 
--- A store as it was opened: what it has seen is what its connection has committed, and it remembers nothing.
+-- A store just after opening: it has seen what its connection has committed, and it has nothing in memory.
 pub record IsFresh (seen : Database) (memo : Memo) (s : State) : Type 0 where
   pub committed : s.committed ≡ seen
   pub forgotten : memo ≡ nothing_kept
 
--- whether one of our tables is there
+-- whether the schema has one of our tables
 abbrev pub any_there : Schema → Bool
 any_there s = list_any (is_in_schema s) our_tables
 
--- whether the tables that the database has of ours are those of a version: all of them, and none that a later one added
+-- whether our tables in the schema are those of a version: all of them, and none that a later version added
 abbrev pub all_there : ℕ → Schema → Bool
 all_there n s = is_known n && (list_all (is_in_schema s) (schema_tables n) && not (list_any (is_in_schema s) (later_tables n)))
 
@@ -53,11 +53,11 @@ later_there zero s = false
 later_there (suc zero) s = false
 later_there (suc (suc n)) s = later_there (suc n) s || all_there (suc (suc n)) s
 
--- whether the version of these tables is told by edition
+-- whether edition has the version of these tables
 abbrev pub tells_edition : Schema → Bool
 tells_edition = later_there NEWEST
 
--- ---- whether the tables that tell the version have the columns of ours
+-- ---- whether the tables that store the version have the columns of ours
 
 abbrev pub is_integer : Kind → Bool
 is_integer Integer = true
@@ -78,11 +78,11 @@ is_binary Binary = true
 is_binary NoCase = false
 is_binary RTrim = false
 
--- a column of this name that takes integers alone
+-- a column with this name that allows only integers
 abbrev pub is_integer_column : Column → List ℕ → Bool
 is_integer_column c name = (c.is_strict && is_integer c.kind) && bytes_eq c.name name
 
--- no default, and no other order of texts
+-- no default, and the binary collation
 abbrev pub is_plain_column : Column → Bool
 is_plain_column c = is_null c.default && is_binary c.collation
 
@@ -111,23 +111,23 @@ abbrev pub is_meta_at : Schema → Option ℕ → Bool
 is_meta_at s None = false
 is_meta_at s (Some at) = is_meta_in (slice_get s.tables at)
 
--- the name meta means a table with the columns of ours, whatever else it is
+-- the table meta has the columns of ours, whatever else it is
 abbrev pub is_meta : Schema → Bool
 is_meta s = is_meta_at s (table_named s meta_table.name)
 
--- the name edition means a table with the columns of ours, which are those of meta
+-- the table edition has the columns of ours, which are those of meta, whatever else it is
 abbrev pub is_edition : Schema → Bool
 is_edition s = is_meta_at s (table_named s edition_table.name)
 
 -- ---- whether the table version has the columns of ours
 
--- columns of these names, in this order, and no others
+-- columns with these names, in this order, and no others
 abbrev pub have_names : List (List ℕ) → List Column → Bool
 have_names [] [] = true
 have_names (name ∷ names) (c ∷ columns) = bytes_eq c.name name && have_names names columns
 have_names _ _ = false
 
--- what stands in the row of a version: the size of its text, and no text
+-- the columns of a version's row: the size of its text, but not the text
 abbrev pub version_names : List (List ℕ)
 version_names = codes "org" ∷ codes "ws" ∷ codes "number" ∷ codes "serial" ∷ codes "lineage" ∷ codes "created" ∷ codes "size" ∷ []
 
@@ -139,38 +139,38 @@ abbrev pub has_versions_at : Schema → Option ℕ → Bool
 has_versions_at s None = false
 has_versions_at s (Some at) = has_versions_in (slice_get s.tables at)
 
--- the name version means a table with the columns of ours, whatever else it is
+-- the table version has columns with the names of ours, whatever else it is
 abbrev pub has_versions : Schema → Bool
 has_versions s = has_versions_at s (table_named s version_table.name)
 
--- ---- what tells the version
+-- ---- where the version is stored
 
--- the version that meta tells in tables of the first, and edition in those of each later one
+-- the version in meta, for tables of the first version; the version in edition, for those of each later one
 abbrev pub told_in : ℕ → Tables → Option ℕ
 told_in zero t = None
 told_in (suc zero) t = schema_version_in t
 told_in (suc (suc n)) t = edition_in t
 
--- What tells the version in a database that holds the tables of one tells this one.
+-- A database that has the tables of this version stores this version.
 abbrev pub TellsIn : ℕ → Database → Type 0
 TellsIn n db = (t : Tables) → HoldsIn n db t → told_in n t ≡ Some n
 
 abbrev pub EditionTells : ℕ → Database → Type 0
 EditionTells n db = (table : Table) (editions : List (Kept ℕ)) → HasEdition db table editions → told_schema_version editions ≡ Some n
 
--- the same, whatever else the table that tells it is
+-- the same, whatever else the table is that stores it
 abbrev pub ToldBy : ℕ → Database → Type 0
 ToldBy zero db = ⊥
 ToldBy (suc zero) db = (table : Table) (metas : List (Kept ℕ)) → HasMeta db table metas → told_schema_version metas ≡ Some 1
 ToldBy (suc (suc n)) db = EditionTells (suc (suc n)) db
 
--- The database tells no version, or another than that of the tables which it has.
+-- The database stores no version, or another version than that of the tables that it has.
 abbrev pub IsOther : State → Type 0
 IsOther s = (n : ℕ) → all_there n s.now.schema ≡ true → (t : Tables) → HoldsIn n s.now t → told_in n t ≢ Some n
 
--- ---- what is given back where the database wasn't opened
+-- ---- what is returned if the database was not opened
 
--- A database of a version has become one of a later version, which isn't the newest, with the same records.
+-- A database of a version has become one of a later version, but not of the newest, with the same records.
 pub record IsOnTheWay (old new : Database) : Type 0 where
   pub from : ℕ
   pub to : ℕ
@@ -180,7 +180,7 @@ pub record IsOnTheWay (old new : Database) : Type 0 where
   pub becomes : Becomes from to old new
   pub beside : KeepsBeside from to old new
 
--- the rows are as they were, or the version is on the way to the newest
+-- the rows are unchanged, or the database was upgraded to a version before the newest
 pub record GivesBack (old new : State) : Type 0 where
   pub was_open : IsTrue new.is_open → IsTrue old.is_open
   pub committed : IsTrue new.is_open → (new.committed ≡ old.committed) ⊎ IsOnTheWay old.committed new.committed

@@ -26,15 +26,15 @@ use Rattle.texts.specs.Texts.{text_of}
 
 -- ---- what cells denote
 
--- how many versions a workspace keeps stands in a row of its own
+-- the number of versions that a workspace keeps is in a row of its own
 abbrev pub settings_of_cells : ℕ → WorkspaceCells → Settings
 settings_of_cells keep w = record { runs = w.runs; retention = keep }
 
--- the cells have the number of the text's bytes, and the text stands in pages
+-- the cells have the number of the text's bytes; the text is in pages
 abbrev pub version_of_cells : List ℕ → VersionCells → Version
 version_of_cells text v = record { number = v.number; serial = v.serial; lineage = v.lineage; created = v.created; text = text }
 
--- a token that never ends, for all workspaces
+-- no expiry, and the empty prefix
 abbrev pub no_bounds : Bounds
 no_bounds = record { until = None; prefix = [] }
 
@@ -62,7 +62,7 @@ workspace_of_cells keep w versions runs = record {
 abbrev pub version_at : Tables → List ℕ → List ℕ → VersionCells → Version
 version_at t org ws v = version_of_cells (text_of org ws v.number v.size t) v
 
--- the versions of a workspace, in the order of their numbers, in whatever order their rows stand
+-- the versions of a workspace, in the order of their numbers, whatever the order of their rows
 abbrev pub versions_at : Tables → List ℕ → List ℕ → List Version
 versions_at t org ws = map (λ x. version_at t org ws x.1.it) (sort_by version_cmp (filter (is_version_of org ws) t.versions))
 
@@ -70,7 +70,8 @@ versions_at t org ws = map (λ x. version_at t org ws x.1.it) (sort_by version_c
 abbrev pub runs_at : Tables → List ℕ → List ℕ → List Run
 runs_at t org ws = map (λ x. x.1.it) (sort_by run_cmp (filter (is_run_of org ws) t.runs))
 
--- How many versions a workspace keeps. One without a row of that, as all are in the versions before the third, keeps what one keeps at first.
+-- The number of versions that a workspace keeps. Without a row of keeping, as in all versions before the third, it is that of a new
+-- workspace.
 abbrev pub retention_at : Tables → List ℕ → List ℕ → ℕ
 retention_at t org ws = unwrap_or (retention_of org ws t) FIRST_KEPT
 
@@ -78,14 +79,14 @@ retention_at t org ws = unwrap_or (retention_of org ws t) FIRST_KEPT
 abbrev pub workspace_at : Tables → List ℕ → List ℕ → WorkspaceCells → Workspace
 workspace_at t org ws cells_of = workspace_of_cells (retention_at t org ws) cells_of (versions_at t org ws) (runs_at t org ws)
 
--- the workspace of an organization and a name, if it has a row
+-- the workspace with this name in an organization, if it has a row
 abbrev pub workspace_by : Tables → List ℕ → List ℕ → Option Workspace
 workspace_by t org ws = option_map (workspace_at t org ws) (workspace_of org ws t)
 
 abbrev pub is_token_of : List ℕ → Kept TokenRow → Bool
 is_token_of org x = bytes_eq x.1.org org
 
--- the bounds of a token stand in a row of their own: a token without one, as all are in the first version, has none
+-- the bounds of a token are in a row of their own; a token without such a row, as in the first version, has none
 abbrev pub bounds_at : Tables → List ℕ → List ℕ → Bounds
 bounds_at t org name = unwrap_or (bound_of org name t) no_bounds
 
@@ -106,6 +107,6 @@ organization_at t org cap = record { limit = cap; tokens = tokens_at t org; work
 abbrev pub record_of : Tables → List ℕ → Option Organization
 record_of t org = option_map (organization_at t org) (cap_of org t)
 
--- the organization's token with this digest, if it has one, has its row of bound
+-- if the organization has a token with this digest, that token has its row of bound
 abbrev pub IsBound : List ℕ → List ℕ → Tables → Type 0
 IsBound org digest t = IfSome (named_role_of org digest t) (λ x. IsSome (bound_of org x.name t))

@@ -1,4 +1,4 @@
--- When what is kept in memory of the tables is so.
+-- When what is kept in memory of the tables is right.
 use Rattle.std.specs.Prelude.{◌≡◌, Some, None, IfSome}
 use Rattle.machine.specs.Records.{workspace_in}
 use Rattle.machine.specs.Tokens.{asker_of}
@@ -11,15 +11,15 @@ use Rattle.tables.specs.declared.askers.Asked.{Asked}
 use Rattle.tables.specs.declared.memo.Memo.{Memo}
 use Rattle.tables.specs.declared.sizes.SizedVersion.{SizedVersion}
 
--- the version that it names is there, and its text is what stands in its pages, up to the size that is kept
+-- the version that it names exists, and its text is what its pages hold up to the size that is kept
 abbrev pub IsSize : Tables → SizedVersion → Type 0
 IsSize t s = version_text s.number (workspace_in (record_of t s.org) s.ws) ≡ Some (text_of s.org s.ws s.number s.size t)
 
--- the organization that it names has a token with the digest, and that is the token which is kept
+-- the organization that it names has a token with this digest, and its name and caller are those that are kept
 abbrev pub IsAsker : Tables → Asked → Type 0
 IsAsker t a = asker_of (record_of t a.org) a.digest ≡ Some a.row
 
--- all that is kept is so of the tables
+-- everything that is kept is right for the tables
 pub record IsRemembered (t : Tables) (memo : Memo) : Type 0 where
   pub counts : IsCounted (record_of t) memo.counted
   pub sizes : IfSome memo.sized (IsSize t)

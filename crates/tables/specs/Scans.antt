@@ -1,4 +1,4 @@
--- The rows of all tables, as they are read at once: of a page its head.
+-- The rows of all tables, read at once; of each page, its head.
 use Rattle.std.specs.Prelude.{◌≡◌, ℕ, List, map}
 use Rattle.std.specs.List.{AllByRecursion}
 use Rattle.statements.specs.declared.rows.Rows.{Rows}

@@ -22,51 +22,52 @@ pub record IsOrgRow (x : Kept OrgRow) : Type 0 where
   pub named : IsTrue (is_org_name x.1.name)
   pub limit : x.1.cap ≤ MAX_LIMIT
 
--- a token's name is one, and its digest has 32 bytes
+-- the token's name is valid, and its digest has 32 bytes
 pub record IsTokenRow (x : Kept TokenRow) : Type 0 where
   pub named : IsTrue (is_org_name x.1.name)
   pub digest : length x.1.it.digest ≡ 32
 
--- the end of a token is a moment, and its prefix is one
+-- the expiry of a token is in range, and its prefix is valid
 pub record IsBoundRow (x : Kept BoundRow) : Type 0 where
   pub until : IfSome x.1.until IsMoment
   pub prefix : IsTrue (is_prefix x.1.prefix)
 
--- The one row that tells the version: in the first version meta has it, and in each later one edition, and then meta has none.
+-- The one row with the version: in the first version it is in meta; in each later version it is in edition, and meta is empty.
 abbrev pub TellsVersion : ℕ → Tables → Type 0
 TellsVersion zero t = ⊥
 TellsVersion (suc zero) t = t.metas ≡ (pos 1, 1) ∷ []
 TellsVersion (suc (suc n)) t = (t.editions ≡ (pos 1, suc (suc n)) ∷ []) × (t.metas ≡ [])
 
--- a place of a version that has a row, below the number of the pages of its text
+-- the row's version exists, and the row's place is below the number of pages of its text
 abbrev pub IsPlaced : Tables → Kept VpageRow → Type 0
 IsPlaced t x = IsSomeAnd (size_of x.1.org x.1.ws x.1.number t) (λ size. x.1.place < pages_for size)
 
--- each page of the version's text is there
+-- every page of the version's text exists
 abbrev pub HasText : Tables → Kept VersionRow → Type 0
 HasText t x = IsWhole x.1.org x.1.ws x.1.it.number x.1.it.size t
 
--- each number is followed by the one after it, and the last one by `next`
+-- each number is followed by the next one, and the last one by `next`
 abbrev pub HasNoGap : List ℕ → ℕ → Type 0
 HasNoGap [] next = ⊤
 HasNoGap (n ∷ []) next = n + 1 ≡ next
 HasNoGap (n ∷ m ∷ ns) next = (n + 1 ≡ m) × HasNoGap (m ∷ ns) next
 
--- from the oldest version that is kept up to the next number none is missing
+-- no number is missing from the oldest version that is kept up to the next number
 abbrev pub IsGapless : Workspace → Type 0
 IsGapless w = HasNoGap (map (λ (v : Version). v.number) w.versions) w.next_version
 
--- what sound rows denote: a lawful workspace, under its name, none of whose versions is missing
+-- what sound rows denote: a lawful workspace with a valid name, none of whose versions is missing
 pub record IsSoundWorkspace (name : List ℕ) (w : Workspace) : Type 0 where
   pub named : IsTrue (is_ws_name name)
   pub lawful : IsLawful w
   pub gapless : IsGapless w
 
--- When tables of a version are sound. A law of a table that the version hasn't asks for nothing: that table has no rows.
+-- When the tables of a version are sound. A law about a table that the version does not have requires nothing, because that table has no
+-- rows.
 pub record IsSoundIn (n : ℕ) (t : Tables) : Type 0 where
-  -- the tables are those of this version, and say so
+  -- the tables are those of this version, and store it
   pub told : TellsVersion n t
-  -- an organization has one row, so has a token and a workspace; no two tokens of an organization have one digest
+  -- an organization, a token and a workspace each have one row; no two tokens of an organization have the same digest
   pub orgs_apart : AreApart (λ a b. is_org a.1.name b) t.orgs
   pub tokens_apart : AreApart (λ a b. is_token a.1.org a.1.name b) t.tokens
   pub digests_apart : AreApart (λ a b. is_digest_of a.1.org a.1.it.digest b) t.tokens
@@ -77,25 +78,25 @@ pub record IsSoundIn (n : ℕ) (t : Tables) : Type 0 where
   -- each workspace has one row of keeping, in a version that has that table
   pub keepings_apart : AreApart (λ a b. is_keeping a.1.org a.1.ws b) t.keepings
   pub wss_kept : AllByRecursion (λ x. list_any (is_keeping x.1.org x.1.name) t.keepings ≡ true) (rows_in n 10 t.wss)
-  -- no row lacks the one that it belongs to
+  -- each row has the row that it belongs to
   pub tokens_owned : AllByRecursion (λ x. list_any (is_org x.1.org) t.orgs ≡ true) t.tokens
   pub bounds_owned : AllByRecursion (λ x. list_any (is_token x.1.org x.1.name) t.tokens ≡ true) t.bounds
   pub wss_owned : AllByRecursion (λ x. list_any (is_org x.1.org) t.orgs ≡ true) t.wss
   pub keepings_owned : AllByRecursion (λ x. list_any (is_ws x.1.org x.1.ws) t.wss ≡ true) t.keepings
   pub versions_owned : AllByRecursion (λ x. list_any (is_ws x.1.org x.1.ws) t.wss ≡ true) t.versions
   pub runs_owned : AllByRecursion (λ x. list_any (is_ws x.1.org x.1.ws) t.wss ≡ true) t.runs
-  -- names, limits, digests, ends and prefixes are in range
+  -- names, limits, digests, expiries and prefixes are valid
   pub org_rows : AllByRecursion IsOrgRow t.orgs
   pub token_rows : AllByRecursion IsTokenRow t.tokens
   pub bound_rows : AllByRecursion IsBoundRow t.bounds
-  -- no organization has more workspaces than the greatest limit; where its limit was lowered, it may have more than that
+  -- no organization has more workspaces than the greatest limit; if its own limit was lowered, it may have more than that
   pub counts : (org : List ℕ) (o : Organization) → record_of t org ≡ Some o → count_of o ≤ MAX_LIMIT
-  -- The pages are sound, the uses of each are the places that name it, and each place of a version has one row; none but those of versions
-  -- has one, and the text of each version is whole.
+  -- The pages are sound, the uses of each are the number of places that name it, and each place of a version has one row. Only places of
+  -- versions have rows, and the text of each version is complete.
   pub places : HasSoundPlaces t
   pub placed : AllByRecursion (IsPlaced t) t.vpages
   pub texts : AllByRecursion (HasText t) t.versions
-  -- each workspace that the rows denote is lawful: what it keeps is in range, and no two of its versions or runs have one number; and
+  -- each workspace that the rows denote is lawful: what it holds is in range, and no two of its versions or runs have the same number; and
   -- no version between two that are kept is missing
   pub workspaces : (org name : List ℕ) (w : Workspace) → workspace_by t org name ≡ Some w → IsSoundWorkspace name w
 

@@ -13,11 +13,11 @@ use Rattle.tables.specs.Sound.{IsSound}
 abbrev pub records_of : Database → List ℕ → Option Organization
 records_of db = record_of (tables_of db)
 
--- Our tables stand in the database, each of their rows is one of its table, and together they are sound.
+-- The database has our tables, each of their rows is one of its table, and together they are sound.
 pub record IsSoundStore (db : Database) : Type 0 where
   pub holds : Holds db (tables_of db)
   pub sound : IsSound (tables_of db)
 
--- whether the name of a table means one
+-- whether the schema has a table with this table's name
 abbrev pub is_in_schema : Schema → Table → Bool
 is_in_schema s t = is_some (table_named s t.name)

@@ -1,4 +1,4 @@
-//! An organization is copied, with its tokens and its workspaces.
+//! Copies an organization with its tokens and its workspaces.
 ghost use Rattle.std.specs.Prelude.{⊤};
 ghost use Rattle.statements.specs.Steps.{Sees};
 ghost use Rattle.tables.specs.Inner.Copies.{RelatedSteps};
@@ -13,7 +13,7 @@ use statements::rows::NamedToken;
 use statements::{bounds, organizations, tokens, workspaces};
 use std::alloc::Global;
 
-/// Copies a token, with how far it reaches.
+/// Copies a token, with its expiry and prefix.
 fn copy_token<T: Alter, S: Alter>(
     tx: &mut Transaction<'_, S>,
     from: &mut Connection<T>,
@@ -55,7 +55,7 @@ fn copy_tokens<T: Alter, S: Alter>(
     Ok(())
 }
 
-/// Copies workspaces, one after the other. There was none of any of the names.
+/// Copies workspaces, one after the other. If this succeeds, none of their names existed before.
 fn copy_workspaces<T: Alter, K: PageKey, S: Alter>(
     tx: &mut Transaction<'_, S>,
     alloc: Global,
@@ -73,7 +73,7 @@ fn copy_workspaces<T: Alter, K: PageKey, S: Alter>(
     Ok(())
 }
 
-/// Copies an organization of this limit, which the other database has, to one that lacks it.
+/// Copies an organization with this limit from another database into one that lacks it.
 pub(crate) fn bring<T: Alter, K: PageKey, S: Alter>(
     tx: &mut Transaction<'_, S>,
     alloc: Global,

@@ -1,4 +1,4 @@
-//! The token that asked last, kept in memory, so that it isn't looked up each time.
+//! The token that was used last, kept in memory so that it is not looked up each time.
 ghost use Rattle.std.specs.Prelude.{◌≡◌, Some, IfSome, IfOk};
 ghost use Rattle.tables.specs.Inner.Remembering.{asker_kept, asker_noted};
 
@@ -6,7 +6,7 @@ use basis::{Down, Text};
 use machine::TokenRow;
 use std::alloc::Global;
 
-/// The token of an organization that has this digest, be it that it has ended.
+/// The token of an organization with this digest, even if it has expired.
 #[derive(Drop)]
 pub(crate) struct Asked {
     org: Text,
@@ -22,7 +22,8 @@ fn copy_of(row: &TokenRow) -> Result<TokenRow, Down>
     Ok(TokenRow { name, caller })
 }
 
-/// Who asks by the organization's token with this digest, if that is kept. For want of memory it isn't known.
+/// The caller and the name of the organization's token with this digest, if it is in memory; none if the copy
+/// cannot be allocated.
 pub(crate) fn known(asked: &Option<Asked>, org: &str, digest: &[u8; 32]) -> Option<TokenRow>
     ensures { IfSome result (λ row. asker_kept asked.now org.now digest.now ≡ Some row) }
 {
@@ -54,7 +55,7 @@ fn note(alloc: Global, org: &str, digest: &[u8; 32], row: &TokenRow) -> Option<A
     })
 }
 
-/// Keeps the token that was found. For want of memory nothing is kept.
+/// Keeps the token that was found in memory. If allocating fails, nothing is kept.
 pub(crate) fn keep(
     asked: &mut Option<Asked>,
     alloc: Global,

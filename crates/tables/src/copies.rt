@@ -1,4 +1,4 @@
-//! An organization is copied from one database to another, row by row, inside one transaction of the other.
+//! Copies an organization from one database to another, row by row, inside one transaction of the other.
 ghost use Rattle.std.specs.Prelude.{◌≡◌, List, [], ◌∷◌, map, Some, ⊤, OnOk, IfOk};
 ghost use Rattle.sqlite.specs.Held.{state};
 ghost use Rattle.sqlite.specs.State.{HasCleanDisk};
@@ -21,12 +21,12 @@ use statements::rows::Workspace;
 use statements::{runs, workspaces};
 use std::alloc::Global;
 
-/// The columns of a workspace's row, as it is read, that have the next numbers.
+/// The columns of the next numbers in a workspace's row as it is read.
 const NEXT_VERSION_COLUMN: usize = 5;
 
 const NEXT_RUN_COLUMN: usize = 6;
 
-/// The ID that was released last, of a workspace that nobody holds.
+/// Stores the ID released last, for a workspace without a holder.
 fn put_released<S: Alter>(
     tx: &mut Transaction<'_, S>,
     org: &str,
@@ -41,7 +41,7 @@ fn put_released<S: Alter>(
     }
 }
 
-/// Lets the holder hold a workspace that nobody holds.
+/// Sets the holder of a workspace that has none.
 fn put_holder<S: Alter>(
     tx: &mut Transaction<'_, S>,
     org: &str,
@@ -76,7 +76,7 @@ fn put_counts<S: Alter>(
     Ok(())
 }
 
-/// A workspace comes without its versions and runs. There was none of the name.
+/// Adds a workspace without its versions and runs. If this succeeds, its name did not exist before.
 fn put_head<S: Alter>(
     tx: &mut Transaction<'_, S>,
     org: &str,
@@ -93,7 +93,7 @@ fn put_head<S: Alter>(
     put_holder(tx, org, ws, &head.holder)
 }
 
-/// A version with a text.
+/// A version with its text.
 fn version_of(alloc: Global, head: &VersionRow, text: Bytes) -> Result<Version, Error>
     ensures { IfOk result (λ version. version ≡ record { number = head.now.number; serial = head.now.serial; lineage = head.now.lineage; created = head.now.created; text = text }) }
 {
@@ -106,7 +106,7 @@ fn version_of(alloc: Global, head: &VersionRow, text: Bytes) -> Result<Version, 
     })
 }
 
-/// Copies a version, whose text is read in the other database.
+/// Copies a version, whose text is read from the other database.
 fn copy_version<T: Alter, K: PageKey, S: Alter>(
     tx: &mut Transaction<'_, S>,
     alloc: Global,
@@ -145,7 +145,7 @@ fn copy_versions<T: Alter, K: PageKey, S: Alter>(
     Ok(())
 }
 
-/// Adds a run as it stands.
+/// Adds a run as it is in the other database.
 fn copy_run<S: Alter>(
     tx: &mut Transaction<'_, S>,
     org: &str,
@@ -187,7 +187,7 @@ fn put_runs<S: Alter>(
     Ok(())
 }
 
-/// Copies a workspace that was read but for its texts. There was none of the name.
+/// Copies a workspace that has been read without its texts. If this succeeds, its name did not exist before.
 fn copy_parts<T: Alter, K: PageKey, S: Alter>(
     tx: &mut Transaction<'_, S>,
     alloc: Global,
@@ -207,7 +207,7 @@ fn copy_parts<T: Alter, K: PageKey, S: Alter>(
     put_runs(tx, org, ws, whole.runs.as_slice())
 }
 
-/// Copies a workspace of an organization. There was none of the name.
+/// Copies a workspace of an organization. If this succeeds, its name did not exist before.
 pub(crate) fn copy_workspace<T: Alter, K: PageKey, S: Alter>(
     tx: &mut Transaction<'_, S>,
     alloc: Global,

@@ -1,4 +1,5 @@
-//! How many workspaces an organization has, kept in memory, so that they aren't counted each time that one is made.
+//! The number of an organization's workspaces, kept in memory so that they are not counted each time that one
+//! is created.
 ghost use Rattle.std.specs.Prelude.{◌≡◌, false, Some, IfSome};
 ghost use Rattle.basis.specs.declared.numbers.TheConstants.{MAX_LIMIT};
 ghost use Rattle.tables.specs.Inner.Counting.{known_of, looked, one_more, edited_count, changed_count};
@@ -8,16 +9,16 @@ use basis::numbers::MAX_LIMIT;
 use machine::{Change, Edit, Unit};
 use std::alloc::Global;
 
-/// How many workspaces an organization has. Of one organization at a time it is kept.
+/// The number of an organization's workspaces. It is kept for one organization at a time.
 #[derive(Drop)]
 pub(crate) struct Counted {
     org: Text,
     count: u64,
-    /// A workspace of this name isn't there.
+    /// The name of a workspace that does not exist.
     absent: Option<Text>,
 }
 
-/// How many workspaces an organization has, if that is kept.
+/// The number of the organization's workspaces, if it is in memory.
 pub(crate) fn known(counted: &Option<Counted>, org: &str) -> Option<u64>
     ensures { result ≡ known_of counted.now org.now }
 {
@@ -33,7 +34,7 @@ pub(crate) fn known(counted: &Option<Counted>, org: &str) -> Option<u64>
     }
 }
 
-/// What is kept where a workspace is absent, or nothing, for want of memory.
+/// What is kept after a workspace was found to be missing; nothing if allocating fails.
 fn note_absent(alloc: Global, org: &str, ws: &str, count: u64) -> Option<Counted>
     ensures { IfSome result (λ counted. counted ≡ record { org = org.now; count = count; absent = Some ws.now }) }
 {
@@ -50,8 +51,8 @@ fn note_absent(alloc: Global, org: &str, ws: &str, count: u64) -> Option<Counted
     })
 }
 
-/// Keeps what a look has found of a workspace: where it is absent and the act makes it, how many there are.
-/// For want of memory nothing is kept.
+/// Keeps what was found for a workspace: if it is missing and the act creates it, the number of workspaces.
+/// If allocating fails, nothing is kept.
 pub(crate) fn keep(
     counted: &mut Option<Counted>,
     alloc: Global,
@@ -77,8 +78,8 @@ pub(crate) fn keep(
     }
 }
 
-/// What is kept once a workspace has been made. Where nobody has seen that it was absent, it may have been
-/// there.
+/// What is kept after a workspace was created. Nothing, unless it was known to be missing: it may have
+/// existed.
 fn one_more(counted: Counted, ws: &str) -> Option<Counted>
     ensures { result ≡ one_more counted ws.now }
 {
@@ -96,7 +97,7 @@ fn one_more(counted: Counted, ws: &str) -> Option<Counted>
     })
 }
 
-/// What is kept once a workspace of the organization has been edited.
+/// What is kept after a workspace of the organization was edited.
 fn edited(counted: Counted, ws: &str, edit: &Edit) -> Option<Counted>
     ensures { result ≡ edited_count counted ws.now edit.now }
 {
@@ -113,7 +114,7 @@ fn edited(counted: Counted, ws: &str, edit: &Edit) -> Option<Counted>
     }
 }
 
-/// What is kept once a workspace has been changed: one of another organization doesn't count.
+/// What is kept after a workspace was changed. A workspace of another organization does not matter.
 pub(crate) fn changed(
     counted: Option<Counted>,
     org: &str,

@@ -1,4 +1,4 @@
-//! An organization goes, with its workspaces and its tokens.
+//! Removes an organization with its workspaces and its tokens.
 ghost use Rattle.std.specs.Prelude.{◌≡◌, nat_lt, ◌||◌};
 ghost use Rattle.std.specs.List.{list_any};
 ghost use Rattle.machine.specs.Removal.{is_locked};
@@ -20,7 +20,7 @@ pub(crate) struct Possessions {
     pub tokens: Items<NamedToken>,
 }
 
-/// What an organization has.
+/// The names of the organization's workspaces, and its tokens.
 pub(crate) fn read_possessions<S: Alter>(
     alloc: Global,
     conn: &mut Connection<S>,
@@ -33,7 +33,7 @@ pub(crate) fn read_possessions<S: Alter>(
     Ok(Possessions { names, tokens })
 }
 
-/// Whether a lock holds, or a run is open.
+/// Whether a lock holds the workspace, or a run is open.
 fn is_used(holder: &Holder, open_runs: u64) -> bool
     ensures { result ≡ (is_locked holder.now || nat_lt 0 open_runs) }
 {
@@ -44,7 +44,7 @@ fn is_used(holder: &Holder, open_runs: u64) -> bool
     }
 }
 
-/// Whether a lock holds in a workspace, or a run of it is open.
+/// Whether a lock holds a workspace, or one of its runs is open.
 fn is_in_use<S: Alter>(conn: &mut Connection<S>, org: &str, ws: &str) -> Result<bool, Error>
     ensures looks { Sees S.Store (Equals (is_used_in org.now ws.now)) conn.old conn.new result }
 {
@@ -73,7 +73,8 @@ fn is_one_in_use<S: Alter>(
     Ok(false)
 }
 
-/// Whether one of these workspaces keeps its organization back. Where it is forced, none is looked at.
+/// Whether one of these workspaces prevents the organization's removal. If the removal is forced, none is
+/// read.
 pub(crate) fn is_kept_back<S: Alter>(
     conn: &mut Connection<S>,
     org: &str,
@@ -117,7 +118,7 @@ fn remove_tokens<S: Alter>(
     Ok(())
 }
 
-/// Removes an organization of which these are all workspaces and tokens.
+/// Removes an organization that has exactly these workspaces and tokens.
 pub(crate) fn leave<S: Alter>(
     tx: &mut Transaction<'_, S>,
     org: &str,

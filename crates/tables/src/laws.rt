@@ -1,7 +1,8 @@
-//! A law of tables, the contract of a call that does nothing.
+//! A law of tables, as the contract of a function that does nothing.
 ghost use Rattle.tables.specs.Laws.{RowsStandInAnyOrder};
 
-/// Sound tables whose rows of versions and of runs are put in another order are sound, and denote the same records.
+/// If the rows of versions and of runs in sound tables are reordered, the tables are sound and denote the
+/// same records.
 pub fn rows_stand_in_any_order()
     ensures { RowsStandInAnyOrder }
 {}

@@ -1,4 +1,4 @@
-//! The lists that are asked of the tables, outside a transaction.
+//! The lists that are read from the tables, outside a transaction.
 ghost use Rattle.std.specs.Prelude.{◌≡◌, false, None, List, [], ◌∷◌, ◌++◌, map, IfOk, OnOk};
 ghost use Rattle.sqlite.specs.Held.{state};
 ghost use Rattle.basis.specs.Listings.{listing_of};
@@ -19,10 +19,10 @@ use statements::rows::{NamedRole, NamedWorkspace, Organization as OrganizationCe
 use statements::{organizations, runs, tokens, versions, workspaces};
 use std::alloc::Global;
 
-/// How many rows are asked for: one more than a listing has, which tells whether more follow.
+/// The number of rows to ask for: one more than a listing has, which shows whether more follow.
 const ASKED_ROWS: usize = 51;
 
-/// Puts an item behind the others, or, where there is no room for it, says that more follow.
+/// Adds an item after the others; if the listing is full, says that more follow.
 fn offer<T: Drop>(list: &mut Listing<T>, item: T) -> Result<(), Error>
     ensures { OnOk result ((xs : List _) → list.old ≡ listing_of xs → list.new ≡ listing_of (xs ++ item ∷ [])) }
 {
@@ -32,7 +32,7 @@ fn offer<T: Drop>(list: &mut Listing<T>, item: T) -> Result<(), Error>
     }
 }
 
-/// The versions of a workspace whose numbers are greater than this one.
+/// The versions of a workspace with numbers greater than `after`.
 pub(crate) fn list_of_versions<S: Alter>(
     conn: &mut Connection<S>,
     alloc: Global,
@@ -49,7 +49,7 @@ pub(crate) fn list_of_versions<S: Alter>(
     Ok(Listing::of(rows))
 }
 
-/// The runs of a workspace whose numbers are greater than this one.
+/// The runs of a workspace with numbers greater than `after`.
 pub(crate) fn list_of_runs<S: Alter>(
     conn: &mut Connection<S>,
     alloc: Global,
@@ -80,8 +80,8 @@ fn newest_number<S: Alter>(
     }
 }
 
-/// The number of the newest version, where none has the one before the next: a query looks for it, but where no version
-/// was ever made.
+/// The number of the newest version, if no version has the number before the next. It is found by a query,
+/// unless no version was ever created.
 fn newest_looked_for<S: Alter>(
     conn: &mut Connection<S>,
     org: &str,
@@ -169,7 +169,8 @@ fn list_workspaces<S: Alter>(
     Ok(list)
 }
 
-/// The workspaces of an organization that a prefix admits, after a name. All come after the empty one.
+/// The workspaces of an organization whose names start with a prefix and come after a name. All names come
+/// after the empty one.
 pub(crate) fn list_of_workspaces<S: Alter>(
     conn: &mut Connection<S>,
     alloc: Global,
@@ -202,7 +203,7 @@ fn org_row<S: Alter>(
     })
 }
 
-/// Puts an item behind the others.
+/// Adds an item after the others.
 fn push<T: Drop>(items: &mut Items<T>, item: T) -> Result<(), Error>
     ensures { OnOk result (items.new ≡ items.old ++ item ∷ []) }
 {
@@ -227,7 +228,7 @@ fn list_organizations<S: Alter>(
     Ok(rows)
 }
 
-/// All organizations, in the order of their names.
+/// All organizations, in the order of their names' bytes.
 pub(crate) fn list_of_organizations<S: Alter>(
     conn: &mut Connection<S>,
     alloc: Global,
@@ -270,7 +271,7 @@ fn list_tokens<S: Alter>(
     Ok(rows)
 }
 
-/// The tokens of an organization, in the order of their names.
+/// The tokens of an organization, in the order of their names' bytes.
 fn list_of_tokens<S: Alter>(
     conn: &mut Connection<S>,
     alloc: Global,
@@ -282,7 +283,7 @@ fn list_of_tokens<S: Alter>(
     list_tokens(conn, alloc, org, rows.as_slice())
 }
 
-/// What the list of an organization's tokens is answered.
+/// The answer to the list of an organization's tokens.
 pub(crate) fn tokens_told<S: Alter>(
     conn: &mut Connection<S>,
     alloc: Global,

@@ -1,4 +1,4 @@
-//! What is asked of the tables outside a transaction, by queries of one row each.
+//! What is read from the tables outside a transaction, by queries of one row each.
 ghost use Rattle.std.specs.Prelude.{◌≡◌, false, not, cond, is_some, option_copied, option_map, Option, Some, None, IsSome, IfOk, OnOk, unwrap_or};
 ghost use Rattle.basis.specs.declared.numbers.TheConstants.{FIRST_KEPT};
 ghost use Rattle.sqlite.specs.Held.{state};
@@ -29,21 +29,21 @@ use statements::rows::{NamedRole, Workspace as WorkspaceCells};
 use statements::{bounds, keepings, organizations, runs, tokens, versions, workspaces};
 use std::alloc::Global;
 
-/// A version by its number, and how many bytes its text has.
+/// The number of a version, and the number of bytes of its text.
 #[derive(Drop)]
 pub(crate) struct VersionSize {
     pub(crate) number: Number,
     pub(crate) size: u64,
 }
 
-/// What a decision sees of a workspace, and the version of it that was looked at, if one was.
+/// What a decision needs of a workspace, and the version that was read for it, if any.
 #[derive(Drop)]
 pub(crate) struct Looked {
     pub(crate) unit: Unit,
     pub(crate) size: Option<VersionSize>,
 }
 
-/// What a decision needs of the newest version, and how many bytes its text has.
+/// What a decision needs of the newest version, and the number of bytes of its text.
 #[derive(Drop)]
 struct SizedNewest {
     newest: Newest,
@@ -68,7 +68,7 @@ struct Surroundings {
     runs: RunsAround,
 }
 
-/// Whether a fault of the disk has shut the connection. It compiles a statement, and runs none.
+/// Whether a disk error has closed the connection. It compiles a statement, but does not run it.
 pub(crate) fn is_shut<S: Alter>(conn: &mut Connection<S>) -> Result<bool, Error>
     requires idle { conn.old.in_transaction ≡ false }
     ensures ends { EndsIdle S.Store conn.old conn.new }
@@ -82,7 +82,7 @@ pub(crate) fn is_shut<S: Alter>(conn: &mut Connection<S>) -> Result<bool, Error>
     }
 }
 
-/// An error where the connection is shut. It compiles a statement, and runs none.
+/// Fails if the connection is closed. It compiles a statement, but does not run it.
 fn assert_open<S: Alter>(conn: &mut Connection<S>) -> Result<(), Error>
     requires idle { conn.old.in_transaction ≡ false }
     ensures ends { EndsIdle S.Store conn.old conn.new }
@@ -95,7 +95,7 @@ fn assert_open<S: Alter>(conn: &mut Connection<S>) -> Result<(), Error>
     }
 }
 
-/// The names of our tables that don't stand in the database as they are defined; an error where the connection is shut.
+/// The names of our tables that the database lacks or defines differently. Fails if the connection is closed.
 pub(crate) fn other_tables<S: Alter>(
     conn: &mut Connection<S>,
     alloc: Global,
@@ -113,7 +113,7 @@ pub(crate) fn other_tables<S: Alter>(
     Ok(names)
 }
 
-/// The text of a version whose size is looked up, if it is kept.
+/// The text of a version, whose size is looked up; none if the version is not kept.
 fn text_found<S: Alter>(
     conn: &mut Connection<S>,
     alloc: Global,
@@ -150,7 +150,7 @@ fn text_sized<S: Alter>(
     Ok(Some(text))
 }
 
-/// The text of a version, if it is kept. Its size may be known.
+/// The text of a version; none if the version is not kept. Its size may be known.
 pub(crate) fn text<S: Alter>(
     conn: &mut Connection<S>,
     alloc: Global,
@@ -169,7 +169,7 @@ pub(crate) fn text<S: Alter>(
     }
 }
 
-/// The status of the run that holds, where it is needed.
+/// The status of the holding run, if it is needed.
 fn holder_status<S: Alter>(
     conn: &mut Connection<S>,
     org: &str,
@@ -189,7 +189,8 @@ fn holder_status<S: Alter>(
     }
 }
 
-/// Whether a version has the text that it is compared with. Of one of another size the text isn't looked up.
+/// Whether a version has the text that it is compared with. The text of a version of another size is not
+/// read.
 fn has_text<S: Alter>(
     conn: &mut Connection<S>,
     org: &str,
@@ -231,7 +232,8 @@ fn newest_as<S: Alter>(
     })
 }
 
-/// What a decision needs of the newest version, and the size of its text, if there is one, where it is needed.
+/// What a decision needs of the newest version, and the size of its text, if there is such a version and it
+/// is needed.
 fn newest<S: Alter>(
     conn: &mut Connection<S>,
     org: &str,
@@ -250,7 +252,8 @@ fn newest<S: Alter>(
     }
 }
 
-/// How many versions a workspace keeps, by its row of keeping. One without such a row keeps what one keeps at first.
+/// The number of versions that a workspace keeps, by its row of keeping. Without such a row it is that of a
+/// new workspace.
 pub(crate) fn kept(retention: Option<KeepCount>) -> KeepCount
     ensures { result ≡ unwrap_or retention FIRST_KEPT }
 {
@@ -260,7 +263,7 @@ pub(crate) fn kept(retention: Option<KeepCount>) -> KeepCount
     }
 }
 
-/// How many versions a workspace keeps, where that is needed, else what one keeps at first.
+/// The number of versions that a workspace keeps, if that is needed; otherwise that of a new workspace.
 fn retention<S: Alter>(
     conn: &mut Connection<S>,
     org: &str,
@@ -276,7 +279,7 @@ fn retention<S: Alter>(
     Ok(kept(found))
 }
 
-/// The number that so many others follow, up to the one before the next.
+/// The number that is followed by `staying` others before the next number.
 fn number_before(next_version: u64, staying: u32) -> Option<Number>
     ensures { result ≡ number_before next_version staying }
 {
@@ -289,7 +292,8 @@ fn number_if(is_kept: bool, number: Option<Number>) -> Option<Number>
     if is_kept { number } else { None }
 }
 
-/// The number of the newest version that so many stand behind, since numbers follow one another without a gap.
+/// The number of the newest version that is followed by `staying` others, since the versions' numbers have no
+/// gap.
 fn number_behind<S: Alter>(
     conn: &mut Connection<S>,
     org: &str,
@@ -303,7 +307,8 @@ fn number_behind<S: Alter>(
     Ok(number_if(is_kept, number_before(next_version, staying)))
 }
 
-/// The greatest number of the versions that go, of a workspace that keeps so many: those that stay stand behind it.
+/// The greatest number of the versions to be removed from a workspace that keeps so many: the versions that
+/// are kept follow it.
 fn outgoing<S: Alter>(
     conn: &mut Connection<S>,
     org: &str,
@@ -321,7 +326,7 @@ fn outgoing<S: Alter>(
     }
 }
 
-/// How far a token reaches. It is an error where the token has no row of bound.
+/// The expiry and the prefix of a token. Fails if the token has no row of bound.
 fn bounds_of<S: Alter>(conn: &mut Connection<S>, org: &str, name: &str) -> Result<Bounds, Error>
     ensures looks { Sees S.Store (Equals (λ t. bounds_at t org.now name.now)) conn.old conn.new result }
     ensures there { HasCleanDisk (state S.Store conn.new) → OnOk result ((t : Tables) → Holds (state S.Store conn.old).now t → IsSome (bound_of org.now name.now t)) }
@@ -342,7 +347,7 @@ fn caller_with(role: Role, bounds: Bounds) -> Caller
     }
 }
 
-/// Who asks by a token of this name and role.
+/// The caller with a token of this name and role.
 pub(crate) fn caller_as<S: Alter>(
     conn: &mut Connection<S>,
     org: &str,
@@ -355,8 +360,8 @@ pub(crate) fn caller_as<S: Alter>(
     Ok(caller_with(token.role, bounds))
 }
 
-/// Who asks by the organization's token with this digest, and the token's name. It is an error where the token has no
-/// row of bound.
+/// The caller and the name of the organization's token with this digest. Fails if the token has no row of
+/// bound.
 pub(crate) fn caller<S: Alter>(
     conn: &mut Connection<S>,
     org: &str,
@@ -378,7 +383,7 @@ pub(crate) fn caller<S: Alter>(
     }
 }
 
-/// The run that has a key, if a key is given.
+/// The run with this key, if a key is given.
 fn keyed_run<S: Alter>(
     conn: &mut Connection<S>,
     org: &str,
@@ -393,7 +398,7 @@ fn keyed_run<S: Alter>(
     }
 }
 
-/// The run that is asked of: by its number, or, where none is given, by its key.
+/// The run with this number, or, if none is given, the run with this key.
 fn asked_run<S: Alter>(
     conn: &mut Connection<S>,
     org: &str,
@@ -409,7 +414,7 @@ fn asked_run<S: Alter>(
     }
 }
 
-/// Whether the version of a number is kept.
+/// Whether the version with this number is kept.
 fn is_kept<S: Alter>(
     conn: &mut Connection<S>,
     org: &str,
@@ -422,7 +427,7 @@ fn is_kept<S: Alter>(
     Ok(size.is_some())
 }
 
-/// The version of a number, if it is kept.
+/// The version with this number, if it is kept.
 fn version_found<S: Alter>(
     conn: &mut Connection<S>,
     org: &str,
@@ -437,7 +442,7 @@ fn version_found<S: Alter>(
     }
 }
 
-/// The version that is asked of, if one is asked of and it is kept.
+/// The version with this number, if a number is given and the version is kept.
 fn asked_version<S: Alter>(
     conn: &mut Connection<S>,
     org: &str,
@@ -452,7 +457,7 @@ fn asked_version<S: Alter>(
     }
 }
 
-/// Whether a version is kept, if its number is one.
+/// Whether the version with this number is kept; false if no number is given.
 fn has_version<S: Alter>(
     conn: &mut Connection<S>,
     org: &str,
@@ -467,7 +472,7 @@ fn has_version<S: Alter>(
     }
 }
 
-/// How many workspaces an organization has. Where that is known they aren't counted.
+/// The number of an organization's workspaces. They are counted unless the number is known.
 fn count<S: Alter>(conn: &mut Connection<S>, org: &str, known: Option<u64>) -> Result<u64, Error>
     ensures looks { Sees S.Store (Equals (λ t. unwrap_or known (workspaces_of org.now t))) conn.old conn.new result }
 {
@@ -477,7 +482,7 @@ fn count<S: Alter>(conn: &mut Connection<S>, org: &str, known: Option<u64>) -> R
     }
 }
 
-/// How many workspaces an organization may have, by its row. One without a row may have none.
+/// An organization's limit of workspaces, by its row. Without a row it is 0.
 fn allowed(cap: Option<Limit>) -> Limit
     ensures { result ≡ unwrap_or cap 0 }
 {
@@ -487,7 +492,7 @@ fn allowed(cap: Option<Limit>) -> Limit
     }
 }
 
-/// How many workspaces an organization may have.
+/// An organization's limit of workspaces.
 fn limit<S: Alter>(conn: &mut Connection<S>, org: &str) -> Result<Limit, Error>
     ensures looks { Sees S.Store (Equals (λ t. unwrap_or (cap_of org.now t) 0)) conn.old conn.new result }
 {
@@ -507,7 +512,7 @@ fn absent_by(workspaces: u64, limit: Limit) -> Looked
     }
 }
 
-/// How many workspaces an organization has and how many it may have, where the act makes one.
+/// The number of an organization's workspaces and its limit, if the act creates a workspace.
 fn absent<S: Alter>(
     conn: &mut Connection<S>,
     org: &str,
@@ -524,7 +529,7 @@ fn absent<S: Alter>(
     Ok(absent_by(count, limit))
 }
 
-/// The first run that waits, where it is needed.
+/// The number of the first waiting run, if it is needed.
 fn first_waiting_if<S: Alter>(
     conn: &mut Connection<S>,
     org: &str,
@@ -540,7 +545,7 @@ fn first_waiting_if<S: Alter>(
     }
 }
 
-/// How many runs are open, where that is needed.
+/// The number of open runs, if it is needed.
 fn open_runs_if<S: Alter>(
     conn: &mut Connection<S>,
     org: &str,
@@ -608,7 +613,7 @@ fn around<S: Alter>(
     })
 }
 
-/// The version that was looked at: the newest one, or that which was asked of.
+/// The version that was read: the newest one, or the one that the act names.
 fn size_by(newest: &Option<SizedNewest>, asked: Option<VersionSize>) -> Option<VersionSize>
     ensures { result ≡ size_from newest.now asked }
 {
@@ -674,8 +679,8 @@ fn present<S: Alter>(
     Ok(unit_by(retention, workspace, around))
 }
 
-/// What a decision that needs so much sees of a workspace, and the version that was looked at. How many workspaces
-/// its organization has may be known.
+/// The unit of a workspace for a decision with these needs, and the version that was read. The number of the
+/// organization's workspaces may be known.
 pub(crate) fn unit<S: Alter>(
     conn: &mut Connection<S>,
     org: &str,

@@ -1,4 +1,4 @@
-//! What is kept in memory of the tables, so that it isn't looked up each time.
+//! What is kept in memory of the tables, so that it is not looked up each time.
 ghost use Rattle.std.specs.Prelude.{◌≡◌};
 ghost use Rattle.tables.specs.Remembered.{nothing_kept};
 ghost use Rattle.tables.specs.Inner.Remembering.{changed_memo};
@@ -9,14 +9,15 @@ use crate::counts::Counted;
 use crate::sizes::SizedVersion;
 use machine::Change;
 
-/// What is kept. Where the tables change otherwise than by a change of a workspace, all is forgotten.
+/// What is kept. Everything is forgotten when the tables change in any other way than by a change of a
+/// workspace.
 #[derive(Drop)]
 pub(crate) struct Memo {
-    /// How many workspaces the organization has that made one last.
+    /// The number of workspaces of the organization in which one was created last.
     pub(crate) counted: Option<Counted>,
-    /// The version that was looked at last, whose text is read next.
+    /// The version that was read last and whose text is read next.
     pub(crate) sized: Option<SizedVersion>,
-    /// The token that asked last.
+    /// The token that was used last.
     pub(crate) asked: Option<Asked>,
 }
 
@@ -32,7 +33,7 @@ impl Memo {
         }
     }
 
-    /// What is kept once a workspace has been changed: it has no token, and its versions may be others.
+    /// What is kept after a workspace was changed. Tokens are unaffected, but its versions may have changed.
     pub(crate) fn changed(self, org: &str, ws: &str, change: &Change) -> Memo
         ensures { result ≡ changed_memo self org.now ws.now change.now.edit }
     {

@@ -1,4 +1,4 @@
-//! How a database is made ready for a store.
+//! Prepares a database for a store.
 ghost use Rattle.std.specs.Prelude.{◌≡◌, ◌≤◌, ◌&&◌, true, false, not, is_some, ℕ, List, length, take, drop, slice_get, Option, IfSome, OnOk, OnErr, IfOk, IfErr};
 ghost use Rattle.std.specs.List.{list_any, list_all};
 ghost use Rattle.std.specs.Str.{bytes_eq};
@@ -22,63 +22,63 @@ use sqlite_value::keys::Collation;
 use sqlite_value::value::Value;
 use statements::making::{self, NEWEST, TABLE_COUNTS, TABLES};
 
-/// The first version of the schema, which the table meta tells. Later ones are told by edition.
+/// The first version of the schema, which is stored in meta. Later versions are stored in edition.
 const FIRST: u64 = 1;
 
-/// What a database has of ours.
+/// Which of our tables a database has.
 #[derive(Clone, Copy)]
 enum Found {
     /// None of the tables.
     Nothing,
     /// The tables of this version.
     Version(u64),
-    /// Some of the tables, but those of no version.
+    /// Some of the tables, but not those of a version.
     Other,
 }
 
-/// Whether a name means a table.
+/// Whether the schema has a table with this name.
 fn is_there(schema: &Schema, name: &str) -> bool
     ensures { result ≡ is_there schema.now name.now }
 {
     schema.table_named(name.as_bytes()).is_some()
 }
 
-/// Whether each of these names means a table.
+/// Whether the schema has a table with each of these names.
 fn all_named(schema: &Schema, names: &[&str]) -> bool
     ensures { result ≡ list_all (λ name. is_there schema.now name.now) names.now }
 {
     names.iter().all(|name| is_there(schema, name))
 }
 
-/// Whether one of these names means a table.
+/// Whether the schema has a table with one of these names.
 fn any_named(schema: &Schema, names: &[&str]) -> bool
     ensures { result ≡ list_any (λ name. is_there schema.now name.now) names.now }
 {
     names.iter().any(|name| is_there(schema, name))
 }
 
-/// Whether one of the tables is there.
+/// Whether the schema has one of our tables.
 fn any_there(schema: &Schema) -> bool
     ensures { result ≡ any_there schema.now }
 {
     any_named(schema, TABLES)
 }
 
-/// Whether a database has one of our tables, of whatever version. It only looks at the schema.
+/// Whether a database has one of our tables, of any version. It reads only the schema.
 pub fn has_any_of_ours<S: Alter>(conn: &Connection<S>) -> bool
     ensures { result ≡ any_there (state S.Store conn.now).now.schema }
 {
     any_there(conn.schema())
 }
 
-/// How many tables a version has, if there is that version.
+/// The number of tables of a version; none if there is no such version.
 fn count_in(schema_version: u64) -> Option<usize>
     ensures { result ≡ slice_get table_counts schema_version }
 {
     TABLE_COUNTS.get(schema_version as usize).copied()
 }
 
-/// Whether the first so many tables are there, and none of the others.
+/// Whether the first `count` of our tables exist, and none of the others.
 fn first_there(schema: &Schema, count: usize) -> bool
     requires within { count ≤ length our_tables }
     ensures { result ≡ (list_all (is_in_schema schema.now) (take count our_tables) && not (list_any (is_in_schema schema.now) (drop count our_tables))) }
@@ -87,7 +87,7 @@ fn first_there(schema: &Schema, count: usize) -> bool
     all_named(schema, first) && !any_named(schema, others)
 }
 
-/// Whether all tables of a version are there, and none that a later one added.
+/// Whether all tables of a version exist, and none that a later version added.
 fn all_there(schema: &Schema, schema_version: u64) -> bool
     ensures { result ≡ all_there schema_version schema.now }
 {
@@ -100,7 +100,7 @@ fn all_there(schema: &Schema, schema_version: u64) -> bool
     }
 }
 
-/// The version from the second on of which the tables are there, if they are those of one.
+/// The version, from the second on, whose tables exist, if there is one.
 fn later_there(schema: &Schema) -> Option<u64>
     ensures there { IfSome result (λ n. (2 ≤ n) × (all_there n schema.now ≡ true)) }
     ensures told { is_some result ≡ tells_edition schema.now }
@@ -113,7 +113,7 @@ fn later_there(schema: &Schema) -> Option<u64>
     None
 }
 
-/// Whether a column has this name, and takes integers alone.
+/// Whether a column has this name and allows only integers.
 fn is_integer_column(column: &Column, name: &[u8]) -> bool
     ensures { result ≡ is_integer_column column.now name.now }
 {
@@ -132,14 +132,14 @@ fn is_null(value: &Value) -> bool
     }
 }
 
-/// Whether a column has no default, and no other order of texts.
+/// Whether a column has no default and the binary collation.
 fn is_plain_column(column: &Column) -> bool
     ensures { result ≡ is_plain_column column.now }
 {
     is_null(&column.default) && column.collation == Collation::Binary
 }
 
-/// Whether these are the columns of a table that tells a version.
+/// Whether these are the columns of a table that stores a version.
 fn tells_schema_version(columns: &[Column]) -> bool
     ensures { result ≡ tells_schema_version columns.now }
 {
@@ -172,7 +172,7 @@ fn has_none(places: &[usize]) -> bool
     }
 }
 
-/// Whether a table has the columns of one that tells a version.
+/// Whether a table has the columns of one that stores a version.
 fn is_meta_table(table: &Table) -> bool
     ensures { result ≡ is_meta_table table.now }
 {
@@ -248,7 +248,7 @@ fn has_versions(schema: &Schema) -> bool
     }
 }
 
-/// What is found where the tables of a version are there, and this version is told.
+/// What is found if the tables of a version exist and this version, or none, is stored.
 fn found_in(schema_version: u64, told: Option<u64>) -> Found
     ensures { result ≡ found_in schema_version told }
 {
@@ -264,7 +264,7 @@ fn found_in(schema_version: u64, told: Option<u64>) -> Found
     }
 }
 
-/// Whether meta tells the first version, where the tables of that are there.
+/// Whether meta has the first version, if the tables of that version exist.
 fn find_first<S: Alter>(conn: &mut Connection<S>) -> Result<Found, Error>
     requires idle { conn.old.in_transaction ≡ false }
     requires there { all_there 1 (state S.Store conn.old).now.schema ≡ true }
@@ -279,7 +279,7 @@ fn find_first<S: Alter>(conn: &mut Connection<S>) -> Result<Found, Error>
     }
 }
 
-/// Whether edition tells this version, where the tables of it are there.
+/// Whether edition has this version, if the tables of that version exist.
 fn find_later<S: Alter>(conn: &mut Connection<S>, schema_version: u64) -> Result<Found, Error>
     requires idle { conn.old.in_transaction ≡ false }
     requires there { all_there schema_version (state S.Store conn.old).now.schema ≡ true }
@@ -295,7 +295,7 @@ fn find_later<S: Alter>(conn: &mut Connection<S>, schema_version: u64) -> Result
     }
 }
 
-/// Which version's tables are there, and whether that is told.
+/// The version whose tables exist, and whether it is stored.
 fn find_schema_version<S: Alter>(conn: &mut Connection<S>) -> Result<Found, Error>
     requires idle { conn.old.in_transaction ≡ false }
     ensures ends { EndsIdle S.Store conn.old conn.new }
@@ -321,7 +321,7 @@ fn find_schema_version<S: Alter>(conn: &mut Connection<S>) -> Result<Found, Erro
     }
 }
 
-/// Finds what a database has of ours.
+/// Finds which of our tables a database has.
 fn find<S: Alter>(conn: &mut Connection<S>) -> Result<Found, Error>
     requires idle { conn.old.in_transaction ≡ false }
     ensures ends { EndsIdle S.Store conn.old conn.new }
@@ -347,7 +347,7 @@ fn find<S: Alter>(conn: &mut Connection<S>) -> Result<Found, Error>
     find_schema_version(conn)
 }
 
-/// Takes a database of a version to the newest one, a step at a time, each in one transaction.
+/// Upgrades a database to the newest version, one version at a time, each in one transaction.
 fn climb<S: Alter>(conn: &mut Connection<S>, from: u64) -> Result<(), Error>
     requires idle { conn.old.in_transaction ≡ false }
     ensures ends { EndsIdle S.Store conn.old conn.new }
@@ -360,7 +360,7 @@ fn climb<S: Alter>(conn: &mut Connection<S>, from: u64) -> Result<(), Error>
     Ok(())
 }
 
-/// Makes the newest version where none of the tables is there, and otherwise takes the version that is there to it.
+/// Creates the newest version if none of the tables exists; otherwise upgrades the version that exists.
 pub(crate) fn ready<S: Alter>(conn: &mut Connection<S>) -> Result<(), Fault>
     requires idle { conn.old.in_transaction ≡ false }
     ensures ends { EndsIdle S.Store conn.old conn.new }

@@ -1,4 +1,4 @@
-//! What an operator's commands do: each looks first, then changes in one transaction.
+//! What an operator's commands do. Each reads first, then changes in one transaction.
 ghost use Rattle.std.specs.Prelude.{◌≡◌, false, ◌||◌, is_some, ⊤, IfOk, OnOk, OnErr};
 ghost use Rattle.sqlite.specs.Held.{state};
 ghost use Rattle.sqlite.specs.State.{HasCleanDisk, KeepsCommit};
@@ -36,8 +36,8 @@ pub(crate) fn org_add<S: Alter>(
     Ok(AdminAnswer::Done)
 }
 
-/// Copies an organization, with all that it has, from another database. Nothing changes where the other hasn't it, or
-/// this one has it.
+/// Copies an organization with everything in it from another database. Nothing changes if the other database
+/// lacks it, or if this one has it.
 pub(crate) fn copy<T: Alter, K: PageKey, S: Alter>(
     conn: &mut Connection<S>,
     alloc: Global,
@@ -66,7 +66,8 @@ pub(crate) fn copy<T: Alter, K: PageKey, S: Alter>(
     Ok(AdminAnswer::Done)
 }
 
-/// Removes an organization, with all that it has. One in which a lock holds or a run is open goes only by force.
+/// Removes an organization with everything in it. One that has a lock or an open run is removed only if this
+/// is forced.
 pub(crate) fn org_remove<S: Alter>(
     conn: &mut Connection<S>,
     alloc: Global,
@@ -91,7 +92,7 @@ pub(crate) fn org_remove<S: Alter>(
     Ok(AdminAnswer::Done)
 }
 
-/// Sets how many workspaces an organization may have.
+/// Sets an organization's limit of workspaces.
 pub(crate) fn org_limit<S: Alter>(
     conn: &mut Connection<S>,
     org: &str,
@@ -116,7 +117,7 @@ fn is_either(named: Option<Role>, known: Option<Role>) -> bool
     named.is_some() || known.is_some()
 }
 
-/// Whether an organization has a token of the name, or one with the digest.
+/// Whether an organization has a token with this name, or one with this digest.
 fn is_taken<S: Alter>(
     conn: &mut Connection<S>,
     org: &str,
@@ -155,7 +156,7 @@ pub(crate) fn token_add<S: Alter>(
     Ok(AdminAnswer::Done)
 }
 
-/// Takes a token away from an organization.
+/// Removes a token of an organization.
 pub(crate) fn token_revoke<S: Alter>(
     conn: &mut Connection<S>,
     org: &str,

@@ -152,7 +152,7 @@ fn read_heads<S: Alter, K: PageKey>(
     Ok(())
 }
 
-// Those that tell the version, organizations and tokens.
+// Meta, edition, organizations and tokens.
 fn read_first<S: Alter>(
     conn: &mut Connection<S>,
     alloc: Global,
@@ -166,7 +166,7 @@ fn read_first<S: Alter>(
     read_tokens(conn, alloc, rows)
 }
 
-// How far tokens reach, workspaces, how many versions they keep, and versions.
+// The bounds of tokens, workspaces, the numbers of versions that they keep, and versions.
 fn read_workspaces<S: Alter>(
     conn: &mut Connection<S>,
     alloc: Global,
@@ -207,7 +207,7 @@ fn read_all<S: Alter, K: PageKey>(
     read_others::<S, K>(conn, alloc, rows)
 }
 
-/// The rows of all tables; of pages their heads.
+/// The rows of all tables; of pages, their heads.
 pub(crate) fn scan<S: Alter, K: PageKey>(
     conn: &mut Connection<S>,
     alloc: Global,

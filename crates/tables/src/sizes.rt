@@ -1,4 +1,5 @@
-//! How many bytes the text has of the version that was looked at last, kept in memory, so that it isn't looked up again.
+//! The number of bytes of the text of the version that was read last, kept in memory so that it is not looked
+//! up again.
 ghost use Rattle.std.specs.Prelude.{◌≡◌, IfSome};
 ghost use Rattle.tables.specs.Inner.Remembering.{size_kept, Notes};
 
@@ -6,7 +7,7 @@ use crate::looks::VersionSize;
 use basis::{Number, Text};
 use std::alloc::Global;
 
-/// The version that was looked at last.
+/// The version that was read last.
 #[derive(Drop)]
 pub(crate) struct SizedVersion {
     org: Text,
@@ -15,7 +16,7 @@ pub(crate) struct SizedVersion {
     size: u64,
 }
 
-/// How many bytes the text of a version has, if that is kept.
+/// The number of bytes of a version's text, if it is in memory.
 pub(crate) fn known(
     sized: &Option<SizedVersion>,
     org: &str,
@@ -54,7 +55,7 @@ fn note_found(alloc: Global, org: &str, ws: &str, found: &VersionSize) -> Option
     })
 }
 
-/// What is kept of the version that was found, where its text is read next. For want of memory nothing is.
+/// What is kept of the version that was found, if its text is read next. If allocating fails, nothing is.
 pub(crate) fn note(
     alloc: Global,
     org: &str,

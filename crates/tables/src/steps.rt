@@ -16,7 +16,8 @@ use pages::PageKey;
 use sqlite::{Alter, Error, Transaction};
 use statements::{keepings, runs, versions, workspaces};
 
-/// The most versions that go at once: a workspace keeps no more, and one more has come before others go.
+/// The greatest number of versions that are removed at once: a workspace keeps no more, and one more has been
+/// added before others are removed.
 const MOST_GONE: usize = MAX_KEPT as usize + 1;
 
 /// No version has this number or a greater one.
@@ -35,8 +36,8 @@ fn remove_version<S: Alter>(
     texts::remove_text(tx, org, ws, head.number, head.size)
 }
 
-/// Of the versions with numbers below this one, that with the least goes. It tells whether more may be left: none is
-/// where there was none, nor behind the last number below this one.
+/// Removes the version with the least number among those with numbers below `below`. Returns whether more may
+/// be left: false if there was none, or if the last possible number was removed.
 fn remove_oldest<S: Alter>(
     tx: &mut Transaction<'_, S>,
     org: &str,
@@ -56,7 +57,7 @@ fn remove_oldest<S: Alter>(
     }
 }
 
-/// The versions with numbers below this one go, one after the other.
+/// Removes the versions with numbers below `below`, one after the other.
 fn remove_below<S: Alter>(
     tx: &mut Transaction<'_, S>,
     org: &str,
@@ -76,7 +77,7 @@ fn remove_below<S: Alter>(
     Ok(())
 }
 
-/// The versions of a workspace go, with their texts.
+/// Removes the versions of a workspace, with their texts.
 fn purge<S: Alter>(tx: &mut Transaction<'_, S>, org: &str, ws: &str) -> Result<(), Error>
     ensures { Steps S.Store (all_gone org.now ws.now) tx.old tx.new result }
 {
@@ -96,7 +97,7 @@ pub(crate) fn remove<S: Alter>(
     workspaces::remove(tx, org, ws)
 }
 
-/// Makes a workspace. There was none of the name, so it has no versions and no runs.
+/// Creates a workspace. If this succeeds, its name did not exist before, so it has no versions and no runs.
 fn make_workspace<S: Alter>(
     tx: &mut Transaction<'_, S>,
     org: &str,
@@ -109,7 +110,7 @@ fn make_workspace<S: Alter>(
     workspaces::add(tx, org, ws, settings.runs, settings.retention)
 }
 
-/// Adds the row of a version behind the others. There was none of its number.
+/// Adds the row of a version after the others. If this succeeds, no version had its number.
 fn add_row<S: Alter>(
     tx: &mut Transaction<'_, S>,
     org: &str,
@@ -138,7 +139,7 @@ fn previous(number: Number) -> Option<Number> {
     Number::new(number.get() as u64 - 1)
 }
 
-/// Adds a version behind the others, with its text.
+/// Adds a version after the others, with its text.
 pub(crate) fn add<K: PageKey, S: Alter>(
     tx: &mut Transaction<'_, S>,
     org: &str,
@@ -155,7 +156,7 @@ pub(crate) fn add<K: PageKey, S: Alter>(
     texts::add_text::<K, S>(tx, org, ws, version.number, before, text)
 }
 
-/// The next version has the number behind this one's. There is a workspace for it, or nothing comes.
+/// Sets the number of the next version to the one after this version's. Fails if there is no such workspace.
 fn count_on<S: Alter>(
     tx: &mut Transaction<'_, S>,
     org: &str,
@@ -172,7 +173,7 @@ fn count_on<S: Alter>(
     Ok(())
 }
 
-/// Lets the versions with numbers up to this one go.
+/// Removes the versions with numbers up to this one.
 fn forget<S: Alter>(
     tx: &mut Transaction<'_, S>,
     org: &str,
@@ -185,7 +186,7 @@ fn forget<S: Alter>(
     remove_below(tx, org, ws, last + 1)
 }
 
-/// Sets the settings of a workspace, and lets the versions with numbers up to `outgoing` go.
+/// Sets the settings of a workspace, and removes the versions with numbers up to `outgoing`.
 fn configure<S: Alter>(
     tx: &mut Transaction<'_, S>,
     org: &str,
@@ -203,7 +204,7 @@ fn configure<S: Alter>(
     }
 }
 
-/// Puts a version behind the others, and lets those with numbers up to `outgoing` go.
+/// Adds a version after the others, and removes those with numbers up to `outgoing`.
 fn put<K: PageKey, S: Alter>(
     tx: &mut Transaction<'_, S>,
     org: &str,
@@ -242,7 +243,7 @@ fn first_status(plan_only: bool) -> RunStatus
     }
 }
 
-/// Puts a run behind the others.
+/// Adds a run after the others.
 fn append_run<S: Alter>(
     tx: &mut Transaction<'_, S>,
     org: &str,
@@ -270,7 +271,7 @@ fn append_run<S: Alter>(
     )
 }
 
-/// The next run has the number behind this one's. There is a workspace for it, or nothing comes.
+/// Sets the number of the next run to the one after this run's. Fails if there is no such workspace.
 fn count_run<S: Alter>(
     tx: &mut Transaction<'_, S>,
     org: &str,
@@ -287,7 +288,7 @@ fn count_run<S: Alter>(
     Ok(())
 }
 
-/// Adds a run behind the others.
+/// Adds a run after the others, and sets the number of the next run.
 fn add_run<S: Alter>(
     tx: &mut Transaction<'_, S>,
     org: &str,
@@ -302,7 +303,7 @@ fn add_run<S: Alter>(
     append_run(tx, org, ws, number, ask, created)
 }
 
-/// Records an action on a run; where it frees the workspace, nobody holds any more.
+/// Stores an action on a run. If it frees the workspace, this has no holder any more.
 fn report<S: Alter>(
     tx: &mut Transaction<'_, S>,
     org: &str,
@@ -354,7 +355,7 @@ fn edit<K: PageKey, S: Alter>(
     }
 }
 
-/// The run of this number holds, and is planning.
+/// Makes the run with this number the holder, and sets its status to planning.
 fn start<S: Alter>(
     tx: &mut Transaction<'_, S>,
     org: &str,

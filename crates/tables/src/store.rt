@@ -38,33 +38,34 @@ use std::marker::PhantomData;
 use std::mem;
 use std::snapshot::Snapshot;
 
-// A log is long once so many bytes of texts stand in it: with what stands beside them they are the 4,096,000 at which a write copies
-// the log first.
+// A WAL is long if it has this many bytes of texts. Together with its other contents these are the 4,096,000
+// bytes from which on a write copies the WAL into the file first.
 const LONG_LOG: u64 = 4_000_000;
 
-/// The store of all organizations in tables of a database. `K` says by which keys it names the pages of texts.
+/// The store of all organizations in the tables of a database. `K` computes the keys of the pages of texts.
 #[derive(Drop)]
 pub struct SqlKeep<S: Alter, K: PageKey> {
     conn: Connection<S>,
-    // The connection when its rows were seen last. A store that a fault of the disk has shut stands for those.
+    // The connection when its rows were last seen. A store that a disk error has closed has the records of
+    // those rows.
     seen: Snapshot<Connection<S>>,
-    // What is kept of the rows, so that it isn't looked up again.
+    // What is kept of the rows, so that it is not looked up again.
     memo: Memo,
-    // How many bytes of texts were written since the log was known to be copied.
+    // The number of bytes of texts that were written since the WAL was last known to be copied into the file.
     logged: u64,
-    // what names the pages of texts
+    // computes the keys of the pages of texts
     key: PhantomData<K>,
     ghost idle: { conn.in_transaction ≡ false },
 }
 
 impl<K: PageKey> SqlKeep<MemStore, K> {
-    /// What is promised of a store in memory always holds, and it is always shielded.
+    /// The promises of a store in memory always hold, and it is always shielded.
     pub fn is_always_clean(&self)
         ensures clean { ⟦<SqlKeep<MemStore, K> as Keep>⟧.clean self.now }
         ensures shielded { ⟦<SqlKeep<MemStore, K> as Keep>⟧.shielded self.now }
     {}
 
-    /// The store with no organization, in memory.
+    /// A store in memory without organizations.
     pub fn in_memory(alloc: Global) -> Result<SqlKeep<MemStore, K>, Down>
         ensures empty { IfOk result (λ keep. (o : List ℕ) → ⟦<SqlKeep<MemStore, K> as Keep>⟧.rows keep o ≡ None) }
         ensures sound { IfOk result (λ keep. ⟦<SqlKeep<MemStore, K> as Keep>⟧.sound keep) }
@@ -79,7 +80,7 @@ impl<K: PageKey> SqlKeep<MemStore, K> {
     }
 }
 
-/// A database that wasn't opened, and why.
+/// A database that was not opened, and why.
 #[derive(Drop)]
 pub struct Unopened<S: Alter> {
     pub fault: Fault,
@@ -87,12 +88,12 @@ pub struct Unopened<S: Alter> {
 }
 
 impl<S: Alter, K: PageKey> SqlKeep<S, K> {
-    /// Opens a database. One that has none of the tables gets them all, in one transaction; each
-    /// table of others that it holds stays as it is. One that has them stays as it is; one of an
-    /// earlier version is taken to the newest, a step at a time, each in one transaction.
-    /// One in which some of the names mean other tables is given back as it was, and so is one that
-    /// a fault kept from being opened, unless it was on the way to the newest version: it may then be of one between.
-    /// A shield stays in either case.
+    /// Opens a database. If it has none of our tables, they are all created, in one transaction; its other
+    /// tables are unchanged. If it has those of the newest version, it is unchanged. If it has those of an
+    /// earlier version, it is upgraded to the newest, one version at a time, each in one transaction. If
+    /// other tables have some of our names, the connection is returned and the database is unchanged. The
+    /// same holds if an error prevents opening, except during an upgrade: then the database may have a
+    /// version in between. In both cases a shielded connection stays shielded.
     pub fn open(mut conn: Connection<S>) -> Result<SqlKeep<S, K>, Unopened<S>>
         requires idle { conn.in_transaction ≡ false }
         ensures so_far { IfOk result (λ keep. ⟦<SqlKeep<S, K> as Keep>⟧.clean keep → HasCleanDisk (state S.Store conn)) }
@@ -146,7 +147,7 @@ impl<S: Alter, K: PageKey> SqlKeep<S, K> {
         }
     }
 
-    /// Whether a fault of the disk has shut the store, so that it refuses each call; an error where memory was refused.
+    /// Whether a disk error has closed the store, so that it refuses every call. Fails if memory is refused.
     pub fn is_shut(&mut self) -> Result<bool, Down>
         ensures told { HasCleanDisk (state S.Store self.new.conn) → IfOk result (λ is_shut. (state S.Store self.old.conn).is_open ≡ not is_shut) }
         ensures looks { Looks ⟦<SqlKeep<S, K> as Keep>⟧.rows ⟦<SqlKeep<S, K> as Keep>⟧.clean ⟦<SqlKeep<S, K> as Keep>⟧.sound ⟦<SqlKeep<S, K> as Keep>⟧.keyed ⟦<SqlKeep<S, K> as Keep>⟧.shielded self.old self.new }
@@ -157,7 +158,8 @@ impl<S: Alter, K: PageKey> SqlKeep<S, K> {
         }
     }
 
-    /// The names of our tables that don't stand in the database as they are defined. An error where memory or the store refused.
+    /// The names of our tables that the database lacks or defines differently. Fails if memory or the store
+    /// refuses.
     pub fn other_tables(&mut self, alloc: Global) -> Result<Items<Text>, Down>
         ensures told { HasCleanDisk (state S.Store self.new.conn) → IfOk result (TellsTables (state S.Store self.old.conn) (state S.Store self.new.conn)) }
         ensures looks { Looks ⟦<SqlKeep<S, K> as Keep>⟧.rows ⟦<SqlKeep<S, K> as Keep>⟧.clean ⟦<SqlKeep<S, K> as Keep>⟧.sound ⟦<SqlKeep<S, K> as Keep>⟧.keyed ⟦<SqlKeep<S, K> as Keep>⟧.shielded self.old self.new }
@@ -168,8 +170,9 @@ impl<S: Alter, K: PageKey> SqlKeep<S, K> {
         }
     }
 
-    /// Where the log is long, copies it into the file, so that the next change needn't. A write copies a long log first: this
-    /// one says the schema's version once more. No record of a sound store changes. An error where memory or the store refused.
+    /// If the WAL is long, copies it into the file, so that the next change need not. It does so by a write,
+    /// which copies a long WAL first: it stores the schema's version again. No record of a sound store
+    /// changes. Fails if memory or the store refuses.
     pub fn checkpoint(&mut self) -> Result<(), Down>
         ensures short { self.old.logged < LONG_LOG → result ≡ Ok tt }
         ensures log { CopiesLog self.old.logged self.new.logged self.old self.new }
@@ -192,7 +195,8 @@ impl<S: Alter, K: PageKey> SqlKeep<S, K> {
         }
     }
 
-    /// The rows of all tables, each with its rowid; of pages their heads.
+    /// The rows of all tables, each with its rowid; of pages, their heads. Fails if memory or the store
+    /// refuses.
     pub fn scan(&mut self, alloc: Global) -> Result<Rows, Down>
         ensures told { HasCleanDisk (state S.Store self.new.conn) → IfOk result (λ rows. (t : Tables) → Holds (state S.Store self.old.conn).committed t → AreRowsOf K.key_of t rows) }
         ensures looks { Looks ⟦<SqlKeep<S, K> as Keep>⟧.rows ⟦<SqlKeep<S, K> as Keep>⟧.clean ⟦<SqlKeep<S, K> as Keep>⟧.sound ⟦<SqlKeep<S, K> as Keep>⟧.keyed ⟦<SqlKeep<S, K> as Keep>⟧.shielded self.old self.new }
@@ -203,8 +207,9 @@ impl<S: Alter, K: PageKey> SqlKeep<S, K> {
         }
     }
 
-    /// Copies an organization, with all that it has, from another store, in one transaction of this one. Nothing changes
-    /// where the other hasn't it, or this one has it.
+    /// Copies an organization with everything in it from another store, in one transaction of this store.
+    /// Nothing changes if the other store lacks it, or if this one has it. Fails if memory or a store
+    /// refuses.
     pub fn copy_from<T: Alter>(
         &mut self,
         alloc: Global,
@@ -229,7 +234,7 @@ impl<S: Alter, K: PageKey> SqlKeep<S, K> {
         }
     }
 
-    /// Gives the connection back.
+    /// Returns the connection.
     pub fn close(self) -> Connection<S>
         ensures same { result ≡ self.conn }
         ensures rows { ⟦<SqlKeep<S, K> as Keep>⟧.sound self → IsTrue (state S.Store result).is_open
@@ -247,7 +252,7 @@ impl<S: Alter, K: PageKey> SqlKeep<S, K> {
     }
 }
 
-/// The name after which a list begins: all names come after the empty one.
+/// The name after which a list begins. All names come after the empty one.
 fn name_after(after: Option<&WsName>) -> &str
     ensures { result.now ≡ unwrap_or (option_copied after.entry) [] }
 {
@@ -257,7 +262,7 @@ fn name_after(after: Option<&WsName>) -> &str
     }
 }
 
-/// Whether a text is read of the version that an act looks at.
+/// Whether an act answers with the text of a version, so that this text is read next.
 fn reads_text(act: &Act) -> bool {
     match act {
         Act::Look(Look::State) => true,
@@ -266,7 +271,7 @@ fn reads_text(act: &Act) -> bool {
     }
 }
 
-/// How many bytes of a text an edit writes.
+/// The number of bytes of the text that an edit writes.
 fn text_bytes(edit: &Edit) -> u64
     ensures { result ≡ text_bytes edit.now }
 {
@@ -283,7 +288,7 @@ fn text_bytes(edit: &Edit) -> u64
     }
 }
 
-/// The end and the prefix of a token are in their ranges. It does nothing but show that.
+/// The expiry and the prefix of a token are in their ranges. The function does nothing; its contract says so.
 fn assert_bounds(bounds: &Bounds)
     ensures until { IfSome bounds.now.until IsMoment }
     ensures prefix { IsTrue (is_prefix bounds.now.prefix) }

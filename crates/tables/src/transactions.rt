@@ -1,4 +1,4 @@
-//! The transactions of a store, each as one function: its change is committed, or nothing is.
+//! The transactions of a store, one function each: its change is committed, or nothing is.
 ghost use Rattle.std.specs.Prelude.{◌≡◌, ◌<◌, ℕ, true, false, List, ⊤, OnOk, OnErr};
 ghost use Rattle.sqlite.specs.Held.{state};
 ghost use Rattle.sqlite.specs.State.{HasCleanDisk, KeepsCommit};
@@ -22,7 +22,7 @@ use statements::rows::NamedToken;
 use statements::{making, organizations, tokens};
 use std::alloc::Global;
 
-/// Nothing waits to be committed where no transaction is open. It does nothing but show that.
+/// While no transaction is open, nothing is uncommitted. The function does nothing; its contract says so.
 pub(crate) fn assert_settled<S: Alter>(conn: &Connection<S>)
     requires idle { conn.now.in_transaction ≡ false }
     ensures { IsSettled (state S.Store conn.now) }
@@ -42,7 +42,7 @@ fn begin<S: Alter>(conn: &mut Connection<S>) -> Transaction<'_, S>
     conn.transaction()
 }
 
-/// Makes the tables of the newest version, and says that the database has it.
+/// Creates the tables of the newest version, and stores the version.
 pub(crate) fn make<S: Alter>(conn: &mut Connection<S>) -> Result<(), Error>
     requires idle { conn.old.in_transaction ≡ false }
     ensures ends { EndsIdle S.Store conn.old conn.new }
@@ -53,7 +53,7 @@ pub(crate) fn make<S: Alter>(conn: &mut Connection<S>) -> Result<(), Error>
     tx.commit()
 }
 
-/// Takes a database of a version to the next.
+/// Upgrades a database to the next version.
 pub(crate) fn raise<S: Alter>(conn: &mut Connection<S>, from: u64) -> Result<(), Error>
     requires idle { conn.old.in_transaction ≡ false }
     requires older { from < NEWEST }
@@ -65,7 +65,7 @@ pub(crate) fn raise<S: Alter>(conn: &mut Connection<S>, from: u64) -> Result<(),
     tx.commit()
 }
 
-/// Says the newest version once more.
+/// Stores the newest version again.
 pub(crate) fn retell<S: Alter>(conn: &mut Connection<S>) -> Result<(), Error>
     requires idle { conn.old.in_transaction ≡ false }
     ensures ends { EndsIdle S.Store conn.old conn.new }
@@ -108,7 +108,7 @@ pub(crate) fn add_organization<S: Alter>(
     tx.commit()
 }
 
-/// Copies an organization of this limit, which the other database has, to one that lacks it.
+/// Copies an organization with this limit from another database into one that lacks it.
 pub(crate) fn copy_organization<T: Alter, K: PageKey, S: Alter>(
     conn: &mut Connection<S>,
     alloc: Global,
@@ -128,7 +128,7 @@ pub(crate) fn copy_organization<T: Alter, K: PageKey, S: Alter>(
     tx.commit()
 }
 
-/// Removes an organization of which these are all workspaces and tokens.
+/// Removes an organization that has exactly these workspaces and tokens.
 pub(crate) fn remove_organization<S: Alter>(
     conn: &mut Connection<S>,
     org: &str,
@@ -145,7 +145,7 @@ pub(crate) fn remove_organization<S: Alter>(
     tx.commit()
 }
 
-/// Sets how many workspaces an organization may have.
+/// Sets an organization's limit of workspaces.
 pub(crate) fn set_limit<S: Alter>(
     conn: &mut Connection<S>,
     org: &str,

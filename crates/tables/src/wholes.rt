@@ -1,4 +1,4 @@
-//! A workspace is read whole, but for the texts of its versions.
+//! Reads a workspace, without the texts of its versions.
 ghost use Rattle.statements.specs.Steps.{Sees};
 ghost use Rattle.tables.specs.Sound.{IsSound};
 ghost use Rattle.tables.specs.Inner.Copies.{IsWhole};
@@ -10,10 +10,10 @@ use statements::rows::Workspace;
 use statements::{keepings, runs, versions, workspaces};
 use std::alloc::Global;
 
-/// The most versions of a workspace.
+/// The greatest number of versions of a workspace.
 const MOST_VERSIONS: usize = MAX_KEPT as usize;
 
-/// The most runs of a workspace: each has a number of its own.
+/// The greatest number of runs of a workspace: each has its own number.
 const MOST_RUNS: usize = MAX_NUMBER as usize;
 
 /// A workspace without the texts of its versions.
@@ -25,7 +25,7 @@ pub(crate) struct Whole {
     pub runs: Items<RunRow>,
 }
 
-/// Reads a workspace of an organization. It is an error where there is none of the name.
+/// Reads a workspace of an organization. Fails if there is none with this name.
 pub(crate) fn read_whole<S: Alter>(
     alloc: Global,
     conn: &mut Connection<S>,

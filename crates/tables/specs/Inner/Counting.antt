@@ -1,4 +1,4 @@
--- What is kept in memory of an organization's workspaces, and what becomes of it.
+-- What is kept in memory about an organization's workspaces, and how it changes.
 use Rattle.std.specs.Prelude.{ℕ, ◌+◌, nat_lt, Bool, cond, List, Option, Some, None}
 use Rattle.std.specs.Str.{bytes_eq}
 use Rattle.basis.specs.declared.numbers.TheConstants.{MAX_LIMIT}
@@ -8,17 +8,17 @@ use Rattle.machine.specs.declared.acts.Unit.{Unit}
 use Rattle.machine.specs.declared.acts.Unit.TheVariants.{Absent, Present}
 use Rattle.tables.specs.declared.counts.Counted.{Counted}
 
--- how many workspaces an organization has, if that is kept
+-- the number of an organization's workspaces, if it is in memory
 abbrev pub known_of : Option Counted → List ℕ → Option ℕ
 known_of None org = None
 known_of (Some c) org = cond (bytes_eq c.org org) (Some c.count) None
 
--- after a look: where the workspace is absent, and the act makes it, how many there are
+-- after a read: if the workspace is missing and the act creates it, the number of workspaces
 abbrev pub looked : Option Counted → Bool → List ℕ → List ℕ → Unit → Option Counted
 looked before makes org ws (Absent count limit) = cond makes (Some (record { org = org; count = count; absent = Some ws })) before
 looked before makes org ws (Present w) = before
 
--- after a workspace was made: one more, if it was the absent one
+-- after a workspace was created: one more, if it was the missing one
 abbrev pub one_more_of : Counted → Option (List ℕ) → List ℕ → Option Counted
 one_more_of c None ws = None
 one_more_of c (Some absent) ws = cond (bytes_eq absent ws) (cond (nat_lt c.count MAX_LIMIT) (Some (record { org = c.org; count = c.count + 1; absent = None })) None) None
@@ -26,7 +26,7 @@ one_more_of c (Some absent) ws = cond (bytes_eq absent ws) (cond (nat_lt c.count
 abbrev pub one_more : Counted → List ℕ → Option Counted
 one_more c ws = one_more_of c c.absent ws
 
--- after an edit: of one that takes a workspace away nothing is kept, and the others leave all workspaces there
+-- after an edit: nothing is kept if it deletes a workspace; other edits keep all workspaces
 abbrev pub edited_count : Counted → List ℕ → Edit → Option Counted
 edited_count c ws (Make settings) = one_more c ws
 edited_count c ws Remove = None
@@ -38,7 +38,7 @@ edited_count c ws (Release id) = Some c
 edited_count c ws (AddRun number ask created) = Some c
 edited_count c ws (Report number action status frees) = Some c
 
--- after a workspace has changed: one of another organization doesn't count
+-- after a workspace was changed; a workspace of another organization does not matter
 abbrev pub changed_count : Option Counted → List ℕ → List ℕ → Edit → Option Counted
 changed_count None org ws edit = None
 changed_count (Some c) org ws edit = cond (bytes_eq c.org org) (edited_count c ws edit) (Some c)

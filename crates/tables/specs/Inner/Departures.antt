@@ -1,4 +1,4 @@
--- How an organization goes with all that it has: its workspaces, its tokens and its row, and what keeps it back.
+-- How an organization is removed with everything in it: its workspaces, its tokens and its row; and what prevents this.
 use Rattle.std.specs.Prelude.{◌≡◌, ◌≢◌, ℕ, nat_lt, Bool, false, not, ◌&&◌, ◌||◌, List, [], ◌∷◌, Option, Some, None}
 use Rattle.std.specs.List.{list_any}
 use Rattle.machine.specs.Effects.{effect}
@@ -16,9 +16,9 @@ use Rattle.tables.specs.Sound.{IsSound}
 use Rattle.tables.specs.Inner.Edits.{removed_rows}
 use Rattle.tables.specs.Inner.Keys.{KeepsKeys}
 
--- ---- what keeps it back
+-- ---- what prevents it
 
--- a lock holds in the workspace, or a run of it is open, by its row and how many are open
+-- a lock holds the workspace, or one of its runs is open, by its row and the number of open runs
 abbrev pub is_used_by : Option WorkspaceCells → ℕ → Bool
 is_used_by None runs = false
 is_used_by (Some w) runs = is_locked w.holder || nat_lt 0 runs
@@ -26,11 +26,11 @@ is_used_by (Some w) runs = is_locked w.holder || nat_lt 0 runs
 abbrev pub is_used_in : List ℕ → List ℕ → Tables → Bool
 is_used_in org ws t = is_used_by (workspace_of org ws t) (open_runs_of org ws t)
 
--- so it is in one of these workspaces, and nothing forces it
+-- the same for one of these workspaces, unless the removal is forced
 abbrev pub is_kept_back : List ℕ → Bool → List (List ℕ) → Tables → Bool
 is_kept_back org is_forced names t = not is_forced && list_any (λ ws. is_used_in org ws t) names
 
--- ---- what goes
+-- ---- what is removed
 
 -- one workspace after the other
 abbrev pub workspaces_gone : List ℕ → List (List ℕ) → Tables → Tables
@@ -52,13 +52,14 @@ AreAllOf org names list t = EqualsWhere NamesApart (workspace_names_of org) name
 
 -- ---- the command
 
--- The rows after an answer: they are sound, the organization is as the rules leave it, every other one is as before, and pages stay under the keys of their bytes.
+-- The rows after an answer: they are sound, the organization is as the rules leave it, every other one is unchanged, and pages stay under
+-- the keys of their bytes.
 pub record Departs (answer : AdminAnswer) (is_forced : Bool) (org : List ℕ) (t u : Tables) : Type 0 where
   pub sound : IsSound u
   pub own : effect answer (record_of u org) ≡ org_removed is_forced (record_of t org)
   pub others : (q : List ℕ) → q ≢ org → record_of u q ≡ record_of t q
   pub keyed : (key_of : List ℕ → List ℕ) → KeepsKeys key_of t u
 
--- sound rows, by the answer
+-- the same for sound rows, by the answer
 abbrev pub Leaves : AdminAnswer → Bool → List ℕ → Tables → Tables → Type 0
 Leaves answer is_forced org t u = IsSound t → Departs answer is_forced org t u

@@ -3,7 +3,7 @@ use Rattle.std.specs.Prelude.{◌≡◌, ℕ, List}
 use Rattle.statements.specs.Tables.{Tables}
 use Rattle.tables.specs.Scans.{ArePagesKeyed}
 
--- where each page had the key of its bytes, it has it
+-- if each page had the key of its bytes, it still has
 abbrev pub KeepsKeys : (List ℕ → List ℕ) → Tables → Tables → Type 0
 KeepsKeys key_of t u = ArePagesKeyed key_of t → ArePagesKeyed key_of u
 

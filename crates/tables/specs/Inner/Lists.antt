@@ -20,7 +20,7 @@ use Rattle.statements.specs.Listings.{organizations_in, token_rows_of, workspace
 use Rattle.statements.specs.Tables.{Tables}
 use Rattle.tables.specs.Records.{settings_of_cells, caller_with, bounds_at}
 
--- one row more than a listing has is asked for: it tells whether more follow
+-- one row more than a listing has is asked for: it shows whether more follow
 abbrev pub asked_rows : ℕ
 asked_rows = 51
 
@@ -39,7 +39,7 @@ runs_listed_in after org ws t = listing_of (run_rows_after org ws after asked_ro
 abbrev pub newest_number_in : List ℕ → List ℕ → Tables → Option ℕ
 newest_number_in org ws t = option_map (λ head. head.number) (newest_of org ws t)
 
--- the number before the next one, where a version has it; none comes before the first, and else it is what is looked for
+-- the number before the next one, if a version has it; none if the next number is 1; otherwise the number that is looked up
 abbrev pub newest_by : Option ℕ → ℕ → Option ℕ → Option ℕ
 newest_by (Some last) next newest = Some last
 newest_by None next newest = cond (next == 1) None newest
@@ -58,7 +58,7 @@ workspaces_listed_in after prefix org t = listing_of (map (ws_row_in org t) (wor
 abbrev pub token_row_in : List ℕ → Tables → NamedRole → TokenRow
 token_row_in org t token = record { name = token.name; caller = caller_with token.role (bounds_at t org token.name) }
 
--- who asks by the organization's token with a digest, and the token's name, if it has a row
+-- the caller and the name of the organization's token with this digest, if it has a row
 abbrev pub asker_in : List ℕ → List ℕ → Tables → Option TokenRow
 asker_in org digest t = option_map (token_row_in org t) (named_role_of org digest t)
 
@@ -69,7 +69,7 @@ abbrev pub tokens_told_by : Option ℕ → List ℕ → Tables → AdminAnswer
 tokens_told_by None org t = Absent
 tokens_told_by (Some cap) org t = Tokens (tokens_listed_in org t)
 
--- what the list of an organization's tokens is answered
+-- the answer to the list of an organization's tokens
 abbrev pub tokens_told_in : List ℕ → Tables → AdminAnswer
 tokens_told_in org t = tokens_told_by (cap_of org t) org t
 

@@ -1,4 +1,4 @@
--- What looks at a store give.
+-- What reads of a store return.
 use Rattle.std.specs.Prelude.{ℕ, cond, List, Option, Some, None, is_some, option_map}
 use Rattle.std.specs.Option.{unwrap_or}
 use Rattle.machine.specs.Needs.{Needed}
@@ -19,7 +19,7 @@ use Rattle.tables.specs.declared.looks.SizedNewest.{SizedNewest}
 use Rattle.tables.specs.declared.looks.Surroundings.{Surroundings}
 use Rattle.tables.specs.declared.looks.VersionSize.{VersionSize}
 
--- how many workspaces an organization has and how many it may have, where the act makes one: if the first is known, they aren't counted
+-- the number of an organization's workspaces and its limit, if the act creates a workspace; if the number is known, they are not counted
 abbrev pub absent_in : Needed → Option ℕ → List ℕ → Tables → Looked
 absent_in need known org t = record { unit = Absent (cond need.makes (unwrap_or known (workspaces_of org t)) 0) (cond need.makes (unwrap_or (cap_of org t) 0) 0); size = None }
 
@@ -31,7 +31,7 @@ runs_in need org ws holder t = record {
   open_runs = cond need.open_runs (open_runs_of org ws t) 0;
 }
 
--- ---- versions, with how many bytes their texts have
+-- ---- versions, with the numbers of bytes of their texts
 
 abbrev pub sized_by : Option (List ℕ) → List ℕ → List ℕ → Tables → Head → SizedNewest
 sized_by text org ws t head = record { newest = newest_by text org ws t head; size = head.size }
@@ -39,17 +39,17 @@ sized_by text org ws t head = record { newest = newest_by text org ws t head; si
 abbrev pub sized_in : Option (List ℕ) → List ℕ → List ℕ → Tables → Option SizedNewest
 sized_in text org ws t = option_map (sized_by text org ws t) (newest_of org ws t)
 
--- the version that is asked of, if it has a row
+-- the version that the act names, if it has a row
 abbrev pub size_asked : Option ℕ → List ℕ → List ℕ → Tables → Option VersionSize
 size_asked None org ws t = None
 size_asked (Some n) org ws t = option_map (λ size. record { number = n; size = size }) (size_of org ws n t)
 
--- the version that was looked at
+-- the version that was read
 abbrev pub size_from : Option SizedNewest → Option VersionSize → Option VersionSize
 size_from None asked = asked
 size_from (Some n) asked = Some (record { number = n.newest.number; size = n.size })
 
--- ---- what is around
+-- ---- what surrounds a workspace
 
 abbrev pub around_in : Needed → List ℕ → List ℕ → ℕ → WorkspaceCells → Tables → Surroundings
 around_in need org ws keep w t = record {
@@ -81,9 +81,9 @@ unit_from keep w a = record { unit = Present (workspace_from keep w a); size = s
 abbrev pub present_in : Needed → List ℕ → List ℕ → WorkspaceCells → Tables → Looked
 present_in need org ws w t = unit_from (retention_in need.retention org ws t) w (around_in need org ws (retention_in need.retention org ws t) w t)
 
--- ---- what was looked at
+-- ---- what was read
 
--- the version that was looked at, if the workspace is there
+-- the version that was read, if the workspace exists
 abbrev pub size_seen : Needed → List ℕ → List ℕ → Tables → Option WorkspaceCells → Option VersionSize
 size_seen need org ws t None = None
 size_seen need org ws t (Some w) = size_from (if_needed need.newest (sized_in need.text org ws t)) (size_asked need.version org ws t)

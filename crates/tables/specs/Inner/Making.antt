@@ -1,4 +1,4 @@
--- A database that was made ready with the newest version of the schema, or that was taken to it from the version that it had.
+-- A database that was prepared with the newest version of the schema, or upgraded to it from an earlier version.
 use Rattle.std.specs.Prelude.{◌≡◌, ◌≤◌, ◌<◌, ◌+◌, ◌==◌, if◌then◌else◌, ℕ, Bool, true, false, is_some, List, Option, Some, None, IsTrue, Result, OnOk, OnErr}
 use Rattle.sqlite_schema.specs.declared.schema.Schema.{Schema}
 use Rattle.sqlite_schema.specs.Names.{table_named}
@@ -10,7 +10,7 @@ use Rattle.tables.specs.declared.opening.Found.TheVariants.{Nothing, Version, Ot
 use Rattle.tables.specs.Opening.{any_there, all_there, TellsIn, ToldBy, IsOther}
 use Rattle.tables.specs.Versions.{Becomes, KeepsBeside}
 
--- all tables were made beside those of others, and that is committed
+-- all tables were created beside others, and this is committed
 pub record IsMade (old new : State) : Type 0 where
   pub schema : HasSchema old.now new.committed
   pub was_open : IsTrue old.is_open
@@ -18,11 +18,11 @@ pub record IsMade (old new : State) : Type 0 where
 
 -- ---- what a database has
 
--- whether a name means a table
+-- whether the schema has a table with this name
 abbrev pub is_there : Schema → List ℕ → Bool
 is_there s name = is_some (table_named s name)
 
--- what is found where the tables of a version are there, and a version is told or none
+-- what is found if the tables of a version exist, with this version or none stored
 abbrev pub found_at : ℕ → ℕ → Found
 found_at n version = if version == n then Version n else Other
 
@@ -30,7 +30,7 @@ abbrev pub found_in : ℕ → Option ℕ → Found
 found_in n None = Other
 found_in n (Some version) = found_at n version
 
--- the tables of this version are there, which is told, and no row changes
+-- the tables of this version exist, this version is stored, and no row changes
 pub record IsTold (n : ℕ) (old new : State) : Type 0 where
   pub there : all_there n old.now.schema ≡ true
   pub version : TellsIn n old.now
@@ -40,7 +40,7 @@ pub record IsTold (n : ℕ) (old new : State) : Type 0 where
   pub same : new.committed ≡ old.now
   pub kept : KeepsCommit old new
 
--- what was found where some of our tables are there
+-- what was found if some of our tables exist
 abbrev pub TellsFound : Found → State → State → Type 0
 TellsFound Nothing old new = ⊥
 TellsFound (Version n) old new = IsTold n old new
@@ -54,13 +54,13 @@ FindsOurs Other old new = (any_there old.now.schema ≡ true) × IsOther old × 
 
 -- ---- from a version to a later one
 
--- Such is what the connection has committed, as long as no fault has shut it.
+-- As long as no disk error has closed the connection, it has committed this.
 pub record Climbs (from to : ℕ) (old new : State) : Type 0 where
   pub was_open : IsTrue new.is_open → IsTrue old.is_open
   pub becomes : IsTrue new.is_open → Becomes from to old.committed new.committed
   pub beside : IsTrue new.is_open → KeepsBeside from to old.committed new.committed
 
--- a step to the next version, or none
+-- one step to the next version, or none
 abbrev pub StepsFrom : {X E : Type 0} → ℕ → State → State → Result X E → Type 0
 StepsFrom from old new result = OnOk result (Climbs from (from + 1) old new × IsTrue new.is_open) × OnErr result (KeepsCommit old new)
 
@@ -69,7 +69,7 @@ pub record IsClimbed (from : ℕ) (old new : State) : Type 0 where
   pub climbs : from ≤ NEWEST → Climbs from NEWEST old new
   pub is_open : IsTrue old.is_open → IsTrue new.is_open
 
--- A version on the way is reached; where no step was taken, nothing is committed.
+-- A version on the way is reached; if no step was taken, nothing is committed.
 pub record IsOnWay (from : ℕ) (old new : State) : Type 0 where
   pub to : ℕ
   pub least : from ≤ to

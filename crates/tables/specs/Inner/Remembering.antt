@@ -1,4 +1,4 @@
--- What is kept in memory of versions and tokens, and what becomes of it.
+-- What is kept in memory about versions and tokens, and how it changes.
 use Rattle.std.specs.Prelude.{◌≡◌, ◌==◌, ◌&&◌, ℕ, cond, List, Option, Some, None}
 use Rattle.std.specs.Str.{bytes_eq}
 use Rattle.machine.specs.declared.acts.Edit.{Edit}
@@ -9,7 +9,7 @@ use Rattle.tables.specs.declared.looks.VersionSize.{VersionSize}
 use Rattle.tables.specs.declared.memo.Memo.{Memo}
 use Rattle.tables.specs.declared.sizes.SizedVersion.{SizedVersion}
 
--- how many bytes the text of a version has, if that is kept
+-- the number of bytes of a version's text, if it is in memory
 abbrev pub size_kept : Option SizedVersion → List ℕ → List ℕ → ℕ → Option ℕ
 size_kept None org ws n = None
 size_kept (Some s) org ws n = cond ((bytes_eq s.org org && bytes_eq s.ws ws) && s.number == n) (Some s.size) None
@@ -19,16 +19,16 @@ abbrev pub Notes : List ℕ → List ℕ → Option VersionSize → SizedVersion
 Notes org ws None kept = ⊥
 Notes org ws (Some v) kept = kept ≡ record { org = org; ws = ws; number = v.number; size = v.size }
 
--- who asks by a digest, if that is kept
+-- the caller and the name of the token with a digest, if they are in memory
 abbrev pub asker_kept : Option Asked → List ℕ → List ℕ → Option TokenRow
 asker_kept None org digest = None
 asker_kept (Some a) org digest = cond (bytes_eq a.org org && bytes_eq a.digest digest) (Some a.row) None
 
--- after a look: the token that was found
+-- after a read: the token that was found
 abbrev pub asker_noted : Option Asked → List ℕ → List ℕ → Option TokenRow → Option Asked
 asker_noted before org digest None = before
 asker_noted before org digest (Some row) = Some (record { org = org; digest = digest; row = row })
 
--- after a workspace has changed
+-- after a workspace was changed
 abbrev pub changed_memo : Memo → List ℕ → List ℕ → Edit → Memo
 changed_memo memo org ws edit = record { counted = changed_count memo.counted org ws edit; sized = None; asked = memo.asked }

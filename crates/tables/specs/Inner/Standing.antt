@@ -1,4 +1,4 @@
--- A workspace as its rows stand, and while they come.
+-- A workspace as its rows stand, also while they are being added.
 use Rattle.std.specs.Prelude.{◌≡◌, ℕ, Bool, true, false, ◌&&◌, List, map, filter, Option, Some, option_map}
 use Rattle.std.specs.Str.{bytes_eq}
 use Rattle.std.specs.List.{AllByRecursion, list_any}
@@ -17,13 +17,13 @@ use Rattle.tables.specs.Sound.{IsPlaced, HasText}
 abbrev pub is_pair : List ℕ → List ℕ → List ℕ → List ℕ → Bool
 is_pair a b p q = bytes_eq p a && bytes_eq q b
 
--- what sound tables say of texts
+-- what sound tables say about texts
 pub record AreTexts (t : Tables) : Type 0 where
   pub places : HasSoundPlaces t
   pub placed : AllByRecursion (IsPlaced t) t.vpages
   pub texts : AllByRecursion (HasText t) t.versions
 
--- a workspace has one row, and one of keeping, and no row lacks the one that it belongs to
+-- a workspace has one row and one row of keeping, and each row has the row that it belongs to
 pub record AreOwned (t : Tables) : Type 0 where
   pub wss_apart : AreApart (λ a b. is_ws a.1.org a.1.name b) t.wss
   pub keepings_apart : AreApart (λ a b. is_keeping a.1.org a.1.ws b) t.keepings
@@ -44,8 +44,9 @@ runs_in t org ws = map (λ x. x.1.it) (filter (is_run_of org ws) t.runs)
 abbrev pub workspace_of_rows : Tables → List ℕ → List ℕ → Option Workspace
 workspace_of_rows t org ws = option_map (λ (c : WorkspaceCells). workspace_of_cells (retention_at t org ws) c (versions_in t org ws) (runs_in t org ws)) (workspace_of org ws t)
 
--- The rows of the workspace of this name stand for this one so far, in the order in which they stand: it had none in the tables before.
--- What sound tables say of texts, and of rows that belong to others, holds; every other workspace is as before, and so are organizations, tokens and the version.
+-- The rows of the workspace with this name stand so far for this workspace, in the order in which they are stored. The tables had no such
+-- workspace before. What sound tables say about texts and about rows that belong to others holds. Every other workspace is unchanged, and
+-- so are organizations, tokens and the version.
 pub record StandsSoFar (org ws : List ℕ) (w : Workspace) (t u : Tables) : Type 0 where
   pub metas : u.metas ≡ t.metas
   pub editions : u.editions ≡ t.editions

@@ -14,29 +14,30 @@ use Rattle.statements.specs.Finds.{cap_of, role_of_name, role_of_digest}
 use Rattle.statements.specs.Steps.{Steps, Tells}
 use Rattle.statements.specs.Tables.{Tables, Holds}
 
--- between transactions nothing waits to be committed
+-- between transactions nothing is uncommitted
 abbrev pub IsSettled : State → Type 0
 IsSettled s = IsTrue s.is_open → s.now ≡ s.committed
 
--- A call outside a transaction, done or not: no transaction is open behind it, the disk was clean so far, and a shield stays.
+-- A call outside a transaction, whether it succeeded or not: afterwards no transaction is open, a disk that is clean was clean before, and
+-- a shielded one stays shielded.
 pub record EndsIdle {S : Type 0} (g : Ghosts S) (old new : Held S) : Type 0 where
   pub idle : new.in_transaction ≡ false
   pub so_far : HasCleanDisk (state g new) → HasCleanDisk (state g old)
   pub shield : (state g old).IsShielded → (state g new).IsShielded
 
--- The change is committed, and this is told of the rows that were committed before it.
+-- The change is committed, and this is said about the rows that were committed before it.
 pub record Commits (change : Tables → Tables) (told : Tables → Type 0) (old new : State) : Type 0 where
   pub rows : (t : Tables) → Holds old.committed t → Holds new.committed (change t)
   pub tells : (t : Tables) → Holds old.committed t → told t
   pub was_open : IsTrue old.is_open
   pub is_open : IsTrue new.is_open
 
--- What steps promise, and what they tell of the rows before them.
+-- What steps promise, and what they say about the rows before them.
 pub record TellingSteps {S X E : Type 0} (g : Ghosts S) (change : Tables → Tables) (law : Tables → Type 0) (old new : Transaction S) (result : Result X E) : Type 0 where
   pub steps : Steps g change old new result
   pub tells : Tells (λ _. law) (state g old.conn.now) (state g new.conn.now) result
 
--- the same, by some keys for the pages of a text: one for each place
+-- the same, for some keys of the pages of a text: one for each place
 abbrev pub KeyedSteps : {S X E : Type 0} → Ghosts S → ((ℕ → List ℕ) → Tables → Tables) → ((ℕ → List ℕ) → Tables → Type 0) → Transaction S → Transaction S → Result X E → Type 0
 KeyedSteps g change law old new result = (keys : ℕ → List ℕ) × TellingSteps g (change keys) (law keys) old new result
 
@@ -44,7 +45,7 @@ KeyedSteps g change law old new result = (keys : ℕ → List ℕ) × TellingSte
 abbrev pub Transacts : {X E : Type 0} → (Tables → Tables) → (X → Tables → Type 0) → State → State → Result X E → Type 0
 Transacts change says old new result = HasCleanDisk new → IfOk result (λ x. Commits change (says x) old new) × OnErr result (KeepsCommit old new)
 
--- looks at the committed rows, of which the result tells this: nothing is committed
+-- reads the committed rows, and the result says this about them; nothing is committed
 abbrev pub LooksAt : {X E : Type 0} → (X → Tables → Type 0) → State → State → Result X E → Type 0
 LooksAt says old new result = HasCleanDisk new → IfOk result (λ x. IsTrue old.is_open × ((t : Tables) → Holds old.committed t → says x t)) × KeepsCommit old new
 
@@ -57,7 +58,7 @@ org_managed_by (Some cap) org limit t = effect Exists t
 abbrev pub org_managed : List ℕ → ℕ → Tables → Effect AdminAnswer Tables
 org_managed org limit t = org_managed_by (cap_of org t) org limit t
 
--- whether an organization has a token of the name, or one with the digest
+-- whether an organization has a token with this name, or one with this digest
 abbrev pub is_taken : List ℕ → List ℕ → List ℕ → Tables → Bool
 is_taken org name digest t = is_some (role_of_name org name t) || is_some (role_of_digest org digest t)
 
@@ -68,7 +69,7 @@ token_managed_by (Some cap) taken org name digest role bounds t = cond taken (ef
 abbrev pub token_managed : List ℕ → List ℕ → List ℕ → Role → Bounds → Tables → Effect AdminAnswer Tables
 token_managed org name digest role bounds t = token_managed_by (cap_of org t) (is_taken org name digest t) org name digest role bounds t
 
--- the limit of an organization that is there
+-- sets the limit of an existing organization
 abbrev pub limit_managed_by : Option ℕ → List ℕ → ℕ → Tables → Effect AdminAnswer Tables
 limit_managed_by None org limit t = effect Absent t
 limit_managed_by (Some cap) org limit t = effect Done (org_capped org limit t)
@@ -76,7 +77,7 @@ limit_managed_by (Some cap) org limit t = effect Done (org_capped org limit t)
 abbrev pub limit_managed : List ℕ → ℕ → Tables → Effect AdminAnswer Tables
 limit_managed org limit t = limit_managed_by (cap_of org t) org limit t
 
--- a token that is there goes
+-- removes an existing token
 abbrev pub revocation_managed_by : Option Role → List ℕ → List ℕ → Tables → Effect AdminAnswer Tables
 revocation_managed_by None org name t = effect Absent t
 revocation_managed_by (Some role) org name t = effect Done (token_removed org name t)
@@ -84,6 +85,6 @@ revocation_managed_by (Some role) org name t = effect Done (token_removed org na
 abbrev pub revocation_managed : List ℕ → List ℕ → Tables → Effect AdminAnswer Tables
 revocation_managed org name t = revocation_managed_by (role_of_name org name t) org name t
 
--- the answer is that of the rows, and the rows after it are committed
+-- the answer is computed from the rows, and the rows after it are committed
 abbrev pub ManagesBy : {E : Type 0} → (Tables → Effect AdminAnswer Tables) → State → State → Result AdminAnswer E → Type 0
 ManagesBy command old new result = Transacts (λ t. (command t).left) (λ answer t. answer ≡ (command t).answer) old new result

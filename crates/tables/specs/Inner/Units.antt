@@ -1,4 +1,4 @@
--- What a decision sees of a workspace, from what the queries find.
+-- What a decision needs of a workspace, computed from what the queries find.
 use Rattle.std.specs.Prelude.{ℕ, Bool, false, ◌==◌, ◌-◌, cond, List, length, Option, Some, None, is_some, option_map}
 use Rattle.std.specs.Option.{unwrap_or}
 use Rattle.basis.specs.Numbers.{within}
@@ -21,7 +21,7 @@ use Rattle.statements.specs.Finds.{cap_of, workspace_of, workspaces_of, newest_o
 use Rattle.texts.specs.Texts.{pages_for, text_of, are_pieces}
 use Rattle.tables.specs.Records.{settings_of_cells, retention_at}
 
--- the status of the run that holds
+-- the status of the holding run
 abbrev pub holder_status_in : List ℕ → List ℕ → Holder → Tables → Option RunStatus
 holder_status_in org ws Nobody t = None
 holder_status_in org ws (Lock id text) t = None
@@ -31,7 +31,7 @@ holder_status_in org ws (HoldingRun n) t = status_at_number org ws n t
 abbrev pub text_in : List ℕ → List ℕ → ℕ → Tables → Option (List ℕ)
 text_in org ws n t = option_map (λ size. text_of org ws n size t) (size_of org ws n t)
 
--- whether a version has the text that it is compared with: of a version of another size the text isn't looked up
+-- whether a version has the text that it is compared with; the text of a version of another size is not read
 abbrev pub has_text : Option (List ℕ) → List ℕ → List ℕ → Head → Tables → Bool
 has_text None org ws head t = false
 has_text (Some text) org ws head t = cond (head.size == length text) (are_pieces org ws head.number text (pages_for (length text)) t) false
@@ -42,40 +42,40 @@ newest_by text org ws t head = record { number = head.number; serial = head.seri
 abbrev pub newest_in : Option (List ℕ) → List ℕ → List ℕ → Tables → Option Newest
 newest_in text org ws t = option_map (newest_by text org ws t) (newest_of org ws t)
 
--- how many versions a workspace keeps, where that is needed, else what one keeps at first
+-- the number of versions that a workspace keeps, if that is needed; otherwise that of a new workspace
 abbrev pub retention_in : Bool → List ℕ → List ℕ → Tables → ℕ
 retention_in needed org ws t = cond needed (retention_at t org ws) FIRST_KEPT
 
--- whether the version that is asked of has a row
+-- whether the version with this number has a row
 abbrev pub has_version_in : Option ℕ → List ℕ → List ℕ → Tables → Bool
 has_version_in None org ws t = false
 has_version_in (Some n) org ws t = is_some (size_of org ws n t)
 
--- the number that so many others follow, up to the one before the next
+-- the number that is followed by `staying` others before the next number
 abbrev pub number_before : ℕ → ℕ → Option ℕ
 number_before next staying = within 1 MAX_NUMBER (next - 1 - staying)
 
--- the same, if the version of that number has a row
+-- the same, if the version with that number has a row
 abbrev pub number_behind : ℕ → ℕ → List ℕ → List ℕ → Tables → Option ℕ
 number_behind next staying org ws t = cond (has_version_in (number_before next staying) org ws t) (number_before next staying) None
 
--- the greatest number of the versions that go, of a workspace that keeps so many: those that stay stand behind it, without a gap
+-- the greatest number of the versions to be removed from a workspace that keeps so many: the versions that are kept follow it without a gap
 abbrev pub outgoing_in : Staying → ℕ → ℕ → List ℕ → List ℕ → Tables → Option ℕ
 outgoing_in StayAll keep next org ws t = None
 outgoing_in MakeRoom keep next org ws t = number_behind next (keep - 1) org ws t
 outgoing_in (StayAtMost staying) keep next org ws t = number_behind next staying org ws t
 
--- the run that has a key, if a key is given
+-- the run with this key, if a key is given
 abbrev pub keyed_run_in : Option (List ℕ) → List ℕ → List ℕ → Tables → Option Run
 keyed_run_in None org ws t = None
 keyed_run_in (Some key) org ws t = keyed_run_of org ws key t
 
--- the run that is asked of: by its number, or, where none is given, by its key
+-- the run with this number, or, if none is given, the run with this key
 abbrev pub asked_run_in : Option ℕ → Option (List ℕ) → List ℕ → List ℕ → Tables → Option Run
 asked_run_in (Some n) key org ws t = run_at_number org ws n t
 asked_run_in None key org ws t = keyed_run_in key org ws t
 
--- how many workspaces the organization has may be known: then they aren't counted
+-- if the number of the organization's workspaces is known, they are not counted
 abbrev pub unit_at : Needed → Option ℕ → List ℕ → List ℕ → Tables → Option WorkspaceCells → AnyUnit
 unit_at need known org ws t None = Absent (cond need.makes (unwrap_or known (workspaces_of org t)) 0) (cond need.makes (unwrap_or (cap_of org t) 0) 0)
 unit_at need known org ws t (Some w) = Present (record {
@@ -93,6 +93,6 @@ unit_at need known org ws t (Some w) = Present (record {
   open_runs = cond need.open_runs (open_runs_of org ws t) 0;
 })
 
--- what a decision that needs so much sees of a workspace, by point queries
+-- the unit of a workspace for a decision with these needs, by point queries
 abbrev pub unit_in : Needed → Option ℕ → List ℕ → List ℕ → Tables → AnyUnit
 unit_in need known org ws t = unit_at need known org ws t (workspace_of org ws t)
