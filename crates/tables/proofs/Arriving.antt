@@ -20,7 +20,7 @@ use Rattle.pages.proofs.Sights.{nothing_more}
 use Rattle.texts.proofs.Many.{when_done, sees_then}
 use Rattle.tables.specs.Records.{no_bounds, workspace_by}
 use Rattle.tables.specs.Sound.{IsSound}
-use Rattle.tables.specs.Inner.Arrivals.{TakesFrom, token_entry, token_come, tokens_come, TokenComes, TokensCome, WorkspaceComes, WorkspacesCome}
+use Rattle.tables.specs.Inner.Imports.{TakesFrom, token_entry, token_come, tokens_come, TokenComes, TokensCome, WorkspaceComes, WorkspacesCome}
 use Rattle.tables.specs.Inner.Copies.{Relates, RelatedSteps, Begins}
 use Rattle.tables.proofs.Copying.{related_by, related_then}
 

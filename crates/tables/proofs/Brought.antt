@@ -32,7 +32,7 @@ use Rattle.statements.specs.Listings.{TokensApart, NamesApart, tokens_by_name, t
 use Rattle.statements.proofs.Found.{found_passes, found_holds, apart_one}
 use Rattle.tables.specs.Records.{token_of_cells, bounds_at, token_at, is_token_of, tokens_at, workspace_at, workspace_by, workspaces_at, organization_at, record_of}
 use Rattle.tables.specs.Sound.{IsOrgRow, IsSoundWorkspace, IsSound}
-use Rattle.tables.specs.Inner.Arrivals.{TakesFrom, token_entry, token_come, tokens_come, TokensCome, WorkspacesCome, Brings}
+use Rattle.tables.specs.Inner.Imports.{TakesFrom, token_entry, token_come, tokens_come, TokensCome, WorkspacesCome, Brings}
 use Rattle.tables.specs.Inner.Standing.{StandsSoFar}
 use Rattle.tables.specs.Inner.Copies.{RelatedSteps, Begins}
 use Rattle.tables.proofs.Copying.{seen_none}

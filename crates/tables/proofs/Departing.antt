@@ -31,8 +31,8 @@ use Rattle.statements.specs.Finds.{cap_of, workspace_of, open_runs_of}
 use Rattle.statements.proofs.Found.{find_deleted, find_left}
 use Rattle.tables.specs.Records.{is_token_of, token_at, tokens_at, workspace_at, workspace_by, workspaces_at, organization_at, record_of}
 use Rattle.tables.specs.Sound.{IsOrgRow, IsSoundWorkspace, IsSound}
-use Rattle.tables.specs.Inner.Arrivals.{token_entry}
-use Rattle.tables.specs.Inner.Departures.{is_used_by, is_used_in, is_kept_back, workspaces_gone, tokens_gone, all_gone_of, AreAllOf, Departs}
+use Rattle.tables.specs.Inner.Imports.{token_entry}
+use Rattle.tables.specs.Inner.Removals.{is_used_by, is_used_in, is_kept_back, workspaces_gone, tokens_gone, all_gone_of, AreAllOf, Departs}
 use Rattle.tables.specs.Inner.Edits.{removed_rows}
 use Rattle.tables.proofs.Names.{same_name, name_is, apart_name, names_apart, tied}
 use Rattle.tables.proofs.Parts.{none_mapped}

@@ -9,7 +9,7 @@ use Rattle.sqlite.specs.declared.error.Error.{Error}
 use Rattle.statements.specs.Steps.{AnyRows, Moves}
 use Rattle.statements.specs.Making.{Alters, HasSchema}
 use Rattle.statements.specs.Tables.{Tables, Holds}
-use Rattle.tables.specs.Inner.Arrivals.{CommitsRelated}
+use Rattle.tables.specs.Inner.Imports.{CommitsRelated}
 use Rattle.tables.specs.Inner.Copies.{Relates}
 use Rattle.tables.specs.Inner.Steps.{IsSettled, Commits}
 use Rattle.tables.specs.Inner.Making.{IsMade, StepsFrom}

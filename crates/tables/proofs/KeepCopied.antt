@@ -15,7 +15,7 @@ use Rattle.tables.specs.Remembered.{nothing_kept}
 use Rattle.tables.specs.Records.{record_of}
 use Rattle.tables.specs.Stores.{records_of}
 use Rattle.tables.specs.declared.memo.Memo.{Memo}
-use Rattle.tables.specs.Inner.Arrivals.{TakesFrom, TakesCommitted, Arrives, Brings, Copies, CommitsRelated}
+use Rattle.tables.specs.Inner.Imports.{TakesFrom, TakesCommitted, Arrives, Brings, Copies, CommitsRelated}
 use Rattle.tables.specs.Inner.Steps.{IsSettled}
 use Rattle.tables.proofs.KeptInMemory.{nothing_is}
 use Rattle.tables.proofs.Databases.{store_by, records_by}

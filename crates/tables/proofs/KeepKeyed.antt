@@ -10,7 +10,7 @@ use Rattle.statements.proofs.Decoding.{tables-held}
 use Rattle.tables.specs.Opening.{IsSoundKeep}
 use Rattle.tables.specs.Scans.{ArePagesKeyed}
 use Rattle.tables.specs.declared.memo.Memo.{Memo}
-use Rattle.tables.specs.Inner.Arrivals.{CommitsRelated}
+use Rattle.tables.specs.Inner.Imports.{CommitsRelated}
 use Rattle.tables.specs.Inner.Keys.{KeepsKeys}
 use Rattle.tables.specs.Inner.Steps.{Commits, org_managed_by, org_managed, limit_managed_by, limit_managed, token_managed_by, token_managed, is_taken, revocation_managed_by, revocation_managed}
 

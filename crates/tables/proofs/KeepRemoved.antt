@@ -19,10 +19,10 @@ use Rattle.tables.specs.Sound.{IsSound}
 use Rattle.tables.specs.Stores.{records_of}
 use Rattle.texts.proofs.Many.{sees_by}
 use Rattle.tables.specs.declared.memo.Memo.{Memo}
-use Rattle.tables.specs.declared.departures.Possessions.{Possessions}
-use Rattle.tables.specs.Inner.Arrivals.{CommitsRelated}
+use Rattle.tables.specs.declared.removals.Possessions.{Possessions}
+use Rattle.tables.specs.Inner.Imports.{CommitsRelated}
 use Rattle.tables.specs.Inner.Copies.{AreMadeBy}
-use Rattle.tables.specs.Inner.Departures.{is_kept_back, all_gone_of, AreAllOf, Departs, Leaves}
+use Rattle.tables.specs.Inner.Removals.{is_kept_back, all_gone_of, AreAllOf, Departs, Leaves}
 use Rattle.tables.specs.Inner.Steps.{IsSettled}
 use Rattle.tables.proofs.KeptInMemory.{nothing_is}
 use Rattle.tables.proofs.Databases.{store_by, records_by}

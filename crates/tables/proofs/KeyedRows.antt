@@ -16,7 +16,7 @@ use Rattle.statements.specs.Tables.{Tables}
 use Rattle.texts.specs.Texts.{pages_for, KeysFit}
 use Rattle.texts.proofs.KeyedTexts.{added_keyed, removed_keyed}
 use Rattle.tables.specs.Scans.{ArePagesKeyed}
-use Rattle.tables.specs.Inner.Departures.{workspaces_gone, tokens_gone, all_gone_of}
+use Rattle.tables.specs.Inner.Removals.{workspaces_gone, tokens_gone, all_gone_of}
 use Rattle.tables.specs.Inner.Edits.{version_gone, first_gone, oldest_gone, so_many_gone, most_gone, gone_below, all_gone, removed_rows, settings_rows, configured_rows, row_added, added_rows, if_there, run_put, run_counted, run_rows, edited_rows}
 use Rattle.tables.specs.Inner.Keys.{KeepsKeys}
 

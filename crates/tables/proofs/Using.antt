@@ -10,7 +10,7 @@ use Rattle.statements.specs.Steps.{Equals, Sees}
 use Rattle.statements.specs.Tables.{Tables}
 use Rattle.texts.proofs.Many.{sees_as}
 use Rattle.tables.specs.Inner.Copies.{AreMadeBy}
-use Rattle.tables.specs.Inner.Departures.{workspaces_gone, tokens_gone}
+use Rattle.tables.specs.Inner.Removals.{workspaces_gone, tokens_gone}
 use Rattle.tables.specs.Inner.Edits.{removed_rows}
 use Rattle.tables.proofs.KeepFound.{seen_both}
 

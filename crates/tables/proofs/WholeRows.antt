@@ -23,7 +23,7 @@ use Rattle.texts.proofs.Many.{sees_by, sees_as}
 use Rattle.tables.specs.Records.{retention_at, version_at, versions_at, runs_at, workspace_of_cells, workspace_at}
 use Rattle.tables.specs.Sound.{IsSound}
 use Rattle.tables.specs.Inner.Copies.{IsWhole}
-use Rattle.tables.specs.declared.wholes.Whole.{Whole}
+use Rattle.tables.specs.declared.loading.LoadedWorkspace.{LoadedWorkspace}
 use Rattle.tables.proofs.KeepFound.{seen_both}
 use Rattle.tables.proofs.Listed.{versions_apart, runs_apart}
 use Rattle.tables.proofs.Ranks.{same_names}
@@ -107,10 +107,10 @@ module _ {S : Type 0} (g : Ghosts S) (E : Type 0) (org ws : List ℕ) where
 
   pub whole_seen : (row : Option WorkspaceCells) (kept : Option ℕ) (it : WorkspaceCells) (keep : ℕ) (versions : List Head) (runs : List Run) (a b c d e : Held S) → row ≡ Some it → kept ≡ Some keep
       → Queries {E = E} g row_is a b (Ok row) → Queries {E = E} g retention_is b c (Ok kept) → Queries {E = E} g versions_are c d (Ok versions) → Queries {E = E} g runs_are d e (Ok runs)
-      → Sees {E = E} g (λ (whole : Whole) f. IsSound f → IsWhole org ws f whole.it whole.retention whole.versions whole.runs) a e (Ok (record { it = it; retention = keep; versions = versions; runs = runs }))
+      → Sees {E = E} g (λ (whole : LoadedWorkspace) f. IsSound f → IsWhole org ws f whole.it whole.retention whole.versions whole.runs) a e (Ok (record { it = it; retention = keep; versions = versions; runs = runs }))
   whole_seen row kept it keep versions runs a b c d e is keeps one two three four =
       let first = seen_both g row_is retention_is a b c row kept (sees_by g row_is a b (Ok row) one) (sees_by g retention_is b c (Ok kept) two) in
       let second = seen_both g (λ k t. row_is row t × retention_is k t) versions_are a c d kept versions first (sees_by g versions_are c d (Ok versions) three) in
       let third = seen_both g (λ vs t. (row_is row t × retention_is kept t) × versions_are vs t) runs_are a d e versions runs second (sees_by g runs_are d e (Ok runs) four) in
-      sees_as g (λ rs t. ((row_is row t × retention_is kept t) × versions_are versions t) × runs_are rs t) (λ (whole : Whole) f. IsSound f → IsWhole org ws f whole.it whole.retention whole.versions whole.runs) a e runs (record { it = it; retention = keep; versions = versions; runs = runs })
+      sees_as g (λ rs t. ((row_is row t × retention_is kept t) × versions_are versions t) × runs_are rs t) (λ (whole : LoadedWorkspace) f. IsSound f → IsWhole org ws f whole.it whole.retention whole.versions whole.runs) a e runs (record { it = it; retention = keep; versions = versions; runs = runs })
       (λ t told sound. whole_read org ws t sound it (sym told.0.0.0 ∙ is) keep versions runs (sym told.0.0.1 ∙ keeps) (told.0.1 (versions_apart t org ws sound)) (told.1 (runs_apart t org ws sound))) third

@@ -1,8 +1,8 @@
 -- Contracts between functions. Nobody has to believe this folder: the definitions beside it say what public functions promise.
-pub mod Arrivals
+pub mod Imports
 pub mod Copies
 pub mod Counting
-pub mod Departures
+pub mod Removals
 pub mod Edits
 pub mod Keys
 pub mod Lists

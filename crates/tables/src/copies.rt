@@ -11,8 +11,8 @@ ghost use Rattle.tables.specs.Sound.{IsSound};
 ghost use Rattle.tables.specs.Inner.Copies.{RelatedSteps, AreMadeBy, released_rows, held_rows, counted_rows, Carries, with_versions, with_runs, Begins};
 ghost use Rattle.tables.specs.Inner.Keys.{KeepsKeys, KeepsPages};
 
+use crate::loading::{LoadedWorkspace, load_workspace};
 use crate::steps;
-use crate::wholes::{Whole, read_whole};
 use basis::{Bytes, Holder, KeepCount, LockId, RunRow, VersionRow};
 use machine::{StateText, Version};
 use pages::PageKey;
@@ -194,7 +194,7 @@ fn copy_parts<T: Alter, K: PageKey, S: Alter>(
     from: &mut Connection<T>,
     org: &str,
     ws: &str,
-    whole: &Whole,
+    whole: &LoadedWorkspace,
 ) -> Result<(), Error>
     ensures looks { Sees T.Store (λ _ _. ⊤) from.old from.new result }
     ensures copies { (w : AnyWorkspace) × RelatedSteps S.Store (Begins org.now ws.now w) tx.old tx.new result
@@ -220,6 +220,6 @@ pub(crate) fn copy_workspace<T: Alter, K: PageKey, S: Alter>(
         × (HasCleanDisk (state T.Store from.new) → OnOk result ((f : Tables) → Holds (state T.Store from.old).now f → IsSound f → workspace_by f org.now ws.now ≡ Some w)) }
     ensures keyed { RelatedSteps S.Store (KeepsKeys K.key_of) tx.old tx.new result }
 {
-    let whole = read_whole(alloc, from, org, ws)?;
+    let whole = load_workspace(alloc, from, org, ws)?;
     copy_parts::<T, K, S>(tx, alloc, from, org, ws, &whole)
 }

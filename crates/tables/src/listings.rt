@@ -9,7 +9,7 @@ ghost use Rattle.tables.specs.Inner.Lists.{versions_listed_in, runs_listed_in, n
 ghost use Rattle.tables.specs.Inner.Steps.{EndsIdle, LooksAt};
 
 use crate::looks::{caller_as, kept};
-use crate::transactions::assert_settled;
+use crate::transactions::assert_committed;
 use basis::{
     Holder, HolderId, Items, Listing, Number, RunRow, Settings, VersionRow, WsName, WsPrefix, WsRow,
 };
@@ -44,7 +44,7 @@ pub(crate) fn list_of_versions<S: Alter>(
     ensures ends { EndsIdle S.Store conn.old conn.new }
     ensures looks { LooksAt (EqualsWhere (VersionsApart org.now ws.now) (versions_listed_in after org.now ws.now)) (state S.Store conn.old) (state S.Store conn.new) result }
 {
-    assert_settled(conn);
+    assert_committed(conn);
     let rows = versions::list(alloc, conn, org, ws, after, ASKED_ROWS)?;
     Ok(Listing::of(rows))
 }
@@ -61,7 +61,7 @@ pub(crate) fn list_of_runs<S: Alter>(
     ensures ends { EndsIdle S.Store conn.old conn.new }
     ensures looks { LooksAt (EqualsWhere (RunsApart org.now ws.now) (runs_listed_in after org.now ws.now)) (state S.Store conn.old) (state S.Store conn.new) result }
 {
-    assert_settled(conn);
+    assert_committed(conn);
     let rows = runs::list(alloc, conn, org, ws, after, ASKED_ROWS)?;
     Ok(Listing::of(rows))
 }
@@ -182,7 +182,7 @@ pub(crate) fn list_of_workspaces<S: Alter>(
     ensures ends { EndsIdle S.Store conn.old conn.new }
     ensures looks { LooksAt (EqualsWhere WorkspacesApart (workspaces_listed_in after.now prefix.now org.now)) (state S.Store conn.old) (state S.Store conn.new) result }
 {
-    assert_settled(conn);
+    assert_committed(conn);
     let rows = workspaces::list(alloc, conn, org, after, prefix, ASKED_ROWS)?;
     list_workspaces(conn, alloc, org, rows.as_slice())
 }
@@ -237,7 +237,7 @@ pub(crate) fn list_of_organizations<S: Alter>(
     ensures ends { EndsIdle S.Store conn.old conn.new }
     ensures looks { LooksAt (EqualsWhere OrgsApart organizations_listed_in) (state S.Store conn.old) (state S.Store conn.new) result }
 {
-    assert_settled(conn);
+    assert_committed(conn);
     let rows = organizations::list(alloc, conn)?;
     list_organizations(conn, alloc, rows.as_slice())
 }
@@ -293,7 +293,7 @@ pub(crate) fn tokens_told<S: Alter>(
     ensures ends { EndsIdle S.Store conn.old conn.new }
     ensures looks { LooksAt (EqualsWhere TokensApart (tokens_told_in org.now)) (state S.Store conn.old) (state S.Store conn.new) result }
 {
-    assert_settled(conn);
+    assert_committed(conn);
     let cap = organizations::cap(conn, org)?;
     if cap.is_none() {
         return Ok(AdminAnswer::Absent);

@@ -17,7 +17,7 @@ ghost use Rattle.tables.specs.Inner.Steps.{EndsIdle, LooksAt};
 ghost use Rattle.tables.specs.Inner.Units.{holder_status_in, text_in, has_text, retention_in, number_before, has_version_in, number_behind, outgoing_in, keyed_run_in, asked_run_in};
 ghost use Rattle.tables.specs.Inner.Looks.{absent_in, runs_in, sized_by, sized_in, size_asked, around_in, unit_from, size_from, present_in, looked_in, text_by};
 
-use crate::transactions::assert_settled;
+use crate::transactions::assert_committed;
 use basis::{
     Bounds, Bytes, Caller, Holder, Items, KeepCount, Limit, Number, Role, RunRow, RunStatus,
     Settings, Text, VersionRow,
@@ -105,7 +105,7 @@ pub(crate) fn other_tables<S: Alter>(
     ensures told { HasCleanDisk (state S.Store conn.new) → IfOk result (TellsTables (state S.Store conn.old) (state S.Store conn.new)) }
     ensures kept { HasCleanDisk (state S.Store conn.new) → KeepsCommit (state S.Store conn.old) (state S.Store conn.new) }
 {
-    assert_settled(conn);
+    assert_committed(conn);
     assert_open(conn)?;
     let Ok(names) = others(alloc, conn.schema()) else {
         return Err(Error::SqliteFailure(ErrorCode::OutOfMemory));
@@ -125,7 +125,7 @@ fn text_found<S: Alter>(
     ensures ends { EndsIdle S.Store conn.old conn.new }
     ensures looks { LooksAt (Equals (text_in org.now ws.now number)) (state S.Store conn.old) (state S.Store conn.new) result }
 {
-    assert_settled(conn);
+    assert_committed(conn);
     match versions::size(conn, org, ws, number)? {
         None => Ok(None),
         Some(size) => Ok(Some(texts::text(alloc, conn, org, ws, number, size)?)),
@@ -145,7 +145,7 @@ fn text_sized<S: Alter>(
     ensures ends { EndsIdle S.Store conn.old conn.new }
     ensures looks { LooksAt (Equals (λ t. Some (text_of org.now ws.now number size t))) (state S.Store conn.old) (state S.Store conn.new) result }
 {
-    assert_settled(conn);
+    assert_committed(conn);
     let text = texts::text(alloc, conn, org, ws, number, size)?;
     Ok(Some(text))
 }
@@ -372,7 +372,7 @@ pub(crate) fn caller<S: Alter>(
     ensures looks { LooksAt (Equals (asker_in org.now digest.now)) (state S.Store conn.old) (state S.Store conn.new) result }
     ensures bound { HasCleanDisk (state S.Store conn.new) → OnOk result ((t : Tables) → Holds (state S.Store conn.old).now t → IsBound org.now digest.now t) }
 {
-    assert_settled(conn);
+    assert_committed(conn);
     match tokens::find_by_digest(conn, org, digest)? {
         None => Ok(None),
         Some(found) => {
@@ -692,7 +692,7 @@ pub(crate) fn unit<S: Alter>(
     ensures ends { EndsIdle S.Store conn.old conn.new }
     ensures looks { LooksAt (Equals (looked_in (needed_of needs.now) known org.now ws.now)) (state S.Store conn.old) (state S.Store conn.new) result }
 {
-    assert_settled(conn);
+    assert_committed(conn);
     match workspaces::find(conn, org, ws)? {
         None => absent(conn, org, needs, known),
         Some(workspace) => present(conn, org, ws, needs, workspace),

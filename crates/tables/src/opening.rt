@@ -14,7 +14,7 @@ ghost use Rattle.tables.specs.Inner.Making.{is_there, IsMade, found_in, TellsFou
 ghost use Rattle.tables.specs.Inner.Steps.{EndsIdle};
 ghost use Rattle.tables.specs.Versions.{HoldsSchema, schema_records, KeepsBeside};
 
-use crate::transactions::{self, assert_settled};
+use crate::transactions::{self, assert_committed};
 use machine::Fault;
 use sqlite::{Alter, Connection, Error};
 use sqlite_schema::schema::{Column, Kind, Schema, Table};
@@ -272,7 +272,7 @@ fn find_first<S: Alter>(conn: &mut Connection<S>) -> Result<Found, Error>
     ensures found { HasCleanDisk (state S.Store conn.new) → IfOk result (λ found. TellsFound found (state S.Store conn.old) (state S.Store conn.new)) }
     ensures err { HasCleanDisk (state S.Store conn.new) → OnErr result (KeepsCommit (state S.Store conn.old) (state S.Store conn.new)) }
 {
-    assert_settled(conn);
+    assert_committed(conn);
     match making::schema_version(conn) {
         Ok(told) => Ok(found_in(FIRST, told)),
         Err(error) => Err(error),
@@ -288,7 +288,7 @@ fn find_later<S: Alter>(conn: &mut Connection<S>, schema_version: u64) -> Result
     ensures found { HasCleanDisk (state S.Store conn.new) → IfOk result (λ found. TellsFound found (state S.Store conn.old) (state S.Store conn.new)) }
     ensures err { HasCleanDisk (state S.Store conn.new) → OnErr result (KeepsCommit (state S.Store conn.old) (state S.Store conn.new)) }
 {
-    assert_settled(conn);
+    assert_committed(conn);
     match making::edition(conn) {
         Ok(told) => Ok(found_in(schema_version, told)),
         Err(error) => Err(error),

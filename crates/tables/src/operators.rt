@@ -2,14 +2,14 @@
 ghost use Rattle.std.specs.Prelude.{◌≡◌, false, ◌||◌, is_some, ⊤, IfOk, OnOk, OnErr};
 ghost use Rattle.sqlite.specs.Held.{state};
 ghost use Rattle.sqlite.specs.State.{HasCleanDisk, KeepsCommit};
-ghost use Rattle.tables.specs.Inner.Arrivals.{TakesCommitted, Copies, CommitsRelated};
-ghost use Rattle.tables.specs.Inner.Departures.{Leaves};
+ghost use Rattle.tables.specs.Inner.Imports.{TakesCommitted, Copies, CommitsRelated};
+ghost use Rattle.tables.specs.Inner.Removals.{Leaves};
 ghost use Rattle.tables.specs.Inner.Keys.{KeepsKeys};
 ghost use Rattle.statements.specs.Steps.{Equals, Sees};
 ghost use Rattle.tables.specs.Inner.Steps.{EndsIdle, ManagesBy, org_managed, limit_managed, token_managed, revocation_managed, is_taken};
 
-use crate::transactions::assert_settled;
-use crate::{departures, transactions};
+use crate::transactions::assert_committed;
+use crate::{removals, transactions};
 use basis::{Bounds, Limit, Role};
 use machine::AdminAnswer;
 use pages::PageKey;
@@ -27,7 +27,7 @@ pub(crate) fn org_add<S: Alter>(
     ensures ends { EndsIdle S.Store conn.old conn.new }
     ensures done { ManagesBy (org_managed org.now limit) (state S.Store conn.old) (state S.Store conn.new) result }
 {
-    assert_settled(conn);
+    assert_committed(conn);
     let cap = organizations::cap(conn, org)?;
     if cap.is_some() {
         return Ok(AdminAnswer::Exists);
@@ -52,8 +52,8 @@ pub(crate) fn copy<T: Alter, K: PageKey, S: Alter>(
         → IfOk result (λ answer. CommitsRelated (TakesCommitted T.Store (Copies answer org.now) from.old from.new) (state S.Store conn.old) (state S.Store conn.new)) × OnErr result (KeepsCommit (state S.Store conn.old) (state S.Store conn.new)) }
     ensures keyed { HasCleanDisk (state S.Store conn.new) → OnOk result (CommitsRelated (KeepsKeys K.key_of) (state S.Store conn.old) (state S.Store conn.new)) }
 {
-    assert_settled(conn);
-    assert_settled(from);
+    assert_committed(conn);
+    assert_committed(from);
     let found = organizations::cap(from, org)?;
     let there = organizations::cap(conn, org)?;
     let Some(cap) = found else {
@@ -79,13 +79,13 @@ pub(crate) fn org_remove<S: Alter>(
     ensures done { HasCleanDisk (state S.Store conn.new)
         → IfOk result (λ answer. CommitsRelated (Leaves answer is_forced org.now) (state S.Store conn.old) (state S.Store conn.new)) × OnErr result (KeepsCommit (state S.Store conn.old) (state S.Store conn.new)) }
 {
-    assert_settled(conn);
+    assert_committed(conn);
     let cap = organizations::cap(conn, org)?;
     if cap.is_none() {
         return Ok(AdminAnswer::Absent);
     }
-    let all = departures::read_possessions(alloc, conn, org)?;
-    if departures::is_kept_back(conn, org, is_forced, all.names.as_slice())? {
+    let all = removals::read_possessions(alloc, conn, org)?;
+    if removals::is_kept_back(conn, org, is_forced, all.names.as_slice())? {
         return Ok(AdminAnswer::InUse);
     }
     transactions::remove_organization(conn, org, all.names.as_slice(), all.tokens.as_slice())?;
@@ -102,7 +102,7 @@ pub(crate) fn org_limit<S: Alter>(
     ensures ends { EndsIdle S.Store conn.old conn.new }
     ensures done { ManagesBy (limit_managed org.now limit) (state S.Store conn.old) (state S.Store conn.new) result }
 {
-    assert_settled(conn);
+    assert_committed(conn);
     let cap = organizations::cap(conn, org)?;
     if cap.is_none() {
         return Ok(AdminAnswer::Absent);
@@ -144,7 +144,7 @@ pub(crate) fn token_add<S: Alter>(
     ensures ends { EndsIdle S.Store conn.old conn.new }
     ensures done { ManagesBy (token_managed org.now name.now digest.now role bounds.now) (state S.Store conn.old) (state S.Store conn.new) result }
 {
-    assert_settled(conn);
+    assert_committed(conn);
     let cap = organizations::cap(conn, org)?;
     if cap.is_none() {
         return Ok(AdminAnswer::Absent);
@@ -166,7 +166,7 @@ pub(crate) fn token_revoke<S: Alter>(
     ensures ends { EndsIdle S.Store conn.old conn.new }
     ensures done { ManagesBy (revocation_managed org.now name.now) (state S.Store conn.old) (state S.Store conn.new) result }
 {
-    assert_settled(conn);
+    assert_committed(conn);
     let role = tokens::role_of_name(conn, org, name)?;
     if role.is_none() {
         return Ok(AdminAnswer::Absent);

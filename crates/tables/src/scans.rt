@@ -8,7 +8,7 @@ ghost use Rattle.tables.specs.Scans.{AreRowsOf};
 ghost use Rattle.tables.specs.Inner.Scans.{no_rows, with_first, with_workspaces, with_others};
 ghost use Rattle.tables.specs.Inner.Steps.{EndsIdle, LooksAt};
 
-use crate::transactions::assert_settled;
+use crate::transactions::assert_committed;
 use basis::Items;
 use pages::PageKey;
 use sqlite::{Alter, Connection, Error};
@@ -216,7 +216,7 @@ pub(crate) fn scan<S: Alter, K: PageKey>(
     ensures ends { EndsIdle S.Store conn.old conn.new }
     ensures looks { LooksAt (λ rows t. AreRowsOf K.key_of t rows) (state S.Store conn.old) (state S.Store conn.new) result }
 {
-    assert_settled(conn);
+    assert_committed(conn);
     let mut rows = no_rows(alloc);
     read_all::<S, K>(conn, alloc, &mut rows)?;
     Ok(rows)

@@ -5,15 +5,15 @@ ghost use Rattle.sqlite.specs.State.{HasCleanDisk, KeepsCommit};
 ghost use Rattle.statements.specs.declared.making.TheConstants.{NEWEST};
 ghost use Rattle.statements.specs.Changes.{edition_moved, org_row_added, org_capped, token_added, token_removed};
 ghost use Rattle.statements.specs.Steps.{AnyRows, Sees};
-ghost use Rattle.tables.specs.Inner.Arrivals.{TakesFrom, Brings, CommitsRelated};
+ghost use Rattle.tables.specs.Inner.Imports.{TakesFrom, Brings, CommitsRelated};
 ghost use Rattle.tables.specs.Inner.Copies.{AreMadeBy};
-ghost use Rattle.tables.specs.Inner.Departures.{all_gone_of};
+ghost use Rattle.tables.specs.Inner.Removals.{all_gone_of};
 ghost use Rattle.tables.specs.Inner.Edits.{changed_rows, TakesEdit};
 ghost use Rattle.tables.specs.Inner.Keys.{KeepsKeys};
 ghost use Rattle.tables.specs.Inner.Making.{IsMade, StepsFrom};
 ghost use Rattle.tables.specs.Inner.Steps.{IsSettled, EndsIdle, Transacts};
 
-use crate::{arrivals, departures, steps};
+use crate::{imports, removals, steps};
 use basis::{Bounds, Limit, Role, WsName};
 use machine::Change;
 use pages::PageKey;
@@ -23,7 +23,7 @@ use statements::{making, organizations, tokens};
 use std::alloc::Global;
 
 /// While no transaction is open, nothing is uncommitted. The function does nothing; its contract says so.
-pub(crate) fn assert_settled<S: Alter>(conn: &Connection<S>)
+pub(crate) fn assert_committed<S: Alter>(conn: &Connection<S>)
     requires idle { conn.now.in_transaction ≡ false }
     ensures { IsSettled (state S.Store conn.now) }
 {
@@ -38,7 +38,7 @@ fn begin<S: Alter>(conn: &mut Connection<S>) -> Transaction<'_, S>
     ensures begun { result.conn.now ≡ record conn.old { in_transaction = true } }
     ensures settled { IsSettled (state S.Store conn.old) }
 {
-    assert_settled(conn);
+    assert_committed(conn);
     conn.transaction()
 }
 
@@ -124,7 +124,7 @@ pub(crate) fn copy_organization<T: Alter, K: PageKey, S: Alter>(
     ensures keyed { HasCleanDisk (state S.Store conn.new) → OnOk result (CommitsRelated (KeepsKeys K.key_of) (state S.Store conn.old) (state S.Store conn.new)) }
 {
     let mut tx = begin(conn);
-    arrivals::bring::<T, K, S>(&mut tx, alloc, from, org, cap)?;
+    imports::bring::<T, K, S>(&mut tx, alloc, from, org, cap)?;
     tx.commit()
 }
 
@@ -141,7 +141,7 @@ pub(crate) fn remove_organization<S: Alter>(
         → OnOk result (CommitsRelated (AreMadeBy (all_gone_of org.now names.now list.now)) (state S.Store conn.old) (state S.Store conn.new)) × OnErr result (KeepsCommit (state S.Store conn.old) (state S.Store conn.new)) }
 {
     let mut tx = begin(conn);
-    departures::leave(&mut tx, org, names, list)?;
+    removals::leave(&mut tx, org, names, list)?;
     tx.commit()
 }
 

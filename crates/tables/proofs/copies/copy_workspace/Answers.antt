@@ -20,7 +20,7 @@ returns-clause-copies g c =
       λ clean.
           let seen = c.in_ok-whole.ensures.sees (c.copy_parts.ensures.looks.so_far clean) in
           on_ok_weaker c.copy_parts.result
-          (λ told f holds sound. (seen.0 f holds sound).is ∙ ap Some (sym (told f (still_holds (state g.T.Store c.args.from.now) (state g.T.Store c.read_whole.new.conn) seen.1.0 f holds)))) (copied.2 clean),
+          (λ told f holds sound. (seen.0 f holds sound).is ∙ ap Some (sym (told f (still_holds (state g.T.Store c.args.from.now) (state g.T.Store c.load_workspace.new.conn) seen.1.0 f holds)))) (copied.2 clean),
     )
 
 pub returns-in_err-whole-clause-keyed : goal.returns-in_err-whole-clause-keyed

@@ -12,4 +12,4 @@ returns-clause-looks g c =
     let ws = c.args.ws.now in
     let q = run_rows_after org ws c.args.after asked_rows in
     looked_once g.S.Store (EqualsWhere (RunsApart org ws) q) (EqualsWhere (RunsApart org ws) (λ t. listing_of (q t))) c.args.conn.now c.list.new.conn c.in_ok-rows.rows c.of.result
-    (λ t told apart. c.of.ensures ∙ ap listing_of (told apart)) c.assert_settled.ensures c.in_ok-rows.ensures
+    (λ t told apart. c.of.ensures ∙ ap listing_of (told apart)) c.assert_committed.ensures c.in_ok-rows.ensures

@@ -9,4 +9,4 @@ use Rattle.tables.proofs.listings.list_of_workspaces.Goals as goal
 pub returns-clause-looks : goal.returns-clause-looks
 returns-clause-looks g c =
     looked_then g.S.Store (EqualsWhere WorkspacesApart (workspace_rows_after c.args.org.now c.args.after.now c.args.prefix.now asked_rows)) (Equals (λ t. listing_of (map (ws_row_in c.args.org.now t) c.as_slice.result.now))) (EqualsWhere WorkspacesApart (workspaces_listed_in c.args.after.now c.args.prefix.now c.args.org.now)) c.args.conn.now c.list.new.conn c.list_workspaces.new.conn
-    c.in_ok-rows.rows c.list_workspaces.result (λ list t told seen apart. seen ∙ ap (λ rows. listing_of (map (ws_row_in c.args.org.now t) rows)) (c.as_slice.ensures ∙ told apart)) c.assert_settled.ensures c.in_ok-rows.ensures c.list_workspaces.ensures
+    c.in_ok-rows.rows c.list_workspaces.result (λ list t told seen apart. seen ∙ ap (λ rows. listing_of (map (ws_row_in c.args.org.now t) rows)) (c.as_slice.ensures ∙ told apart)) c.assert_committed.ensures c.in_ok-rows.ensures c.list_workspaces.ensures

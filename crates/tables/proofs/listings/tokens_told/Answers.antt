@@ -24,7 +24,7 @@ returns-clause-looks g c =
     let cap = c.in_ok-cap.ensures in
     let rows = c.in_ok-rows.rows in
     let there : is_none c.in_ok-cap.cap ≡ false = search rules in
-    looked g.S.Store {E = Error} (EqualsWhere TokensApart (tokens_told_in org)) conn c.list_of_tokens.new.conn (Ok (Tokens rows)) c.assert_settled.ensures (λ clean. (cap.read (c.in_ok-rows.ensures.so_far clean)).1.0.0.was_open)
+    looked g.S.Store {E = Error} (EqualsWhere TokensApart (tokens_told_in org)) conn c.list_of_tokens.new.conn (Ok (Tokens rows)) c.assert_committed.ensures (λ clean. (cap.read (c.in_ok-rows.ensures.so_far clean)).1.0.0.was_open)
     (sees_as g.S.Store (λ rows t. Equals (cap_of org) c.in_ok-cap.cap t × EqualsWhere TokensApart (tokens_listed_in org) rows t) (EqualsWhere TokensApart (tokens_told_in org)) conn c.list_of_tokens.new.conn
     rows (Tokens rows) (λ t told apart. told_there org t c.in_ok-cap.cap rows there told.0 (told.1 apart))
     (seen_both g.S.Store (Equals (cap_of org)) (EqualsWhere TokensApart (tokens_listed_in org)) conn c.cap.new.conn c.list_of_tokens.new.conn c.in_ok-cap.cap rows (sees_by g.S.Store _ _ _ _ cap) c.in_ok-rows.ensures))

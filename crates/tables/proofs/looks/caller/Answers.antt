@@ -12,7 +12,7 @@ returns-in-Some-clause-looks g c =
     let digest = c.args.digest.now in
     looked_once g.S.Store (IsBoundedRoleOf org digest) (Equals (asker_in org digest)) c.args.conn.now c.find_by_digest.new.conn c.in_ok-find_by_digest.field-0 _
     (λ t told. (λ i. Some (record { name = c.in-Some.found.token.name; caller = c.caller_with-caller.ensures i })) ∙ ap (option_map asker_by) (sym c.in-Some.is) ∙ asker_found org digest t c.in_ok-find_by_digest.field-0 told)
-    c.assert_settled.ensures c.in_ok-find_by_digest.ensures
+    c.assert_committed.ensures c.in_ok-find_by_digest.ensures
 
 pub returns-in-Some-clause-bound : goal.returns-in-Some-clause-bound
 returns-in-Some-clause-bound g c clean =
@@ -23,7 +23,7 @@ returns-in-None-clause-looks g c =
     let org = c.args.org.now in
     let digest = c.args.digest.now in
     looked_once g.S.Store (IsBoundedRoleOf org digest) (Equals (asker_in org digest)) c.args.conn.now c.find_by_digest.new.conn c.in_ok-find_by_digest.field-0 _
-    (λ t told. ap (option_map asker_by) (sym c.in-None.is) ∙ asker_found org digest t c.in_ok-find_by_digest.field-0 told) c.assert_settled.ensures c.in_ok-find_by_digest.ensures
+    (λ t told. ap (option_map asker_by) (sym c.in-None.is) ∙ asker_found org digest t c.in_ok-find_by_digest.field-0 told) c.assert_committed.ensures c.in_ok-find_by_digest.ensures
 
 pub returns-in-None-clause-bound : goal.returns-in-None-clause-bound
 returns-in-None-clause-bound g c clean =

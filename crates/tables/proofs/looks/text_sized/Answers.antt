@@ -9,5 +9,5 @@ use Rattle.tables.proofs.looks.text_sized.Goals as goal
 pub returns-clause-looks : goal.returns-clause-looks
 returns-clause-looks g c =
     let q = text_of c.args.org.now c.args.ws.now c.args.number c.args.size in
-    looked g.S.Store {E = Error} (Equals (λ t. Some (q t))) c.args.conn.now c.text.new.conn (Ok (Some c.in_ok-text.text)) c.assert_settled.ensures c.in_ok-text.ensures.was_open
+    looked g.S.Store {E = Error} (Equals (λ t. Some (q t))) c.args.conn.now c.text.new.conn (Ok (Some c.in_ok-text.text)) c.assert_committed.ensures c.in_ok-text.ensures.was_open
     (sees_as g.S.Store {E = Error} (Equals q) (Equals (λ t. Some (q t))) c.args.conn.now c.text.new.conn c.in_ok-text.text (Some c.in_ok-text.text) (λ t told. ap Some told) c.in_ok-text.ensures.queries)

@@ -13,7 +13,7 @@ returns-in-Some-clause-looks g c =
     let org = c.args.org.now in
     let ws = c.args.ws.now in
     looked_then g.S.Store (Equals (workspace_of org ws)) (Equals (present_in need org ws c.in-Some.workspace)) (Equals (looked_in need c.args.known org ws)) c.args.conn.now c.find.new.conn c.present.new.conn
-    c.in_ok-find.field-0 c.present.result (λ looked t found seen. seen ∙ present_looked need c.args.known org ws t c.in-Some.workspace ∙ ap (looked_at need c.args.known org ws t) (sym c.in-Some.is ∙ found)) c.assert_settled.ensures c.in_ok-find.ensures c.present.ensures.looks
+    c.in_ok-find.field-0 c.present.result (λ looked t found seen. seen ∙ present_looked need c.args.known org ws t c.in-Some.workspace ∙ ap (looked_at need c.args.known org ws t) (sym c.in-Some.is ∙ found)) c.assert_committed.ensures c.in_ok-find.ensures c.present.ensures.looks
 
 pub returns-in-None-clause-looks : goal.returns-in-None-clause-looks
 returns-in-None-clause-looks g c =
@@ -21,4 +21,4 @@ returns-in-None-clause-looks g c =
     let org = c.args.org.now in
     let ws = c.args.ws.now in
     looked_then g.S.Store (Equals (workspace_of org ws)) (Equals (absent_in need c.args.known org)) (Equals (looked_in need c.args.known org ws)) c.args.conn.now c.find.new.conn c.absent.new.conn
-    c.in_ok-find.field-0 c.absent.result (λ looked t found seen. seen ∙ ap (looked_at need c.args.known org ws t) (sym c.in-None.is ∙ found)) c.assert_settled.ensures c.in_ok-find.ensures c.absent.ensures.looks
+    c.in_ok-find.field-0 c.absent.result (λ looked t found seen. seen ∙ ap (looked_at need c.args.known org ws t) (sym c.in-None.is ∙ found)) c.assert_committed.ensures c.in_ok-find.ensures c.absent.ensures.looks

@@ -6,6 +6,6 @@ pub returns-in-Ok-clause-found : goal.returns-in-Ok-clause-found
 returns-in-Ok-clause-found g c clean =
     let old = state g.S.Store c.args.conn.now in
     let new = state g.S.Store c.edition.new.conn in
-    let settled = c.assert_settled.ensures in
+    let settled = c.assert_committed.ensures in
     let read = c.in-Ok.ensures.reads.read clean in
     rw c.found_in.ensures (later_tells c.in-Ok.told old new settled read.1.0 (c.in-Ok.ensures.told clean) c.args.schema_version c.requires.later c.requires.there)

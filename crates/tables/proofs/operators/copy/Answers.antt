@@ -14,7 +14,7 @@ returns-in_default-clause-done g c clean =
     let b = state g.S.Store c.cap-2.new.conn in
     let told = c.in_ok-there.ensures.read clean in
     let none : found ≡ None = search rules in
-    (copies_none g.T.Store org found there a b c.args.from.now c.cap.new.conn c.assert_settled.ensures c.assert_settled-2.ensures (λ clean. let read = c.in_ok-found.ensures.read clean in (read.0, read.1.0)) told.0 told.1.0 Absent (is_absent org found there none), tt)
+    (copies_none g.T.Store org found there a b c.args.from.now c.cap.new.conn c.assert_committed.ensures c.assert_committed-2.ensures (λ clean. let read = c.in_ok-found.ensures.read clean in (read.0, read.1.0)) told.0 told.1.0 Absent (is_absent org found there none), tt)
 
 pub returns-then-is_some-clause-done : goal.returns-then-is_some-clause-done
 returns-then-is_some-clause-done g c clean =
@@ -25,7 +25,7 @@ returns-then-is_some-clause-done g c clean =
     let b = state g.S.Store c.cap-2.new.conn in
     let told = c.in_ok-there.ensures.read clean in
     let some : is_some there ≡ true = search rules in
-    (copies_none g.T.Store org found there a b c.args.from.now c.cap.new.conn c.assert_settled.ensures c.assert_settled-2.ensures (λ clean. let read = c.in_ok-found.ensures.read clean in (read.0, read.1.0)) told.0 told.1.0 Exists (is_there org found there c.in-Some.cap c.in-Some.is some), tt)
+    (copies_none g.T.Store org found there a b c.args.from.now c.cap.new.conn c.assert_committed.ensures c.assert_committed-2.ensures (λ clean. let read = c.in_ok-found.ensures.read clean in (read.0, read.1.0)) told.0 told.1.0 Exists (is_there org found there c.in-Some.cap c.in-Some.is some), tt)
 
 pub returns-clause-done : goal.returns-clause-done
 returns-clause-done g c clean =
@@ -37,7 +37,7 @@ returns-clause-done g c clean =
     let d = state g.S.Store c.copy_organization.new.conn in
     let told = c.in_ok-there.ensures.read (c.copy_organization.ensures.ends.so_far clean) in
     let none : is_some there ≡ false = search rules in (
-      copies_one g.T.Store org found there a b c.args.from.now c.cap.new.conn c.assert_settled.ensures c.assert_settled-2.ensures (λ clean. let read = c.in_ok-found.ensures.read clean in (read.0, read.1.0)) told.0 told.1.0
+      copies_one g.T.Store org found there a b c.args.from.now c.cap.new.conn c.assert_committed.ensures c.assert_committed-2.ensures (λ clean. let read = c.in_ok-found.ensures.read clean in (read.0, read.1.0)) told.0 told.1.0
           c.in-Some.cap d c.copy_organization.new.from c.in-Some.is (none_of there none) c.copy_organization.ensures.looks.so_far (c.in_ok-copy_organization.ensures.done clean).0,
       tt,
     )

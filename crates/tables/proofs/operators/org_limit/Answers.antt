@@ -14,7 +14,7 @@ returns-then-is_none-clause-done g c clean =
     let b = state g.S.Store c.cap.new.conn in
     let cap = c.in_ok-cap.ensures.read clean in
     let nothing : is_none c.in_ok-cap.cap ≡ true = search rules in (
-      manages_none (limit_managed org c.args.limit) a b b c.assert_settled.ensures Absent cap.1.0.0.was_open cap.1.0.0.is_open (one_look a b cap.1.0) (λ t held. limit_nowhere org c.args.limit t c.in_ok-cap.cap nothing (cap.0 t held)),
+      manages_none (limit_managed org c.args.limit) a b b c.assert_committed.ensures Absent cap.1.0.0.was_open cap.1.0.0.is_open (one_look a b cap.1.0) (λ t held. limit_nowhere org c.args.limit t c.in_ok-cap.cap nothing (cap.0 t held)),
       tt,
     )
 
@@ -26,7 +26,7 @@ returns-clause-done g c clean =
     let a = state g.S.Store h in
     let b = state g.S.Store c.cap.new.conn in
     let d = state g.S.Store c.set_limit.new.conn in
-    let settled = c.assert_settled.ensures in
+    let settled = c.assert_committed.ensures in
     let cap = c.in_ok-cap.ensures.read (c.set_limit.ensures.ends.so_far clean) in
     let found : is_none c.in_ok-cap.cap ≡ false = search rules in (
       manages_one (limit_managed org limit) a b d settled (org_capped org limit) Done (one_look a b cap.1.0) (c.in_ok-set_limit.ensures.done clean).0

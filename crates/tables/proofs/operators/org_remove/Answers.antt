@@ -10,7 +10,7 @@ returns-then-is_none-clause-done g c clean =
     let b = state g.S.Store c.cap.new.conn in
     let read = c.in_ok-cap.ensures.read clean in
     let none : is_none c.in_ok-cap.cap ≡ true = search rules in
-    (leaves_absent c.args.is_forced c.args.org.now a b c.assert_settled.ensures read.1.0.0.was_open (one_look a b read.1.0) c.in_ok-cap.cap none read.0, tt)
+    (leaves_absent c.args.is_forced c.args.org.now a b c.assert_committed.ensures read.1.0.0.was_open (one_look a b read.1.0) c.in_ok-cap.cap none read.0, tt)
 
 pub returns-then-branch-clause-done : goal.returns-then-branch-clause-done
 returns-then-branch-clause-done g c clean =
@@ -26,7 +26,7 @@ returns-then-branch-clause-done g c clean =
     let seen = (looked g.S.Store is_forced org c.args.conn.now c.cap.new.conn c.read_possessions.new.conn c.is_kept_back.new.conn cap all is_kept c.in_ok-cap.ensures c.in_ok-all.ensures kept).sees clean in
     let some : is_none cap ≡ false = search rules in
     let is : is_kept ≡ true = search rules in
-    (leaves_kept is_forced org a b c.assert_settled.ensures read.1.0.0.was_open seen.1.0 cap some all.names all.tokens is_kept seen.0 is, tt)
+    (leaves_kept is_forced org a b c.assert_committed.ensures read.1.0.0.was_open seen.1.0 cap some all.names all.tokens is_kept seen.0 is, tt)
 
 pub returns-clause-done : goal.returns-clause-done
 returns-clause-done g c clean =
@@ -44,4 +44,4 @@ returns-clause-done g c clean =
     let seen = (looked g.S.Store is_forced org c.args.conn.now c.cap.new.conn c.read_possessions.new.conn c.is_kept_back.new.conn cap all is_kept c.in_ok-cap.ensures c.in_ok-all.ensures kept).sees before in
     let some : is_none cap ≡ false = search rules in
     let is : is_kept ≡ false = search rules in
-    (leaves_done is_forced org a b c.assert_settled.ensures read.1.0.0.was_open seen.1.0 cap some all.names all.tokens is_kept seen.0 d is (rw (c.as_slice-2.ensures, c.as_slice-3.ensures) at (c.in_ok-remove_organization.ensures.done clean).0), tt)
+    (leaves_done is_forced org a b c.assert_committed.ensures read.1.0.0.was_open seen.1.0 cap some all.names all.tokens is_kept seen.0 d is (rw (c.as_slice-2.ensures, c.as_slice-3.ensures) at (c.in_ok-remove_organization.ensures.done clean).0), tt)

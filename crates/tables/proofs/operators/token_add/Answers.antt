@@ -21,7 +21,7 @@ returns-then-is_none-clause-done g c clean =
     let b = state g.S.Store c.cap.new.conn in
     let cap = c.in_ok-cap.ensures.read clean in
     let nothing : is_none c.in_ok-cap.cap ≡ true = search rules in (
-      manages_none (token_managed org name digest role bounds) a b b c.assert_settled.ensures Absent cap.1.0.0.was_open cap.1.0.0.is_open (one_look a b cap.1.0)
+      manages_none (token_managed org name digest role bounds) a b b c.assert_committed.ensures Absent cap.1.0.0.was_open cap.1.0.0.is_open (one_look a b cap.1.0)
           (λ t held. token_nowhere org name digest role bounds t c.in_ok-cap.cap nothing (cap.0 t held)),
       tt,
     )
@@ -37,7 +37,7 @@ returns-then-branch-clause-done g c clean =
     let a = state g.S.Store h in
     let b = state g.S.Store c.cap.new.conn in
     let d = state g.S.Store c.is_taken.new.conn in
-    let settled = c.assert_settled.ensures in
+    let settled = c.assert_committed.ensures in
     let cap = c.in_ok-cap.ensures.read (c.is_taken.ensures.so_far clean) in
     let taken = c.in_ok-is_taken.ensures.sees clean in
     let there : is_none c.in_ok-cap.cap ≡ false = search rules in (
@@ -59,7 +59,7 @@ returns-clause-done g c clean =
     let b = state g.S.Store c.cap.new.conn in
     let d = state g.S.Store c.is_taken.new.conn in
     let e = state g.S.Store c.add_token.new.conn in
-    let settled = c.assert_settled.ensures in
+    let settled = c.assert_committed.ensures in
     let clean2 = c.add_token.ensures.ends.so_far clean in
     let cap = c.in_ok-cap.ensures.read (c.is_taken.ensures.so_far clean2) in
     let taken = c.in_ok-is_taken.ensures.sees clean2 in

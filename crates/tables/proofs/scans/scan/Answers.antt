@@ -10,5 +10,5 @@ returns-clause-looks g c =
     let key_of = g.K.PageKey.key_of in
     let conn = c.args.conn.now in
     let all = c.in_ok-read_all.ensures in
-    looked g.S.Store {E = Error} (λ rows t. AreRowsOf key_of t rows) conn c.read_all.new.conn (Ok c.read_all.new.rows) c.assert_settled.ensures (λ clean. (all.sees.sees clean).1.0.was_open (all.is_open clean))
+    looked g.S.Store {E = Error} (λ rows t. AreRowsOf key_of t rows) conn c.read_all.new.conn (Ok c.read_all.new.rows) c.assert_committed.ensures (λ clean. (all.sees.sees clean).1.0.was_open (all.is_open clean))
     (sees_as g.S.Store (λ _ t. AreRowsOf key_of t c.read_all.new.rows) (λ rows t. AreRowsOf key_of t rows) conn c.read_all.new.conn c.in_ok-read_all.field-0 c.read_all.new.rows (λ t is. is) all.sees)

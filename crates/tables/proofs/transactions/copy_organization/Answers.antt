@@ -3,7 +3,7 @@ use Rattle.std.proofs.Common.{rules}
 use Rattle.sqlite.specs.Held.{state}
 use Rattle.sqlite.specs.State.{HasCleanDisk}
 use Rattle.statements.proofs.Transactions.{clean_before}
-use Rattle.tables.specs.Inner.Arrivals.{TakesFrom, Brings}
+use Rattle.tables.specs.Inner.Imports.{TakesFrom, Brings}
 use Rattle.tables.specs.Inner.Keys.{KeepsKeys}
 use Rattle.tables.proofs.Arriving.{looks_as}
 use Rattle.tables.proofs.KeepCommits.{inside_by, commits_related}

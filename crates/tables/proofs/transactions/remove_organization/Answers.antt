@@ -3,7 +3,7 @@ use Rattle.sqlite.specs.Held.{state}
 use Rattle.sqlite.specs.State.{HasCleanDisk}
 use Rattle.statements.proofs.Transactions.{clean_before}
 use Rattle.tables.specs.Inner.Copies.{AreMadeBy}
-use Rattle.tables.specs.Inner.Departures.{all_gone_of}
+use Rattle.tables.specs.Inner.Removals.{all_gone_of}
 use Rattle.tables.proofs.KeepCommits.{inside_by, commits_related}
 use Rattle.tables.proofs.transactions.remove_organization.Goals as goal
 
