@@ -19,7 +19,7 @@ pub record Needed : Type 0 where
   pub newest : Bool
   -- the text that is compared with that of the newest version
   pub text : Option (List ℕ)
-  -- which versions are removed: none, those that make room for one more, or all but the newest so many
+  -- which versions are removed: none, those that make room for one more, or all but a number of the newest
   pub outgoing : Staying
   -- the version with this number
   pub version : Option ℕ

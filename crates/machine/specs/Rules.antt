@@ -136,7 +136,7 @@ settings_for ask before = record { runs = ask.runs; retention = kept_for ask.ret
 abbrev pub with_settings : Workspace → Settings → Workspace
 with_settings w settings = record w { settings = settings; versions = last_of settings.retention w.versions }
 
--- whether keeping only so many versions would remove one while the workspace has a holder
+-- whether keeping only this many versions would remove one while the workspace has a holder
 abbrev pub takes_held : ℕ → Workspace → Bool
 takes_held keep w = not (is_nobody w.holder) && nat_lt keep (length w.versions)
 

@@ -13,7 +13,7 @@ pub data Succession : Type 0 where
   same : Succession
   -- another lineage than that of the newest version
   other_lineage : Succession
-  -- a serial that isn't greater than that of the newest version
+  -- a serial that is not greater than that of the newest version
   old_serial : Succession
   -- a further version
   next : Succession

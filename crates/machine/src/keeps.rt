@@ -24,6 +24,7 @@ use std::alloc::Global;
 pub enum Fault {
     /// The store has another schema, or none.
     Schema,
+    /// Memory or the store refused.
     Down,
 }
 
@@ -63,7 +64,8 @@ pub enum AdminAnswer {
 /// A store of organizations, seen as a map from the names of organizations to their records (`rows`). Its
 /// promises hold while it is clean. What it promises about the values of records also needs a store that was
 /// sound before. A store in memory that was made here is always clean and sound. A store in files is clean if
-/// nobody else wrote the files and the disk gave back what was written.
+/// nobody else wrote the files and the disk gave back what was written. A call fails with `Down` if memory or
+/// the store refuses. While the store is clean, no record changes then.
 pub trait Keep {
     /// The record of each organization that exists.
     ghost rows: { Self → List ℕ → Option AnyOrganization };

@@ -99,8 +99,8 @@ pub fn puts_leave_what_they_ask()
     ensures made { PutsMakeWhatTheyAsk }
 {}
 
-/// If an act is repeated on the workspace that it left, at any time, it changes nothing more. The only
-/// exception is the creation of a run without a key.
+/// If an act is repeated on the workspace that it left, at any time, it changes nothing more. This
+/// excludes the creation of a run without a key.
 pub fn repeats_change_nothing()
     ensures { RepeatsChangeNothing }
 {}

@@ -42,6 +42,7 @@ impl<T> Model for NameMap<T> {
 }
 
 impl<T> NameMap<T> {
+    /// An empty map.
     pub fn new(alloc: Global) -> NameMap<T>
         ensures { result ≡ map.empty }
     {
@@ -50,6 +51,7 @@ impl<T> NameMap<T> {
         }
     }
 
+    /// The value of the name, if the map has the name.
     pub fn get(&self, name: &str) -> Option<&T>
         ensures { option_copied result ≡ map.get self.now name.now }
     {

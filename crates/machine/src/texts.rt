@@ -20,6 +20,7 @@ impl Model for StateText {
 }
 
 impl StateText {
+    /// The text with these bytes, which are moved, not copied. Fails if memory is refused.
     pub fn new(alloc: Global, bytes: Bytes) -> Result<StateText, AllocError>
         ensures { IfOk result (λ text. text ≡ bytes) }
     {
@@ -29,13 +30,14 @@ impl StateText {
         }
     }
 
+    /// The bytes of the text.
     pub fn as_slice(&self) -> &[u8]
         ensures { result.now ≡ self.now }
     {
         self.bytes.as_ref().as_slice()
     }
 
-    /// A copy of the bytes.
+    /// A copy of the bytes. Fails if memory is refused.
     pub fn copied(&self) -> Result<Bytes, Down>
         ensures { IfOk result (λ bytes. bytes ≡ self.now) }
     {

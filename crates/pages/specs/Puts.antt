@@ -9,7 +9,7 @@ use Rattle.pages.specs.Rows.{page_added, page_used, page_removed, page_bytes, pa
 abbrev pub twin_limit : ℕ
 twin_limit = 9_223_372_036_854_775_808
 
--- the least number that no page with this key has, among so many from this one on
+-- the least number that no page with this key has, among a given number of them from this one on
 unfoldable pub free_from : List ℕ → ℕ → ℕ → Tables → ℕ
 free_from key zero twin t = twin
 free_from key (suc left) twin t = cond (is_some (page_uses key twin t)) (free_from key left (twin + 1) t) twin

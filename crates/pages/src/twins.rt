@@ -37,6 +37,7 @@ impl Twin {
         Twin { value: 0 }
     }
 
+    /// The twin number of this value; none if it is above `MAX_TWIN`.
     pub fn new(value: u64) -> Option<Twin>
         ensures { result ≡ within 0 MAX_TWIN value }
     {
@@ -47,6 +48,7 @@ impl Twin {
         }
     }
 
+    /// The number.
     pub fn get(self) -> u64
         ensures value { result ≡ self }
         ensures most { result ≤ MAX_TWIN }

@@ -80,7 +80,7 @@ abbrev pub named_row : List ℕ → Tables → List ℕ × Workspace → NamedWo
 named_row org t e = record { name = e.0; it = e.1; keep = retention_of org e.0 t; last = version_before org e.0 e.1.next_version t }
 
 -- those of an organization whose names come after a name and begin with a prefix, each with the number of versions that it keeps and the
--- number before its next version's, in the order of their names' bytes, at most so many
+-- number before its next version's, in the order of their names' bytes, at most a given number
 abbrev pub workspace_rows_after : List ℕ → List ℕ → List ℕ → ℕ → Tables → List NamedWorkspace
 workspace_rows_after org after prefix most t = take most (map (named_row org t) (filter (λ e. is_behind after e.0 && admits prefix e.0) (entries (workspaces_by_name org t))))
 
@@ -110,7 +110,7 @@ pub record WorkspacesApart (t : Tables) : Type 0 where
 
 -- ---- versions
 
--- those of a workspace with numbers greater than this one, in the order of their numbers, at most so many
+-- those of a workspace with numbers greater than this one, in the order of their numbers, at most a given number
 abbrev pub version_rows_after : List ℕ → List ℕ → ℕ → ℕ → Tables → List Version
 version_rows_after org ws after most t = take most (filter (λ v. nat_lt after v.number) (map (λ x. x.1.it) (sort_by version_cmp (filter (is_version_of org ws) t.versions))))
 

@@ -1,4 +1,4 @@
--- When what is kept in memory about an organization's workspaces is right.
+-- When what is kept in memory about an organization's workspaces is correct.
 use Rattle.std.specs.Prelude.{◌≡◌, ℕ, List, Option, Some, None, IfSome}
 use Rattle.std.specs.FinMap.{get}
 use Rattle.machine.specs.Records.{count_of}

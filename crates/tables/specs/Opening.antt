@@ -25,7 +25,7 @@ use Rattle.tables.specs.Stores.{IsSoundStore, is_in_schema}
 use Rattle.tables.specs.Versions.{Becomes, KeepsBeside}
 
 -- The database that was last seen is sound. As long as no disk error has closed the connection, it is what the connection has committed.
--- What is kept in memory is right for its tables.
+-- What is kept in memory is correct for its tables.
 pub record IsSoundKeep (seen : Database) (memo : Memo) (s : State) : Type 0 where
   pub store : IsSoundStore seen
   pub remembered : IsRemembered (tables_of seen) memo

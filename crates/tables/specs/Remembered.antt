@@ -1,4 +1,4 @@
--- When what is kept in memory of the tables is right.
+-- When what is kept in memory of the tables is correct.
 use Rattle.std.specs.Prelude.{◌≡◌, Some, None, IfSome}
 use Rattle.machine.specs.Records.{workspace_in}
 use Rattle.machine.specs.Tokens.{asker_of}
@@ -19,7 +19,7 @@ IsSize t s = version_text s.number (workspace_in (record_of t s.org) s.ws) ≡ S
 abbrev pub IsAsker : Tables → Asked → Type 0
 IsAsker t a = asker_of (record_of t a.org) a.digest ≡ Some a.row
 
--- everything that is kept is right for the tables
+-- everything that is kept is correct for the tables
 pub record IsRemembered (t : Tables) (memo : Memo) : Type 0 where
   pub counts : IsCounted (record_of t) memo.counted
   pub sizes : IfSome memo.sized (IsSize t)

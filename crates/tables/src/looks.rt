@@ -307,8 +307,8 @@ fn number_behind<S: Alter>(
     Ok(number_if(is_kept, number_before(next_version, staying)))
 }
 
-/// The greatest number of the versions to be removed from a workspace that keeps so many: the versions that
-/// are kept follow it.
+/// The greatest number of the versions to be removed from a workspace that keeps `retention` versions: the
+/// versions that are kept follow it.
 fn outgoing<S: Alter>(
     conn: &mut Connection<S>,
     org: &str,

@@ -62,7 +62,7 @@ piece_size size place = min PAGE_BYTES (size - place * PAGE_BYTES)
 abbrev pub piece_added : (ℕ → List ℕ) → List ℕ → List ℕ → ℕ → List ℕ → ℕ → Tables → Tables
 piece_added keys org ws n text place t = place_added org ws n place (keys place) (twin_for (keys place) (piece_at text place) t) (page_put (keys place) (piece_at text place) t)
 
--- the first pieces of a text, so many, are added, and so are the rows that name them
+-- a given number of a text's first pieces are added, and so are the rows that name them
 abbrev pub pieces_added : (ℕ → List ℕ) → List ℕ → List ℕ → ℕ → List ℕ → ℕ → Tables → Tables
 pieces_added keys org ws n text zero t = t
 pieces_added keys org ws n text (suc place) t = piece_added keys org ws n text place (pieces_added keys org ws n text place t)
@@ -70,12 +70,12 @@ pieces_added keys org ws n text (suc place) t = piece_added keys org ws n text p
 abbrev pub text_added : (ℕ → List ℕ) → List ℕ → List ℕ → ℕ → List ℕ → Tables → Tables
 text_added keys org ws n text t = pieces_added keys org ws n text (pages_for (length text)) t
 
--- each of the first pieces, so many, was added under a twin number that SQL has
+-- each of a given number of first pieces was added under a twin number that SQL has
 abbrev pub TwinsFit : (ℕ → List ℕ) → List ℕ → List ℕ → ℕ → List ℕ → ℕ → Tables → Type 0
 TwinsFit keys org ws n text zero t = ⊤
 TwinsFit keys org ws n text (suc place) t = TwinsFit keys org ws n text place t × (twin_for (keys place) (piece_at text place) (pieces_added keys org ws n text place t) < twin_limit)
 
--- each of the first pieces, so many, was added under its own key, or under that of a page that had its bytes
+-- each of a given number of first pieces was added under its own key, or under that of a page that had its bytes
 abbrev pub KeysFit : (List ℕ → List ℕ) → (ℕ → List ℕ) → List ℕ → List ℕ → ℕ → List ℕ → ℕ → Tables → Type 0
 KeysFit key_of keys org ws n text zero t = ⊤
 KeysFit key_of keys org ws n text (suc place) t = KeysFit key_of keys org ws n text place t × IsKeyFor key_of (piece_at text place) (keys place) (pieces_added keys org ws n text place t)
@@ -113,15 +113,15 @@ bytes_named (Some id) t = page_bytes id.key id.twin t
 abbrev pub piece_of : List ℕ → List ℕ → ℕ → ℕ → Tables → Option (List ℕ)
 piece_of org ws n place t = bytes_named (page_at org ws n place t) t
 
--- the first pages of a version, so many, exist
+-- a given number of a version's first pages exist
 abbrev pub AreThere : List ℕ → List ℕ → ℕ → ℕ → Tables → Type 0
 AreThere org ws n places t = (place : ℕ) → place < places → IsSome (piece_of org ws n place t)
 
--- each of the first pages of a version, so many, exists when its row is removed
+-- each of a given number of a version's first pages exists when its row is removed
 abbrev pub WereThere : List ℕ → List ℕ → ℕ → ℕ → Tables → Type 0
 WereThere org ws n places t = (place : ℕ) → place < places → IsSome (piece_of org ws n place (pieces_removed org ws n place t))
 
--- the bytes of the first pages of a version, so many, one after the other
+-- the bytes of a given number of a version's first pages, one after the other
 abbrev pub joined : List ℕ → List ℕ → ℕ → ℕ → Tables → List ℕ
 joined org ws n zero t = []
 joined org ws n (suc place) t = joined org ws n place t ++ unwrap_or (piece_of org ws n place t) []
@@ -130,7 +130,7 @@ joined org ws n (suc place) t = joined org ws n place t ++ unwrap_or (piece_of o
 abbrev pub text_of : List ℕ → List ℕ → ℕ → ℕ → Tables → List ℕ
 text_of org ws n size t = joined org ws n (pages_for size) t
 
--- whether the first pages of a version, so many, are the pieces of this text
+-- whether a given number of a version's first pages are the pieces of this text
 abbrev pub are_pieces : List ℕ → List ℕ → ℕ → List ℕ → ℕ → Tables → Bool
 are_pieces org ws n text zero t = true
 are_pieces org ws n text (suc place) t = are_pieces org ws n text place t && bytes_eq (unwrap_or (piece_of org ws n place t) []) (piece_at text place)

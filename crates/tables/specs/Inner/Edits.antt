@@ -30,7 +30,7 @@ first_gone org ws (Some head) t = version_gone org ws head t
 abbrev pub oldest_gone : List ℕ → List ℕ → ℕ → Tables → Tables
 oldest_gone org ws below t = first_gone org ws (oldest_below org ws below t) t
 
--- so many are removed, one after the other
+-- a given number are removed, one after the other
 unfoldable pub so_many_gone : ℕ → List ℕ → List ℕ → ℕ → Tables → Tables
 so_many_gone zero org ws below t = t
 so_many_gone (suc many) org ws below t = oldest_gone org ws below (so_many_gone many org ws below t)

@@ -53,12 +53,12 @@ row_at rows place = slice_index_or rows place []
 abbrev pub name_at : List Row → ℕ → PageId
 name_at rows place = name_in (row_at rows place)
 
--- one use is removed of each page that the first rows name, so many of them
+-- one use is removed of each page that a given number of first rows name
 abbrev pub released_by : List Row → ℕ → Tables → Tables
 released_by rows zero t = t
 released_by rows (suc place) t = page_released (name_at rows place).key (name_at rows place).twin (released_by rows place t)
 
--- each of the first rows, so many, has its place, and the page that it names existed when a use of it was removed
+-- each of a given number of first rows has its place, and the page that it names existed when a use of it was removed
 abbrev pub WereReleased : List Row → ℕ → Tables → Type 0
 WereReleased rows places t = (place : ℕ) → place < places → (column (row_at rows place) 2 ≡ number place) × IsSome (page_bytes (name_at rows place).key (name_at rows place).twin (released_by rows place t))
 
@@ -73,7 +73,7 @@ pub record ShowsPlace (rows : List Row) (place : ℕ) (bytes : List ℕ) : Type 
   pub some : AllByRecursion (λ r. ¬ (column r 0 ≡ number place)) rows → ⊥
   pub each : AllByRecursion (λ r. column r 0 ≡ number place → column r 1 ≡ Blob bytes) rows
 
--- The rows have the places from 0 on, so many, and their bytes together are the text: that of a version whose page at each place has the
+-- The rows have the places from 0 up to `places`, and their bytes together are the text: that of a version whose page at each place has the
 -- row's bytes.
 pub record AreInTurn (rows : List Row) (places : ℕ) (text : List ℕ) : Type 0 where
   pub below : AllByRecursion (λ r. (place : ℕ) × (place < places) × (column r 0 ≡ number place)) rows
@@ -90,7 +90,7 @@ pub record AddsRow (row : Option Row) (place : ℕ) (before behind : List ℕ) :
   pub bytes_are : column one 1 ≡ Blob bytes
   pub grown : behind ≡ before ++ bytes
 
--- What joining all rows of a query promises: each has the next place, there are so many, and the text is their bytes. A query changes
+-- What joining all rows of a query promises: each has the next place, there are `places` of them, and the text is their bytes. A query changes
 -- nothing, and only an open store answers it.
 pub record JoinsRows {S E : Type 0} (g : Ghosts S) (sql : List ℕ) (params : Row) (places : ℕ) (old new : Held S) (result : Result (List ℕ) E) : Type 0 where
   pub mode : old.in_transaction ≡ false → new.in_transaction ≡ false
