@@ -115,8 +115,8 @@ pub trait Keep {
         ensures looks { Looks rows clean sound keyed shielded self.old self.new }
         ensures ok { clean self.new → sound self.old → IfOk result (λ text. text ≡ version_text n (workspace_in (rows self.old org.now) ws.now)) };
 
-    /// A page of the list of the organization's workspaces whose names start with the prefix and come after
-    /// `after`, in the order of their names' bytes.
+    /// The organization's workspaces whose names start with the prefix and come after `after`, in the order of
+    /// their names' bytes: at most 50, and whether more follow.
     fn workspaces(
         &mut self,
         alloc: Global,
@@ -127,7 +127,8 @@ pub trait Keep {
         ensures looks { Looks rows clean sound keyed shielded self.old self.new }
         ensures ok { clean self.new → sound self.old → IfOk result (λ list. list ≡ workspaces_after (option_copied after.entry) prefix.now (rows self.old org.now)) };
 
-    /// A page of the list of a workspace's versions with numbers greater than `after`.
+    /// A workspace's versions with numbers greater than `after`, in the order of their numbers: at most 50, and
+    /// whether more follow.
     fn versions(
         &mut self,
         alloc: Global,
@@ -138,7 +139,8 @@ pub trait Keep {
         ensures looks { Looks rows clean sound keyed shielded self.old self.new }
         ensures ok { clean self.new → sound self.old → IfOk result (λ list. list ≡ versions_after after (workspace_in (rows self.old org.now) ws.now)) };
 
-    /// A page of the list of a workspace's runs with numbers greater than `after`.
+    /// A workspace's runs with numbers greater than `after`, in the order of their numbers: at most 50, and
+    /// whether more follow.
     fn runs(
         &mut self,
         alloc: Global,
