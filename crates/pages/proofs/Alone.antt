@@ -1,5 +1,5 @@
 -- A page that goes with its only use, by a DELETE that leaves one in more uses: what it does is to release the page, or nothing.
-use Rattle.std.proofs.Common.{◌≡◌, ◌==◌, ◌<◌, ℕ, ◌-◌, nat_lt, Bool, true, false, ◌&&◌, not, cond, List, [], ◌∷◌, find, is_some, IsTrue, IsSome, Option, Some, None, option_map, Result, Ok, Err, OnOk, OnErr, refl, sym, ap, ◌∙◌, subst, arith}
+use Rattle.std.proofs.Common.{◌≡◌, ◌==◌, ◌<◌, ℕ, ◌-◌, nat_lt, Bool, true, false, ◌&&◌, not, cond, List, [], ◌∷◌, find, is_some, IsTrue, IsSome, Option, Some, None, option_map, Result, Ok, Err, IfOk, OnOk, OnErr, refl, sym, ap, ◌∙◌, subst, arith}
 use Rattle.std.specs.Str.{bytes_eq}
 use Rattle.std.proofs.lemmas.Bool.{ltb-true, le-ltb}
 use Rattle.sqlite_keyed.specs.Lists.{delete_where}
@@ -126,12 +126,12 @@ looked_behind f a b c moved look = record {
 
 module _ (key : List ℕ) (twin : ℕ) (a b c : State) (moved : Moves AnyRows (last_removed key twin) a b) where
   -- a look behind the write found no page of the name: the page is released
-  pub gone_by : {X E : Type 0} (result : Result X E) → OnOk result (LeavesAsIs b c) × OnErr result (KeepsCommit b c) → OnOk result ((t : Tables) → Holds b.now t → page_uses key twin t ≡ None)
+  pub gone_by : {X E : Type 0} (result : Result X E) → IfOk result (λ _. (t : Tables) → Holds b.now t → page_uses key twin t ≡ None) × (OnOk result (LeavesAsIs b c) × OnErr result (KeepsCommit b c))
       → OnOk result (Moves AnyRows (page_released key twin) a c) × OnErr result (KeepsCommit a c)
-  gone_by (Ok x) look none =
-      let all = looked_behind (last_removed key twin) a b c moved look.0 in (
+  gone_by (Ok x) seen =
+      let all = looked_behind (last_removed key twin) a b c moved seen.1.0 in (
         record {
-          rows = λ t holds any. subst (Holds c.now) (none_left_is key twin t (none (last_removed key twin t) (moved.rows t holds tt))) (all.rows t holds tt);
+          rows = λ t holds any. subst (Holds c.now) (none_left_is key twin t (seen.0 (last_removed key twin t) (moved.rows t holds tt))) (all.rows t holds tt);
           others = all.others;
           was_open = all.was_open;
           is_open = all.is_open;
@@ -140,7 +140,7 @@ module _ (key : List ℕ) (twin : ℕ) (a b c : State) (moved : Moves AnyRows (l
         },
         tt,
       )
-  gone_by (Err e) look none = (tt, record { was_open = λ _. moved.was_open; committed = λ is. look.1.committed is ∙ moved.committed })
+  gone_by (Err e) seen = (tt, record { was_open = λ _. moved.was_open; committed = λ is. seen.1.1.committed is ∙ moved.committed })
 
   -- where the write did nothing, the same rows are held behind it
   pub held_on : ((t : Tables) → Holds a.now t → has_last key twin t ≡ false) → (t : Tables) → Holds a.now t → Holds b.now t

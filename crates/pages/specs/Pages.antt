@@ -1,9 +1,9 @@
 -- The pages that are stored: a map from key and twin number to bytes and uses, and what calls do to it.
-use Rattle.std.specs.Prelude.{◌≡◌, ◌≢◌, ◌<◌, ◌≤◌, ◌⊎◌, ℕ, ◌+◌, ◌-◌, ◌^◌, ⊤, nat_lt, cond, List, find, IsTrue, IsSome, Option, Some, None, option_map, Result, IfOk, OnOk, OnErr}
+use Rattle.std.specs.Prelude.{◌≡◌, ◌≢◌, ◌<◌, ◌≤◌, ◌⊎◌, ℕ, ◌+◌, ◌-◌, ◌^◌, ⊤, false, nat_lt, cond, List, find, IsTrue, IsSome, Option, Some, None, option_map, Result, IfOk, OnOk, OnErr}
 use Rattle.std.specs.List.{AllByRecursion}
 use Rattle.sqlite_keyed.specs.Rules.{AreApart}
 use Rattle.sqlite_trees.specs.declared.store.Store.{Ghosts}
-use Rattle.sqlite.specs.Held.{state}
+use Rattle.sqlite.specs.Held.{Held, state}
 use Rattle.sqlite.specs.State.{State, HasCleanDisk, IsUnchanged, KeepsCommit}
 use Rattle.sqlite.specs.declared.transaction.Transaction.{Transaction}
 use Rattle.statements.specs.Steps.{Steps}
@@ -93,7 +93,11 @@ NamedAreThere t = AllByRecursion (λ x. IsSome (pages_in t x.1.key x.1.twin)) t.
 abbrev pub SparesNamed : {X E : Type 0} → State → State → Result X E → Type 0
 SparesNamed old new result = HasCleanDisk new → IsTrue old.in_transaction → OnOk result ((t u : Tables) → Holds old.now t → Holds new.now u → NamedAreThere u)
 
--- an existing value is read, outside a transaction; if this fails, nothing is committed
-abbrev pub GetsBy : {X E : Type 0} → (Tables → Option X) → State → State → Result X E → Type 0
-GetsBy read old new result =
-    HasCleanDisk new → IfOk result (λ x. (t : Tables) → Holds old.now t → read t ≡ Some x) × (OnOk result (IsUnchanged old new) × OnErr result (KeepsCommit old new))
+-- What reading a value that is there promises, outside a transaction: none begins, the disk was clean so far, and a shield stays; after a failure nothing is committed.
+pub record Gets {S X E : Type 0} (g : Ghosts S) (read : Tables → Option X) (old new : Held S) (result : Result X E) : Type 0 where
+  pub mode : old.in_transaction ≡ false → new.in_transaction ≡ false
+  pub gets :
+      HasCleanDisk (state g new)
+      → IfOk result (λ x. (t : Tables) → Holds (state g old).now t → read t ≡ Some x) × (OnOk result (IsUnchanged (state g old) (state g new)) × OnErr result (KeepsCommit (state g old) (state g new)))
+  pub so_far : HasCleanDisk (state g new) → HasCleanDisk (state g old)
+  pub shield : (state g old).IsShielded → (state g new).IsShielded

@@ -1,15 +1,15 @@
 //! Adds, reads, compares and releases pages.
-ghost use Rattle.std.specs.Prelude.{◌≡◌, ◌+◌, false, ℕ, List, None, IsSome, IfOk, OnOk};
+ghost use Rattle.std.specs.Prelude.{◌≡◌, ◌+◌, ℕ, List, None, IsSome, IfOk, OnOk};
 ghost use Rattle.sqlite_value.specs.declared.value.Value.TheVariants.{Blob};
 ghost use Rattle.sqlite_value.specs.Order.{column};
 ghost use Rattle.sqlite.specs.Held.{state};
 ghost use Rattle.sqlite.specs.State.{HasCleanDisk};
-ghost use Rattle.statements.specs.Steps.{Steps, Tells};
+ghost use Rattle.statements.specs.Steps.{Equals, Steps};
 ghost use Rattle.statements.specs.Tables.{Tables, Holds};
 ghost use Rattle.pages.specs.Rows.{page_added, page_used, page_bytes, page_uses, IsPageName};
 ghost use Rattle.pages.specs.Puts.{free_twin, twin_found, twin_for, put_found, page_put, lessened, released_found, page_released, is_bytes_of};
-ghost use Rattle.pages.specs.Pages.{IsKeyFor, PutsUnder, ReleasesBy, SparesNamed, GetsBy};
-ghost use Rattle.pages.specs.Inner.Calls.{OnlyLooks, TellsBy, put_with, twin_with, alike};
+ghost use Rattle.pages.specs.Pages.{IsKeyFor, PutsUnder, ReleasesBy, SparesNamed, Gets};
+ghost use Rattle.pages.specs.Inner.Calls.{SeesInside, TellsBy, put_with, twin_with, alike};
 
 use crate::keys::PageKey;
 use crate::rows::{
@@ -62,11 +62,7 @@ const USES_COLUMN: usize = 3;
 
 /// The least twin number that no page with this key has.
 fn free<S: Alter>(tx: &mut Transaction<'_, S>, key: &[u8]) -> Result<Twin, Error>
-    ensures same_reference { tx.new.conn.ghost_name ≡ tx.old.conn.ghost_name }
-    ensures looks { OnlyLooks (state S.Store tx.old.conn.now) (state S.Store tx.new.conn.now) result }
-    ensures twin { TellsBy (free_twin key.now) (state S.Store tx.old.conn.now) (state S.Store tx.new.conn.now) result }
-    ensures so_far { HasCleanDisk (state S.Store tx.new.conn.now) → HasCleanDisk (state S.Store tx.old.conn.now) }
-    ensures shield { (state S.Store tx.old.conn.now).IsShielded → (state S.Store tx.new.conn.now).IsShielded }
+    ensures { SeesInside S.Store (Equals (free_twin key.now)) tx.old tx.new result }
 {
     let mut number = 0;
     'twins: while let Some(twin) = Twin::new(number) {
@@ -228,10 +224,7 @@ pub fn put_known<K: PageKey, S: Alter>(
 
 /// The bytes of a page. Fails if there is no such page.
 pub fn get<S: Alter>(conn: &mut Connection<S>, id: &PageId) -> Result<Bytes, Error>
-    ensures mode { conn.old.in_transaction ≡ false → conn.new.in_transaction ≡ false }
-    ensures gets { GetsBy (page_bytes id.now.key id.now.twin) (state S.Store conn.old) (state S.Store conn.new) result }
-    ensures so_far { HasCleanDisk (state S.Store conn.new) → HasCleanDisk (state S.Store conn.old) }
-    ensures shield { (state S.Store conn.old).IsShielded → (state S.Store conn.new).IsShielded }
+    ensures { Gets S.Store (page_bytes id.now.key id.now.twin) conn.old conn.new result }
 {
     match bytes(conn, id.key.as_slice(), id.twin)? {
         Some(bytes) => Ok(bytes),
@@ -241,10 +234,7 @@ pub fn get<S: Alter>(conn: &mut Connection<S>, id: &PageId) -> Result<Bytes, Err
 
 /// Whether a page has these bytes. Fails if there is no such page.
 pub fn same<S: Alter>(conn: &mut Connection<S>, id: &PageId, page: &[u8]) -> Result<bool, Error>
-    ensures mode { conn.old.in_transaction ≡ false → conn.new.in_transaction ≡ false }
-    ensures gets { GetsBy (is_bytes_of id.now.key id.now.twin page.now) (state S.Store conn.old) (state S.Store conn.new) result }
-    ensures so_far { HasCleanDisk (state S.Store conn.new) → HasCleanDisk (state S.Store conn.old) }
-    ensures shield { (state S.Store conn.old).IsShielded → (state S.Store conn.new).IsShielded }
+    ensures { Gets S.Store (is_bytes_of id.now.key id.now.twin page.now) conn.old conn.new result }
 {
     let bytes = get(conn, id)?;
     Ok(bytes.as_slice() == page)
@@ -312,11 +302,7 @@ fn release_counted<S: Alter>(
 
 /// Fails unless there is no page with this name.
 fn none_left<S: Alter>(tx: &mut Transaction<'_, S>, key: &[u8], twin: Twin) -> Result<(), Error>
-    ensures same_reference { tx.new.conn.ghost_name ≡ tx.old.conn.ghost_name }
-    ensures looks { OnlyLooks (state S.Store tx.old.conn.now) (state S.Store tx.new.conn.now) result }
-    ensures none { Tells (λ _ t. page_uses key.now twin t ≡ None) (state S.Store tx.old.conn.now) (state S.Store tx.new.conn.now) result }
-    ensures so_far { HasCleanDisk (state S.Store tx.new.conn.now) → HasCleanDisk (state S.Store tx.old.conn.now) }
-    ensures shield { (state S.Store tx.old.conn.now).IsShielded → (state S.Store tx.new.conn.now).IsShielded }
+    ensures { SeesInside S.Store (λ _ t. page_uses key.now twin t ≡ None) tx.old tx.new result }
 {
     let found = uses(tx, key, twin)?;
     match found {

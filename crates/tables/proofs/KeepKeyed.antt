@@ -1,10 +1,7 @@
 -- From a transaction to a store whose pages are under the keys of their bytes.
-use Rattle.std.proofs.Common.{ℕ, Bool, true, false, List, Option, Some, None, IsTrue, sym, subst}
+use Rattle.std.proofs.Common.{ℕ, List, IsTrue, sym, subst}
 use Rattle.sqlite.specs.Effect.{Database}
 use Rattle.sqlite.specs.State.{State, IsUnchanged}
-use Rattle.basis.specs.declared.roles.Bounds.{Bounds}
-use Rattle.basis.specs.declared.roles.Role.{Role}
-use Rattle.statements.specs.Finds.{cap_of, role_of_name}
 use Rattle.statements.specs.Tables.{Tables, Holds, tables_of}
 use Rattle.statements.proofs.Decoding.{tables-held}
 use Rattle.tables.specs.Opening.{IsSoundKeep}
@@ -12,7 +9,7 @@ use Rattle.tables.specs.Scans.{ArePagesKeyed}
 use Rattle.tables.specs.declared.memo.Memo.{Memo}
 use Rattle.tables.specs.Inner.Imports.{CommitsRelated}
 use Rattle.tables.specs.Inner.Keys.{KeepsKeys}
-use Rattle.tables.specs.Inner.Steps.{Commits, org_managed_by, org_managed, limit_managed_by, limit_managed, token_managed_by, token_managed, is_taken, revocation_managed_by, revocation_managed}
+use Rattle.tables.specs.Inner.Steps.{Commits}
 
 -- a database that holds tables whose pages are so has such pages
 pub keyed_held : (key_of : List ℕ → List ℕ) (db : Database) (t : Tables) → Holds db t → ArePagesKeyed key_of t → ArePagesKeyed key_of (tables_of db)
@@ -44,35 +41,3 @@ module _ (key_of : List ℕ → List ℕ) (a b : State) (same : IsUnchanged a b)
     was_open = same.0.was_open;
     is_open = done.is_open;
   }
-
--- ---- an operator's commands change no page
-
-module _ (key_of : List ℕ → List ℕ) (org : List ℕ) (t : Tables) (keyed : ArePagesKeyed key_of t) where
-  pub org_keyed : (limit : ℕ) → ArePagesKeyed key_of (org_managed org limit t).left
-  org_keyed limit = go (cap_of org t)
-    where
-      go : (o : Option ℕ) → ArePagesKeyed key_of (org_managed_by o org limit t).left
-      go None = keyed
-      go (Some cap) = keyed
-
-  pub limit_keyed : (limit : ℕ) → ArePagesKeyed key_of (limit_managed org limit t).left
-  limit_keyed limit = go (cap_of org t)
-    where
-      go : (o : Option ℕ) → ArePagesKeyed key_of (limit_managed_by o org limit t).left
-      go None = keyed
-      go (Some cap) = keyed
-
-  pub token_keyed : (name digest : List ℕ) (role : Role) (bounds : Bounds) → ArePagesKeyed key_of (token_managed org name digest role bounds t).left
-  token_keyed name digest role bounds = go (cap_of org t) (is_taken org name digest t)
-    where
-      go : (o : Option ℕ) (taken : Bool) → ArePagesKeyed key_of (token_managed_by o taken org name digest role bounds t).left
-      go None taken = keyed
-      go (Some cap) true = keyed
-      go (Some cap) false = keyed
-
-  pub revocation_keyed : (name : List ℕ) → ArePagesKeyed key_of (revocation_managed org name t).left
-  revocation_keyed name = go (role_of_name org name t)
-    where
-      go : (o : Option Role) → ArePagesKeyed key_of (revocation_managed_by o org name t).left
-      go None = keyed
-      go (Some role) = keyed

@@ -10,6 +10,7 @@ use Rattle.statements.specs.Finds.{workspace_of, size_of}
 use Rattle.statements.specs.Steps.{AnyRows, Moves, Steps, Tells}
 use Rattle.statements.specs.Tables.{Tables, Holds}
 use Rattle.statements.proofs.Transactions.{moves_more}
+use Rattle.texts.specs.Texts.{GoesOn}
 use Rattle.pages.proofs.Looking.{steps_then}
 use Rattle.texts.proofs.Many.{moves_as}
 use Rattle.tables.specs.Inner.Edits.{if_there, numbered_rows, FitsTwins, TakesVersion}
@@ -53,16 +54,15 @@ module _ {S : Type 0} (g : Ghosts S) where
   }
 
   -- a step, and then writes that may be none, which are steps on a connection that is open
-  pub steps_then_all : {X Y E F : Type 0} (f h : Tables → Tables) (a b c : Transaction S) (x : X) (result : Result Y F) → Steps {E = E} g f a b (Ok x) → c.conn.ghost_name ≡ b.conn.ghost_name
-      → (IsTrue (state g b.conn.now).is_open → Steps g h b c result) → (HasCleanDisk (state g c.conn.now) → HasCleanDisk (state g b.conn.now)) → ((state g b.conn.now).IsShielded → (state g c.conn.now).IsShielded)
-      → Steps g (λ t. h (f t)) a c result
-  steps_then_all f h a b c x result one same last so_far after = record {
-    same_reference = same ∙ one.same_reference;
+  pub steps_then_all : {X Y E F : Type 0} (f h : Tables → Tables) (a b c : Transaction S) (x : X) (result : Result Y F) → Steps {E = E} g f a b (Ok x) → GoesOn g b c
+      → (IsTrue (state g b.conn.now).is_open → Steps g h b c result) → Steps g (λ t. h (f t)) a c result
+  steps_then_all f h a b c x result one on last = record {
+    same_reference = on.same_reference ∙ one.same_reference;
     changed = λ clean inside.
-        let first = (one.changed (so_far clean) inside).0 in
+        let first = (one.changed (on.so_far clean) inside).0 in
         moves_more AnyRows AnyRows f h (state g a.conn.now) (state g b.conn.now) (state g c.conn.now) result (λ t any. tt) first ((last first.is_open).changed clean first.inside);
-    so_far = λ clean. one.so_far (so_far clean);
-    shield = λ s. after (one.shield s);
+    so_far = λ clean. one.so_far (on.so_far clean);
+    shield = λ s. on.shield (one.shield s);
   }
 
   -- what writes tell behind a step, they tell of the rows before it

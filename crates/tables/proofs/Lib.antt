@@ -32,6 +32,7 @@ pub mod Raising
 pub mod Ranks
 pub mod Remembering
 pub mod KeptInMemory
+pub mod Refining
 pub mod Revoking
 pub mod Shut
 pub mod Filled

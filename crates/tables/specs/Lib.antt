@@ -4,6 +4,7 @@ pub mod Defined
 pub mod Inner
 pub mod Laws
 pub mod Logs
+pub mod Opened
 pub mod Opening
 pub mod Records
 pub mod Remembered

@@ -2,11 +2,11 @@
 ghost use Rattle.std.specs.Prelude.{◌≡◌, true, false, not, ◌≢◌, ◌<◌, ◌+◌, ◌-◌, ◌^◌, min, ℕ, List, [], Option, Some, None, option_copied, Ok, IsTrue, IfSome, IfOk, IfErr, OnOk, OnErr};
 ghost use Rattle.std.specs.Option.{unwrap_or};
 ghost use Rattle.sqlite.specs.Held.{state};
-ghost use Rattle.sqlite.specs.State.{HasCleanDisk, KeepsCommit};
-ghost use Rattle.tables.specs.Stores.{records_of, IsSoundStore};
-ghost use Rattle.statements.specs.Making.{KeepsTables, KeepsForeign};
-ghost use Rattle.statements.specs.Tables.{Tables, Holds, HoldsIn, schema_tables, our_tables, tables_of, tables_at};
-ghost use Rattle.tables.specs.Opening.{IsSoundKeep, IsFresh, any_there, all_there, newest_there, tells_edition, is_meta, is_edition, has_versions, TellsIn, ToldBy, IsOther, GivesBack};
+ghost use Rattle.sqlite.specs.State.{HasCleanDisk};
+ghost use Rattle.tables.specs.Stores.{records_of};
+ghost use Rattle.statements.specs.Tables.{Tables, Holds, tables_of};
+ghost use Rattle.tables.specs.Opened.{IsOpened, IsLeft, RefusesOthers};
+ghost use Rattle.tables.specs.Opening.{IsSoundKeep, IsFresh};
 ghost use Rattle.basis.specs.Names.{is_prefix};
 ghost use Rattle.std.specs.FinMap.{get};
 ghost use Rattle.machine.specs.Keeping.{Looks, Lasts, LastsWhere};
@@ -19,7 +19,6 @@ ghost use Rattle.tables.specs.Defined.{TellsTables};
 ghost use Rattle.tables.specs.Scans.{AreRowsOf, ArePagesKeyed};
 ghost use Rattle.tables.specs.Logs.{text_bytes, CopiesLog};
 ghost use Rattle.tables.specs.declared.store.TheConstants.{LONG_LOG};
-ghost use Rattle.tables.specs.Versions.{HoldsSchema, schema_records};
 
 use crate::memo::Memo;
 use crate::opening::ready;
@@ -99,36 +98,10 @@ impl<S: Alter, K: PageKey> SqlKeep<S, K> {
         ensures so_far { IfOk result (λ keep. ⟦<SqlKeep<S, K> as Keep>⟧.clean keep → HasCleanDisk (state S.Store conn)) }
         ensures shield { IfOk result (λ keep. (state S.Store conn).IsShielded → ⟦<SqlKeep<S, K> as Keep>⟧.shielded keep) }
         ensures left_shielded { IfErr result (λ unopened. (state S.Store conn).IsShielded → (state S.Store unopened.conn).IsShielded) }
-        ensures fresh { IfOk result (λ keep. ⟦<SqlKeep<S, K> as Keep>⟧.clean keep → any_there (state S.Store conn).now.schema ≡ false
-            → ⟦<SqlKeep<S, K> as Keep>⟧.sound keep × ((o : List ℕ) → ⟦<SqlKeep<S, K> as Keep>⟧.rows keep o ≡ None)) }
-        ensures others { IfOk result (λ keep. ⟦<SqlKeep<S, K> as Keep>⟧.clean keep → any_there (state S.Store conn).now.schema ≡ false
-            → KeepsTables (state S.Store conn).now (state S.Store keep.conn).committed) }
-        ensures held { IfOk result (λ keep. ⟦<SqlKeep<S, K> as Keep>⟧.clean keep → newest_there (state S.Store conn).now.schema ≡ true
-            → (IsSoundStore (state S.Store conn).now → ⟦<SqlKeep<S, K> as Keep>⟧.sound keep) × ((o : List ℕ) → ⟦<SqlKeep<S, K> as Keep>⟧.rows keep o ≡ records_of (state S.Store conn).now o)) }
-        ensures stays { IfOk result (λ keep. ⟦<SqlKeep<S, K> as Keep>⟧.clean keep → newest_there (state S.Store conn).now.schema ≡ true
-            → (state S.Store keep.conn).committed ≡ (state S.Store conn).now) }
-        ensures keyed { IfOk result (λ keep. ⟦<SqlKeep<S, K> as Keep>⟧.clean keep → (any_there (state S.Store conn).now.schema ≡ false → ⟦<SqlKeep<S, K> as Keep>⟧.keyed keep)
-            × (newest_there (state S.Store conn).now.schema ≡ true → ArePagesKeyed K.key_of (tables_of (state S.Store conn).now) → ⟦<SqlKeep<S, K> as Keep>⟧.keyed keep)
-            × ((n : ℕ) → HoldsSchema n (state S.Store conn).now → ArePagesKeyed K.key_of (tables_at n (state S.Store conn).now) → ⟦<SqlKeep<S, K> as Keep>⟧.keyed keep)) }
-        ensures version { IfOk result (λ keep. ⟦<SqlKeep<S, K> as Keep>⟧.clean keep → (n : ℕ) → all_there n (state S.Store conn).now.schema ≡ true → TellsIn n (state S.Store conn).now) }
-        ensures tells { IfOk result (λ keep. ⟦<SqlKeep<S, K> as Keep>⟧.clean keep → (n : ℕ) → all_there n (state S.Store conn).now.schema ≡ true → ToldBy n (state S.Store conn).now) }
-        ensures climbed { IfOk result (λ keep. ⟦<SqlKeep<S, K> as Keep>⟧.clean keep → (n : ℕ) → HoldsSchema n (state S.Store conn).now
-            → ⟦<SqlKeep<S, K> as Keep>⟧.sound keep × ((o : List ℕ) → ⟦<SqlKeep<S, K> as Keep>⟧.rows keep o ≡ schema_records n (state S.Store conn).now o)) }
-        ensures beside { IfOk result (λ keep. ⟦<SqlKeep<S, K> as Keep>⟧.clean keep → (n : ℕ) → all_there n (state S.Store conn).now.schema ≡ true
-            → (t : Tables) → HoldsIn n (state S.Store conn).now t → KeepsForeign (schema_tables n) our_tables (state S.Store conn).now (state S.Store keep.conn).committed) }
-        ensures back { IfErr result (λ unopened. HasCleanDisk (state S.Store unopened.conn) → GivesBack (state S.Store conn) (state S.Store unopened.conn)) }
-        ensures kept { IfErr result (λ unopened. HasCleanDisk (state S.Store unopened.conn) → unopened.fault ≡ Fault.Schema → KeepsCommit (state S.Store conn) (state S.Store unopened.conn)) }
-        ensures other { IfErr result (λ unopened. HasCleanDisk (state S.Store unopened.conn) → unopened.fault ≡ Fault.Schema
-            → (any_there (state S.Store conn).now.schema ≡ true) × IsOther (state S.Store conn)) }
-        ensures sound { IfErr result (λ unopened. HasCleanDisk (state S.Store unopened.conn) → unopened.fault ≡ Fault.Schema → (n : ℕ) → HoldsSchema n (state S.Store conn).now → ⊥) }
-        ensures foreign { any_there (state S.Store conn).now.schema ≡ true → is_meta (state S.Store conn).now.schema ≡ false
-            → IfErr result (λ unopened. unopened.fault ≡ Fault.Schema) × IfOk result (λ _. ⊥) }
-        ensures edition { any_there (state S.Store conn).now.schema ≡ true → tells_edition (state S.Store conn).now.schema ≡ true → is_edition (state S.Store conn).now.schema ≡ false
-            → IfErr result (λ unopened. unopened.fault ≡ Fault.Schema) × IfOk result (λ _. ⊥) }
-        ensures missing { any_there (state S.Store conn).now.schema ≡ true → all_there 1 (state S.Store conn).now.schema ≡ false → tells_edition (state S.Store conn).now.schema ≡ false
-            → IfErr result (λ unopened. unopened.fault ≡ Fault.Schema) × IfOk result (λ _. ⊥) }
-        ensures older { any_there (state S.Store conn).now.schema ≡ true → has_versions (state S.Store conn).now.schema ≡ false
-            → IfErr result (λ unopened. unopened.fault ≡ Fault.Schema) × IfOk result (λ _. ⊥) }
+        ensures opened { IfOk result (λ keep. ⟦<SqlKeep<S, K> as Keep>⟧.clean keep
+            → IsOpened K.key_of (⟦<SqlKeep<S, K> as Keep>⟧.rows keep) (⟦<SqlKeep<S, K> as Keep>⟧.sound keep) (⟦<SqlKeep<S, K> as Keep>⟧.keyed keep) (state S.Store conn) (state S.Store keep.conn)) }
+        ensures left { IfErr result (λ unopened. HasCleanDisk (state S.Store unopened.conn) → IsLeft (unopened.fault ≡ Fault.Schema) (state S.Store conn) (state S.Store unopened.conn)) }
+        ensures refuses { RefusesOthers (state S.Store conn).now.schema (IfErr result (λ unopened. unopened.fault ≡ Fault.Schema) × IfOk result (λ _. ⊥)) }
         ensures idle { IfErr result (λ unopened. unopened.conn.in_transaction ≡ false) }
         ensures as_opened { IfOk result (λ keep. ⟦<SqlKeep<S, K> as Keep>⟧.clean keep → IsFresh (state S.Store keep.seen.value).committed keep.memo (state S.Store keep.conn)) }
     {

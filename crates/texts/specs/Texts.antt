@@ -5,6 +5,7 @@ use Rattle.sqlite_keyed.specs.Rules.{AreApart}
 use Rattle.sqlite_keyed.specs.Lists.{delete_where}
 use Rattle.sqlite_trees.specs.declared.store.Store.{Ghosts}
 use Rattle.sqlite.specs.Held.{state}
+use Rattle.sqlite.specs.State.{HasCleanDisk}
 use Rattle.sqlite.specs.declared.transaction.Transaction.{Transaction}
 use Rattle.statements.specs.Rows.{Kept, VpageRow}
 use Rattle.statements.specs.Steps.{Steps, Tells}
@@ -79,6 +80,12 @@ TwinsFit keys org ws n text (suc place) t = TwinsFit keys org ws n text place t 
 abbrev pub KeysFit : (List ℕ → List ℕ) → (ℕ → List ℕ) → List ℕ → List ℕ → ℕ → List ℕ → ℕ → Tables → Type 0
 KeysFit key_of keys org ws n text zero t = ⊤
 KeysFit key_of keys org ws n text (suc place) t = KeysFit key_of keys org ws n text place t × IsKeyFor key_of (piece_at text place) (keys place) (pieces_added keys org ws n text place t)
+
+-- A call in a transaction, done or not: it stays that of the same connection, the disk was clean so far, and a shield stays.
+pub record GoesOn {S : Type 0} (g : Ghosts S) (old new : Transaction S) : Type 0 where
+  pub same_reference : new.conn.ghost_name ≡ old.conn.ghost_name
+  pub so_far : HasCleanDisk (state g new.conn.now) → HasCleanDisk (state g old.conn.now)
+  pub shield : (state g old.conn.now).IsShielded → (state g new.conn.now).IsShielded
 
 -- What adding a text under these keys promises: each piece is added, under a key that it may have and a twin number that SQL has.
 pub record AddsText {S E : Type 0} (g : Ghosts S) (key_of : List ℕ → List ℕ) (keys : ℕ → List ℕ) (org ws : List ℕ) (n : ℕ) (text : List ℕ) (old new : Transaction S) (result : Result ⊤ E) : Type 0 where

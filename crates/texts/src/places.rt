@@ -1,10 +1,9 @@
 //! Statements on the table vpage.
-ghost use Rattle.std.specs.Prelude.{◌≡◌, ℕ, ◌<◌, ◌^◌, ◌/◌, pos, IfOk};
+ghost use Rattle.std.specs.Prelude.{◌≡◌, ℕ, ◌<◌, ◌^◌, ◌/◌, pos};
 ghost use Rattle.sqlite.specs.Held.{state};
-ghost use Rattle.sqlite.specs.State.{HasCleanDisk, Survives};
+ghost use Rattle.sqlite.specs.State.{Survives};
 ghost use Rattle.statements.specs.Steps.{AnyRows, Equals, Writes, Reads, Queries};
-ghost use Rattle.statements.specs.Tables.{Tables, Holds};
-ghost use Rattle.pages.specs.Inner.Calls.{OnlyLooks};
+ghost use Rattle.pages.specs.Inner.Calls.{SeesInside};
 ghost use Rattle.texts.specs.Texts.{place_added, page_at};
 ghost use Rattle.texts.specs.Inner.Calls.{places_removed, AreRowsOf};
 ghost use Rattle.texts.specs.declared.texts.TheConstants.{PAGE_BYTES};
@@ -103,11 +102,7 @@ pub(crate) fn all<S: Alter>(
     ws: &str,
     number: Number,
 ) -> Result<Vec<Row>, Error>
-    ensures same_reference { tx.new.conn.ghost_name ≡ tx.old.conn.ghost_name }
-    ensures rows { HasCleanDisk (state S.Store tx.new.conn.now) → IfOk result (λ rows. (t : Tables) → Holds (state S.Store tx.old.conn.now).now t → AreRowsOf org.now ws.now number t rows.items) }
-    ensures looks { OnlyLooks (state S.Store tx.old.conn.now) (state S.Store tx.new.conn.now) result }
-    ensures so_far { HasCleanDisk (state S.Store tx.new.conn.now) → HasCleanDisk (state S.Store tx.old.conn.now) }
-    ensures shield { (state S.Store tx.old.conn.now).IsShielded → (state S.Store tx.new.conn.now).IsShielded }
+    ensures { SeesInside S.Store (λ rows t. AreRowsOf org.now ws.now number t rows.items) tx.old tx.new result }
 {
     let number = number.get();
     tx.query_all(PLACES, params![org, ws, number])

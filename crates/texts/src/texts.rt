@@ -1,15 +1,15 @@
 //! Adds, removes, reads and compares the text of a version, page by page.
-ghost use Rattle.std.specs.Prelude.{◌≡◌, ◌≤◌, ◌*◌, ℕ, List, length, false, IsTrue, IfOk, OnOk};
+ghost use Rattle.std.specs.Prelude.{◌≡◌, ◌≤◌, ◌*◌, ⊤, ℕ, List, length, IsTrue, IfOk, OnOk};
 ghost use Rattle.sqlite_value.specs.Order.{column};
 ghost use Rattle.sqlite.specs.Held.{state};
 ghost use Rattle.sqlite.specs.State.{HasCleanDisk};
 ghost use Rattle.statements.specs.Steps.{Equals, Steps, Tells, Sees};
 ghost use Rattle.statements.specs.Tables.{Tables, Holds};
-ghost use Rattle.pages.specs.Pages.{GetsBy, IsKeyFor, PutsUnder};
-ghost use Rattle.pages.specs.Inner.Calls.{OnlyLooks};
+ghost use Rattle.pages.specs.Pages.{Gets, IsKeyFor, PutsUnder};
+ghost use Rattle.pages.specs.Inner.Calls.{SeesInside};
 ghost use Rattle.statements.specs.Rows.{number};
 ghost use Rattle.texts.specs.Inner.Ahead.{AreKeysOf};
-ghost use Rattle.texts.specs.Texts.{pages_for, piece_at, AddsText, text_removed, WereThere, AreThere, text_of, are_pieces};
+ghost use Rattle.texts.specs.Texts.{GoesOn, pages_for, piece_at, AddsText, text_removed, WereThere, AreThere, text_of, are_pieces};
 ghost use Rattle.texts.specs.Inner.Calls.{AddsPiece, name_in, released_by, WereReleased, is_piece_of};
 
 use crate::ahead::Ahead;
@@ -68,10 +68,7 @@ fn look_at<S: Alter>(
     place: Place,
     moved: u64,
 ) -> Result<Option<PageId>, Error>
-    ensures same_reference { tx.new.conn.ghost_name ≡ tx.old.conn.ghost_name }
-    ensures looks { OnlyLooks (state S.Store tx.old.conn.now) (state S.Store tx.new.conn.now) result }
-    ensures so_far { HasCleanDisk (state S.Store tx.new.conn.now) → HasCleanDisk (state S.Store tx.old.conn.now) }
-    ensures shield { (state S.Store tx.old.conn.now).IsShielded → (state S.Store tx.new.conn.now).IsShielded }
+    ensures { SeesInside S.Store (λ _ _. ⊤) tx.old tx.new result }
 {
     match before {
         None => Ok(None),
@@ -172,10 +169,8 @@ pub fn add_text<K: PageKey, S: Alter>(
     before: Option<Number>,
     text: &[u8],
 ) -> Result<(), Error>
-    ensures same_reference { tx.new.conn.ghost_name ≡ tx.old.conn.ghost_name }
+    ensures goes_on { GoesOn S.Store tx.old tx.new }
     ensures adds { (keys : ℕ → List ℕ) × (IsTrue (state S.Store tx.old.conn.now).is_open → AddsText S.Store K.key_of keys org.now ws.now number text.now tx.old tx.new result) }
-    ensures so_far { HasCleanDisk (state S.Store tx.new.conn.now) → HasCleanDisk (state S.Store tx.old.conn.now) }
-    ensures shield { (state S.Store tx.old.conn.now).IsShielded → (state S.Store tx.new.conn.now).IsShielded }
 {
     let pages = pages_for(text.len() as u64);
     let mut ahead = Ahead::new();
@@ -208,11 +203,9 @@ fn release_each<S: Alter>(
     places: u64,
 ) -> Result<(), Error>
     requires as_many { length rows.now ≡ places }
-    ensures same_reference { tx.new.conn.ghost_name ≡ tx.old.conn.ghost_name }
+    ensures goes_on { GoesOn S.Store tx.old tx.new }
     ensures steps { IsTrue (state S.Store tx.old.conn.now).is_open → Steps S.Store (released_by rows.now places) tx.old tx.new result }
     ensures there { IsTrue (state S.Store tx.old.conn.now).is_open → Tells (λ _. WereReleased rows.now places) (state S.Store tx.old.conn.now) (state S.Store tx.new.conn.now) result }
-    ensures so_far { HasCleanDisk (state S.Store tx.new.conn.now) → HasCleanDisk (state S.Store tx.old.conn.now) }
-    ensures shield { (state S.Store tx.old.conn.now).IsShielded → (state S.Store tx.new.conn.now).IsShielded }
 {
     let mut shared = false;
     'places: for place in 0..places {
@@ -231,11 +224,9 @@ pub fn remove_text<S: Alter>(
     number: Number,
     size: u64,
 ) -> Result<(), Error>
-    ensures same_reference { tx.new.conn.ghost_name ≡ tx.old.conn.ghost_name }
+    ensures goes_on { GoesOn S.Store tx.old tx.new }
     ensures steps { IsTrue (state S.Store tx.old.conn.now).is_open → Steps S.Store (text_removed org.now ws.now number size) tx.old tx.new result }
     ensures there { IsTrue (state S.Store tx.old.conn.now).is_open → Tells (λ _. WereThere org.now ws.now number (pages_for size)) (state S.Store tx.old.conn.now) (state S.Store tx.new.conn.now) result }
-    ensures so_far { HasCleanDisk (state S.Store tx.new.conn.now) → HasCleanDisk (state S.Store tx.old.conn.now) }
-    ensures shield { (state S.Store tx.old.conn.now).IsShielded → (state S.Store tx.new.conn.now).IsShielded }
 {
     let pages = pages_for(size);
     let rows = all(tx, org, ws, number)?;
@@ -272,10 +263,7 @@ fn same_piece<S: Alter>(
     place: Place,
     piece: &[u8],
 ) -> Result<bool, Error>
-    ensures mode { conn.old.in_transaction ≡ false → conn.new.in_transaction ≡ false }
-    ensures gets { GetsBy (is_piece_of org.now ws.now number place piece.now) (state S.Store conn.old) (state S.Store conn.new) result }
-    ensures so_far { HasCleanDisk (state S.Store conn.new) → HasCleanDisk (state S.Store conn.old) }
-    ensures shield { (state S.Store conn.old).IsShielded → (state S.Store conn.new).IsShielded }
+    ensures { Gets S.Store (is_piece_of org.now ws.now number place piece.now) conn.old conn.new result }
 {
     let found = find(conn, org, ws, number, place)?;
     match found {

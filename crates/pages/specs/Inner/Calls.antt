@@ -1,7 +1,10 @@
 -- What calls inside a transaction leave and return.
 use Rattle.std.specs.Prelude.{◌≡◌, ℕ, cond, List, Option, Some, None, Result, IfOk, OnOk, OnErr}
 use Rattle.sqlite_value.specs.Order.{Row, column}
+use Rattle.sqlite_trees.specs.declared.store.Store.{Ghosts}
+use Rattle.sqlite.specs.Held.{state}
 use Rattle.sqlite.specs.State.{State, HasCleanDisk, KeepsCommit}
+use Rattle.sqlite.specs.declared.transaction.Transaction.{Transaction}
 use Rattle.statements.specs.Rows.{number}
 use Rattle.statements.specs.Calls.{IsFlagCell}
 use Rattle.statements.specs.Steps.{LeavesAsIs}
@@ -36,6 +39,16 @@ alike (Some first) = cond first.same (Some first.found) None
 -- only queries are run
 abbrev pub OnlyLooks : {X E : Type 0} → State → State → Result X E → Type 0
 OnlyLooks old new result = HasCleanDisk new → OnOk result (LeavesAsIs old new) × OnErr result (KeepsCommit old new)
+
+-- Any number of reads in a transaction: it stays that of the same connection, the result tells this of the rows, nothing changes, the disk was
+-- clean so far, and a shield stays; after a failure nothing is committed.
+pub record SeesInside {S X E : Type 0} (g : Ghosts S) (says : X → Tables → Type 0) (old new : Transaction S) (result : Result X E) : Type 0 where
+  pub same_reference : new.conn.ghost_name ≡ old.conn.ghost_name
+  pub sees :
+      HasCleanDisk (state g new.conn.now)
+      → IfOk result (λ x. (t : Tables) → Holds (state g old.conn.now).now t → says x t) × (OnOk result (LeavesAsIs (state g old.conn.now) (state g new.conn.now)) × OnErr result (KeepsCommit (state g old.conn.now) (state g new.conn.now)))
+  pub so_far : HasCleanDisk (state g new.conn.now) → HasCleanDisk (state g old.conn.now)
+  pub shield : (state g old.conn.now).IsShielded → (state g new.conn.now).IsShielded
 
 -- the value is computed from the rows before the call
 abbrev pub TellsBy : {X E : Type 0} → (Tables → X) → State → State → Result X E → Type 0

@@ -16,10 +16,10 @@ returns-clause-steps g c =
     record {
       same_reference = search;
       changed = λ clean inside.
-          let look = (c.in_ok-twin.ensures.looks (before clean)).0 in
-          let told = c.in_ok-twin.ensures.twin (before clean) in (
+          let seen = c.in_ok-twin.ensures.sees (before clean) in
+          let look = seen.1.0 in (
             moved_behind (page_added key c.in_ok-twin.twin c.args.page.now) (λ t. page_added key (free_twin key t) c.args.page.now t) s0 s1 s2 look
-                (λ t holds. ap (λ n. page_added key n c.args.page.now t) (told t holds)) (c.in_ok-add.ensures.changed clean (still_inside s0 s1 look inside)).0,
+                (λ t holds. ap (λ n. page_added key n c.args.page.now t) (seen.0 t holds)) (c.in_ok-add.ensures.changed clean (still_inside s0 s1 look inside)).0,
             tt,
           );
       so_far = λ clean. c.free.ensures.so_far (before clean);

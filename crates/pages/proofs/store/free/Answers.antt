@@ -10,19 +10,29 @@ use Rattle.pages.proofs.store.free.Goals as goal
 pub twins-init : goal.twins-init
 twins-init g c = (refl, record { so_far = λ clean. clean; shield = λ s. s; looks = λ _. as_it_is (state g.S.Store c.args.tx.now.conn.now); left = λ _ t _. free_begin c.args.key.now t })
 
-pub returns-in-None-clause-twin : goal.returns-in-None-clause-twin
-returns-in-None-clause-twin g c clean t holds =
+pub returns-in-None : goal.returns-in-None
+returns-in-None g c =
     let key = c.args.key.now in
     let s0 = state g.S.Store c.args.tx.now.conn.now in
     let s1 = state g.S.Store c.twins.tx.conn.now in
     let s2 = state g.S.Store c.uses.new.tx.conn.now in
     let so_far = c.twins.invariant.1 in
-    let clean1 = clean_before s1 s2 _ c.uses.ensures.survives clean in
-    let read = c.in_ok-found.ensures.read clean in
+    let before = clean_before s1 s2 _ c.uses.ensures.survives in
     let same : c.in-Some.twin ≡ c.twins.number = grind arith in
     let low : c.twins.number < twin_limit = grind arith in
-    let none : page_uses key c.twins.number t ≡ None = ap (λ n. page_uses key n t) (sym same) ∙ sym (read.0 t (still_holds s0 s1 (so_far.looks clean1) t holds)) ∙ c.in-None.is in
-    same ∙ sym (free_here key twin_limit c.twins.number t low none) ∙ so_far.left clean1 t holds
+    record {
+      same_reference = search;
+      sees = λ clean.
+          let read = c.in_ok-found.ensures.read clean in
+          let look = so_far.looks (before clean) in (
+            λ t holds.
+                let none : page_uses key c.twins.number t ≡ None = ap (λ n. page_uses key n t) (sym same) ∙ sym (read.0 t (still_holds s0 s1 look t holds)) ∙ c.in-None.is in
+                same ∙ sym (free_here key twin_limit c.twins.number t low none) ∙ so_far.left (before clean) t holds,
+            (looks_then s0 s1 s2 look (one_look s1 s2 read.1.0), tt),
+          );
+      so_far = λ clean. so_far.so_far (before clean);
+      shield = λ s. c.uses.ensures.survives.shield (so_far.shield s);
+    }
 
 pub twins-preserved : goal.twins-preserved
 twins-preserved g c =

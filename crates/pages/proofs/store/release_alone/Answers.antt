@@ -25,7 +25,7 @@ returns-then-gone-clause-steps g c =
       same_reference = c.none_left.ensures.same_reference ∙ writes.same_reference;
       changed = λ clean inside.
           let moved = (writes.changed (before clean) inside).0 in
-          gone_by key twin s0 s1 s2 moved c.none_left.result (c.none_left.ensures.looks clean) (c.none_left.ensures.none clean moved.inside);
+          gone_by key twin s0 s1 s2 moved c.none_left.result (c.none_left.ensures.sees clean);
       so_far = λ clean. clean_before s0 s1 _ writes.survives (before clean);
       shield = λ s. c.none_left.ensures.shield (writes.survives.shield s);
     }
@@ -39,7 +39,7 @@ returns-then-gone-clause-releases g c clean inside =
     let s2 = state g.S.Store c.none_left.new.tx.conn.now in
     let before = c.none_left.ensures.so_far clean in
     let moved = (c.in_ok-gone.ensures.writes.changed before inside).0 in
-    let done = gone_by key twin s0 s1 s2 moved c.none_left.result (c.none_left.ensures.looks clean) (c.none_left.ensures.none clean moved.inside) in
+    let done = gone_by key twin s0 s1 s2 moved c.none_left.result (c.none_left.ensures.sees clean) in
     releases_there key twin s0 s2 c.none_left.result done.0 (λ t holds. last_is_there key twin t (sym (c.in_ok-gone.ensures.found before inside t holds) ∙ c.if-gone.true))
 
 pub returns-then-gone-clause-spares : goal.returns-then-gone-clause-spares
@@ -48,7 +48,7 @@ returns-then-gone-clause-spares g c clean inside =
     let s1 = state g.S.Store c.remove_last.new.tx.conn.now in
     let s2 = state g.S.Store c.none_left.new.tx.conn.now in
     let before = c.none_left.ensures.so_far clean in
-    spared_before s0 s1 s2 c.none_left.result (c.in_ok-gone.ensures.spares before inside) (c.none_left.ensures.looks clean).0
+    spared_before s0 s1 s2 c.none_left.result (c.in_ok-gone.ensures.spares before inside) (c.none_left.ensures.sees clean).1.0
 
 -- it wasn't, and nothing was done
 pub returns-else-gone-clause-steps : goal.returns-else-gone-clause-steps

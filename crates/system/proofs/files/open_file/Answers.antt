@@ -51,7 +51,8 @@ returns-in-Ok-open-clause-tabled g c makes clean =
 pub returns-in-Ok-open-clause-opens : goal.returns-in-Ok-open-clause-opens
 returns-in-Ok-open-clause-opens g c clean =
     let disk = c.in-Ok-open.ensures.so_far clean in
-    opens_on _ _ _ _ (c.in-Ok-open_database.ensures.found disk) (c.in-Ok-open_database.ensures.opened disk).0 (c.in-Ok-open_database.ensures.opened disk).1 (λ e first second. (c.in-Ok-open.ensures.missing e first second).1) (c.in-Ok-open.ensures.held clean) (c.in-Ok-open.ensures.climbed clean) (c.in-Ok-open.ensures.fresh clean)
+    let is = c.in-Ok-open.ensures.opened clean in
+    opens_on _ _ _ _ (c.in-Ok-open_database.ensures.found disk) (c.in-Ok-open_database.ensures.opened disk).0 (c.in-Ok-open_database.ensures.opened disk).1 (λ e first second. (c.in-Ok-open.ensures.refuses.missing e first second).1) is.held is.climbed is.fresh
 
 pub returns-in-Ok-open-clause-guarded : goal.returns-in-Ok-open-clause-guarded
 returns-in-Ok-open-clause-guarded g c clean = c.in-Ok-open.ensures.shield (c.in-Ok-open_database.ensures.guarded (c.in-Ok-open.ensures.so_far clean))

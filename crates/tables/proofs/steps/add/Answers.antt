@@ -19,9 +19,9 @@ returns-clause-adds g c =
       keys,
       record {
         steps = steps_then_all g.S.Store (row_added org ws v) (text_added keys org ws v.number v.text) c.args.tx.now c.add_row.new.tx c.add_text.new.tx _ c.add_text.result
-            c.in_ok-add_row.ensures.steps c.add_text.ensures.same_reference (λ is. (adds is).steps) c.add_text.ensures.so_far c.add_text.ensures.shield;
+            c.in_ok-add_row.ensures.steps c.add_text.ensures.goes_on (λ is. (adds is).steps);
         tells = told_then g.S.Store (row_added org ws v) (TwinsFit keys org ws v.number v.text (pages_for (length v.text))) c.args.tx.now c.add_row.new.tx c.add_text.new.tx _ c.add_text.result
-            c.in_ok-add_row.ensures.steps c.add_text.ensures.so_far (λ is. (adds is).fits);
+            c.in_ok-add_row.ensures.steps c.add_text.ensures.goes_on.so_far (λ is. (adds is).fits);
       },
     )
 
@@ -35,12 +35,12 @@ returns-clause-keyed g c =
     let adds = subst (λ (text : List ℕ). IsTrue (state g.S.Store c.add_row.new.tx.conn.now).is_open → AddsText g.S.Store key_of keys org ws v.number text c.add_row.new.tx c.add_text.new.tx c.add_text.result) c.as_slice-text.ensures c.add_text.ensures.adds.1 in
     related_by g.S.Store (λ t. KeysFit key_of keys org ws v.number v.text (pages_for (length v.text)) (row_added org ws v t)) (added_rows keys org ws v) (KeepsKeys key_of) c.args.tx.now c.add_text.new.tx c.add_text.result (version_keyed key_of org ws keys v)
     (steps_then_all g.S.Store (row_added org ws v) (text_added keys org ws v.number v.text) c.args.tx.now c.add_row.new.tx c.add_text.new.tx _ c.add_text.result
-    c.in_ok-add_row.ensures.steps c.add_text.ensures.same_reference (λ is. (adds is).steps) c.add_text.ensures.so_far c.add_text.ensures.shield)
+    c.in_ok-add_row.ensures.steps c.add_text.ensures.goes_on (λ is. (adds is).steps))
     (told_then g.S.Store (row_added org ws v) (KeysFit key_of keys org ws v.number v.text (pages_for (length v.text))) c.args.tx.now c.add_row.new.tx c.add_text.new.tx _ c.add_text.result
-    c.in_ok-add_row.ensures.steps c.add_text.ensures.so_far (λ is. (adds is).keyed))
+    c.in_ok-add_row.ensures.steps c.add_text.ensures.goes_on.so_far (λ is. (adds is).keyed))
 
 pub returns-clause-fresh : goal.returns-clause-fresh
-returns-clause-fresh g c clean inside = when_done c.add_text.result (c.in_ok-add_row.ensures.fresh (c.add_text.ensures.so_far clean) inside)
+returns-clause-fresh g c clean inside = when_done c.add_text.result (c.in_ok-add_row.ensures.fresh (c.add_text.ensures.goes_on.so_far clean) inside)
 
 pub returns-in_err-add_row-clause-adds : goal.returns-in_err-add_row-clause-adds
 returns-in_err-add_row-clause-adds g c = (no_keys, search rules)

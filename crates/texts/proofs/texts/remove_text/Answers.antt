@@ -17,16 +17,17 @@ returns-clause-steps g c open_is =
     let pages = c.pages_for-pages.result in
     let many : length rows ≡ pages = search rules in
     let writes = c.in_ok-remove_all.ensures in
-    let early = λ (clean : HasCleanDisk s3). clean_before s1 s2 _ writes.survives (c.release_each.ensures.so_far clean) in
+    let early = λ (clean : HasCleanDisk s3). clean_before s1 s2 _ writes.survives (c.release_each.ensures.goes_on.so_far clean) in
     record {
-      same_reference = c.release_each.ensures.same_reference ∙ writes.same_reference ∙ c.in_ok-rows.ensures.same_reference;
+      same_reference = c.release_each.ensures.goes_on.same_reference ∙ writes.same_reference ∙ c.in_ok-rows.ensures.same_reference;
       changed = λ clean inside.
-          let look = (c.in_ok-rows.ensures.looks (early clean)).0 in
-          let removed = (writes.changed (c.release_each.ensures.so_far clean) (still_inside s0 s1 look inside)).0 in
-          text_gone c.args.org.now c.args.ws.now c.args.number c.args.size pages rows many c.pages_for-pages.ensures s0 s1 s2 s3 look (λ t holds. subst (AreRowsOf c.args.org.now c.args.ws.now c.args.number t) (sym c.as_slice.ensures.value) (c.in_ok-rows.ensures.rows (early clean) t holds)) removed c.release_each.result
+          let seen = c.in_ok-rows.ensures.sees (early clean) in
+          let look = seen.1.0 in
+          let removed = (writes.changed (c.release_each.ensures.goes_on.so_far clean) (still_inside s0 s1 look inside)).0 in
+          text_gone c.args.org.now c.args.ws.now c.args.number c.args.size pages rows many c.pages_for-pages.ensures s0 s1 s2 s3 look (λ t holds. subst (AreRowsOf c.args.org.now c.args.ws.now c.args.number t) (sym c.as_slice.ensures.value) (seen.0 t holds)) removed c.release_each.result
           ((c.release_each.ensures.steps removed.is_open).changed clean removed.inside) (c.release_each.ensures.there removed.is_open clean removed.inside);
       so_far = λ clean. c.in_ok-rows.ensures.so_far (early clean);
-      shield = λ s. c.release_each.ensures.shield (writes.survives.shield (c.in_ok-rows.ensures.shield s));
+      shield = λ s. c.release_each.ensures.goes_on.shield (writes.survives.shield (c.in_ok-rows.ensures.shield s));
     }
 
 pub returns-clause-there : goal.returns-clause-there
@@ -39,8 +40,9 @@ returns-clause-there g c open_is clean inside =
     let pages = c.pages_for-pages.result in
     let many : length rows ≡ pages = search rules in
     let writes = c.in_ok-remove_all.ensures in
-    let early = clean_before s1 s2 _ writes.survives (c.release_each.ensures.so_far clean) in
-    let look = (c.in_ok-rows.ensures.looks early).0 in
-    let removed = (writes.changed (c.release_each.ensures.so_far clean) (still_inside s0 s1 look inside)).0 in
-    text_was_there c.args.org.now c.args.ws.now c.args.number c.args.size pages rows many c.pages_for-pages.ensures s0 s1 s2 s3 look (λ t holds. subst (AreRowsOf c.args.org.now c.args.ws.now c.args.number t) (sym c.as_slice.ensures.value) (c.in_ok-rows.ensures.rows early t holds)) removed c.release_each.result
+    let early = clean_before s1 s2 _ writes.survives (c.release_each.ensures.goes_on.so_far clean) in
+    let seen = c.in_ok-rows.ensures.sees early in
+    let look = seen.1.0 in
+    let removed = (writes.changed (c.release_each.ensures.goes_on.so_far clean) (still_inside s0 s1 look inside)).0 in
+    text_was_there c.args.org.now c.args.ws.now c.args.number c.args.size pages rows many c.pages_for-pages.ensures s0 s1 s2 s3 look (λ t holds. subst (AreRowsOf c.args.org.now c.args.ws.now c.args.number t) (sym c.as_slice.ensures.value) (seen.0 t holds)) removed c.release_each.result
     (c.release_each.ensures.there removed.is_open clean removed.inside)

@@ -13,36 +13,38 @@ use Rattle.tables.proofs.Stores.{made_store_is_sound, made_store_is_empty}
 use Rattle.tables.proofs.Telling.{sound_is_not_other}
 use Rattle.tables.proofs.store.SqlKeep.open.Goals as goal
 
-pub returns-in-Ok-clause-held : goal.returns-in-Ok-clause-held
-returns-in-Ok-clause-held g c = rw (c.of-seen.ensures, c.new.ensures) (λ clean there.
-    let same = c.in-Ok.ensures.stays clean there in
-    (λ sound. record { store = subst IsSoundStore (sym same) sound; remembered = nothing_is _; tied = λ _. refl }, λ o. ap (λ (db : Database). records_of db o) same))
+pub returns-in-Ok-clause-opened : goal.returns-in-Ok-clause-opened
+returns-in-Ok-clause-opened g c = rw (c.of-seen.ensures, c.new.ensures) (λ clean.
+    let ready = c.in-Ok.ensures in
+    record {
+      fresh = λ none.
+          let made = ready.made clean none in
+          (record { store = made_store_is_sound _ made.schema.holds; remembered = nothing_is _; tied = λ _. refl }, made_store_is_empty _ made.schema.holds);
+      others = λ none. (ready.made clean none).schema.kept;
+      held = λ there.
+          let same = ready.stays clean there in
+          (λ sound. record { store = subst IsSoundStore (sym same) sound; remembered = nothing_is _; tied = λ _. refl }, λ o. ap (λ (db : Database). records_of db o) same);
+      stays = ready.stays clean;
+      keyed = (
+        λ none. keyed_held g.K.PageKey.key_of _ _ (ready.made clean none).schema.holds tt,
+        λ there keyed. subst (λ (db : Database). ArePagesKeyed g.K.PageKey.key_of (tables_of db)) (sym (ready.stays clean there)) keyed,
+        λ n h keyed. subst (λ (ps : List (Kept PageRow)). AllByRecursion (λ x. g.K.PageKey.key_of x.1.bytes ≡ x.1.key) ps) (sym (ready.climbed clean n h).2) keyed,
+      );
+      version = λ n there. (ready.told clean n there).0;
+      tells = λ n there. (ready.told clean n there).1;
+      climbed = λ n h.
+          let is = ready.climbed clean n h in
+          (record { store = store_is _ is.0; remembered = nothing_is _; tied = λ _. refl }, is.1);
+      beside = λ n there. (ready.beside clean n there).foreign;
+    })
 
-pub returns-in-Err-clause-sound : goal.returns-in-Err-clause-sound
-returns-in-Err-clause-sound g c clean schema = sound_is_not_other (state g.S.Store c.args.conn) (c.in-Err.ensures.other clean schema).1
+pub returns-in-Ok-clause-refuses : goal.returns-in-Ok-clause-refuses
+returns-in-Ok-clause-refuses g c = record { foreign = c.in-Ok.ensures.foreign; edition = c.in-Ok.ensures.edition; missing = c.in-Ok.ensures.missing; older = c.in-Ok.ensures.older }
 
-pub returns-in-Ok-clause-version : goal.returns-in-Ok-clause-version
-returns-in-Ok-clause-version g c clean n there = (c.in-Ok.ensures.told clean n there).0
+pub returns-in-Err-clause-left : goal.returns-in-Err-clause-left
+returns-in-Err-clause-left g c clean =
+    let ready = c.in-Err.ensures in
+    record { back = ready.err clean; kept = ready.kept clean; other = ready.other clean; sound = λ schema. sound_is_not_other (state g.S.Store c.args.conn) (ready.other clean schema).1 }
 
-pub returns-in-Ok-clause-tells : goal.returns-in-Ok-clause-tells
-returns-in-Ok-clause-tells g c clean n there = (c.in-Ok.ensures.told clean n there).1
-
-pub returns-in-Ok-clause-climbed : goal.returns-in-Ok-clause-climbed
-returns-in-Ok-clause-climbed g c = rw (c.of-seen.ensures, c.new.ensures) (λ clean n h.
-    let is = c.in-Ok.ensures.climbed clean n h in
-    (record { store = store_is _ is.0; remembered = nothing_is _; tied = λ _. refl }, is.1))
-
-pub returns-in-Ok-clause-beside : goal.returns-in-Ok-clause-beside
-returns-in-Ok-clause-beside g c clean n there = (c.in-Ok.ensures.beside clean n there).foreign
-
-pub returns-in-Ok-clause-fresh : goal.returns-in-Ok-clause-fresh
-returns-in-Ok-clause-fresh g c = rw (c.of-seen.ensures, c.new.ensures) (λ clean none.
-    let made = c.in-Ok.ensures.made clean none in
-    (record { store = made_store_is_sound _ made.schema.holds; remembered = nothing_is _; tied = λ _. refl }, made_store_is_empty _ made.schema.holds))
-
-pub returns-in-Ok-clause-keyed : goal.returns-in-Ok-clause-keyed
-returns-in-Ok-clause-keyed g c = rw c.of-seen.ensures (λ clean. (
-  λ none. keyed_held g.K.PageKey.key_of _ _ (c.in-Ok.ensures.made clean none).schema.holds tt,
-  λ there keyed. subst (λ (db : Database). ArePagesKeyed g.K.PageKey.key_of (tables_of db)) (sym (c.in-Ok.ensures.stays clean there)) keyed,
-  λ n h keyed. subst (λ (ps : List (Kept PageRow)). AllByRecursion (λ x. g.K.PageKey.key_of x.1.bytes ≡ x.1.key) ps) (sym (c.in-Ok.ensures.climbed clean n h).2) keyed,
-))
+pub returns-in-Err-clause-refuses : goal.returns-in-Err-clause-refuses
+returns-in-Err-clause-refuses g c = record { foreign = c.in-Err.ensures.foreign; edition = c.in-Err.ensures.edition; missing = c.in-Err.ensures.missing; older = c.in-Err.ensures.older }
