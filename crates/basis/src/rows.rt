@@ -12,6 +12,12 @@ use std::alloc::Global;
 /// The most bytes of a state's lineage.
 pub const MAX_LINEAGE: usize = 256;
 
+/// The most bytes of a run's key.
+pub const MAX_KEY: usize = 64;
+
+/// The most bytes of a run's message.
+pub const MAX_MESSAGE: usize = 1_000;
+
 /// What custody reads of a Terraform state: `serial` counts its changes, and `lineage` tells states
 /// that don't follow one another apart. An absent lineage is empty.
 #[derive(Drop)]

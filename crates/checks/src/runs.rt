@@ -10,17 +10,12 @@ ghost use Rattle.checks.specs.Runs.{run_number, is_key, action_ends, is_unreache
 
 use crate::versions::{rise, sort};
 use basis::numbers::MAX_MOMENT;
+use basis::rows::{MAX_KEY, MAX_MESSAGE};
 use basis::{Down, Holder, Number, RunAction, RunStatus, Text, is_free_id};
 use machine::MAX_OPEN_RUNS;
 use statements::rows::RunRow;
 use std::alloc::Global;
 use std::collections::BTreeSet;
-
-/// The most bytes of a run's key.
-const MAX_KEY: usize = 64;
-
-/// The most bytes of a run's message.
-const MAX_MESSAGE: usize = 1_000;
 
 /// Whether the runs at these places are lawful under this holder, where the next one has this number:
 /// their numbers rise up to that, each is in its ranges and where its last action ends, no more than 100

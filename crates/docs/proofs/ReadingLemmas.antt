@@ -14,7 +14,8 @@ use Rattle.basis.specs.declared.rows.StateHead.{StateHead}
 use Rattle.basis.specs.declared.rows.TheConstants.{MAX_LINEAGE}
 use Rattle.basis.specs.Names.{is_free_id}
 use Rattle.basis.specs.Numbers.{within}
-use Rattle.docs.specs.declared.documents.TheConstants.{MAX_SMALL, MAX_KEY, MAX_MESSAGE}
+use Rattle.basis.specs.declared.rows.TheConstants.{MAX_KEY, MAX_MESSAGE}
+use Rattle.docs.specs.declared.documents.TheConstants.{MAX_SMALL}
 use Rattle.docs.specs.Documents.{state_head, lock_id_of, settings_of, run_ask, object_of, serial_of, text_within, optional_text, make_head, head_in, free_id, lock_id_in, small_object_of, retention_of, make_settings, settings_in, key_of, make_ask, ask_in}
 use Rattle.docs.specs.Readings.{IsObject, IsText, IsState, IsLock, IsSmallObject, IsRetentionAsked, IsSettings, IsKey, IsAsk, StateLaw, LockLaw, SettingsLaw, AskLaw}
 use Rattle.docs.specs.Flags.{flag_of}

@@ -13,7 +13,8 @@ use Rattle.basis.specs.declared.rows.RunSettings.{RunSettings}
 use Rattle.basis.specs.declared.rows.SettingsAsk.{SettingsAsk}
 use Rattle.basis.specs.declared.rows.StateHead.{StateHead}
 use Rattle.basis.specs.declared.rows.TheConstants.{MAX_LINEAGE}
-use Rattle.docs.specs.declared.documents.TheConstants.{MAX_SMALL, MAX_KEY, MAX_MESSAGE}
+use Rattle.basis.specs.declared.rows.TheConstants.{MAX_KEY, MAX_MESSAGE}
+use Rattle.docs.specs.declared.documents.TheConstants.{MAX_SMALL}
 use Rattle.docs.specs.Flags.{flag_of}
 use Rattle.docs.specs.RunSettings.{run_settings_in}
 

@@ -10,7 +10,8 @@ use Rattle.basis.specs.declared.rows.SettingsAsk.{SettingsAsk}
 use Rattle.basis.specs.declared.rows.StateHead.{StateHead}
 use Rattle.basis.specs.declared.names.TheConstants.{MAX_LOCK_ID}
 use Rattle.basis.specs.declared.rows.TheConstants.{MAX_LINEAGE}
-use Rattle.docs.specs.declared.documents.TheConstants.{MAX_SMALL, MAX_KEY, MAX_MESSAGE}
+use Rattle.basis.specs.declared.rows.TheConstants.{MAX_KEY, MAX_MESSAGE}
+use Rattle.docs.specs.declared.documents.TheConstants.{MAX_SMALL}
 use Rattle.docs.specs.Documents.{state_head, lock_id_of, settings_of, run_ask}
 use Rattle.docs.specs.Flags.{IsFlag}
 use Rattle.docs.specs.RunSettings.{AreRunSettings}

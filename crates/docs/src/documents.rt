@@ -10,6 +10,7 @@ use crate::faults::DocFault;
 use crate::flags::read_flag;
 use crate::heads::read_head;
 use crate::run_settings::read_run_settings;
+use basis::rows::{MAX_KEY, MAX_MESSAGE};
 use basis::{KeepCount, LockId, RunAsk, SettingsAsk, StateHead, Text, is_free_id};
 use json::Scratch;
 use serde_json::{Map, Value};
@@ -17,12 +18,6 @@ use std::alloc::Global;
 
 /// The most bytes of settings, and of what the creation of a run asks.
 pub const MAX_SMALL: usize = 16_384;
-
-/// The most bytes of a run's key.
-pub const MAX_KEY: usize = 64;
-
-/// The most bytes of a run's message.
-pub const MAX_MESSAGE: usize = 1_000;
 
 /// What custody reads of a Terraform state: a JSON object with `serial`, and with `lineage` or without.
 #[tactic(auto, using(crate::proofs::Heading::none_found, crate::proofs::Heading::no_serial_found, crate::proofs::Heading::no_lineage_found, crate::proofs::Objects::some_bytes))]

@@ -27,7 +27,7 @@ use Rattle.statements.proofs.Reading.{read_is}
 use Rattle.statements.proofs.Writes.{plain_program}
 use Rattle.statements.proofs.Answered.{point}
 use Rattle.statements.proofs.Commands.{is_at, is_under, update_query, delete_query, point_rest, point_draft, no_page}
-use Rattle.pages.specs.declared.rows.TheConstants.{ADD_PAGE, SET_PAGE_USES, REMOVE_PAGE, REMOVE_LAST_PAGE, PAGE_BYTES, PAGE_USES, EQUAL_PAGE, FIRST_TWIN, FIRST_PAGE}
+use Rattle.pages.specs.declared.rows.TheConstants.{ADD_PAGE, SET_PAGE_USES, REMOVE_PAGE, REMOVE_LAST_PAGE, FIND_PAGE_BYTES, FIND_PAGE_USES, EQUAL_PAGE, FIRST_TWIN, FIRST_PAGE}
 
 abbrev pub add_page_text : List ℕ
 add_page_text = ADD_PAGE.now
@@ -82,7 +82,7 @@ abbrev pub remove_last_page_query : ℕ → Query
 remove_last_page_query tree = delete_query tree (is_at 1 0 ∷ is_at 2 1 ∷ is_under 4 2 ∷ [])
 
 abbrev pub page_bytes_text : List ℕ
-page_bytes_text = PAGE_BYTES.now
+page_bytes_text = FIND_PAGE_BYTES.now
 
 abbrev page_bytes_core : Core
 page_bytes_core = st.from_table (st.shown_columns (codes "bytes" ∷ [])) (codes "page") (st.at_key (codes "pkey") (codes "twin"))
@@ -101,7 +101,7 @@ abbrev pub page_bytes_rest : Query
 page_bytes_rest = point_rest (is_at 1 0 ∷ is_at 2 1 ∷ []) (col 1 3 ∷ []) no_page
 
 abbrev pub page_uses_text : List ℕ
-page_uses_text = PAGE_USES.now
+page_uses_text = FIND_PAGE_USES.now
 
 abbrev page_uses_core : Core
 page_uses_core = st.from_table (st.shown_columns (codes "uses" ∷ [])) (codes "page") (st.at_key (codes "pkey") (codes "twin"))

@@ -94,7 +94,7 @@ pub(crate) fn remove_last<'v, S: Alter>(
     update(tx, REMOVE_LAST_PAGE, params![key, &twin])
 }
 
-const PAGE_BYTES: &str = "SELECT bytes FROM page WHERE pkey = ?1 AND twin = ?2 ORDER BY rowid";
+const FIND_PAGE_BYTES: &str = "SELECT bytes FROM page WHERE pkey = ?1 AND twin = ?2 ORDER BY rowid";
 
 /// The bytes of a page; none if there is no such page.
 pub(crate) fn bytes<'v, S: Alter>(
@@ -105,11 +105,11 @@ pub(crate) fn bytes<'v, S: Alter>(
     ensures { Queries S.Store (Equals (page_bytes key.now twin)) conn.old conn.new result }
 {
     let twin = twin.signed();
-    let row = first_row(conn, PAGE_BYTES, params![key, &twin]);
+    let row = first_row(conn, FIND_PAGE_BYTES, params![key, &twin]);
     read_one(row)
 }
 
-const PAGE_USES: &str = "SELECT uses FROM page WHERE pkey = ?1 AND twin = ?2 ORDER BY rowid";
+const FIND_PAGE_USES: &str = "SELECT uses FROM page WHERE pkey = ?1 AND twin = ?2 ORDER BY rowid";
 
 /// The number of a page's uses; none if there is no such page.
 pub(crate) fn uses<'v, S: Alter>(
@@ -122,7 +122,7 @@ pub(crate) fn uses<'v, S: Alter>(
     ensures survives { Survives (state S.Store tx.old.conn.now) (state S.Store tx.new.conn.now) (λ _. ⊥) }
 {
     let twin = twin.signed();
-    let row = first_row_inside(tx, PAGE_USES, params![key, &twin]);
+    let row = first_row_inside(tx, FIND_PAGE_USES, params![key, &twin]);
     read_one(row)
 }
 

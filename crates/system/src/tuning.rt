@@ -7,7 +7,7 @@ use std::rt::HostRuntime;
 use std::{fs, io};
 
 /// How many bytes a page has where the file doesn't tell: the kit's own number.
-const PAGE_BYTES: u64 = 4_096;
+const DB_PAGE_BYTES: u64 = 4_096;
 
 /// The fewest bytes a page may have.
 const LEAST_PAGE: u64 = 512;
@@ -28,7 +28,7 @@ const LOG_BYTES: u64 = 4_096_000;
 fn page_bytes(rt: &HostRuntime, path: &str) -> io::Result<u64> {
     let found = fs::metadata(rt, path)?;
     if !found.is_file() {
-        return Ok(PAGE_BYTES);
+        return Ok(DB_PAGE_BYTES);
     }
     if found.len() == 0 {
         return Ok(NEW_PAGE_BYTES as u64);
@@ -36,7 +36,7 @@ fn page_bytes(rt: &HostRuntime, path: &str) -> io::Result<u64> {
     let mut head = [0u8; 18];
     fs::open(rt, path)?.read_exact(&mut head)?;
     match u16::from_be_bytes([head[16], head[17]]) {
-        0 => Ok(PAGE_BYTES),
+        0 => Ok(DB_PAGE_BYTES),
         1 => Ok(65_536),
         bytes => Ok(u64::from(bytes)),
     }
@@ -57,7 +57,7 @@ pub fn first_options(rt: &HostRuntime) -> io::Result<Options> {
 /// What is kept in memory of the file at a path.
 pub fn options(rt: &HostRuntime, path: &str) -> io::Result<Options> {
     let mut options = Options::new(RandomState::new(rt)?.hash_one(&0u8));
-    let page = page_bytes(rt, path).unwrap_or(PAGE_BYTES).max(LEAST_PAGE);
+    let page = page_bytes(rt, path).unwrap_or(DB_PAGE_BYTES).max(LEAST_PAGE);
     let bytes = file_bytes(rt, path).unwrap_or(0);
     options.cache_pages = (bytes.clamp(FEWEST_BYTES, MOST_BYTES) / page) as usize;
     options.spill_pages = (MOST_HELD / page) as usize;

@@ -10,6 +10,7 @@ ghost use Rattle.tables.specs.Inner.Steps.{EndsIdle, LooksAt};
 
 use crate::looks::{caller_as, kept};
 use crate::transactions::assert_committed;
+use basis::rows::MAX_ITEMS;
 use basis::{
     Holder, HolderId, Items, Listing, Number, RunRow, Settings, VersionRow, WsName, WsPrefix, WsRow,
 };
@@ -20,7 +21,7 @@ use statements::{organizations, runs, tokens, versions, workspaces};
 use std::alloc::Global;
 
 /// The number of rows to ask for: one more than a listing has, which shows whether more follow.
-const ASKED_ROWS: usize = 51;
+const ASKED_ROWS: usize = MAX_ITEMS + 1;
 
 /// Adds an item after the others; if the listing is full, says that more follow.
 fn offer<T: Drop>(list: &mut Listing<T>, item: T) -> Result<(), Error>
