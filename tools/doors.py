@@ -197,11 +197,11 @@ def look_at_closed_door(program):
 
 def look_at_batches(program):
     """`admin` carries out the commands on standard input in order, up to the first that does not end with status 0."""
-    words = ["admin", "--db", "b.db"]
+    words, before = ["admin", "--db", "b.db"], sorted(os.listdir(program.folder))
     program.is_due("no commands", words, 0, b"")
     program.is_due("a first command that creates no file", words, 3, b"refused down\n", NO_FILE, b"org-list\n")
     program.is_due("a line that is not a command", words, 2, b"refused usage\n", BAD_LINE % 2, b"org-add acme\nno command\norg-list\n")
-    said("what lies in the folder", sorted(os.listdir(program.folder)), ["t.db"])
+    said("what lies in the folder", sorted(os.listdir(program.folder)), before)
     given = b"org-add acme\ntoken-add acme ci write %s\norg-list\ntoken-list acme" % TOKEN
     program.is_due("commands", words, 0, b"ok\nok\nacme 0 200\nci write - -\n", NEW_FILE, given)
     program.is_due("commands up to one that is refused", words, 1, b"ok\nrefused exists\n", STOPPED % 2, b"org-limit acme 3\norg-add acme\norg-remove acme\n")
