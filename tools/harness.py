@@ -123,17 +123,17 @@ class Program:
 class Service:
     """`serve` over a file, at a port of its own. It ends by its count (None: it has no count). Its `with` block kills it at the end.
 
-    If `lines` names a file, standard output goes there. `Program.start` gets `how`."""
+    If `lines` names a file, standard output goes there. Standard input is the file `given`. `Program.start` gets `how`."""
 
     # Seconds that its peers wait, and whether they keep their side of the connection open after a request.
     patience, stays = PATIENCE, False
 
-    def __init__(self, program, path, count, *words, port=None, lines=None, **how):
+    def __init__(self, program, path, count, *words, port=None, lines=None, given=subprocess.DEVNULL, **how):
         self.port = port or free_port()
         ends = ["--unlimited"] if count is None else ["--count", str(count)]
         words = ["serve", "--db", path, "--port", str(self.port), *ends, *words]
         with open(lines, "wb") if lines else contextlib.nullcontext(subprocess.PIPE) as output:
-            self.process = program.start(words, subprocess.DEVNULL, output, **how)
+            self.process = program.start(words, given, output, **how)
         try:
             self.begins(first_line(lines) if lines else self.process.stdout.readline())
         except BaseException:

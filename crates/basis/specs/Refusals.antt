@@ -3,7 +3,7 @@ use Rattle.std.specs.Prelude.{ℕ, List, codes}
 use Rattle.basis.specs.declared.refusals.Allow.{Allow}
 use Rattle.basis.specs.declared.refusals.Allow.TheVariants.{Lists, Workspaces, States, Runs, Actions}
 use Rattle.basis.specs.declared.refusals.Refusal.{Refusal}
-use Rattle.basis.specs.declared.refusals.Refusal.TheVariants.{BadMessage, TwoTokens, BadQuery, BadDigest, BadState, BadLock, BadBody, NoToken, BadToken, NeedWrite, NeedAdmin, NoRoute, NotFound, NoMethod, NotHeld, NotApplying, OtherLineage, OldSerial, WrongState, HeldByRun, OpenRuns, OverLimit, NoLength, TooLarge, Locked, HeadTooLarge, Unavailable}
+use Rattle.basis.specs.declared.refusals.Refusal.TheVariants.{BadMessage, TwoTokens, BadQuery, BadDigest, BadState, BadLock, BadBody, NoToken, BadToken, NeedWrite, NeedAdmin, NoRoute, NotFound, NoMethod, NotHeld, NotApplying, OtherLineage, OldSerial, WrongState, HeldByRun, OpenRuns, OverLimit, NoLength, TooLarge, Locked, HeadTooLarge, Unavailable, BadSecret, Exists, Absent, InUse}
 
 -- a line of the table
 pub record Line : Type 0 where
@@ -42,6 +42,10 @@ line_of TooLarge = line 24 (codes "too-large") 413
 line_of Locked = line 25 (codes "locked") 423
 line_of HeadTooLarge = line 26 (codes "head-too-large") 431
 line_of Unavailable = line 27 (codes "down") 503
+line_of BadSecret = line 28 (codes "bad-token") 401
+line_of Exists = line 29 (codes "exists") 409
+line_of Absent = line 30 (codes "absent") 404
+line_of InUse = line 31 (codes "in-use") 409
 
 -- the methods of a route, as the field Allow lists them (RFC 9110, section 10.2.1)
 abbrev pub allow_text : Allow → List ℕ

@@ -45,6 +45,14 @@ pub enum Refusal {
     HeadTooLarge,
     /// Memory or the store refused.
     Unavailable,
+    /// The operator's secret is missing or wrong.
+    BadSecret,
+    /// The organization or token that a command adds already exists, or another token has its secret.
+    Exists,
+    /// The organization or token that a command names does not exist.
+    Absent,
+    /// A workspace of the organization is locked, or has an open run.
+    InUse,
 }
 
 impl Refusal {
@@ -81,17 +89,21 @@ impl Refusal {
             Refusal::Locked => make_line(25, "locked", 423),
             Refusal::HeadTooLarge => make_line(26, "head-too-large", 431),
             Refusal::Unavailable => make_line(27, "down", 503),
+            Refusal::BadSecret => make_line(28, "bad-token", 401),
+            Refusal::Exists => make_line(29, "exists", 409),
+            Refusal::Absent => make_line(30, "absent", 404),
+            Refusal::InUse => make_line(31, "in-use", 409),
         }
     }
 
-    /// 1 to 27.
+    /// 1 to 31.
     pub fn number(self) -> u8
         ensures { result ≡ (line_of self).number }
     {
         self.line().number
     }
 
-    /// The word in the body.
+    /// The word in the body. `BadSecret` and `BadToken` have the same word.
     pub fn word(self) -> &'static str
         ensures { result.now ≡ (line_of self).word }
     {

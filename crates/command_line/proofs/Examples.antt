@@ -5,8 +5,8 @@ use Rattle.std.specs.Str.{chars, is_utf8}
 use lib.Utf8.{encode}
 use Rattle.basis.specs.declared.roles.Role.TheVariants.{Write}
 use Rattle.clap.proofs.OnLiterals.{clap_on_literals}
-use Rattle.command_line.specs.Bounds.{bounds, no_bounds}
-use Rattle.command_line.specs.Orders.{carries, adds_token, looks_over, copies, compacts, serves, replays, tells_version, unlimited}
+use Rattle.serve.specs.Bounds.{bounds, no_bounds}
+use Rattle.command_line.specs.Orders.{carries, adds_token, looks_over, copies, compacts, serves, carries_all, replays, tells_version, unlimited}
 use Rattle.command_line.specs.Words.{asked_in, misfit_in}
 use Rattle.command_line.specs.declared.arguments.Argument.TheVariants.{Org, Limit, Counting, Count}
 use Rattle.serve.specs.declared.steps.Admin.TheVariants.{OrgAdd, OrgRemove, TokenList}
@@ -52,12 +52,12 @@ tokens_asked : asked_in (codes "token-list" ∷ codes "--db" ∷ codes "t.db" �
 unfolding clap_on_literals chars is_utf8 encode
 tokens_asked = refl
 
-serving_asked : asked_in (codes "serve" ∷ codes "--db" ∷ codes "t.db" ∷ codes "--port" ∷ codes "8090" ∷ codes "--count" ∷ codes "3" ∷ []) ≡ Some (serves (codes "t.db") 8090 3 (record { idle = 10; most = 120 }) false false)
+serving_asked : asked_in (codes "serve" ∷ codes "--db" ∷ codes "t.db" ∷ codes "--port" ∷ codes "8090" ∷ codes "--count" ∷ codes "3" ∷ []) ≡ Some (serves (codes "t.db") 8090 3 (record { idle = 10; most = 120 }) false false false)
 unfolding clap_on_literals chars is_utf8 encode
 serving_asked = refl
 
 timeouts_given : asked_in (codes "serve" ∷ codes "--db" ∷ codes "t.db" ∷ codes "--most" ∷ codes "3600" ∷ codes "--idle=1" ∷ codes "--port" ∷ codes "8090" ∷ codes "--count" ∷ codes "3" ∷ [])
-    ≡ Some (serves (codes "t.db") 8090 3 (record { idle = 1; most = 3_600 }) false false)
+    ≡ Some (serves (codes "t.db") 8090 3 (record { idle = 1; most = 3_600 }) false false false)
 unfolding clap_on_literals chars is_utf8 encode
 timeouts_given = refl
 
@@ -65,7 +65,7 @@ no_such_seconds : asked_in (codes "serve" ∷ codes "--db" ∷ codes "t.db" ∷ 
 unfolding clap_on_literals chars is_utf8 encode
 no_such_seconds = refl
 
-log_asked : asked_in (codes "serve" ∷ codes "--log" ∷ codes "--db" ∷ codes "t.db" ∷ codes "--port" ∷ codes "8090" ∷ codes "--count" ∷ codes "3" ∷ []) ≡ Some (serves (codes "t.db") 8090 3 (record { idle = 10; most = 120 }) true false)
+log_asked : asked_in (codes "serve" ∷ codes "--log" ∷ codes "--db" ∷ codes "t.db" ∷ codes "--port" ∷ codes "8090" ∷ codes "--count" ∷ codes "3" ∷ []) ≡ Some (serves (codes "t.db") 8090 3 (record { idle = 10; most = 120 }) true false false)
 unfolding clap_on_literals chars is_utf8 encode
 log_asked = refl
 
@@ -77,9 +77,13 @@ log_asked_twice : asked_in (codes "serve" ∷ codes "--db" ∷ codes "t.db" ∷ 
 unfolding clap_on_literals chars is_utf8 encode
 log_asked_twice = refl
 
-check_asked_of_serve : asked_in (codes "serve" ∷ codes "--check" ∷ codes "--db" ∷ codes "t.db" ∷ codes "--port" ∷ codes "8090" ∷ codes "--count" ∷ codes "3" ∷ []) ≡ Some (serves (codes "t.db") 8090 3 (record { idle = 10; most = 120 }) false true)
+check_asked_of_serve : asked_in (codes "serve" ∷ codes "--check" ∷ codes "--db" ∷ codes "t.db" ∷ codes "--port" ∷ codes "8090" ∷ codes "--count" ∷ codes "3" ∷ []) ≡ Some (serves (codes "t.db") 8090 3 (record { idle = 10; most = 120 }) false true false)
 unfolding clap_on_literals chars is_utf8 encode
 check_asked_of_serve = refl
+
+operator_asked : asked_in (codes "serve" ∷ codes "--db" ∷ codes "t.db" ∷ codes "--port" ∷ codes "8090" ∷ codes "--unlimited" ∷ codes "--operator" ∷ []) ≡ Some (serves (codes "t.db") 8090 unlimited (record { idle = 10; most = 120 }) false false true)
+unfolding clap_on_literals chars is_utf8 encode
+operator_asked = refl
 
 check_asked : asked_in (codes "check" ∷ codes "--db" ∷ codes "t.db" ∷ []) ≡ Some (looks_over (codes "t.db"))
 unfolding clap_on_literals chars is_utf8 encode
@@ -88,6 +92,10 @@ check_asked = refl
 no_file_to_check : asked_in (codes "check" ∷ []) ≡ None
 unfolding clap_on_literals chars is_utf8 encode
 no_file_to_check = refl
+
+batch_asked : asked_in (codes "admin" ∷ codes "--db" ∷ codes "t.db" ∷ []) ≡ Some (carries_all (codes "t.db"))
+unfolding clap_on_literals chars is_utf8 encode
+batch_asked = refl
 
 removal_asked : asked_in (codes "org-remove" ∷ codes "--db" ∷ codes "t.db" ∷ codes "acme" ∷ []) ≡ Some (carries (codes "t.db") (OrgRemove (codes "acme") false))
 unfolding clap_on_literals chars is_utf8 encode
@@ -129,7 +137,7 @@ nothing_asked : asked_in [] ≡ None
 unfolding clap_on_literals chars is_utf8 encode
 nothing_asked = refl
 
-no_limit_asked : asked_in (codes "serve" ∷ codes "--db" ∷ codes "t.db" ∷ codes "--port" ∷ codes "8090" ∷ codes "--unlimited" ∷ []) ≡ Some (serves (codes "t.db") 8090 unlimited (record { idle = 10; most = 120 }) false false)
+no_limit_asked : asked_in (codes "serve" ∷ codes "--db" ∷ codes "t.db" ∷ codes "--port" ∷ codes "8090" ∷ codes "--unlimited" ∷ []) ≡ Some (serves (codes "t.db") 8090 unlimited (record { idle = 10; most = 120 }) false false false)
 unfolding clap_on_literals chars is_utf8 encode
 no_limit_asked = refl
 

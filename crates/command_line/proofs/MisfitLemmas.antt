@@ -9,8 +9,9 @@ use Rattle.basis.specs.declared.roles.Role.{Role}
 use Rattle.std.proofs.lemmas.List.{get_or_default}
 use Rattle.clap.proofs.WalkLemmas.{find_here}
 use Rattle.command_line.specs.Arguments.{arguments_at, arguments_of, arguments_on, first_misfit, fits, is_one_of}
-use Rattle.command_line.specs.Bounds.{bounds_given, moment_of, prefix_given, until_given}
-use Rattle.command_line.specs.Commands.{limit_of, role_of, org_command, limit_command, remove_command, list_command, revoke_command}
+use Rattle.serve.specs.Bounds.{moment_of}
+use Rattle.command_line.specs.Bounds.{bounds_given, prefix_given, until_given}
+use Rattle.serve.specs.Parts.{limit_of, role_of, org_command, limit_command, remove_command, list_command, revoke_command}
 use Rattle.command_line.specs.Orders.{Given, asked_with, command_in, command_on, compacting_asked, connections_of, copying_asked, count_asked, file_asked, limit_or_first, port_of, seconds_of, seconds_or, serving_asked, timeouts_asked, token_asked}
 use Rattle.command_line.specs.declared.arguments.Argument.{Argument}
 use Rattle.command_line.specs.declared.arguments.Argument.TheVariants as argument
@@ -198,10 +199,11 @@ file_leads : (given : Given) (command db : List ℕ) → Leads given (arguments_
 file_leads given command db =
     either given (bytes_eq command (codes "serve")) _ _ _ _ (serve_leads given db)
     (either given (bytes_eq command (codes "check")) _ _ _ _ (λ all. refl)
+    (either given (bytes_eq command (codes "admin")) _ _ _ _ (λ all. refl)
     (either given (bytes_eq command (codes "org-copy")) _ _ _ _ (copy_leads given db)
     (either given (bytes_eq command (codes "compact")) _ _ _ _ (compact_leads given db)
     (either given (bytes_eq command (codes "token-add")) _ _ _ _ (λ all. some_map (token_asked given) _ (token_leads given all))
-    (λ all. some_map (command_in command given) _ (command_leads given command all))))))
+    (λ all. some_map (command_in command given) _ (command_leads given command all)))))))
 
 -- each of these commands is on a file
 names_file : (given : Given) (command : List ℕ) → AllFit given (arguments_at command) → is_some given.db ≡ true
@@ -209,6 +211,7 @@ names_file given command =
     let Named : List Argument → Type 0 = λ arguments. AllFit given arguments → is_some given.db ≡ true in
     choose Named (bytes_eq command (codes "serve")) _ _ (λ all. all.0)
     (choose Named (bytes_eq command (codes "check")) _ _ (λ all. all.0)
+    (choose Named (bytes_eq command (codes "admin")) _ _ (λ all. all.0)
     (choose Named (bytes_eq command (codes "org-copy")) _ _ (λ all. all.0)
     (choose Named (bytes_eq command (codes "compact")) _ _ (λ all. all.0)
     (choose Named (bytes_eq command (codes "token-add")) _ _ (λ all. all.0)
@@ -217,7 +220,7 @@ names_file given command =
     (choose Named (bytes_eq command (codes "org-limit")) _ _ (λ all. all.0)
     (choose Named (bytes_eq command (codes "org-remove")) _ _ (λ all. all.0)
     (choose Named (bytes_eq command (codes "token-list")) _ _ (λ all. all.0)
-    (choose Named (bytes_eq command (codes "token-revoke")) _ _ (λ all. all.0) (λ all. cc)))))))))))
+    (choose Named (bytes_eq command (codes "token-revoke")) _ _ (λ all. all.0) (λ all. cc))))))))))))
 
 leads : (command : List ℕ) (given : Given) → Leads given (arguments_of command) (asked_with command given)
 leads command given =

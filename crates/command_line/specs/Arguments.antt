@@ -2,8 +2,8 @@
 use Rattle.std.specs.Prelude.{ℕ, List, [], ◌∷◌, Bool, true, false, not, Option, is_some, cond, find, bytes_eq, codes}
 use Rattle.std.specs.Option.{option_map_or}
 use Rattle.basis.specs.Names.{is_org_name, is_prefix}
-use Rattle.command_line.specs.Bounds.{moment_of}
-use Rattle.command_line.specs.Commands.{limit_of, role_of}
+use Rattle.serve.specs.Bounds.{moment_of}
+use Rattle.serve.specs.Parts.{limit_of, role_of}
 use Rattle.command_line.specs.Orders.{Given, port_of, connections_of, seconds_of}
 use Rattle.command_line.specs.declared.arguments.Argument.{Argument}
 use Rattle.command_line.specs.declared.arguments.Argument.TheVariants as argument
@@ -62,10 +62,11 @@ abbrev pub arguments_at : List ℕ → List Argument
 arguments_at command =
     cond (bytes_eq command (codes "serve")) (argument.Db ∷ argument.Port ∷ argument.Counting ∷ argument.Count ∷ argument.Idle ∷ argument.Most ∷ [])
     (cond (bytes_eq command (codes "check")) (argument.Db ∷ [])
+    (cond (bytes_eq command (codes "admin")) (argument.Db ∷ [])
     (cond (bytes_eq command (codes "org-copy")) (argument.Db ∷ argument.To ∷ argument.Org ∷ [])
     (cond (bytes_eq command (codes "compact")) (argument.Db ∷ argument.To ∷ [])
     (cond (bytes_eq command (codes "token-add")) (argument.Db ∷ argument.Org ∷ argument.Name ∷ argument.Role ∷ argument.Until ∷ argument.Prefix ∷ [])
-    (cond (bytes_eq command (codes "org-list")) (argument.Db ∷ []) (arguments_on command))))))
+    (cond (bytes_eq command (codes "org-list")) (argument.Db ∷ []) (arguments_on command)))))))
 
 -- the arguments of a command
 abbrev pub arguments_of : List ℕ → List Argument

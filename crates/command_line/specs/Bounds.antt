@@ -1,24 +1,7 @@
--- The bounds of a new token, from the words that write them.
-use Rattle.std.specs.Prelude.{ℕ, List, [], Option, Some, None, cond, option_map, option_and_then}
-use Rattle.basis.specs.Names.{is_prefix}
-use Rattle.basis.specs.Numbers.{whole_of, within}
+-- The bounds of a new token, from the values of two arguments.
+use Rattle.std.specs.Prelude.{ℕ, List, [], Option, Some, None, option_map, option_and_then}
 use Rattle.basis.specs.declared.roles.Bounds.{Bounds}
-
--- reads a time in seconds since 1970
-abbrev pub moment_of : List ℕ → Option ℕ
-moment_of word = option_and_then (within 0 253_402_300_799) (whole_of word)
-
--- reads a prefix: the word itself; the empty one stands for every workspace
-abbrev pub prefix_of : List ℕ → Option (List ℕ)
-prefix_of word = cond (is_prefix word) (Some word) None
-
--- an optional expiry, and a prefix
-abbrev pub bounds : Option ℕ → List ℕ → Bounds
-bounds until prefix = record { until = until; prefix = prefix }
-
--- no expiry, and every workspace
-abbrev pub no_bounds : Bounds
-no_bounds = bounds None []
+use Rattle.serve.specs.Bounds.{moment_of, prefix_of, bounds}
 
 -- the expiry, if one is given
 abbrev pub until_given : Option (List ℕ) → Option (Option ℕ)

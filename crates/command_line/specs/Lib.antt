@@ -1,6 +1,5 @@
 pub mod Arguments
 pub mod Bounds
-pub mod Commands
 pub mod Inner
 pub mod Orders
 pub mod Words

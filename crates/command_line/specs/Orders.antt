@@ -10,11 +10,11 @@ use Rattle.clap.specs.declared.parser.matches.Found.{Found}
 use Rattle.serve.specs.declared.steps.Admin as Operator
 use Rattle.serve.specs.declared.steps.Admin.TheVariants.{OrgList, TokenAdd}
 use Rattle.command_line.specs.Bounds.{bounds_given}
-use Rattle.command_line.specs.Commands.{limit_of, role_of, org_command, limit_command, remove_command, list_command, revoke_command}
+use Rattle.serve.specs.Parts.{limit_of, role_of, org_command, limit_command, remove_command, list_command, revoke_command}
 use Rattle.command_line.specs.declared.orders.NewToken.{NewToken}
 use Rattle.command_line.specs.declared.orders.Values.{Values}
 use Rattle.command_line.specs.declared.orders.Order.{Order}
-use Rattle.command_line.specs.declared.orders.Order.TheVariants.{Carry, AddToken, Check, Copy, Compact, Serve, Replay, Version}
+use Rattle.command_line.specs.declared.orders.Order.TheVariants.{Carry, AddToken, Check, Copy, Compact, Serve, CarryAll, Replay, Version}
 use Rattle.command_line.specs.declared.timeouts.Timeouts.{Timeouts}
 
 -- what is asked for; a database is named by the path of its file
@@ -29,14 +29,17 @@ pub data Asked : Type 0 where
   copies : List ℕ → List ℕ → List ℕ → Asked
   -- to copy every organization from one file to another
   compacts : List ℕ → List ℕ → Asked
-  -- to serve on a port: this many connections, each with these timeouts; whether the log is on; whether the tables are checked first
-  serves : List ℕ → ℕ → ℕ → Timeouts → Bool → Bool → Asked
+  -- to serve on a port: this many connections, each with these timeouts; whether the log is on; whether the tables are checked first; whether
+  -- an operator's door is open
+  serves : List ℕ → ℕ → ℕ → Timeouts → Bool → Bool → Bool → Asked
+  -- to carry out the operator's commands on standard input, one per line, on a file
+  carries_all : List ℕ → Asked
   -- to answer frames
   replays : Asked
   -- to print the version of the program
   tells_version : Asked
 
--- the values among the words, by argument, and whether `--unlimited`, `--log`, `--check` and `--force` are given
+-- the values among the words, by argument, and whether `--unlimited`, `--log`, `--check`, `--operator` and `--force` are given
 pub record Given : Type 0 where
   pub db : Option (List ℕ)
   pub to : Option (List ℕ)
@@ -53,6 +56,7 @@ pub record Given : Type 0 where
   pub unlimited : Bool
   pub logs : Bool
   pub checks : Bool
+  pub operates : Bool
   pub forces : Bool
 
 -- a port: 1 to 65,535
@@ -117,7 +121,7 @@ timeouts_asked given =
 
 abbrev pub serving_asked : List ℕ → Given → Option Asked
 serving_asked db given =
-    option_and_then (λ port. option_and_then (λ count. option_map (λ timeouts. serves db port count timeouts given.logs given.checks) (timeouts_asked given)) (count_asked given.count given.unlimited)) (option_and_then port_of given.port)
+    option_and_then (λ port. option_and_then (λ count. option_map (λ timeouts. serves db port count timeouts given.logs given.checks given.operates) (timeouts_asked given)) (count_asked given.count given.unlimited)) (option_and_then port_of given.port)
 
 -- a copy of one organization, if its name is valid
 abbrev pub copy_in : List ℕ → List ℕ → List ℕ → Option Asked
@@ -134,10 +138,11 @@ abbrev pub file_asked : List ℕ → List ℕ → Given → Option Asked
 file_asked command db given =
     cond (bytes_eq command (codes "serve")) (serving_asked db given)
     (cond (bytes_eq command (codes "check")) (Some (looks_over db))
+    (cond (bytes_eq command (codes "admin")) (Some (carries_all db))
     (cond (bytes_eq command (codes "org-copy")) (copying_asked db given)
     (cond (bytes_eq command (codes "compact")) (compacting_asked db given.to)
     (cond (bytes_eq command (codes "token-add")) (option_map (λ token. adds_token db token.org token.name token.role token.bounds) (token_asked given))
-    (option_map (λ c. carries db c) (command_in command given))))))
+    (option_map (λ c. carries db c) (command_in command given)))))))
 
 -- what a command of this name asks for with these values
 abbrev pub asked_with : List ℕ → Given → Option Asked
@@ -167,6 +172,7 @@ given_in rows = record {
   unlimited = flag_of (first_of (codes "unlimited") rows);
   logs = flag_of (first_of (codes "log") rows);
   checks = flag_of (first_of (codes "check") rows);
+  operates = flag_of (first_of (codes "operator") rows);
   forces = flag_of (first_of (codes "force") rows);
 }
 
@@ -188,6 +194,7 @@ given_found found = record {
   unlimited = flag_of (first_value found (codes "unlimited"));
   logs = flag_of (first_value found (codes "log"));
   checks = flag_of (first_value found (codes "check"));
+  operates = flag_of (first_value found (codes "operator"));
   forces = flag_of (first_value found (codes "force"));
 }
 
@@ -211,6 +218,7 @@ given_of values = record {
   unlimited = values.unlimited;
   logs = values.logs;
   checks = values.checks;
+  operates = values.operates;
   forces = values.forces;
 }
 
@@ -221,7 +229,8 @@ said_by (AddToken db token) = adds_token db.now token.org token.name token.role 
 said_by (Check db) = looks_over db.now
 said_by (Copy from to org) = copies from.now to.now org
 said_by (Compact from to) = compacts from.now to.now
-said_by (Serve db port count timeouts logs checks) = serves db.now port count timeouts logs checks
+said_by (Serve db port count timeouts logs checks operates) = serves db.now port count timeouts logs checks operates
+said_by (CarryAll db) = carries_all db.now
 said_by Replay = replays
 said_by Version = tells_version
 

@@ -88,17 +88,21 @@ with_counts app = with_rule (with_rule app (option_rule (codes "count") false)) 
 abbrev pub with_timeouts : App → App
 with_timeouts app = with_rule (with_rule app (option_rule (codes "idle") false)) (option_rule (codes "most") false)
 
--- `[--log] [--check]` behind the rest
+-- `[--log] [--check] [--operator]` behind the rest
 abbrev pub with_flags : App → App
-with_flags app = with_rule (with_rule app (flag_rule (codes "log"))) (flag_rule (codes "check"))
+with_flags app = with_rule (with_rule (with_rule app (flag_rule (codes "log"))) (flag_rule (codes "check"))) (flag_rule (codes "operator"))
 
--- `serve --db PATH --port P [--count N] [--unlimited] [--idle SECONDS] [--most SECONDS] [--log] [--check]`
+-- `serve --db PATH --port P [--count N] [--unlimited] [--idle SECONDS] [--most SECONDS] [--log] [--check] [--operator]`
 abbrev pub serve : App
 serve = with_flags (with_timeouts (with_counts (with_rule (with_rule (new_app (codes "serve")) database) (option_rule (codes "port") true))))
 
 -- `check --db PATH`
 abbrev pub check : App
 check = with_rule (new_app (codes "check")) database
+
+-- `admin --db PATH`
+abbrev pub admin : App
+admin = with_rule (new_app (codes "admin")) database
 
 -- `compact --db PATH --to PATH`
 abbrev pub compact : App
@@ -126,7 +130,7 @@ abbrev pub with_tokens : App → App
 with_tokens app = with_subcommand (with_subcommand (with_subcommand app token_add.top) token_list.top) token_revoke.top
 
 abbrev pub with_running : App → App
-with_running app = with_subcommand (with_subcommand (with_subcommand (with_subcommand app serve.top) check.top) compact.top) replay.top
+with_running app = with_subcommand (with_subcommand (with_subcommand (with_subcommand (with_subcommand app serve.top) check.top) compact.top) admin.top) replay.top
 
 -- the program
 abbrev pub custody : App

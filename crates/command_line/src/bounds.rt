@@ -1,26 +1,11 @@
-//! The bounds of a new token, from the words that write them.
+//! The bounds of a new token, from the values of two arguments.
 ghost use Rattle.std.specs.Prelude.{◌≡◌, Some, None, IfOk, IfErr, IsErrOf};
-ghost use Rattle.command_line.specs.Bounds.{moment_of, prefix_of, until_given, prefix_given, bounds_given};
+ghost use Rattle.command_line.specs.Bounds.{until_given, prefix_given, bounds_given};
 ghost use Rattle.command_line.specs.Orders.{text_in};
 
-use basis::numbers::whole_number;
 use basis::{Bounds, Moment, Unfit, WsPrefix};
+use serve::bounds::{read_moment, read_prefix};
 use std::alloc::Global;
-
-/// Reads a time in seconds since 1970.
-pub fn read_moment(word: &str) -> Option<Moment>
-    ensures { result ≡ moment_of word.now }
-{
-    whole_number(word).and_then(Moment::new)
-}
-
-/// Reads a prefix.
-pub fn read_prefix(alloc: Global, word: &str) -> Result<WsPrefix, Unfit>
-    ensures ok { IfOk result (λ prefix. prefix_of word.now ≡ Some prefix) }
-    ensures syntax { IsErrOf result Unfit.Syntax → prefix_of word.now ≡ None }
-{
-    WsPrefix::read(alloc, word)
-}
 
 fn until_given(value: Option<&str>) -> Result<Option<Moment>, Unfit>
     ensures ok { IfOk result (λ until. until_given (text_in value.entry) ≡ Some until) }

@@ -3,7 +3,6 @@
 
 mod arguments;
 pub mod bounds;
-pub mod commands;
 mod misfits;
 mod orders;
 pub mod timeouts;

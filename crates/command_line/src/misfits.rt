@@ -3,17 +3,17 @@ ghost use Rattle.std.specs.Prelude.{◌≡◌, true, false, None, IfOk, IfErr, S
 ghost use Rattle.std.specs.Option.{option_map_or};
 ghost use Rattle.basis.specs.Names.{is_org_name, is_prefix};
 ghost use Rattle.command_line.specs.Arguments.{arguments_of, fits, first_misfit};
-ghost use Rattle.command_line.specs.Bounds.{moment_of};
-ghost use Rattle.command_line.specs.Commands.{limit_of, role_of};
+ghost use Rattle.serve.specs.Bounds.{moment_of};
+ghost use Rattle.serve.specs.Parts.{limit_of, role_of};
 ghost use Rattle.command_line.specs.Orders.{asked_with, connections_of, given_of, port_of, said_by, seconds_of, text_in};
 ghost use Rattle.command_line.specs.Inner.Misfits.{IsUnread};
 
 use crate::arguments::Argument;
-use crate::bounds::{read_moment, read_prefix};
-use crate::commands::{read_limit, read_role};
 use crate::orders::{MAX_COUNT, MAX_PORT, Order, Values, number_up_to};
 use crate::timeouts::MAX_SECONDS;
 use basis::{Down, OrgName, Unfit};
+use serve::bounds::{read_moment, read_prefix};
+use serve::parts::{read_limit, read_role};
 use std::alloc::Global;
 
 /// Why a command's values are not accepted.
@@ -140,6 +140,7 @@ fn arguments_of(command: &str) -> &'static [Argument]
             Argument::Most,
         ],
         "check" => &[Argument::Db],
+        "admin" => &[Argument::Db],
         "org-copy" => &[Argument::Db, Argument::To, Argument::Org],
         "compact" => &[Argument::Db, Argument::To],
         "token-add" => &[

@@ -4,15 +4,14 @@ ghost use Rattle.basis.specs.Numbers.{whole_of, within};
 ghost use Rattle.clap.specs.Words.{found_of};
 ghost use Rattle.command_line.specs.Orders.{limit_or_first, command_on, command_in, token_in, token_asked, seconds_or, timeouts_asked, serving_asked, copy_in, copying_asked, compacting_asked, adds_token, file_asked, asked_with, flag_of, given_found, given_of, text_in, said_by, with_secret, port_of, count_asked, carries};
 ghost use Rattle.command_line.specs.Bounds.{bounds_given};
-ghost use Rattle.command_line.specs.Commands.{limit_of, limit_command, revoke_command};
+ghost use Rattle.serve.specs.Parts.{limit_of, limit_command, revoke_command};
 
 use crate::bounds::give_bounds;
-use crate::commands;
 use crate::timeouts::{IDLE_SECONDS, MOST_SECONDS, Seconds, Timeouts};
 use basis::numbers::{FIRST_LIMIT, whole_number};
 use basis::{Bounds, Limit, OrgName, Role, Secret, Unfit};
 use clap::ArgMatches;
-use serve::Admin;
+use serve::{Admin, parts};
 use std::alloc::Global;
 
 /// The greatest TCP port.
@@ -110,7 +109,8 @@ pub enum Order<'a> {
     /// To answer so many connections from a file, at a port of the loopback address; `UNLIMITED` where
     /// no number is asked for.
     /// Where `logs` is true, a line is printed for each exchange. Where `checks` is true, faults in
-    /// the file's tables are looked for first.
+    /// the file's tables are looked for first. Where `operates` is true, the secret of an operator's door
+    /// is read first.
     Serve {
         db: &'a str,
         port: u16,
@@ -118,6 +118,11 @@ pub enum Order<'a> {
         timeouts: Timeouts,
         logs: bool,
         checks: bool,
+        operates: bool,
+    },
+    /// To carry out the operator's commands on standard input, one per line, on a file.
+    CarryAll {
+        db: &'a str,
     },
     /// Answer frames over a database in memory.
     Replay,
@@ -125,8 +130,8 @@ pub enum Order<'a> {
     Version,
 }
 
-/// The values among the words, by argument; None if the argument is absent. `unlimited`, `logs`, `checks` and `forces` say
-/// whether `--unlimited`, `--log`, `--check` and `--force` are given.
+/// The values among the words, by argument; None if the argument is absent. `unlimited`, `logs`, `checks`, `operates` and
+/// `forces` say whether `--unlimited`, `--log`, `--check`, `--operator` and `--force` are given.
 #[derive(Drop)]
 pub struct Values<'a> {
     pub db: Option<&'a str>,
@@ -144,6 +149,7 @@ pub struct Values<'a> {
     pub unlimited: bool,
     pub logs: bool,
     pub checks: bool,
+    pub operates: bool,
     pub forces: bool,
 }
 
@@ -167,6 +173,7 @@ impl<'a> Values<'a> {
             unlimited: flag_of(matches.get_str("unlimited")),
             logs: flag_of(matches.get_str("log")),
             checks: flag_of(matches.get_str("check")),
+            operates: flag_of(matches.get_str("operator")),
             forces: flag_of(matches.get_str("force")),
         }
     }
@@ -197,7 +204,7 @@ fn limit_or_first(value: Option<&str>) -> Option<Limit>
     ensures { result ≡ limit_or_first (text_in value.entry) }
 {
     match value {
-        Some(value) => commands::read_limit(value),
+        Some(value) => parts::read_limit(value),
         None => Limit::new(FIRST_LIMIT),
     }
 }
@@ -207,7 +214,7 @@ fn limit_command(alloc: Global, org: &str, limit: Option<&str>) -> Result<Admin,
     ensures syntax { IsErrOf result Unfit.Syntax → option_and_then (λ text. limit_command org.now (limit_of text)) (text_in limit.entry) ≡ None }
 {
     match limit {
-        Some(limit) => commands::org_limit(alloc, org, commands::read_limit(limit)),
+        Some(limit) => parts::org_limit(alloc, org, parts::read_limit(limit)),
         None => Err(Unfit::Syntax),
     }
 }
@@ -217,7 +224,7 @@ fn revoke_command(alloc: Global, org: &str, name: Option<&str>) -> Result<Admin,
     ensures syntax { IsErrOf result Unfit.Syntax → option_and_then (λ text. revoke_command org.now text) (text_in name.entry) ≡ None }
 {
     match name {
-        Some(name) => commands::token_revoke(alloc, org, name),
+        Some(name) => parts::token_revoke(alloc, org, name),
         None => Err(Unfit::Syntax),
     }
 }
@@ -227,10 +234,10 @@ fn command_on(alloc: Global, command: &str, org: &str, values: &Values<'_>) -> R
     ensures syntax { IsErrOf result Unfit.Syntax → command_on command.now org.now (given_of values.now) ≡ None }
 {
     match command {
-        "org-add" => commands::org_add(alloc, org, limit_or_first(values.limit)),
+        "org-add" => parts::org_add(alloc, org, limit_or_first(values.limit)),
         "org-limit" => limit_command(alloc, org, values.limit),
-        "org-remove" => commands::org_remove(alloc, org, values.forces),
-        "token-list" => commands::token_list(alloc, org),
+        "org-remove" => parts::org_remove(alloc, org, values.forces),
+        "token-list" => parts::token_list(alloc, org),
         "token-revoke" => revoke_command(alloc, org, values.name),
         _ => Err(Unfit::Syntax),
     }
@@ -255,7 +262,7 @@ fn new_token(alloc: Global, values: &Values<'_>) -> Result<NewToken, Unfit>
 {
     match (values.org, values.name, values.role) {
         (Some(org), Some(name), Some(role)) => {
-            let role = commands::read_role(role);
+            let role = parts::read_role(role);
             NewToken::make(alloc, org, name, role, values.until, values.prefix)
         }
         _ => Err(Unfit::Syntax),
@@ -309,6 +316,7 @@ fn serving<'a>(db: &'a str, values: &Values<'a>) -> Option<Order<'a>>
         timeouts,
         logs: values.logs,
         checks: values.checks,
+        operates: values.operates,
     })
 }
 
@@ -372,6 +380,7 @@ fn on_file<'a>(
     match command {
         "serve" => serving(db, values).ok_or(Unfit::Syntax),
         "check" => Ok(Order::Check { db }),
+        "admin" => Ok(Order::CarryAll { db }),
         "org-copy" => copying(alloc, db, values),
         "compact" => compacting(db, values.to).ok_or(Unfit::Syntax),
         "token-add" => adding(alloc, db, values),

@@ -3,7 +3,7 @@
 ghost use Rattle.std.specs.Prelude.{◌≡◌, ◌<◌, ◌⊎◌, IfOk, IfErr, Some, codes, length, string_bytes, ℕ, List};
 ghost use Rattle.clap.specs.Words.{app_of, subcommand_of, subcommand_rows_of, HasKind, FailsBy, IsAmong, kind_of, App, Rule, new_app, with_rule, with_subcommand};
 ghost use Rattle.command_line.specs.Orders.{said_by};
-ghost use Rattle.command_line.specs.Words.{words_bytes, database, target, organization, option_rule, value_rule, flag_rule, org_add, org_limit, org_copy, org_remove, org_list, token_add, token_list, token_revoke, serve, check, compact, replay, bare, custody, faults, asked_by_command, asked_in, with_organizations, with_tokens, with_running, with_bounds, with_counts, with_timeouts, with_flags, IsWhy, IsArg, IsCommand};
+ghost use Rattle.command_line.specs.Words.{words_bytes, database, target, organization, option_rule, value_rule, flag_rule, org_add, org_limit, org_copy, org_remove, org_list, token_add, token_list, token_revoke, serve, check, compact, admin, replay, bare, custody, faults, asked_by_command, asked_in, with_organizations, with_tokens, with_running, with_bounds, with_counts, with_timeouts, with_flags, IsWhy, IsArg, IsCommand};
 ghost use Rattle.command_line.specs.Inner.Misfits.{IsUnreadOf};
 
 use crate::arguments::Argument;
@@ -246,8 +246,11 @@ fn with_flags<'a>(
 {
     let log_help = "Print one line of JSON per exchange to standard output";
     let check_help = "Check the file's tables first, and refuse to start if they have faults";
+    let operator_help =
+        "Accept an operator's commands at /operator. The operator's secret is read from standard input: one line of 16 to 64 ASCII letters or digits";
     let logging = with_arg(bare, flag(alloc, "log", log_help));
-    with_arg(logging, flag(alloc, "check", check_help))
+    let checking = with_arg(logging, flag(alloc, "check", check_help));
+    with_arg(checking, flag(alloc, "operator", operator_help))
 }
 
 fn with_timeouts<'a>(
@@ -280,6 +283,17 @@ fn compact<'a>(alloc: Global) -> Result<Command<'a>, AllocError>
     let bare = command(alloc, "compact", about);
     let on_file = with_arg(bare, database(alloc, OLD_FILE));
     with_arg(on_file, target(alloc))
+}
+
+fn admin<'a>(alloc: Global) -> Result<Command<'a>, AllocError>
+    ensures { IfOk result (λ command. IsCommand command admin) }
+{
+    let about =
+        "Carries out the operator's commands on standard input, one per line. Stops at the first that fails";
+    let file_help =
+        "The database file. Created if it does not exist and the first command is org-add";
+    let bare = command(alloc, "admin", about);
+    with_arg(bare, database(alloc, file_help))
 }
 
 fn replay<'a>(alloc: Global) -> Result<Command<'a>, AllocError>
@@ -334,7 +348,8 @@ fn with_running<'a>(
     let serving = with_command(bare, serve(alloc));
     let checking = with_command(serving, check(alloc));
     let compacting = with_command(checking, compact(alloc));
-    with_command(compacting, replay(alloc))
+    let carrying = with_command(compacting, admin(alloc));
+    with_command(carrying, replay(alloc))
 }
 
 fn custody<'a>(alloc: Global) -> Result<Command<'a>, AllocError>

@@ -1,5 +1,5 @@
 -- What is put into a text: members one behind another, objects one behind another, and the whole.
-use Rattle.std.proofs.Common.{◌≡◌, ◌∙◌, refl, sym, ap, ap₂, ℕ, List, [], ◌∷◌, ◌++◌, Option, Some, None, option_map, MatchOption, Bor, subst, append_assoc, ◌+◌, ◌<◌, ◌≤◌, length, drop, get_or}
+use Rattle.std.proofs.Common.{◌≡◌, ◌∙◌, refl, sym, ap, ap₂, ℕ, List, [], ◌∷◌, ◌++◌, Option, Some, None, option_map, MatchOption, Bor, Bool, subst, append_assoc, ◌+◌, ◌<◌, ◌≤◌, length, drop, get_or}
 use Rattle.std.proofs.lemmas.List.{drop_more, drop_all}
 use Rattle.std.specs.Option.{IsSomeAnd, option_copied}
 use Rattle.json.specs.Print.{print}
@@ -12,6 +12,7 @@ use Rattle.serde_json.proofs.Texts.{print-outline}
 use Rattle.basis.specs.Runs.{action_word}
 use Rattle.basis.specs.declared.runs.RunAction.{RunAction}
 use Rattle.docs.specs.Bodies.{action_value, text_value, objects}
+use Rattle.docs.specs.Logs.{subject_member}
 use Rattle.docs.specs.Inner.Put.{Puts, PutsValue, PutsItems, IsBegun, with_member, with_members, ahead, text_of, object_text}
 
 -- ---- members, one behind another
@@ -47,6 +48,12 @@ text_made (Some x) None text post is each = absurd is
 -- the same of a text that is lent
 pub text_lent : (from : Option (List ℕ)) (lent made : Option (Bor (List ℕ))) (post : Bor (List ℕ) → Bor (List ℕ) → Type 0) → option_copied lent ≡ from → MatchOption lent (made ≡ None) (λ x. IsSomeAnd made (post x)) → ((x y : Bor (List ℕ)) → post x y → y.now ≡ x.now) → text_value (option_copied made) ≡ text_value from
 text_lent from lent made post lends is each = ap text_value (text_made lent made (λ x. x.now) post is each ∙ lends)
+
+-- a subject put is that of what it is lent from
+pub subject_as : {old new : Written} (operator : Bool) (from : Option (List ℕ)) (lent made : Option (Bor (List ℕ))) (post : Bor (List ℕ) → Bor (List ℕ) → Type 0) → option_copied lent ≡ from → MatchOption lent (made ≡ None) (λ x. IsSomeAnd made (post x)) → ((x y : Bor (List ℕ)) → post x y → y.now ≡ x.now)
+    → Puts old new (subject_member operator (option_copied made)) → Puts old new (subject_member operator from)
+subject_as {old} {new} operator from lent made post lends is each put =
+    subst (λ (o : Option (List ℕ)). Puts old new (subject_member operator o)) (text_made lent made (λ x. x.now) post is each ∙ lends) put
 
 -- a number made of what may be absent
 pub number_made : (from made : Option ℕ) (post : ℕ → ℕ → Type 0) → MatchOption from (made ≡ None) (λ x. IsSomeAnd made (post x)) → ((x y : ℕ) → post x y → y ≡ x) → made ≡ from

@@ -24,7 +24,7 @@ use Rattle.json.specs.Print.{escape_letter, escape_byte, escape, quoted}
 use Rattle.docs.specs.Bodies.{number_value, text_value}
 use Rattle.docs.specs.declared.logs.LogRow.{LogRow}
 use Rattle.docs.specs.Escapes.{acting, acting_behind, behind_first, unicode_escape, escaped_from, escaped}
-use Rattle.docs.specs.Logs.{log_value, log_line, HasWords, LinesReadBack}
+use Rattle.docs.specs.Logs.{log_value, log_line, operator_member, subject_member, HasWords, LinesReadBack}
 use Rattle.docs.proofs.Escaping.{none_acts, within, c1_bytes, mark_bytes, isolate_bytes}
 
 -- ---- an escape of six bytes
@@ -611,6 +611,17 @@ number_numbers : (o : Option ℕ) → IfSome o (λ n. n < 2 ^ 64) → HasNumbers
 number_numbers None h = tt
 number_numbers (Some n) h = IsNumber-decimal n h
 
+abbrev Numbered : Members → Type 0
+Numbered ms = MembersHaveNumbers (members_outline ms)
+
+operator_numbers : (operator : Bool) (rest : Members) → Numbered rest → Numbered (operator_member operator rest)
+operator_numbers true rest h = (tt, h)
+operator_numbers false rest h = h
+
+subject_numbers : (operator : Bool) (subject : Option (List ℕ)) (rest : Members) → Numbered rest → Numbered (subject_member operator subject rest)
+subject_numbers true subject rest h = (text_numbers subject, h)
+subject_numbers false subject rest h = h
+
 row_numbers : (connection : ℕ) (end : List ℕ) (row : LogRow) → HasWords connection row → HasNumbers (outline (log_value connection end row))
 row_numbers connection end row words = (
   text_numbers _,
@@ -624,7 +635,7 @@ row_numbers connection end row words = (
           text_numbers row.id,
           (
             number_numbers row.number words.number_fits,
-            (
+            operator_numbers row.operator _ (
               text_numbers row.organization,
               (
                 text_numbers _,
@@ -632,7 +643,7 @@ row_numbers connection end row words = (
                   number_numbers row.run words.run_fits,
                   (
                     number_numbers row.status words.status_fits,
-                    (
+                    subject_numbers row.operator row.subject _ (
                       text_numbers row.token,
                       (number_numbers row.version words.version_fits, (text_numbers row.workspace, tt)),
                     ),

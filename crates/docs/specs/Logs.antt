@@ -1,22 +1,44 @@
 -- The log: one line of compact JSON for each exchange, keys in the order of their bytes.
-use Rattle.std.specs.Prelude.{◌≡◌, ℕ, ◌^◌, ◌<◌, ◌≤◌, List, [], ◌∷◌, ◌++◌, codes, option_map, IfSome}
+use Rattle.std.specs.Prelude.{◌≡◌, ℕ, ◌^◌, ◌<◌, ◌≤◌, Bool, true, false, List, [], ◌∷◌, ◌++◌, Option, codes, option_map, IfSome}
 use Rattle.std.specs.List.{AllByRecursion}
 use Rattle.json.specs.Lex.{tokens}
 use Rattle.json.specs.Tree.{json_tokens}
-use Rattle.serde_json.specs.Data.{Data, number, unsigned, string, object, member, no_members}
+use Rattle.serde_json.specs.Data.{Data, Members, boolean, number, unsigned, string, object, member, no_members}
 use Rattle.serde_json.specs.Written.{compact_text, outline}
 use Rattle.basis.specs.Acts.{act_word}
 use Rattle.basis.specs.Refusals.{line_of}
 use Rattle.docs.specs.Bodies.{number_value, text_value}
 use Rattle.docs.specs.Escapes.{escaped, NothingActs}
 use Rattle.docs.specs.declared.logs.LogAct.{LogAct}
-use Rattle.docs.specs.declared.logs.LogAct.TheVariants.{ListWorkspaces, OfWorkspace}
+use Rattle.docs.specs.declared.logs.LogAct.TheVariants.{ListWorkspaces, OfWorkspace, OfOperator}
+use Rattle.docs.specs.declared.logs.OperatorAct.{OperatorAct}
+use Rattle.docs.specs.declared.logs.OperatorAct.TheVariants.{AddOrganization, LimitOrganization, RemoveOrganization, ListOrganizations, AddToken, ListTokens, RevokeToken}
 use Rattle.docs.specs.declared.logs.LogRow.{LogRow}
+
+-- the words for what an operator's command asks
+abbrev pub operator_word : OperatorAct → List ℕ
+operator_word AddOrganization = codes "add organization"
+operator_word LimitOrganization = codes "limit organization"
+operator_word RemoveOrganization = codes "remove organization"
+operator_word ListOrganizations = codes "list organizations"
+operator_word AddToken = codes "add token"
+operator_word ListTokens = codes "list tokens"
+operator_word RevokeToken = codes "revoke token"
 
 -- what a request asks, in words
 abbrev pub log_word : LogAct → List ℕ
 log_word ListWorkspaces = codes "list workspaces"
 log_word (OfWorkspace act) = act_word act
+log_word (OfOperator act) = operator_word act
+
+-- only the line of a request that came to the operator's door has these two members: `true`, and the token that was added or revoked
+abbrev pub operator_member : Bool → Members → Members
+operator_member true rest = member (codes "operator") (boolean true) rest
+operator_member false rest = rest
+
+abbrev pub subject_member : Bool → Option (List ℕ) → Members → Members
+subject_member true subject rest = member (codes "subject") (text_value subject) rest
+subject_member false subject rest = rest
 
 -- an exchange of a connection, and how it ended
 abbrev pub log_value : ℕ → List ℕ → LogRow → Data
@@ -27,13 +49,15 @@ log_value connection end row = object (
     member (codes "end") (string end) (
     member (codes "id") (text_value row.id) (
     member (codes "number") (number_value row.number) (
+    operator_member row.operator (
     member (codes "organization") (text_value row.organization) (
     member (codes "refusal") (text_value (option_map (λ refusal. (line_of refusal).word) row.refusal)) (
     member (codes "run") (number_value row.run) (
     member (codes "status") (number_value row.status) (
+    subject_member row.operator row.subject (
     member (codes "token") (text_value row.token) (
     member (codes "version") (number_value row.version) (
-    member (codes "workspace") (text_value row.workspace) no_members)))))))))))))
+    member (codes "workspace") (text_value row.workspace) no_members)))))))))))))))
 
 -- its line: compact JSON, in which what acts on a terminal is escaped, and the line feed (10) that ends it
 unfoldable pub log_line : ℕ → List ℕ → LogRow → List ℕ

@@ -22,4 +22,4 @@ pub use digests::digest_fits;
 pub use documents::{read_lock, read_run, read_settings, read_state};
 pub use faults::DocFault;
 pub use listings::{write_run_list, write_version_list, write_ws_list};
-pub use logs::{LogAct, LogRow, write_log_line};
+pub use logs::{LogAct, LogRow, OperatorAct, write_log_line};

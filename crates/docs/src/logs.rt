@@ -1,14 +1,43 @@
 //! The lines of the log: one of compact JSON for each exchange.
 ghost use Rattle.std.specs.Prelude.{◌≡◌, IfOk, OnOk, option_map};
-ghost use Rattle.docs.specs.Logs.{log_word, log_line, ExchangesAreLines, LinesReadBack};
+ghost use Rattle.std.specs.Option.{option_copied};
+ghost use Rattle.docs.specs.Logs.{operator_word, log_word, operator_member, subject_member, log_line, ExchangesAreLines, LinesReadBack};
 ghost use Rattle.docs.specs.Inner.Put.{Puts};
 ghost use Rattle.docs.specs.Inner.Logs.{asked, named, outcome, made};
 
 use crate::escapes::escape_acting;
-use crate::put::{begin_text, end_text, put_number, put_text, whole_number};
+use crate::put::{begin_text, end_text, put_flag, put_number, put_text, whole_number};
 use basis::{Down, LockId, Moment, Number, OrgName, Refusal, Text, WsAct, WsName};
 use json::Writer;
 use std::alloc::{AllocError, Global};
+
+/// What an operator's command asks, as the log names it.
+#[derive(Clone, Copy)]
+pub enum OperatorAct {
+    AddOrganization,
+    LimitOrganization,
+    RemoveOrganization,
+    ListOrganizations,
+    AddToken,
+    ListTokens,
+    RevokeToken,
+}
+
+impl OperatorAct {
+    fn word(self) -> &'static str
+        ensures { result.now ≡ operator_word self }
+    {
+        match self {
+            OperatorAct::AddOrganization => "add organization",
+            OperatorAct::LimitOrganization => "limit organization",
+            OperatorAct::RemoveOrganization => "remove organization",
+            OperatorAct::ListOrganizations => "list organizations",
+            OperatorAct::AddToken => "add token",
+            OperatorAct::ListTokens => "list tokens",
+            OperatorAct::RevokeToken => "revoke token",
+        }
+    }
+}
 
 /// What a request asks, as the log names it.
 #[derive(Clone, Copy)]
@@ -16,6 +45,8 @@ pub enum LogAct {
     ListWorkspaces,
     /// Something of one workspace.
     OfWorkspace(WsAct),
+    /// An operator's command.
+    OfOperator(OperatorAct),
 }
 
 impl LogAct {
@@ -26,6 +57,7 @@ impl LogAct {
         match self {
             LogAct::ListWorkspaces => "list workspaces",
             LogAct::OfWorkspace(act) => act.word(),
+            LogAct::OfOperator(act) => act.word(),
         }
     }
 }
@@ -42,7 +74,9 @@ pub struct LogRow {
     pub id: Option<LockId>,
     /// The number of the version or the run that the request names or makes; absent where there is none.
     pub number: Option<Number>,
-    /// The organization that the token names; absent where the request brings no token that names one.
+    /// Whether the request came to the operator's door. The line has this field and `subject` only if it did.
+    pub operator: bool,
+    /// The organization that the token or the command names; absent if neither names one.
     pub organization: Option<OrgName>,
     /// Why the request is refused; absent where it isn't.
     pub refusal: Option<Refusal>,
@@ -50,7 +84,9 @@ pub struct LogRow {
     pub run: Option<Number>,
     /// The status of the reply; absent where there was no reply.
     pub status: Option<u16>,
-    /// The token's name; absent where the request brings no token that counts.
+    /// The name of the token that a command added or revoked; absent if there is none.
+    pub subject: Option<OrgName>,
+    /// The name of the token that asks; absent where the request brings no token that counts.
     pub token: Option<Text>,
     /// The number of the version that was made; absent where none was.
     pub version: Option<Number>,
@@ -117,12 +153,35 @@ fn put_asked(
     put_text(writer, "end", Some(end))
 }
 
-// The lock's ID, the number and the organization.
+// Whether the request came to the operator's door; only if it did.
+fn put_operator(writer: &mut Writer, operator: bool) -> Result<(), AllocError>
+    ensures { OnOk result (Puts writer.old writer.new (operator_member operator)) }
+{
+    if operator {
+        put_flag(writer, "operator", true)
+    } else {
+        Ok(())
+    }
+}
+
+// The token that a command is about; only if it came to the operator's door.
+fn put_subject(writer: &mut Writer, operator: bool, subject: Option<&str>) -> Result<(), AllocError>
+    ensures { OnOk result (Puts writer.old writer.new (subject_member operator (option_copied subject.entry))) }
+{
+    if operator {
+        put_text(writer, "subject", subject)
+    } else {
+        Ok(())
+    }
+}
+
+// The lock's ID, the number, the operator's flag and the organization.
 fn put_named(writer: &mut Writer, row: &LogRow) -> Result<(), AllocError>
     ensures { OnOk result (Puts writer.old writer.new (named row.now)) }
 {
     put_text(writer, "id", row.id.as_ref().map(LockId::as_str))?;
     put_number(writer, "number", row.number.map(whole_number))?;
+    put_operator(writer, row.operator)?;
     put_text(
         writer,
         "organization",
@@ -139,10 +198,15 @@ fn put_outcome(writer: &mut Writer, row: &LogRow) -> Result<(), AllocError>
     put_number(writer, "status", row.status.map(u64::from))
 }
 
-// The token, the version and the workspace.
+// The subject, the token, the version and the workspace.
 fn put_made(writer: &mut Writer, row: &LogRow) -> Result<(), AllocError>
     ensures { OnOk result (Puts writer.old writer.new (made row.now)) }
 {
+    put_subject(
+        writer,
+        row.operator,
+        row.subject.as_ref().map(OrgName::as_str),
+    )?;
     put_text(writer, "token", row.token.as_ref().map(Text::as_str))?;
     put_number(writer, "version", row.version.map(whole_number))?;
     put_text(

@@ -1,7 +1,7 @@
 -- What a refusal is answered: it, or who holds where it is `Locked`.
 use Rattle.std.proofs.Common.{◌≡◌, ◌⊎◌, inl, inr, refl, sym, subst, ◌∙◌}
 use Rattle.basis.specs.declared.refusals.Refusal.{Refusal}
-use Rattle.basis.specs.declared.refusals.Refusal.TheVariants.{BadMessage, TwoTokens, BadQuery, BadDigest, BadState, BadLock, BadBody, NoToken, BadToken, NeedWrite, NeedAdmin, NoRoute, NotFound, NoMethod, NotHeld, NotApplying, OtherLineage, OldSerial, WrongState, HeldByRun, OpenRuns, OverLimit, Locked, NoLength, TooLarge, HeadTooLarge, Unavailable}
+use Rattle.basis.specs.declared.refusals.Refusal.TheVariants.{BadMessage, TwoTokens, BadQuery, BadDigest, BadState, BadLock, BadBody, NoToken, BadToken, NeedWrite, NeedAdmin, NoRoute, NotFound, NoMethod, NotHeld, NotApplying, OtherLineage, OldSerial, WrongState, HeldByRun, OpenRuns, OverLimit, Locked, NoLength, TooLarge, HeadTooLarge, Unavailable, BadSecret, Exists, Absent, InUse}
 use Rattle.machine.specs.Custody.{IsRefusal}
 use Rattle.machine.specs.Rules.{Outcome, refused, held, done, refused_by}
 use Rattle.basis.specs.declared.rows.Holder.{Holder}
@@ -37,6 +37,10 @@ told_or_held NoLength h = inl (refl, λ e. let none : ⊥ = cc in none)
 told_or_held TooLarge h = inl (refl, λ e. let none : ⊥ = cc in none)
 told_or_held HeadTooLarge h = inl (refl, λ e. let none : ⊥ = cc in none)
 told_or_held Unavailable h = inl (refl, λ e. let none : ⊥ = cc in none)
+told_or_held BadSecret h = inl (refl, λ e. let none : ⊥ = cc in none)
+told_or_held Exists h = inl (refl, λ e. let none : ⊥ = cc in none)
+told_or_held Absent h = inl (refl, λ e. let none : ⊥ = cc in none)
+told_or_held InUse h = inl (refl, λ e. let none : ⊥ = cc in none)
 told_or_held Locked h = inr refl
 
 -- it is never done, tells of the holder alone, and never that one holds without who

@@ -1,5 +1,5 @@
 -- What lies at paths, from an open to a close.
-use Rattle.std.proofs.Common.{◌≡◌, ◌⊎◌, ℕ, Bool, true, false, List, [], Option, Result, Ok, IfOk, sym, subst}
+use Rattle.std.proofs.Common.{◌≡◌, ◌⊎◌, ℕ, true, false, List, [], Option, Result, Ok, IfOk, sym, subst}
 use Rattle.basis.specs.declared.memory.Down.{Down}
 use Rattle.machine.specs.declared.keeps.Keep as keep
 use Rattle.machine.specs.declared.records.Organization.{Organization}
@@ -12,7 +12,7 @@ use Rattle.program.specs.declared.environment.Files as files
 use Rattle.program.specs.declared.environment.Opening.TheVariants.{Existing, Created}
 use Rattle.program.specs.declared.reasons.Cause.{Cause}
 use Rattle.program.specs.declared.totals.Looked.{Looked}
-use Rattle.command_line.specs.declared.timeouts.Timeouts.{Timeouts}
+use Rattle.program.specs.declared.serving.Terms.{Terms}
 use Rattle.program.specs.Inner.Outcomes.{LooksFirst, ServesOpened}
 use Rattle.serve.specs.declared.steps.Admin.{Admin}
 use Rattle.machine.specs.Keeping.{Looks, Lasts}
@@ -113,15 +113,15 @@ module _ {K F : Type 0} (k : keep.Ghosts K) (f : files.Ghosts F K) where
 
 module _ {K F N C R W : Type 0} (k : keep.Ghosts K) (f : files.Ghosts F K) (n : connections.Ghosts N R W) (c : clock.Ghosts C) (i : inlet.Ghosts R) (o : outlet.Ghosts W) where
   -- connections are answered from an opened store, and it is closed
-  pub serves_opened : (path : List ℕ) (port : ℕ) (timeouts : Timeouts) (logs : Bool) (count : ℕ) (old new : F) (network network' : N) (time time' : C) (opened from to closed : K) (served e : Exit) (out told last : Option (List ℕ)) (before lines after : Told)
+  pub serves_opened : (path : List ℕ) (port : ℕ) (terms : Terms) (count : ℕ) (old new : F) (network network' : N) (time time' : C) (opened from to closed : K) (served e : Exit) (out told last : Option (List ℕ)) (before lines after : Told)
       → from ≡ opened → closed ≡ to
       → Lasts k.clean k.sound k.keyed k.shielded from to
-      → (k.clean to → k.sound from → Serves count (k.rows from) (k.rows to))
-      → AnswersAtPort k f n c i o port timeouts logs count (state network time from before out) (state network' time' to lines told) served
+      → (k.clean to → k.sound from → Serves terms.door count (k.rows from) (k.rows to))
+      → AnswersAtPort k f n c i o port terms count (state network time from before out) (state network' time' to lines told) served
       → Closes k f path old new closed (error_stream lines after) → SaysServed served e told last
-      → ServesOpened k f n c i o path port timeouts logs count opened (environment old network time) (environment new network' time') e (stream out last) (error_stream before after)
-  serves_opened path port timeouts logs count old new network network' time time' opened from to closed served e out told last before lines after begins ends lasts rows answers closes says =
-      subst (λ (s : K). ServesOpened k f n c i o path port timeouts logs count s (environment old network time) (environment new network' time') e (stream out last) (error_stream before after)) begins
+      → ServesOpened k f n c i o path port terms count opened (environment old network time) (environment new network' time') e (stream out last) (error_stream before after)
+  serves_opened path port terms count old new network network' time time' opened from to closed served e out told last before lines after begins ends lasts rows answers closes says =
+      subst (λ (s : K). ServesOpened k f n c i o path port terms count s (environment old network time) (environment new network' time') e (stream out last) (error_stream before after)) begins
       (record {
         after = to;
         lasts = lasts;
@@ -135,11 +135,11 @@ module _ {K F N C R W : Type 0} (k : keep.Ghosts K) (f : files.Ghosts F K) (n : 
       })
 
   -- a store is opened at a path, and connections are answered from it
-  pub serves_from : (path : List ℕ) (port : ℕ) (timeouts : Timeouts) (logs : Bool) (count : ℕ) (old mid new : F) (network network' : N) (time time' : C) (opened : K) (e : Exit) (out heard last : Option (List ℕ)) (before noted after : Told)
+  pub serves_from : (path : List ℕ) (port : ℕ) (terms : Terms) (count : ℕ) (old mid new : F) (network network' : N) (time time' : C) (opened : K) (e : Exit) (out heard last : Option (List ℕ)) (before noted after : Told)
       → Opens k f path Created old mid opened (error_stream before noted) → heard ≡ out
-      → ServesOpened k f n c i o path port timeouts logs count opened (environment mid network time) (environment new network' time') e (stream heard last) (error_stream noted after)
-      → ServesFrom k f n c i o path port timeouts logs count (environment old network time) (environment new network' time') e (stream out last) (error_stream before after)
-  serves_from path port timeouts logs count old mid new network network' time time' opened e out heard last before noted after opens same from = record {
+      → ServesOpened k f n c i o path port terms count opened (environment mid network time) (environment new network' time') e (stream heard last) (error_stream noted after)
+      → ServesFrom k f n c i o path port terms count (environment old network time) (environment new network' time') e (stream out last) (error_stream before after)
+  serves_from path port terms count old mid new network network' time time' opened e out heard last before noted after opens same from = record {
     before = opened;
     after = from.after;
     worked = mid;
@@ -150,18 +150,18 @@ module _ {K F N C R W : Type 0} (k : keep.Ghosts K) (f : files.Ghosts F K) (n : 
     served = from.served;
     told = from.told;
     lines = from.lines;
-    answers = subst (λ (o' : Option (List ℕ)). AnswersAtPort k f n c i o port timeouts logs count (state network time opened noted o') (state network' time' from.after from.lines from.told) from.served) same from.answers;
+    answers = subst (λ (o' : Option (List ℕ)). AnswersAtPort k f n c i o port terms count (state network time opened noted o') (state network' time' from.after from.lines from.told) from.served) same from.answers;
     says = from.says;
     closes = from.closes;
     others = λ other store differs held. from.closes.others other store differs (opens.others other store differs held);
   }
 
   -- a store is opened at a path, a look finds no fault in its tables, and connections are answered from it
-  pub serves_checked : (path : List ℕ) (port : ℕ) (timeouts : Timeouts) (logs : Bool) (count : ℕ) (old mid new : F) (network network' : N) (time time' : C) (store : K) (e : Exit) (out heard last : Option (List ℕ)) (before known after : Told)
+  pub serves_checked : (path : List ℕ) (port : ℕ) (terms : Terms) (count : ℕ) (old mid new : F) (network network' : N) (time time' : C) (store : K) (e : Exit) (out heard last : Option (List ℕ)) (before known after : Told)
       → OpensSound k f path old mid store (error_stream before known) → heard ≡ out
-      → ServesOpened k f n c i o path port timeouts logs count store (environment mid network time) (environment new network' time') e (stream heard last) (error_stream known after)
-      → ServesChecked k f n c i o path port timeouts logs count (environment old network time) (environment new network' time') e (stream out last) (error_stream before after)
-  serves_checked path port timeouts logs count old mid new network network' time time' store e out heard last before known after opens same from = record {
+      → ServesOpened k f n c i o path port terms count store (environment mid network time) (environment new network' time') e (stream heard last) (error_stream known after)
+      → ServesChecked k f n c i o path port terms count (environment old network time) (environment new network' time') e (stream out last) (error_stream before after)
+  serves_checked path port terms count old mid new network network' time time' store e out heard last before known after opens same from = record {
     before = store;
     after = from.after;
     worked = mid;
@@ -174,12 +174,12 @@ module _ {K F N C R W : Type 0} (k : keep.Ghosts K) (f : files.Ghosts F K) (n : 
         let before = from.lasts.so_far clean in
         let is = opens.keyed_ours before ours in
         (is.0, from.lasts.keys clean (opens.sound_ours before ours).1 is.1);
-    serves_ours = λ clean ours. subst (λ (rows : List ℕ → Option Organization). Serves count rows (k.rows from.after)) (same_records (k.rows store) (k.rows opens.opened) (opens.look.same (from.lasts.so_far clean)))
+    serves_ours = λ clean ours. subst (λ (rows : List ℕ → Option Organization). Serves terms.door count rows (k.rows from.after)) (same_records (k.rows store) (k.rows opens.opened) (opens.look.same (from.lasts.so_far clean)))
         (from.serves clean (opens.sound_ours (from.lasts.so_far clean) ours).1);
     served = from.served;
     told = from.told;
     lines = from.lines;
-    answers = subst (λ (o' : Option (List ℕ)). AnswersAtPort k f n c i o port timeouts logs count (state network time store known o') (state network' time' from.after from.lines from.told) from.served) same from.answers;
+    answers = subst (λ (o' : Option (List ℕ)). AnswersAtPort k f n c i o port terms count (state network time store known o') (state network' time' from.after from.lines from.told) from.served) same from.answers;
     says = from.says;
     closes = from.closes;
     others = λ other kept differs held. from.closes.others other kept differs (opens.opens.others other kept differs held);

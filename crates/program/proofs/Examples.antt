@@ -6,7 +6,7 @@ use lib.Utf8.{encode}
 use Rattle.basis.specs.declared.roles.Role.TheVariants.{Write}
 use Rattle.serve.specs.declared.steps.Admin.TheVariants.{OrgAdd, OrgLimit, OrgList, TokenAdd, TokenRevoke}
 use Rattle.serve.specs.declared.steps.Step.TheVariants.{Request, Command}
-use Rattle.command_line.specs.Bounds.{bounds, no_bounds}
+use Rattle.serve.specs.Bounds.{bounds, no_bounds}
 use Rattle.program.specs.Frames.{first_frame}
 use Rattle.program.specs.Secrets.{secret_in}
 

@@ -9,3 +9,4 @@ mod ErrorLemmas
 mod LogLemmas
 mod MoveLemmas
 mod CopyLemmas
+mod BatchLemmas

@@ -6,20 +6,25 @@ use Rattle.docs.specs.declared.logs.LogRow.{LogRow}
 use Rattle.machine.specs.declared.keeps.AdminAnswer.{AdminAnswer}
 use Rattle.machine.specs.declared.keeps.Keep as keep
 use Rattle.machine.specs.declared.records.Organization.{Organization}
-use Rattle.wire.specs.Replies.{Answer}
+use Rattle.wire.specs.Replies.{Answer, refused_answer}
+use Rattle.wire.specs.declared.messages.Message.{Message}
 use Rattle.wire.specs.declared.devices.Inlet as inlet
 use Rattle.wire.specs.declared.devices.Outlet as outlet
 use Rattle.wire.proofs.LinkLemmas.{Appends-none, Appends-then}
 use Rattle.serve.specs.Asks.{Ask, silent, refused, requests, commands, owner_of}
+use Rattle.docs.specs.Bodies.{error_text}
+use Rattle.serve.specs.Doors.{told_row, turned_row, unserved_row, IsToldAtDoor, ExchangesWith}
 use Rattle.serve.specs.Exchanges.{Exchanges, IsAnswered, ChangesAsTold}
+use Rattle.serve.specs.declared.doors.Door.{Door}
+use Rattle.serve.specs.declared.doors.Door.TheVariants.{Closed, Open}
 use Rattle.serve.specs.Logs.{silent_row, with_answer, request_row, row_of_ask}
-use Rattle.serve.specs.Service.{record_for}
+use Rattle.serve.specs.Service.{record_for, is_head}
 use Rattle.serve.specs.Steps.{replies, refusing, command_said, step}
 use Rattle.serve.specs.declared.exchanges.LinkFault.{LinkFault}
 use Rattle.serve.specs.declared.exchanges.LinkFault.TheVariants.{Ended, Read, Continue, Write}
 use Rattle.serve.specs.declared.steps.Admin.{Admin}
 use Rattle.serve.specs.declared.steps.Admin.TheVariants.{OrgAdd, OrgLimit, OrgRemove, OrgList, TokenAdd, TokenList, TokenRevoke}
-use Rattle.command_line.specs.declared.timeouts.Timeouts.{Timeouts}
+use Rattle.program.specs.declared.serving.Terms.{Terms}
 use Rattle.program.specs.declared.environment.Clock as clock
 use Rattle.program.specs.declared.environment.Connections as connections
 use Rattle.program.specs.declared.environment.Files as files
@@ -83,70 +88,86 @@ exchange_row now received left old new before after is_down row (Err Read) told 
 exchange_row now received left old new before after is_down row (Err Continue) told = (silent_row now, told.1)
 exchange_row now received left old new before after is_down row (Err Write) told = answered_row now received old new told.0 (told.1 ++ told.2) row is_down told.4
 
+told_row_there : (digest : List ℕ) (now : ℕ) (message : Message) (old new : List ℕ → Option Organization) (text : List ℕ) (row : Option LogRow) (is_down : Bool)
+    → IsToldAtDoor digest now message old new text row is_down → (told : LogRow) × (row ≡ Some told)
+told_row_there digest now message old new text row false (inl done) = (told_row now done.command done.answer, done.logged)
+told_row_there digest now message old new text row false (inr away) = (turned_row now (refused_answer away.refusal (error_text away.refusal) (is_head message)), away.logged)
+told_row_there digest now message old new text row true down = (unserved_row now down.command, down.logged)
+
+row_there : {T : Type 0} (door : Door) (now : ℕ) (received : List ℕ) (left : Option (List ℕ)) (old new : List ℕ → Option Organization) (before after : Option (List ℕ)) (is_down : Bool) (row : Option LogRow) (res : Result T LinkFault)
+    → ExchangesWith door now received left old new before after is_down row res → (told : LogRow) × (row ≡ Some told)
+row_there Closed now received left old new before after is_down row res told = exchange_row now received left old new before after is_down row res told
+row_there (Open digest) now received left old new before after is_down row res (inl told) = exchange_row now received left old new before after is_down row res told.1
+row_there (Open digest) now received left old new before after is_down row (Ok done) (inr told) = told_row_there digest now told.0 old new told.3.0 row is_down told.3.1
+row_there (Open digest) now received left old new before after is_down row (Err Write) (inr told) = told_row_there digest now told.0 old new (told.3.0 ++ told.3.1) row is_down told.3.3
+row_there (Open digest) now received left old new before after is_down row (Err Ended) (inr told) = absurd told.3
+row_there (Open digest) now received left old new before after is_down row (Err Read) (inr told) = absurd told.3
+row_there (Open digest) now received left old new before after is_down row (Err Continue) (inr told) = absurd told.3
+
 module _ {K N R W : Type 0} (k : keep.Ghosts K) (n : connections.Ghosts N R W) (i : inlet.Ghosts R) (o : outlet.Ghosts W) where
-  line_of : (place at : ℕ) (is_down : Bool) (reader : R) (writer : W) (network network' : N) (store store' : K) (errors errors' : Told) (output output' : Option (List ℕ))
-      → AnswersOne k n i o true place at is_down true reader writer network network' store store' errors errors' output output' → k.clean store' → k.sound store
+  line_of : (terms : Terms) → terms.logs ≡ true → (place at : ℕ) (is_down : Bool) (reader : R) (writer : W) (network network' : N) (store store' : K) (errors errors' : Told) (output output' : Option (List ℕ))
+      → AnswersOne k n i o terms place at is_down true reader writer network network' store store' errors errors' output output' → k.clean store' → k.sound store
       → (line : Line) × Appends output output' (log_line place (end_word line.ended) line.row) × ChangesAsTold line.row (k.rows store) (k.rows store')
-  line_of place at is_down reader writer network network' store store' errors errors' output output' one clean sound =
+  line_of terms logged place at is_down reader writer network network' store store' errors errors' output output' one clean sound =
       let exchanged = one.exchanges clean sound in
-      let told = exchange_row at exchanged.0 (i.left one.read) (k.rows store) (k.rows store') (o.written writer) (o.written one.written) is_down one.row one.result exchanged.2 in (
+      let told = row_there terms.door at exchanged.0 (i.left one.read) (k.rows store) (k.rows store') (o.written writer) (o.written one.written) is_down one.row one.result exchanged.2 in (
         record { ended = one.result; row = told.0 },
-        subst (λ (row : Option LogRow). Appends output output' (row_text place one.result row)) told.1 one.logged,
+        subst (λ (row : Option LogRow). Appends output output' (row_text place one.result row)) told.1 (subst (λ (logs : Bool). Logs logs true (row_text place one.result one.row) output output') logged one.logged),
         subst (λ (row : Option LogRow). IfSome row (λ r. ChangesAsTold r (k.rows store) (k.rows store'))) told.1 (one.changes clean sound),
       )
 
 module _ {K F N C R W : Type 0} (k : keep.Ghosts K) (f : files.Ghosts F K) (n : connections.Ghosts N R W) (c : clock.Ghosts C) (i : inlet.Ghosts R) (o : outlet.Ghosts W) where
-  pub grows_all : (timeouts : Timeouts) (logs : Bool) (place : ℕ) (moments : List ℕ) (old new : State N C K) → AnswersAll k f n c i o timeouts logs place moments old new → Grows logs old.output new.output
-  grows_all timeouts logs place [] old new same = grows_none logs old.output new.output (ap (λ (s : State N C K). s.output) same)
-  grows_all timeouts logs place (at ∷ moments) old new all =
+  pub grows_all : (terms : Terms) (place : ℕ) (moments : List ℕ) (old new : State N C K) → AnswersAll k f n c i o terms place moments old new → Grows terms.logs old.output new.output
+  grows_all terms place [] old new same = grows_none terms.logs old.output new.output (ap (λ (s : State N C K). s.output) same)
+  grows_all terms place (at ∷ moments) old new all =
       let one = all.1.answers.answers in
-      grows_then logs old.output all.0.output new.output (grows_one logs true (row_text place one.result one.row) old.output all.0.output one.logged) (grows_all timeouts logs (suc place) moments all.0 new all.2)
+      grows_then terms.logs old.output all.0.output new.output (grows_one terms.logs true (row_text place one.result one.row) old.output all.0.output one.logged) (grows_all terms (suc place) moments all.0 new all.2)
 
-  pub grows_early : (timeouts : Timeouts) (logs : Bool) (place : ℕ) (last new : State N C K) (why : Cause) → EndsEarly k f n c i o timeouts logs place last new why → Grows logs last.output new.output
-  grows_early timeouts logs place last new why (inl none) = grows_none logs last.output new.output none.3
-  grows_early timeouts logs place last new why (inr (inl shut)) =
+  pub grows_early : (terms : Terms) (place : ℕ) (last new : State N C K) (why : Cause) → EndsEarly k f n c i o terms place last new why → Grows terms.logs last.output new.output
+  grows_early terms place last new why (inl none) = grows_none terms.logs last.output new.output none.3
+  grows_early terms place last new why (inr (inl shut)) =
       let one = shut.2.answers.answers in
-      grows_one logs shut.1 (row_text place one.result one.row) last.output new.output one.logged
-  grows_early timeouts logs place last new why (inr (inr untold)) =
+      grows_one terms.logs shut.1 (row_text place one.result one.row) last.output new.output one.logged
+  grows_early terms place last new why (inr (inr untold)) =
       let one = untold.1.answers.answers in
-      grows_one logs false (row_text place one.result one.row) last.output new.output one.logged
+      grows_one terms.logs false (row_text place one.result one.row) last.output new.output one.logged
 
-  clean_next : (timeouts : Timeouts) (logs : Bool) (place at : ℕ) (is_shut is_told : Bool) (old new : State N C K) → AnswersNext k f n c i o timeouts logs place at is_shut is_told old new → k.clean new.store → k.clean old.store
-  clean_next timeouts logs place at is_shut is_told old new one clean = one.answers.answers.lasts.so_far ((after_reply_lasts k f one.is_down one.store is_shut new.store one.after_reply).so_far clean)
+  clean_next : (terms : Terms) (place at : ℕ) (is_shut is_told : Bool) (old new : State N C K) → AnswersNext k f n c i o terms place at is_shut is_told old new → k.clean new.store → k.clean old.store
+  clean_next terms place at is_shut is_told old new one clean = one.answers.answers.lasts.so_far ((after_reply_lasts k f one.is_down one.store is_shut new.store one.after_reply).so_far clean)
 
-  clean_all : (timeouts : Timeouts) (logs : Bool) (place : ℕ) (moments : List ℕ) (old new : State N C K) → AnswersAll k f n c i o timeouts logs place moments old new → k.clean new.store → k.clean old.store
-  clean_all timeouts logs place [] old new same clean = subst (λ (s : State N C K). k.clean s.store) same clean
-  clean_all timeouts logs place (at ∷ moments) old new all clean =
-      clean_next timeouts logs place at false true old all.0 all.1 (clean_all timeouts logs (suc place) moments all.0 new all.2 clean)
+  clean_all : (terms : Terms) (place : ℕ) (moments : List ℕ) (old new : State N C K) → AnswersAll k f n c i o terms place moments old new → k.clean new.store → k.clean old.store
+  clean_all terms place [] old new same clean = subst (λ (s : State N C K). k.clean s.store) same clean
+  clean_all terms place (at ∷ moments) old new all clean =
+      clean_next terms place at false true old all.0 all.1 (clean_all terms (suc place) moments all.0 new all.2 clean)
 
-  sound_next : (timeouts : Timeouts) (logs : Bool) (place at : ℕ) (is_shut is_told : Bool) (old new : State N C K) → AnswersNext k f n c i o timeouts logs place at is_shut is_told old new → k.clean new.store → k.sound old.store → k.sound new.store
-  sound_next timeouts logs place at is_shut is_told old new one clean sound =
+  sound_next : (terms : Terms) (place at : ℕ) (is_shut is_told : Bool) (old new : State N C K) → AnswersNext k f n c i o terms place at is_shut is_told old new → k.clean new.store → k.sound old.store → k.sound new.store
+  sound_next terms place at is_shut is_told old new one clean sound =
       (after_reply_lasts k f one.is_down one.store is_shut new.store one.after_reply).kept clean (one.answers.answers.lasts.kept ((after_reply_lasts k f one.is_down one.store is_shut new.store one.after_reply).so_far clean) sound)
 
-  line_next : (timeouts : Timeouts) (place at : ℕ) (old new : State N C K) → AnswersNext k f n c i o timeouts true place at false true old new → k.clean new.store → k.sound old.store
+  line_next : (terms : Terms) → terms.logs ≡ true → (place at : ℕ) (old new : State N C K) → AnswersNext k f n c i o terms place at false true old new → k.clean new.store → k.sound old.store
       → (line : Line) × Appends old.output new.output (log_line place (end_word line.ended) line.row) × ChangesAsTold line.row (k.rows old.store) (k.rows new.store)
-  line_next timeouts place at old new one clean sound =
+  line_next terms logged place at old new one clean sound =
       let answers = one.answers in
       let before = (after_reply_lasts k f one.is_down one.store false new.store one.after_reply).so_far clean in
-      let line = line_of k n i o place at one.is_down answers.reader answers.writer answers.network new.network old.store one.store old.errors new.errors old.output new.output answers.answers
+      let line = line_of k n i o terms logged place at one.is_down answers.reader answers.writer answers.network new.network old.store one.store old.errors new.errors old.output new.output answers.answers
       before sound in (
         line.0,
         line.1,
         subst (λ (rows : List ℕ → Option Organization). ChangesAsTold line.0.row (k.rows old.store) rows) (sym (after_reply_rows k f one.is_down one.store false new.store one.after_reply clean (answers.answers.lasts.kept before sound))) line.2,
       )
 
-  pub tells_changes : (timeouts : Timeouts) (place : ℕ) (moments : List ℕ) (old new : State N C K) → AnswersAll k f n c i o timeouts true place moments old new → k.clean new.store → k.sound old.store
+  pub tells_changes : (terms : Terms) → terms.logs ≡ true → (place : ℕ) (moments : List ℕ) (old new : State N C K) → AnswersAll k f n c i o terms place moments old new → k.clean new.store → k.sound old.store
       → (lines : List Line) × (length lines ≡ length moments) × Appends old.output new.output (log_text place lines) × ChangeByLines lines (k.rows old.store) (k.rows new.store)
-  tells_changes timeouts place [] old new same clean sound = (
+  tells_changes terms logged place [] old new same clean sound = (
     [],
     refl,
     subst (λ (s : State N C K). Appends old.output s.output []) (sym same) (Appends-none old.output),
     λ org. ap (λ (s : State N C K). k.rows s.store org) same,
   )
-  tells_changes timeouts place (at ∷ moments) old new all clean sound =
-      let before = clean_all timeouts true (suc place) moments all.0 new all.2 clean in
-      let line = line_next timeouts place at old all.0 all.1 before sound in
-      let more = tells_changes timeouts (suc place) moments all.0 new all.2 clean (sound_next timeouts true place at false true old all.0 all.1 before sound) in (
+  tells_changes terms logged place (at ∷ moments) old new all clean sound =
+      let before = clean_all terms (suc place) moments all.0 new all.2 clean in
+      let line = line_next terms logged place at old all.0 all.1 before sound in
+      let more = tells_changes terms logged (suc place) moments all.0 new all.2 clean (sound_next terms place at false true old all.0 all.1 before sound) in (
         line.0 ∷ more.0,
         ap suc more.1,
         Appends-then old.output all.0.output new.output (log_line place (end_word line.0.ended) line.0.row) (log_text (suc place) more.0) line.1 more.2,

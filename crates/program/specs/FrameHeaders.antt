@@ -1,11 +1,9 @@
 -- The first line of a frame: a moment, and a request's length or an operator's command.
-use Rattle.std.specs.Prelude.{ℕ, List, [], ◌∷◌, Option, Some, None, cond, option_map, option_and_then, bytes_eq, codes}
+use Rattle.std.specs.Prelude.{ℕ, List, [], ◌∷◌, Option, None, cond, option_map, option_and_then, bytes_eq, codes}
 use Rattle.basis.specs.Numbers.{whole_of, within}
 use Rattle.serve.specs.declared.steps.Admin as Operator
-use Rattle.serve.specs.declared.steps.Admin.TheVariants.{OrgList}
-use Rattle.command_line.specs.Bounds.{moment_of}
-use Rattle.command_line.specs.Commands.{limit_of, org_command, limit_command, token_command, revoke_command}
-use Rattle.program.specs.Bounds.{bounds_of}
+use Rattle.serve.specs.Bounds.{moment_of}
+use Rattle.serve.specs.Words.{org_add_of, org_limit_of, org_list_of, token_add_of, token_revoke_of}
 use Rattle.program.specs.declared.frame_headers.FrameHeader.{FrameHeader}
 use Rattle.program.specs.declared.frame_headers.FrameHeader.TheVariants.{Request, Command}
 
@@ -13,33 +11,7 @@ use Rattle.program.specs.declared.frame_headers.FrameHeader.TheVariants.{Request
 abbrev pub length_of : List ℕ → Option ℕ
 length_of word = option_and_then (within 0 20_000_000) (whole_of word)
 
--- `ORG`, with the limit 200, or `ORG LIMIT`
-abbrev pub org_add_of : List (List ℕ) → Option Operator.Admin
-org_add_of (org ∷ []) = org_command org (Some 200)
-org_add_of (org ∷ limit ∷ []) = org_command org (limit_of limit)
-org_add_of words = None
-
--- `ORG N`
-abbrev pub org_limit_of : List (List ℕ) → Option Operator.Admin
-org_limit_of (org ∷ limit ∷ []) = limit_command org (limit_of limit)
-org_limit_of words = None
-
--- no words
-abbrev pub org_list_of : List (List ℕ) → Option Operator.Admin
-org_list_of [] = Some OrgList
-org_list_of words = None
-
--- `ORG NAME ROLE SECRET`, then optional bounds: `until=SECONDS`, `prefix=TEXT`
-abbrev pub token_add_of : List (List ℕ) → Option Operator.Admin
-token_add_of (org ∷ name ∷ role ∷ secret ∷ words) = option_and_then (λ bounds. token_command org name role secret bounds) (bounds_of words)
-token_add_of words = None
-
--- `ORG NAME`
-abbrev pub token_revoke_of : List (List ℕ) → Option Operator.Admin
-token_revoke_of (org ∷ name ∷ []) = revoke_command org name
-token_revoke_of words = None
-
--- an operator's command: its name, and its own words
+-- an operator's command that a frame may have: its name, and its own words
 abbrev pub command_of : List (List ℕ) → Option Operator.Admin
 command_of [] = None
 command_of (name ∷ words) =

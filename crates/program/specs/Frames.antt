@@ -5,7 +5,8 @@ use Rattle.serve.specs.declared.steps.Step.TheVariants.{Request as RequestStep, 
 use Rattle.program.specs.declared.frame_headers.FrameHeader.{FrameHeader}
 use Rattle.program.specs.declared.frame_headers.FrameHeader.TheVariants.{Request, Command}
 use Rattle.program.specs.FrameHeaders.{heading_of}
-use Rattle.program.specs.Lines.{first_line, message_of, words_of}
+use Rattle.serve.specs.Lines.{first_line, message_of}
+use Rattle.serve.specs.Words.{words_of}
 
 -- the step that a header and the bytes after its line make, and the bytes after the frame
 abbrev pub step_of : FrameHeader → List ℕ → Option (Step × List ℕ)

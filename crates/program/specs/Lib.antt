@@ -1,10 +1,9 @@
-pub mod Bounds
+pub mod Batches
 pub mod Exits
 pub mod Errors
 pub mod Frames
 pub mod FrameHeaders
 pub mod Inner
-pub mod Lines
 pub mod Logs
 pub mod Moves
 pub mod Outcomes

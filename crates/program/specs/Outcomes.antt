@@ -1,7 +1,7 @@
 -- What the program does for each command: how it exits, what is printed to both streams, and what is at each path afterwards. Nothing is said
 -- of standard output that did not take everything. The error stream gets each line completely, unless a call on it failed while the line was
 -- written.
-use Rattle.std.specs.Prelude.{◌≡◌, ◌≢◌, ◌<◌, ◌⊎◌, ◌+◌, ◌++◌, ℕ, Bool, List, [], ◌∷◌, ⊤, Option, Some, None, IfSome, Result, Ok, Err, IfOk, true, false, length, is_some}
+use Rattle.std.specs.Prelude.{◌≡◌, ◌≢◌, ◌<◌, ◌⊎◌, ◌+◌, ◌++◌, ℕ, suc, Bool, List, [], ◌∷◌, ⊤, Option, Some, None, IfSome, Result, Ok, Err, IfOk, true, false, length, is_some}
 use Rattle.std.specs.Io.KnownBytes.{Appends}
 use Rattle.basis.specs.declared.memory.Down.{Down}
 use Rattle.machine.specs.Keeping.{Looks, Lasts}
@@ -19,6 +19,7 @@ use Rattle.serve.specs.Asks.{commands}
 use Rattle.serve.specs.Service.{Carries as CarriesOut, IsAdminAnswer, Stays, org_lines, token_lines}
 use Rattle.program.specs.declared.exits.Exit.{Exit}
 use Rattle.program.specs.declared.exits.Exit.TheVariants as exit
+use Rattle.program.specs.Batches.{AreCommands, bad_line_text, stopped_text}
 use Rattle.program.specs.Exits.{ending_line}
 use Rattle.program.specs.Errors.{log_line, readers_line, secret_line, new_line, cause_line, memory_line, other_line, unprinted_line}
 use Rattle.program.specs.declared.reasons.Cause.{Cause}
@@ -33,7 +34,7 @@ use Rattle.program.specs.declared.environment.Opening.TheVariants as opening
 use Rattle.program.specs.declared.totals.Looked.{Looked}
 use Rattle.program.specs.declared.totals.Totals.{Totals}
 use Rattle.program.specs.Totals.{sound_text, version_text}
-use Rattle.command_line.specs.Orders.{Asked, carries, adds_token, looks_over, copies, compacts, serves, replays, tells_version}
+use Rattle.command_line.specs.Orders.{Asked, carries, adds_token, looks_over, copies, compacts, serves, carries_all, replays, tells_version}
 use Rattle.program.specs.Moves.{org_copied, IsFilled, SomeAreCopied, CopiesBetween}
 use Rattle.program.specs.Paths.{AllStay, OthersStay, OthersStayBut, LeavesVacant, makes}
 use Rattle.program.specs.Replies.{printed, bad_frame_text, answer_line, fault_lines, AreReplies, Replays}
@@ -43,6 +44,10 @@ use Rattle.program.specs.Streams.{Told, GetsWhole, Tells}
 use Rattle.program.specs.declared.environment.Clock as clock
 use Rattle.program.specs.declared.environment.Connections as connections
 use Rattle.command_line.specs.declared.timeouts.Timeouts.{Timeouts}
+use Rattle.program.specs.declared.serving.Terms.{Terms}
+use Rattle.serve.specs.declared.doors.Door.{Door}
+use Rattle.serve.specs.declared.doors.Door.TheVariants.{Closed}
+use Rattle.serve.specs.Doors.{opened_by}
 use Rattle.wire.specs.declared.devices.Inlet as inlet
 use Rattle.wire.specs.declared.devices.Outlet as outlet
 use Rattle.command_line.specs.Words.{asked_in, AskForHelp, AreNoCommand}
@@ -254,6 +259,30 @@ ServesAt logs exit.Down output =
 ServesAt logs exit.Unprinted output = ⊤
 ServesAt logs e output = ⊥
 
+-- if an operator's door is asked for (`true`), its secret is on the input
+abbrev pub HasDoor : Bool → Option (List ℕ) → Type 0
+HasDoor true input = HasSecret input
+HasDoor false input = ⊤
+
+-- connections are served; if an operator's door is asked for (`operates`), only after its secret is read
+abbrev pub ServesBehind : Bool → Bool → Option (List ℕ) → Exit → Stream → Errors → Type 0
+ServesBehind operates logs input e output errors =
+    (HasDoor operates input × ServesAt logs e output)
+    ⊎ ((operates ≡ true) × ((HasNoSecret input × RefusesUsage e output errors) ⊎ RefusesDown e output))
+
+-- an exit after operator's commands that were carried out in order
+abbrev pub EndsBatch : Exit → Type 0
+EndsBatch exit.Faults = ⊥
+EndsBatch exit.Usage = ⊥
+EndsBatch exit.BadFrame = ⊥
+EndsBatch e = ⊤
+
+-- operator's commands for a file, one per line. If a line is not a command, `refused usage`, and on the error stream the number of that line
+abbrev pub AnswersBatch : Option (List ℕ) → Exit → Stream → Errors → Type 0
+AnswersBatch input exit.Usage output errors =
+    Says exit.Usage output × (commands : List Admin) × IfSome input (λ bytes. AreCommands bytes commands true) × Tells errors.old errors.new (bad_line_text (length commands + 1))
+AnswersBatch input e output errors = EndsBatch e
+
 -- the replies to the frames before a bad one, and on the error stream the number of the bad one, from 1
 abbrev pub ReplaysToBad : List ℕ → Stream → Errors → Type 0
 ReplaysToBad bytes output errors =
@@ -280,7 +309,8 @@ Does schema (adds_token db org name role bounds) input e output errors = AddsTok
 Does schema (looks_over db) input e output errors = AnswersFaults e output
 Does schema (copies from to org) input e output errors = AnswersLine e output
 Does schema (compacts from to) input e output errors = AnswersFilled e output
-Does schema (serves db port count timeouts logs checks) input e output errors = ServesAt logs e output
+Does schema (serves db port count timeouts logs checks operates) input e output errors = ServesBehind operates logs input e output errors
+Does schema (carries_all db) input e output errors = AnswersBatch input e output errors
 Does schema replays input e output errors = ReplaysFrames input e output errors
 Does schema tells_version input e output errors = TellsVersion schema e output
 
@@ -310,6 +340,11 @@ Prints schema words input e output errors =
 -- the input is known, and this is its secret
 abbrev pub IsSecretOf : Option (List ℕ) → List ℕ → Type 0
 IsSecretOf input secret = IfSome input (λ bytes. secret_in bytes ≡ Some secret)
+
+-- the door that is asked for: open to the secret on the input (`true`), or closed
+abbrev pub IsDoor : Bool → Option (List ℕ) → Door → Type 0
+IsDoor true input door = (secret : List ℕ) × IsSecretOf input secret × (door ≡ opened_by secret)
+IsDoor false input door = door ≡ Closed
 
 -- the error stream says that others may read the file, exactly if they may
 abbrev pub TellsOfReaders : Bool → Errors → Type 0
@@ -412,6 +447,48 @@ module _ {K F : Type 0} (k : keep.Ghosts K) (f : files.Ghosts F K) where
   AddsTokenAt path adding input old new e output errors =
       ((secret : List ℕ) × IsSecretOf input secret × OperatesAt path (adding secret) old new e output errors)
       ⊎ ((new ≡ old) × ((HasNoSecret input × RefusesUsage e output errors × Tells errors.old errors.new secret_line)
+      ⊎ (RefusesDown e output × TellsCause cause.Input errors)))
+
+  -- a command was carried out on a store, and its answer was printed; or an allocation or the store failed, and this was reported
+  pub record CarriesOne (command : Admin) (old new : K) (e : Exit) (output : Stream) (errors : Errors) : Type 0 where
+    pub lasts : Lasts k.clean k.sound k.keyed k.shielded old new
+    pub line : AnswersCommand command e output
+    pub model : k.clean new → k.sound old → IsOperated (HasFailed new) command (k.rows old) (k.rows new) e output errors
+
+  -- commands were carried out in order, those of the lines numbered from this one on, up to the first that did not end with status 0. The
+  -- error stream gets the number of its line, and no later command was carried out
+  abbrev pub CarriesEach : List Admin → ℕ → K → K → Exit → Option (List ℕ) → Option (List ℕ) → Told → Told → Type 0
+  CarriesEach [] line old new e out out' err err' = (new ≡ old) × (e ≡ exit.Done) × (out' ≡ out) × (err' ≡ err)
+  CarriesEach (command ∷ commands) line old new e out out' err err' =
+      ((mid : K) × (heard : Option (List ℕ)) × (noted : Told)
+      × CarriesOne command old mid exit.Done (stream out heard) (error_stream err noted) × CarriesEach commands (suc line) mid new e heard out' noted err')
+      ⊎ ((e ≢ exit.Done) × (noted : Told) × CarriesOne command old new e (stream out out') (error_stream err noted) × Tells noted err' (stopped_text line))
+
+  -- these commands were carried out on the store at a path, which was opened once. What they left is there now, and nothing else changed. The
+  -- first command decides whether a database may be created
+  pub record CarriesLines (path : List ℕ) (first : Admin) (commands : List Admin) (old new : F) (e : Exit) (output : Stream) (errors : Errors) : Type 0 where
+    pub before : K
+    pub after : K
+    pub worked : F
+    pub noted : Told
+    pub told : Told
+    pub opens : Opens path (opening_of first) old worked before (error_stream errors.old noted)
+    pub carries : CarriesEach commands 1 before after e output.old output.new noted told
+    pub closes : Closes path worked new after (error_stream told errors.new)
+    pub others : OthersStay f.holds path old new
+
+  -- the same, or the store at the path is not opened; without a command nothing is done
+  abbrev pub CarriesAll : List ℕ → List Admin → F → F → Exit → Stream → Errors → Type 0
+  CarriesAll path [] old new e output errors = (new ≡ old) × (e ≡ exit.Done) × (output.new ≡ output.old) × (errors.new ≡ errors.old)
+  CarriesAll path (first ∷ commands) old new e output errors =
+      CarriesLines path first (first ∷ commands) old new e output errors ⊎ RefusesToOpen path (opening_of first) old new e output errors
+
+  -- all lines of the input are commands, and they are carried out; or one is not, or the input could not be read, and nothing changes
+  abbrev pub CarriesAllAt : List ℕ → Option (List ℕ) → F → F → Exit → Stream → Errors → Type 0
+  CarriesAllAt path input old new e output errors =
+      ((commands : List Admin) × IfSome input (λ bytes. AreCommands bytes commands false) × CarriesAll path commands old new e output errors)
+      ⊎ ((new ≡ old) × (((commands : List Admin) × IfSome input (λ bytes. AreCommands bytes commands true)
+      × IsSaid exit.Usage e output.old output.new × Tells errors.old errors.new (bad_line_text (length commands + 1)))
       ⊎ (RefusesDown e output × TellsCause cause.Input errors)))
 
   -- the tables of a store were checked, and this is reported of what was found. If there was no fault and the store `is_ours`, it is sound and
@@ -546,53 +623,60 @@ SaysServed served e old new =
     ((served ≡ exit.Down) × IsSaid exit.Down e old new) ⊎ ((served ≢ exit.Down) × (e ≡ served) × (new ≡ old))
 
 module _ {K F N C R W : Type 0} (k : keep.Ghosts K) (f : files.Ghosts F K) (n : connections.Ghosts N R W) (c : clock.Ghosts C) (i : inlet.Ghosts R) (o : outlet.Ghosts W) where
-  -- connections are answered from the store at a path, each with these timeouts, with the log or without it. What they left is there now, and
-  -- nothing else changed
-  pub record ServesFrom (path : List ℕ) (port : ℕ) (timeouts : Timeouts) (logs : Bool) (count : ℕ) (old new : Environment F N C) (e : Exit) (output : Stream) (errors : Errors) : Type 0 where
+  -- connections are answered on these terms from the store at a path. What they left is there now, and nothing else changed
+  pub record ServesFrom (path : List ℕ) (port : ℕ) (terms : Terms) (count : ℕ) (old new : Environment F N C) (e : Exit) (output : Stream) (errors : Errors) : Type 0 where
     pub before : K
     pub after : K
     pub worked : F
     pub noted : Told
     pub opens : Opens k f path opening.Created old.files worked before (error_stream errors.old noted)
     pub lasts : Lasts k.clean k.sound k.keyed k.shielded before after
-    pub serves : k.clean after → k.sound before → Serves count (k.rows before) (k.rows after)
+    pub serves : k.clean after → k.sound before → Serves terms.door count (k.rows before) (k.rows after)
     pub served : Exit
     pub told : Option (List ℕ)
     pub lines : Told
-    pub answers : AnswersAtPort k f n c i o port timeouts logs count (state old.network old.clock before noted output.old) (state new.network new.clock after lines told) served
+    pub answers : AnswersAtPort k f n c i o port terms count (state old.network old.clock before noted output.old) (state new.network new.clock after lines told) served
     pub says : SaysServed served e told output.new
     pub closes : Closes k f path worked new.files after (error_stream lines errors.new)
     pub others : OthersStay f.holds path old.files new.files
 
   -- the same for a file that existed, after a check of its tables, which found no fault. So what is served is sound and keyed, if the store
   -- `is_ours`
-  pub record ServesChecked (path : List ℕ) (port : ℕ) (timeouts : Timeouts) (logs : Bool) (count : ℕ) (old new : Environment F N C) (e : Exit) (output : Stream) (errors : Errors) : Type 0 where
+  pub record ServesChecked (path : List ℕ) (port : ℕ) (terms : Terms) (count : ℕ) (old new : Environment F N C) (e : Exit) (output : Stream) (errors : Errors) : Type 0 where
     pub before : K
     pub after : K
     pub worked : F
     pub noted : Told
     pub opens : OpensSound k f path old.files worked before (error_stream errors.old noted)
     pub lasts : Lasts k.clean k.sound k.keyed k.shielded before after
-    pub serves : k.clean after → k.sound before → Serves count (k.rows before) (k.rows after)
+    pub serves : k.clean after → k.sound before → Serves terms.door count (k.rows before) (k.rows after)
     pub sound_ours : k.clean after → f.is_ours opens.opened → k.sound opens.opened × k.sound after
     pub keyed_ours : k.clean after → f.is_ours opens.opened → k.keyed opens.opened × k.keyed after
-    pub serves_ours : k.clean after → f.is_ours opens.opened → Serves count (k.rows opens.opened) (k.rows after)
+    pub serves_ours : k.clean after → f.is_ours opens.opened → Serves terms.door count (k.rows opens.opened) (k.rows after)
     pub served : Exit
     pub told : Option (List ℕ)
     pub lines : Told
-    pub answers : AnswersAtPort k f n c i o port timeouts logs count (state old.network old.clock before noted output.old) (state new.network new.clock after lines told) served
+    pub answers : AnswersAtPort k f n c i o port terms count (state old.network old.clock before noted output.old) (state new.network new.clock after lines told) served
     pub says : SaysServed served e told output.new
     pub closes : Closes k f path worked new.files after (error_stream lines errors.new)
     pub others : OthersStay f.holds path old.files new.files
 
   -- connections are answered. If a check is asked for (`true`), only after one that found no fault, and no file is created. Or the store at
   -- the path is not opened
-  abbrev pub ServesAsAsked : Bool → List ℕ → ℕ → Timeouts → Bool → ℕ → Environment F N C → Environment F N C → Exit → Stream → Errors → Type 0
-  ServesAsAsked false path port timeouts logs count old new e output errors =
-      ServesFrom path port timeouts logs count old new e output errors ⊎ (RefusesToOpen k f path opening.Created old.files new.files e output errors × IsAlone old new)
-  ServesAsAsked true path port timeouts logs count old new e output errors =
-      (ServesChecked path port timeouts logs count old new e output errors ⊎ (RefusesUnsound k f path cause.Faults old.files new.files e output errors × IsAlone old new))
+  abbrev pub ServesAsAsked : Bool → List ℕ → ℕ → Terms → ℕ → Environment F N C → Environment F N C → Exit → Stream → Errors → Type 0
+  ServesAsAsked false path port terms count old new e output errors =
+      ServesFrom path port terms count old new e output errors ⊎ (RefusesToOpen k f path opening.Created old.files new.files e output errors × IsAlone old new)
+  ServesAsAsked true path port terms count old new e output errors =
+      (ServesChecked path port terms count old new e output errors ⊎ (RefusesUnsound k f path cause.Faults old.files new.files e output errors × IsAlone old new))
       ⊎ (RefusesToOpen k f path opening.Existing old.files new.files e output errors × IsAlone old new)
+
+  -- connections are answered, with these timeouts, the log or no log, and the door that is asked for. Or a door is asked for (`operates`), and
+  -- the input has no secret or could not be read, and nothing changes
+  abbrev pub ServesWithDoor : Bool → Bool → List ℕ → ℕ → Timeouts → Bool → ℕ → Option (List ℕ) → Environment F N C → Environment F N C → Exit → Stream → Errors → Type 0
+  ServesWithDoor operates checks path port timeouts logs count input old new e output errors =
+      ((door : Door) × IsDoor operates input door × ServesAsAsked checks path port (record { timeouts = timeouts; logs = logs; door = door }) count old new e output errors)
+      ⊎ ((operates ≡ true) × (new ≡ old) × ((HasNoSecret input × RefusesUsage e output errors × Tells errors.old errors.new secret_line)
+      ⊎ (RefusesDown e output × TellsCause cause.Input errors)))
 
   -- the command is carried out on the store at its path, and on nothing else
   abbrev pub Leaves : Asked → Option (List ℕ) → Environment F N C → Environment F N C → Exit → Stream → Errors → Type 0
@@ -602,7 +686,9 @@ module _ {K F N C R W : Type 0} (k : keep.Ghosts K) (f : files.Ghosts F K) (n : 
   Leaves (looks_over db) input old new e output errors = LooksAt k f db old.files new.files e output errors × IsAlone old new
   Leaves (copies from to org) input old new e output errors = CopiesAt k f from to org old.files new.files e output errors × IsAlone old new
   Leaves (compacts from to) input old new e output errors = CompactsAt k f from to old.files new.files e output errors × IsAlone old new
-  Leaves (serves db port count timeouts logs checks) input old new e output errors = ServesAsAsked checks db port timeouts logs count old new e output errors
+  Leaves (serves db port count timeouts logs checks operates) input old new e output errors =
+      ServesWithDoor operates checks db port timeouts logs count input old new e output errors
+  Leaves (carries_all db) input old new e output errors = CarriesAllAt k f db input old.files new.files e output errors × IsAlone old new
   Leaves replays input old new e output errors = new ≡ old
   Leaves tells_version input old new e output errors = new ≡ old
 

@@ -10,7 +10,10 @@ use Rattle.serve.specs.declared.exchanges.LinkFault.{LinkFault}
 use Rattle.serve.specs.declared.steps.Step.{Step}
 use Rattle.serve.specs.declared.steps.Step.TheVariants.{Request, Command}
 use Rattle.serve.specs.Asks.{Ask}
-use Rattle.serve.specs.Exchanges.{Exchanges, ChangesAsTold}
+use Rattle.serve.specs.Doors.{ExchangesWith}
+use Rattle.serve.specs.Exchanges.{ChangesAsTold}
+use Rattle.serve.specs.declared.doors.Door.{Door}
+use Rattle.serve.specs.declared.doors.Door.TheVariants.{Closed, Open}
 use Rattle.serve.specs.Service.{AreAsked}
 use Rattle.serve.specs.Runs.{IsOwnRecord}
 use Rattle.program.specs.Errors.{GetsConnectionLines, cause_line}
@@ -25,6 +28,7 @@ use Rattle.program.specs.declared.environment.Connections as connections
 use Rattle.program.specs.declared.environment.Files as files
 use Rattle.program.specs.declared.environment.Clock as clock
 use Rattle.command_line.specs.declared.timeouts.Timeouts.{Timeouts}
+use Rattle.program.specs.declared.serving.Terms.{Terms}
 use Rattle.wire.specs.declared.devices.Inlet as inlet
 use Rattle.wire.specs.declared.devices.Outlet as outlet
 
@@ -69,17 +73,17 @@ module _ {K N R W : Type 0} (k : keep.Ghosts K) (n : connections.Ghosts N R W) (
   -- allocation or store, which the error stream reports; its line in the log, if the log is on, and whether that was taken; its end, as one
   -- whose message was read completely if the line names an act. The network, the store, and the contents of the error stream and standard
   -- output, before and after
-  pub record AnswersOne (logs : Bool) (place at : ℕ) (is_down is_told : Bool) (reader : R) (writer : W) (network network' : N) (store store' : K) (errors errors' : Told) (output output' : Option (List ℕ)) : Type 0 where
+  pub record AnswersOne (terms : Terms) (place at : ℕ) (is_down is_told : Bool) (reader : R) (writer : W) (network network' : N) (store store' : K) (errors errors' : Told) (output output' : Option (List ℕ)) : Type 0 where
     pub read : R
     pub written : W
     pub result : Result (Unit {0}) LinkFault
     pub row : Option LogRow
     pub lasts : Lasts k.clean k.sound k.keyed k.shielded store store'
     pub exchanges : k.clean store' → k.sound store → (received : List ℕ) × Consumes (i.left reader) (i.left read) received
-        × Exchanges at received (i.left read) (k.rows store) (k.rows store') (o.written writer) (o.written written) is_down row result
+        × ExchangesWith terms.door at received (i.left read) (k.rows store) (k.rows store') (o.written writer) (o.written written) is_down row result
     pub changes : k.clean store' → k.sound store → IfSome row (λ told. ChangesAsTold told (k.rows store) (k.rows store'))
     pub lines : GetsConnectionLines place is_down result errors errors'
-    pub logged : Logs logs is_told (row_text place result row) output output'
+    pub logged : Logs terms.logs is_told (row_text place result row) output output'
     pub ends : n.ends network read written (tells_act row) network'
 
 module _ {K F : Type 0} (k : keep.Ghosts K) (f : files.Ghosts F K) where
@@ -90,64 +94,65 @@ module _ {K F : Type 0} (k : keep.Ghosts K) (f : files.Ghosts F K) where
   AfterReply false old is_shut new = (is_shut ≡ false) × f.checkpoints old new × Checkpoints k.rows k.clean k.sound k.keyed k.shielded old new
 
 module _ {K N C R W : Type 0} (k : keep.Ghosts K) (n : connections.Ghosts N R W) (c : clock.Ghosts C) (i : inlet.Ghosts R) (o : outlet.Ghosts W) where
-  -- a connection is accepted with these timeouts, the clock gives this time, and the connection is answered as the one of this number
-  pub record Answers (timeouts : Timeouts) (logs : Bool) (place at : ℕ) (is_down is_told : Bool) (old new : State N C K) : Type 0 where
+  -- a connection is accepted with the timeouts of these terms, the clock gives this time, and the connection is answered as the one of this
+  -- number
+  pub record Answers (terms : Terms) (place at : ℕ) (is_down is_told : Bool) (old new : State N C K) : Type 0 where
     pub reader : R
     pub writer : W
     pub network : N
-    pub accepts : n.accepts old.network timeouts (Ok (reader, writer)) network
+    pub accepts : n.accepts old.network terms.timeouts (Ok (reader, writer)) network
     pub tells : c.tells old.clock (Some at) new.clock
-    pub answers : AnswersOne k n i o logs place at is_down is_told reader writer network new.network old.store new.store old.errors new.errors old.output new.output
+    pub answers : AnswersOne k n i o terms place at is_down is_told reader writer network new.network old.store new.store old.errors new.errors old.output new.output
 
 module _ {K F N C R W : Type 0} (k : keep.Ghosts K) (f : files.Ghosts F K) (n : connections.Ghosts N R W) (c : clock.Ghosts C) (i : inlet.Ghosts R) (o : outlet.Ghosts W) where
   -- a connection is answered in this way, and then the store is looked after; whether a disk error has closed it is then known
-  pub record AnswersNext (timeouts : Timeouts) (logs : Bool) (place at : ℕ) (is_shut is_told : Bool) (old new : State N C K) : Type 0 where
+  pub record AnswersNext (terms : Terms) (place at : ℕ) (is_shut is_told : Bool) (old new : State N C K) : Type 0 where
     pub is_down : Bool
     pub store : K
-    pub answers : Answers k n c i o timeouts logs place at is_down is_told old (state new.network new.clock store new.errors new.output)
+    pub answers : Answers k n c i o terms place at is_down is_told old (state new.network new.clock store new.errors new.output)
     pub after_reply : AfterReply k f is_down store is_shut new.store
 
-  -- connections are answered in order, one at each of these times, each with these timeouts, numbered from this one on. After none of them was
-  -- the store closed, and every line of the log was taken
-  abbrev pub AnswersAll : Timeouts → Bool → ℕ → List ℕ → State N C K → State N C K → Type 0
-  AnswersAll timeouts logs place [] old new = new ≡ old
-  AnswersAll timeouts logs place (at ∷ moments) old new = (mid : State N C K) × AnswersNext timeouts logs place at false true old mid × AnswersAll timeouts logs (suc place) moments mid new
+  -- connections are answered in order, one at each of these times, each on these terms, numbered from this one on. After none of them was the
+  -- store closed, and every line of the log was taken
+  abbrev pub AnswersAll : Terms → ℕ → List ℕ → State N C K → State N C K → Type 0
+  AnswersAll terms place [] old new = new ≡ old
+  AnswersAll terms place (at ∷ moments) old new = (mid : State N C K) × AnswersNext terms place at false true old mid × AnswersAll terms (suc place) moments mid new
 
   -- no further connection is accepted, for this cause: an accept or the clock failed; or one more was answered, that of this number, and a
   -- disk error has closed the store, or it has not and the log's line was not taken
-  abbrev pub EndsEarly : Timeouts → Bool → ℕ → State N C K → State N C K → Cause → Type 0
-  EndsEarly timeouts logs place last new why =
-      (AcceptsNone n c timeouts last.network new.network last.clock new.clock why × (new.store ≡ last.store) × (new.errors ≡ last.errors) × (new.output ≡ last.output))
-      ⊎ (((at : ℕ) × (is_told : Bool) × AnswersNext timeouts logs place at true is_told last new × (why ≡ cause.Shut))
-      ⊎ ((at : ℕ) × AnswersNext timeouts logs place at false false last new × (why ≡ cause.Log)))
+  abbrev pub EndsEarly : Terms → ℕ → State N C K → State N C K → Cause → Type 0
+  EndsEarly terms place last new why =
+      (AcceptsNone n c terms.timeouts last.network new.network last.clock new.clock why × (new.store ≡ last.store) × (new.errors ≡ last.errors) × (new.output ≡ last.output))
+      ⊎ (((at : ℕ) × (is_told : Bool) × AnswersNext terms place at true is_told last new × (why ≡ cause.Shut))
+      ⊎ ((at : ℕ) × AnswersNext terms place at false false last new × (why ≡ cause.Log)))
 
   -- the line with the port is printed, then this many connections are answered; or fewer, because no further one is accepted, and the error
   -- stream gets the cause; or none, because the line could not be printed
-  abbrev pub AnswersCount : ℕ → Timeouts → Bool → ℕ → State N C K → State N C K → Exit → Type 0
-  AnswersCount port timeouts logs count old new exit.Done =
+  abbrev pub AnswersCount : ℕ → Terms → ℕ → State N C K → State N C K → Exit → Type 0
+  AnswersCount port terms count old new exit.Done =
       (heard : Option (List ℕ)) × Appends old.output heard (listening_line port)
-      × (moments : List ℕ) × (length moments ≡ count) × AnswersAll timeouts logs 1 moments (state old.network old.clock old.store old.errors heard) new
-  AnswersCount port timeouts logs count old new exit.Down =
+      × (moments : List ℕ) × (length moments ≡ count) × AnswersAll terms 1 moments (state old.network old.clock old.store old.errors heard) new
+  AnswersCount port terms count old new exit.Down =
       (heard : Option (List ℕ)) × Appends old.output heard (listening_line port)
-      × (moments : List ℕ) × (last : State N C K) × (length moments < count) × AnswersAll timeouts logs 1 moments (state old.network old.clock old.store old.errors heard) last
-      × (why : Cause) × (errors : Told) × EndsEarly timeouts logs (suc (length moments)) last (state new.network new.clock new.store errors new.output) why × Tells errors new.errors (cause_line why)
-  AnswersCount port timeouts logs count old new exit.Unprinted = (new.network ≡ old.network) × (new.clock ≡ old.clock) × (new.store ≡ old.store) × (new.errors ≡ old.errors)
-  AnswersCount port timeouts logs count old new other = ⊥
+      × (moments : List ℕ) × (last : State N C K) × (length moments < count) × AnswersAll terms 1 moments (state old.network old.clock old.store old.errors heard) last
+      × (why : Cause) × (errors : Told) × EndsEarly terms (suc (length moments)) last (state new.network new.clock new.store errors new.output) why × Tells errors new.errors (cause_line why)
+  AnswersCount port terms count old new exit.Unprinted = (new.network ≡ old.network) × (new.clock ≡ old.clock) × (new.store ≡ old.store) × (new.errors ≡ old.errors)
+  AnswersCount port terms count old new other = ⊥
 
   -- the network listens on 127.0.0.1 at a port, and nowhere else. The port that it gave is printed, and this many connections are answered. Or
   -- it cannot listen, and the error stream gets the cause
-  abbrev pub AnswersAtPort : ℕ → Timeouts → Bool → ℕ → State N C K → State N C K → Exit → Type 0
-  AnswersAtPort port timeouts logs count old new e =
+  abbrev pub AnswersAtPort : ℕ → Terms → ℕ → State N C K → State N C K → Exit → Type 0
+  AnswersAtPort port terms count old new e =
       ((bound : N) × (given : ℕ) × n.binds old.network (127 ∷ 0 ∷ 0 ∷ 1 ∷ []) port (Ok given) bound
-      × AnswersCount given timeouts logs count (state bound old.clock old.store old.errors old.output) new e × ListensAt given logs e old.output new.output)
+      × AnswersCount given terms count (state bound old.clock old.store old.errors old.output) new e × ListensAt given terms.logs e old.output new.output)
       ⊎ ((why : Cause) × n.binds old.network (127 ∷ 0 ∷ 0 ∷ 1 ∷ []) port (Err why) new.network
       × (new.clock ≡ old.clock) × (new.store ≡ old.store) × Tells old.errors new.errors (cause_line why) × (e ≡ exit.Down) × (new.output ≡ old.output))
 
   -- the log has one line for each answered connection, in order. Between two lines, only the record of the organization that the later line
   -- names changes
   abbrev pub LogTellsChanges : Type 0
-  LogTellsChanges = (timeouts : Timeouts) (place : ℕ) (moments : List ℕ) (old new : State N C K)
-      → AnswersAll timeouts true place moments old new → k.clean new.store → k.sound old.store
+  LogTellsChanges = (terms : Terms) → terms.logs ≡ true → (place : ℕ) (moments : List ℕ) (old new : State N C K)
+      → AnswersAll terms place moments old new → k.clean new.store → k.sound old.store
       → (lines : List Line) × (length lines ≡ length moments) × Appends old.output new.output (log_text place lines) × ChangeByLines lines (k.rows old.store) (k.rows new.store)
 
 -- every step is a request
@@ -156,12 +161,17 @@ AreRequests [] = ⊤
 AreRequests (Request at bytes ∷ steps) = AreRequests steps
 AreRequests (Command at command ∷ steps) = ⊥
 
--- requests of at most this many connections were carried out, one after the other, and nothing else. Each organization's record is what its
--- own machine leaves over its own requests
-pub record Serves (count : ℕ) (old new : List ℕ → Option Organization) : Type 0 where
+-- which steps may come with this door: if it is closed, only requests; if it is open, operator's commands, too
+abbrev pub ComeBy : Door → List Step → Type 0
+ComeBy Closed steps = AreRequests steps
+ComeBy (Open digest) steps = ⊤
+
+-- steps of at most this many connections were carried out, one after the other, and nothing else. Each organization's record is what its own
+-- machine leaves over its own steps
+pub record Serves (door : Door) (count : ℕ) (old new : List ℕ → Option Organization) : Type 0 where
   pub steps : List Step
   pub few : length steps ≤ count
-  pub requests : AreRequests steps
+  pub come : ComeBy door steps
   pub asked : List Ask
   pub are : AreAsked steps asked
   pub rows : (org : List ℕ) → IsOwnRecord asked old new org

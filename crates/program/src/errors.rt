@@ -136,6 +136,23 @@ pub fn note_bad_frame<E: ErrorStream>(errors: &mut E, frame: usize) -> io::Resul
     }
 }
 
+fn note_at<E: ErrorStream>(errors: &mut E, mark: &str, line: usize) -> io::Result<()>
+    ensures { TellsBy (E.told errors.old) (E.told errors.new) (mark.now ++ (decimal line ++ 10 ∷ [])) result }
+{
+    match write_text(errors, mark.as_bytes()) {
+        Ok(()) => write_frame(errors, line),
+        Err(error) => Err(error),
+    }
+}
+
+/// Writes a text and the number of a line of the input.
+pub fn tell_at<E: ErrorStream>(errors: &mut E, mark: &str, line: usize)
+    ensures { Tells (E.told errors.old) (E.told errors.new) (mark.now ++ (decimal line ++ 10 ∷ [])) }
+{
+    let written = note_at(errors, mark, line);
+    let _ = send_on(errors, written);
+}
+
 fn note_memory<E: ErrorStream>(errors: &mut E, bytes: u64) -> io::Result<()>
     ensures { TellsBy (E.told errors.old) (E.told errors.new) (memory_line bytes) result }
 {

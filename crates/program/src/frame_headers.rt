@@ -1,13 +1,14 @@
 //! The first line of a frame.
 ghost use Rattle.std.specs.Prelude.{◌≡◌, Some, None, IfOk, IfErr, IsErrOf};
-ghost use Rattle.program.specs.Lines.{bytes_of};
+ghost use Rattle.serve.specs.Words.{bytes_of};
 
-use crate::bounds::read_bounds;
-use basis::numbers::{FIRST_LIMIT, whole_number};
-use basis::{Limit, Moment, Unfit};
-use command_line::bounds::read_moment;
-use command_line::commands;
+use basis::numbers::whole_number;
+use basis::{Moment, Unfit};
 use serve::Admin;
+use serve::bounds::read_moment;
+use serve::words::{
+    read_org_add, read_org_limit, read_org_list, read_token_add, read_token_revoke,
+};
 use std::alloc::Global;
 
 /// The most bytes of a request in a frame.
@@ -22,8 +23,8 @@ pub enum FrameHeader {
 }
 
 impl FrameHeader {
-    ghost use Rattle.command_line.specs.Bounds.{moment_of};
-    ghost use Rattle.program.specs.FrameHeaders.{length_of, org_add_of, org_limit_of, org_list_of, token_add_of, token_revoke_of, command_of, request_at, heading_at, heading_of};
+    ghost use Rattle.serve.specs.Bounds.{moment_of};
+    ghost use Rattle.program.specs.FrameHeaders.{length_of, command_of, request_at, heading_at, heading_of};
 
     fn read_moment(word: &str) -> Result<Moment, Unfit>
         ensures ok { IfOk result (λ at. moment_of word.now ≡ Some at) }
@@ -45,58 +46,6 @@ impl FrameHeader {
         }
     }
 
-    fn read_org_add(alloc: Global, words: &[&str]) -> Result<Admin, Unfit>
-        ensures ok { IfOk result (λ command. org_add_of (bytes_of words.now) ≡ Some command) }
-        ensures syntax { IsErrOf result Unfit.Syntax → org_add_of (bytes_of words.now) ≡ None }
-    {
-        match *words {
-            [org] => commands::org_add(alloc, org, Limit::new(FIRST_LIMIT)),
-            [org, limit] => commands::org_add(alloc, org, commands::read_limit(limit)),
-            _ => Err(Unfit::Syntax),
-        }
-    }
-
-    fn read_org_limit(alloc: Global, words: &[&str]) -> Result<Admin, Unfit>
-        ensures ok { IfOk result (λ command. org_limit_of (bytes_of words.now) ≡ Some command) }
-        ensures syntax { IsErrOf result Unfit.Syntax → org_limit_of (bytes_of words.now) ≡ None }
-    {
-        match *words {
-            [org, limit] => commands::org_limit(alloc, org, commands::read_limit(limit)),
-            _ => Err(Unfit::Syntax),
-        }
-    }
-
-    fn read_org_list(words: &[&str]) -> Result<Admin, Unfit>
-        ensures ok { IfOk result (λ command. org_list_of (bytes_of words.now) ≡ Some command) }
-        ensures syntax { IsErrOf result Unfit.Syntax → org_list_of (bytes_of words.now) ≡ None }
-    {
-        match words {
-            [] => Ok(Admin::OrgList),
-            [_, ..] => Err(Unfit::Syntax),
-        }
-    }
-
-    fn read_token_add(alloc: Global, words: &[&str]) -> Result<Admin, Unfit>
-        ensures ok { IfOk result (λ command. token_add_of (bytes_of words.now) ≡ Some command) }
-        ensures syntax { IsErrOf result Unfit.Syntax → token_add_of (bytes_of words.now) ≡ None }
-    {
-        let [org, name, role, secret, words @ ..] = words else {
-            return Err(Unfit::Syntax);
-        };
-        let bounds = read_bounds(alloc, words)?;
-        commands::token_add(alloc, org, name, role, secret, bounds)
-    }
-
-    fn read_token_revoke(alloc: Global, words: &[&str]) -> Result<Admin, Unfit>
-        ensures ok { IfOk result (λ command. token_revoke_of (bytes_of words.now) ≡ Some command) }
-        ensures syntax { IsErrOf result Unfit.Syntax → token_revoke_of (bytes_of words.now) ≡ None }
-    {
-        match *words {
-            [org, name] => commands::token_revoke(alloc, org, name),
-            _ => Err(Unfit::Syntax),
-        }
-    }
-
     fn read_command(alloc: Global, words: &[&str]) -> Result<Admin, Unfit>
         ensures ok { IfOk result (λ command. command_of (bytes_of words.now) ≡ Some command) }
         ensures syntax { IsErrOf result Unfit.Syntax → command_of (bytes_of words.now) ≡ None }
@@ -105,11 +54,11 @@ impl FrameHeader {
             return Err(Unfit::Syntax);
         };
         match *name {
-            "org-add" => FrameHeader::read_org_add(alloc, words),
-            "org-limit" => FrameHeader::read_org_limit(alloc, words),
-            "org-list" => FrameHeader::read_org_list(words),
-            "token-add" => FrameHeader::read_token_add(alloc, words),
-            "token-revoke" => FrameHeader::read_token_revoke(alloc, words),
+            "org-add" => read_org_add(alloc, words),
+            "org-limit" => read_org_limit(alloc, words),
+            "org-list" => read_org_list(words),
+            "token-add" => read_token_add(alloc, words),
+            "token-revoke" => read_token_revoke(alloc, words),
             _ => Err(Unfit::Syntax),
         }
     }

@@ -3,9 +3,10 @@ ghost use Rattle.std.specs.Prelude.{◌≡◌, ◌<◌, ◌≤◌, length, Some,
 ghost use Rattle.program.specs.Frames.{step_of, line_heading, first_frame, AreFrames, IsOnlyReading};
 
 use crate::frame_headers::FrameHeader;
-use crate::lines::{split_line, split_message, split_words};
 use basis::{Bytes, Down, Unfit};
 use serve::Step;
+use serve::lines::{split_line, split_message};
+use serve::words::split_words;
 use std::alloc::Global;
 
 /// The steps of the frames before the first that does not parse.

@@ -1,7 +1,8 @@
 //! The program `custody` over any files, connections and clock: words and streams in, an exit status out.
 #![tactic(auto)]
 
-mod bounds;
+mod batches;
+mod carrying;
 mod checking;
 mod copying;
 pub mod environment;
@@ -10,7 +11,6 @@ pub mod exits;
 pub mod frame_headers;
 pub mod frames;
 mod laws;
-pub mod lines;
 mod logs;
 mod openings;
 mod operating;

@@ -24,7 +24,7 @@ use std::alloc::Global;
 use std::io::{Read, Write};
 
 /// The line for a secret that is not valid.
-const SECRET_FORM: &str =
+pub const SECRET_FORM: &str =
     "custody: the secret must be one line of 16 to 64 ASCII letters or digits\n";
 
 /// Prints the cause to the error stream and the ending to standard output.
@@ -102,8 +102,31 @@ pub fn failure<K: Keep, F: Files<K>>(files: &F, store: &mut K) -> Cause
     }
 }
 
-/// Carries out an operator's command, prints its answer, and returns the store. No answer depends on the time, so the clock is
-/// not read.
+/// Carries out an operator's command on the store of a service, and prints its answer. No answer depends on the time, so the
+/// clock is not read.
+pub fn operate_on<K: Keep, F: Files<K>, O: Write, E: ErrorStream>(
+    alloc: Global,
+    files: &F,
+    service: &mut Service<K>,
+    command: &Admin,
+    output: &mut O,
+    errors: &mut E,
+) -> Exit
+    ensures lasts { Lasts K.clean K.sound K.keyed K.shielded service.old.keep service.new.keep }
+    ensures line { AnswersCommand command.now result (stream (O.contents output.old) (O.contents output.new)) }
+    ensures model { K.clean service.new.keep → K.sound service.old.keep → IsOperated (HasFailed K.Keep F.Files service.new.keep) command.now (K.rows service.old.keep) (K.rows service.new.keep) result (stream (O.contents output.old) (O.contents output.new)) (error_stream (E.told errors.old) (E.told errors.new)) }
+    ensures why { (E.told errors.new ≡ E.told errors.old) ⊎ ((why : AnyCause) × HasFailed K.Keep F.Files service.new.keep why × TellsCause why (error_stream (E.told errors.old) (E.told errors.new))) }
+{
+    match service.admin(alloc, Moment::new(0).unwrap(), command) {
+        Ok(answer) => say_answer(output, command, &answer),
+        Err(_) => {
+            let cause = failure(files, &mut service.keep);
+            refuse(output, errors, cause)
+        }
+    }
+}
+
+/// Carries out an operator's command on a store, prints its answer, and returns the store.
 fn operate<K: Keep, F: Files<K>, O: Write, E: ErrorStream>(
     alloc: Global,
     files: &F,
@@ -118,19 +141,12 @@ fn operate<K: Keep, F: Files<K>, O: Write, E: ErrorStream>(
     ensures why { (E.told errors.new ≡ E.told errors.old) ⊎ ((why : AnyCause) × HasFailed K.Keep F.Files result.1 why × TellsCause why (error_stream (E.told errors.old) (E.told errors.new))) }
 {
     let mut service = Service::new(keep);
-    let answered = service.admin(alloc, Moment::new(0).unwrap(), command);
-    let mut keep = service.into_keep();
-    match answered {
-        Ok(answer) => (say_answer(output, command, &answer), keep),
-        Err(_) => {
-            let cause = failure(files, &mut keep);
-            (refuse(output, errors, cause), keep)
-        }
-    }
+    let exit = operate_on(alloc, files, &mut service, command, output, errors);
+    (exit, service.into_keep())
 }
 
 /// Only a command that adds an organization creates a database.
-fn opening_of(command: &Admin) -> Opening
+pub fn opening_of(command: &Admin) -> Opening
     ensures { result ≡ opening_of command.now }
 {
     match command {
@@ -177,8 +193,8 @@ fn add_token<K: Keep, F: Files<K>, O: Write, E: ErrorStream>(
     carry_out(alloc, files, db, &command, output, errors)
 }
 
-// The secret that the input holds.
-fn input_secret<I: Read>(alloc: Global, input: &mut I) -> Result<Secret, Unfit>
+/// Reads the secret from the input.
+pub fn input_secret<I: Read>(alloc: Global, input: &mut I) -> Result<Secret, Unfit>
     ensures is { IfOk result (λ secret. IsSecretOf (I.remaining input.old) secret) }
     ensures has { OnOk result (HasSecret (I.remaining input.old)) }
     ensures syntax { IsErrOf result Unfit.Syntax → HasNoSecret (I.remaining input.old) }

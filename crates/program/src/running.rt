@@ -6,6 +6,7 @@ ghost use Rattle.command_line.specs.Words.{words_bytes, IsWhy, AskForHelp, AreNo
 ghost use Rattle.program.specs.Outcomes.{stream, error_stream, Does, TellsVersion, RefusesWords, environment, Leaves, Runs, RunsOver, TellsEnd};
 ghost use Rattle.program.specs.declared.exits.Exit.{Exit};
 
+use crate::carrying::read_and_carry;
 use crate::checking::check;
 use crate::copying::{compact, copy_one};
 use crate::environment::{Clock, Connections, Files};
@@ -15,7 +16,7 @@ use crate::operating::{carry_out, read_and_add, say_why};
 use crate::reasons::Cause;
 use crate::replays::replay_frames;
 use crate::replies::{print_version, refuse};
-use crate::starting::serve_as_asked;
+use crate::starting::serve_with_door;
 use crate::streams::ErrorStream;
 use command_line::{Order, Unasked, read_words};
 use machine::Keep;
@@ -63,9 +64,12 @@ fn run_order<K: Keep, F: Files<K>, N: Connections, C: Clock, I: Read, O: Write, 
             timeouts,
             logs,
             checks,
-        } => serve_as_asked(
-            alloc, files, network, clock, db, port, count, &timeouts, logs, checks, output, errors,
+            operates,
+        } => serve_with_door(
+            alloc, files, network, clock, db, port, count, timeouts, logs, checks, operates, input,
+            output, errors,
         ),
+        Order::CarryAll { db } => read_and_carry(alloc, files, db, input, output, errors),
         Order::Replay => { replay_frames::<K, F, I, O, E>(alloc, files, input, output, errors) }
         Order::Version => say_version(output, files.newest_schema()),
     }

@@ -1,20 +1,11 @@
 //! The secret of a new token: one line of standard input, with or without its line feed.
 ghost use Rattle.std.specs.Prelude.{◌≡◌, Some, None, IfOk, IsErrOf, option_map, option_and_then};
-ghost use Rattle.program.specs.Secrets.{only_line, if_secret, secret_in};
+ghost use Rattle.program.specs.Secrets.{if_secret, secret_in};
 
-use crate::lines::{read_text, split_line};
 use basis::{Secret, Unfit};
+use serve::lines::only_line;
+use serve::words::read_text;
 use std::alloc::Global;
-
-fn only_line(bytes: &[u8]) -> Option<&[u8]>
-    ensures { option_map (λ line. line.now) result ≡ only_line bytes.now }
-{
-    match split_line(bytes) {
-        Some((line, [])) => Some(line),
-        Some((_, [_, ..])) => None,
-        None => Some(bytes),
-    }
-}
 
 fn secret_of(alloc: Global, text: Option<&str>) -> Result<Secret, Unfit>
     ensures ok { IfOk result (λ secret. option_and_then if_secret (option_map (λ t. t.now) text.entry) ≡ Some secret) }

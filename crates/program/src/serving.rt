@@ -3,7 +3,8 @@
 ghost use Rattle.std.specs.Prelude.{◌≡◌, ◌++◌, ℕ, List, Ok, Some, IfOk, IfErr, IfSome, OnOk, true, false};
 ghost use Rattle.std.specs.Io.KnownBytes.{Appends, Consumes};
 ghost use Rattle.machine.specs.Keeping.{Lasts};
-ghost use Rattle.serve.specs.Exchanges.{Exchanges, ChangesAsTold};
+ghost use Rattle.serve.specs.Doors.{ExchangesWith};
+ghost use Rattle.serve.specs.Exchanges.{ChangesAsTold};
 ghost use Rattle.program.specs.Errors.{GetsConnectionLines, fault_text, down_line, fault_line};
 ghost use Rattle.program.specs.Serving.{listening_line, ListensAt, Serves, state, AcceptsNone, AnswersOne, Answers, AfterReply, AnswersNext, EndsEarly, AnswersCount, LogTellsChanges};
 ghost use Rattle.program.specs.Streams.{TellsBy};
@@ -19,11 +20,22 @@ use basis::Moment;
 use basis::numbers::MAX_MOMENT;
 use command_line::timeouts::Timeouts;
 use machine::Keep;
-use serve::{LinkFault, Service};
+use serve::{Door, LinkFault, Service};
 use std::alloc::Global;
 use std::io;
 use std::io::Write;
 use wire::{Inlet, Outlet};
+
+/// The terms on which connections are served.
+#[derive(Drop)]
+pub struct Terms {
+    /// The timeouts of each connection.
+    pub timeouts: Timeouts,
+    /// Whether standard output gets one line per exchange.
+    pub logs: bool,
+    /// The operator's door.
+    pub door: Door,
+}
 
 fn fault_text(fault: LinkFault) -> &'static str
     ensures { result.now ≡ fault_text fault }
@@ -86,6 +98,7 @@ fn tell<E: ErrorStream>(errors: &mut E, place: u64, ended: Result<(), LinkFault>
 fn exchange_one<K: Keep, I: Inlet, O: Outlet>(
     alloc: Global,
     service: &mut Service<K>,
+    door: &Door,
     now: Moment,
     inlet: &mut I,
     outlet: &mut O,
@@ -93,13 +106,13 @@ fn exchange_one<K: Keep, I: Inlet, O: Outlet>(
     requires reads { I.broken inlet.old ≡ false }
     requires writes { O.broken outlet.old ≡ false }
     ensures lasts { Lasts K.clean K.sound K.keyed K.shielded service.old.keep service.new.keep }
-    ensures takes { K.clean service.new.keep → K.sound service.old.keep → TakesOne (K.rows service.old.keep) (K.rows service.new.keep) }
+    ensures takes { K.clean service.new.keep → K.sound service.old.keep → TakesOne door.now (K.rows service.old.keep) (K.rows service.new.keep) }
     ensures told { K.clean service.new.keep → K.sound service.old.keep → (received : List ℕ) × Consumes (I.left inlet.old) (I.left inlet.new) received
-        × Exchanges now received (I.left inlet.new) (K.rows service.old.keep) (K.rows service.new.keep) (O.written outlet.old) (O.written outlet.new) service.new.was_down service.new.row result }
+        × ExchangesWith door.now now received (I.left inlet.new) (K.rows service.old.keep) (K.rows service.new.keep) (O.written outlet.old) (O.written outlet.new) service.new.was_down service.new.row result }
     ensures changes { K.clean service.new.keep → K.sound service.old.keep → IfSome service.new.row (λ row. ChangesAsTold row (K.rows service.old.keep) (K.rows service.new.keep)) }
 {
     prove!(now.seconds() <= MAX_MOMENT);
-    service.exchange(alloc, now, inlet, outlet)
+    service.exchange_with(alloc, door, now, inlet, outlet)
 }
 
 // A connection is answered, told of and ended; the result is whether the log's line was taken.
@@ -110,22 +123,22 @@ fn serve_one<K: Keep, N: Connections, O: Write, E: ErrorStream>(
     network: &mut N,
     reader: N::Reader,
     writer: N::Writer,
+    terms: &Terms,
     place: u64,
-    logs: bool,
     output: &mut O,
     errors: &mut E,
 ) -> bool
     requires reads { N.Reader.broken reader ≡ false }
     requires writes { N.Writer.broken writer ≡ false }
     ensures lasts { Lasts K.clean K.sound K.keyed K.shielded service.old.keep service.new.keep }
-    ensures takes { K.clean service.new.keep → K.sound service.old.keep → TakesOne (K.rows service.old.keep) (K.rows service.new.keep) }
-    ensures answers { AnswersOne K.Keep N.Connections N.Reader.Inlet N.Writer.Outlet logs place now service.new.was_down result reader writer network.old network.new service.old.keep service.new.keep (E.told errors.old) (E.told errors.new) (O.contents output.old) (O.contents output.new) }
+    ensures takes { K.clean service.new.keep → K.sound service.old.keep → TakesOne terms.now.door (K.rows service.old.keep) (K.rows service.new.keep) }
+    ensures answers { AnswersOne K.Keep N.Connections N.Reader.Inlet N.Writer.Outlet terms.now place now service.new.was_down result reader writer network.old network.new service.old.keep service.new.keep (E.told errors.old) (E.told errors.new) (O.contents output.old) (O.contents output.new) }
 {
     let mut inlet = reader;
     let mut outlet = writer;
-    let ended = exchange_one(alloc, service, now, &mut inlet, &mut outlet);
+    let ended = exchange_one(alloc, service, &terms.door, now, &mut inlet, &mut outlet);
     tell(errors, place, ended, service.was_down());
-    let is_told = log_row(alloc, output, logs, place, ended, service.row());
+    let is_told = log_row(alloc, output, terms.logs, place, ended, service.row());
     let was_whole = tells_act(service.row());
     network.finish(inlet, outlet, was_whole);
     is_told
@@ -161,25 +174,24 @@ fn accept<N: Connections, C: Clock>(
 fn answer_next<K: Keep, N: Connections, C: Clock, O: Write, E: ErrorStream>(
     alloc: Global,
     network: &mut N,
-    timeouts: &Timeouts,
+    terms: &Terms,
     service: &mut Service<K>,
     clock: &mut C,
     place: u64,
-    logs: bool,
     output: &mut O,
     errors: &mut E,
 ) -> Result<bool, Cause>
     ensures lasts { Lasts K.clean K.sound K.keyed K.shielded service.old.keep service.new.keep }
-    ensures takes { K.clean service.new.keep → K.sound service.old.keep → TakesOne (K.rows service.old.keep) (K.rows service.new.keep) }
-    ensures answers { IfOk result (λ is_told. (at : ℕ) × Answers K.Keep N.Connections C.Clock N.Reader.Inlet N.Writer.Outlet timeouts.now logs place at service.new.was_down is_told (state network.old clock.old service.old.keep (E.told errors.old) (O.contents output.old)) (state network.new clock.new service.new.keep (E.told errors.new) (O.contents output.new))) }
-    ensures refused { IfErr result (λ cause. AcceptsNone N.Connections C.Clock timeouts.now network.old network.new clock.old clock.new cause × (service.new.keep ≡ service.old.keep) × (E.told errors.new ≡ E.told errors.old) × (O.contents output.new ≡ O.contents output.old)) }
+    ensures takes { K.clean service.new.keep → K.sound service.old.keep → TakesOne terms.now.door (K.rows service.old.keep) (K.rows service.new.keep) }
+    ensures answers { IfOk result (λ is_told. (at : ℕ) × Answers K.Keep N.Connections C.Clock N.Reader.Inlet N.Writer.Outlet terms.now place at service.new.was_down is_told (state network.old clock.old service.old.keep (E.told errors.old) (O.contents output.old)) (state network.new clock.new service.new.keep (E.told errors.new) (O.contents output.new))) }
+    ensures refused { IfErr result (λ cause. AcceptsNone N.Connections C.Clock terms.now.timeouts network.old network.new clock.old clock.new cause × (service.new.keep ≡ service.old.keep) × (E.told errors.new ≡ E.told errors.old) × (O.contents output.new ≡ O.contents output.old)) }
 {
-    let (reader, writer, now) = match accept(network, timeouts, clock) {
+    let (reader, writer, now) = match accept(network, &terms.timeouts, clock) {
         Ok(found) => found,
         Err(cause) => return Err(cause),
     };
     Ok(serve_one(
-        alloc, service, now, network, reader, writer, place, logs, output, errors,
+        alloc, service, now, network, reader, writer, terms, place, output, errors,
     ))
 }
 
@@ -203,22 +215,19 @@ fn serve_next<K: Keep, F: Files<K>, N: Connections, C: Clock, O: Write, E: Error
     alloc: Global,
     files: &F,
     network: &mut N,
-    timeouts: &Timeouts,
+    terms: &Terms,
     service: &mut Service<K>,
     clock: &mut C,
     place: u64,
-    logs: bool,
     output: &mut O,
     errors: &mut E,
 ) -> Result<(), Cause>
     ensures lasts { Lasts K.clean K.sound K.keyed K.shielded service.old.keep service.new.keep }
-    ensures takes { K.clean service.new.keep → K.sound service.old.keep → TakesOne (K.rows service.old.keep) (K.rows service.new.keep) }
-    ensures answers { OnOk result ((at : ℕ) × AnswersNext K.Keep F.Files N.Connections C.Clock N.Reader.Inlet N.Writer.Outlet timeouts.now logs place at false true (state network.old clock.old service.old.keep (E.told errors.old) (O.contents output.old)) (state network.new clock.new service.new.keep (E.told errors.new) (O.contents output.new))) }
-    ensures refused { IfErr result (EndsEarly K.Keep F.Files N.Connections C.Clock N.Reader.Inlet N.Writer.Outlet timeouts.now logs place (state network.old clock.old service.old.keep (E.told errors.old) (O.contents output.old)) (state network.new clock.new service.new.keep (E.told errors.new) (O.contents output.new))) }
+    ensures takes { K.clean service.new.keep → K.sound service.old.keep → TakesOne terms.now.door (K.rows service.old.keep) (K.rows service.new.keep) }
+    ensures answers { OnOk result ((at : ℕ) × AnswersNext K.Keep F.Files N.Connections C.Clock N.Reader.Inlet N.Writer.Outlet terms.now place at false true (state network.old clock.old service.old.keep (E.told errors.old) (O.contents output.old)) (state network.new clock.new service.new.keep (E.told errors.new) (O.contents output.new))) }
+    ensures refused { IfErr result (EndsEarly K.Keep F.Files N.Connections C.Clock N.Reader.Inlet N.Writer.Outlet terms.now place (state network.old clock.old service.old.keep (E.told errors.old) (O.contents output.old)) (state network.new clock.new service.new.keep (E.told errors.new) (O.contents output.new))) }
 {
-    let is_told = match answer_next(
-        alloc, network, timeouts, service, clock, place, logs, output, errors,
-    ) {
+    let is_told = match answer_next(alloc, network, terms, service, clock, place, output, errors) {
         Ok(is_told) => is_told,
         Err(cause) => return Err(cause),
     };
@@ -234,8 +243,8 @@ fn serve_next<K: Keep, F: Files<K>, N: Connections, C: Clock, O: Write, E: Error
 /// Prints the port it listens on, then answers this many connections, one after the other, each with one exchange. The network
 /// already listens on that port. A connection that ends in a link fault or a timeout still counts, and a line of the error stream
 /// reports it. A 503 for a failed allocation or store is reported, too. It stops, with a line that says why, if an accept fails,
-/// the clock is out of range, or a disk error has closed the store. If `logs` is true, it prints one line per exchange to
-/// standard output, and stops if a line cannot be written completely.
+/// the clock is out of range, or a disk error has closed the store. If the terms have the log on, it prints one line per exchange
+/// to standard output, and stops if a line cannot be written completely.
 pub fn serve_loop<K: Keep, F: Files<K>, N: Connections, C: Clock, O: Write, E: ErrorStream>(
     alloc: Global,
     files: &F,
@@ -243,16 +252,15 @@ pub fn serve_loop<K: Keep, F: Files<K>, N: Connections, C: Clock, O: Write, E: E
     port: u16,
     service: &mut Service<K>,
     count: u64,
-    timeouts: &Timeouts,
-    logs: bool,
+    terms: &Terms,
     clock: &mut C,
     output: &mut O,
     errors: &mut E,
 ) -> Exit
     ensures lasts { Lasts K.clean K.sound K.keyed K.shielded service.old.keep service.new.keep }
-    ensures serves { K.clean service.new.keep → K.sound service.old.keep → Serves count (K.rows service.old.keep) (K.rows service.new.keep) }
-    ensures answers { AnswersCount K.Keep F.Files N.Connections C.Clock N.Reader.Inlet N.Writer.Outlet port timeouts.now logs count (state network.old clock.old service.old.keep (E.told errors.old) (O.contents output.old)) (state network.new clock.new service.new.keep (E.told errors.new) (O.contents output.new)) result }
-    ensures listens { ListensAt port logs result (O.contents output.old) (O.contents output.new) }
+    ensures serves { K.clean service.new.keep → K.sound service.old.keep → Serves terms.now.door count (K.rows service.old.keep) (K.rows service.new.keep) }
+    ensures answers { AnswersCount K.Keep F.Files N.Connections C.Clock N.Reader.Inlet N.Writer.Outlet port terms.now count (state network.old clock.old service.old.keep (E.told errors.old) (O.contents output.old)) (state network.new clock.new service.new.keep (E.told errors.new) (O.contents output.new)) result }
+    ensures listens { ListensAt port terms.now.logs result (O.contents output.old) (O.contents output.new) }
 {
     if print_listening(output, port).is_err() {
         return Exit::Unprinted;
@@ -262,11 +270,10 @@ pub fn serve_loop<K: Keep, F: Files<K>, N: Connections, C: Clock, O: Write, E: E
             alloc,
             files,
             network,
-            timeouts,
+            terms,
             service,
             clock,
             place + 1,
-            logs,
             output,
             errors,
         ) {

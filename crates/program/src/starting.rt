@@ -1,7 +1,7 @@
 //! The command `serve`: a file is opened, connections are answered from it, and it is closed.
-ghost use Rattle.std.specs.Prelude.{◌≡◌, ◌≢◌, ◌⊎◌};
+ghost use Rattle.std.specs.Prelude.{◌≡◌, ◌≢◌, ◌⊎◌, true, IfOk, OnOk, OnErr, IsErrOf};
 ghost use Rattle.machine.specs.Keeping.{Lasts};
-ghost use Rattle.program.specs.Outcomes.{stream, error_stream, IsSaid, ServesAt, ServesFrom, ServesChecked, ServesAsAsked, RefusesUnsound, RefusesToOpen, environment, IsAlone, SaysServed};
+ghost use Rattle.program.specs.Outcomes.{stream, error_stream, IsSaid, ServesAt, ServesFrom, ServesChecked, ServesAsAsked, RefusesUnsound, RefusesToOpen, environment, IsAlone, SaysServed, HasNoSecret, IsDoor, HasDoor, ServesBehind, ServesWithDoor};
 ghost use Rattle.program.specs.Inner.Outcomes.{ServesOpened};
 ghost use Rattle.program.specs.Serving.{Listens, Serves, state, AnswersAtPort};
 
@@ -10,15 +10,17 @@ use crate::environment::{Clock, Connections, Files, Opening};
 use crate::errors::tell_cause;
 use crate::exits::Exit;
 use crate::openings::{close_after, open_one};
+use crate::operating::{SECRET_FORM, input_secret, say_why};
 use crate::reasons::Cause;
-use crate::replies::say;
-use crate::serving::serve_loop;
+use crate::replies::{refuse, say};
+use crate::serving::{Terms, serve_loop};
 use crate::streams::ErrorStream;
+use basis::Unfit;
 use command_line::timeouts::Timeouts;
 use machine::Keep;
-use serve::Service;
+use serve::{Door, Service};
 use std::alloc::Global;
-use std::io::Write;
+use std::io::{Read, Write};
 use std::net::Ipv4Addr;
 
 fn serve_at<K: Keep, F: Files<K>, N: Connections, C: Clock, O: Write, E: ErrorStream>(
@@ -29,19 +31,18 @@ fn serve_at<K: Keep, F: Files<K>, N: Connections, C: Clock, O: Write, E: ErrorSt
     service: &mut Service<K>,
     port: u16,
     count: u64,
-    timeouts: &Timeouts,
-    logs: bool,
+    terms: &Terms,
     output: &mut O,
     errors: &mut E,
 ) -> Exit
     ensures lasts { Lasts K.clean K.sound K.keyed K.shielded service.old.keep service.new.keep }
-    ensures serves { K.clean service.new.keep → K.sound service.old.keep → Serves count (K.rows service.old.keep) (K.rows service.new.keep) }
-    ensures listens { Listens logs result (O.contents output.old) (O.contents output.new) }
-    ensures answers { AnswersAtPort K.Keep F.Files N.Connections C.Clock N.Reader.Inlet N.Writer.Outlet port timeouts.now logs count (state network.old clock.old service.old.keep (E.told errors.old) (O.contents output.old)) (state network.new clock.new service.new.keep (E.told errors.new) (O.contents output.new)) result }
+    ensures serves { K.clean service.new.keep → K.sound service.old.keep → Serves terms.now.door count (K.rows service.old.keep) (K.rows service.new.keep) }
+    ensures listens { Listens terms.now.logs result (O.contents output.old) (O.contents output.new) }
+    ensures answers { AnswersAtPort K.Keep F.Files N.Connections C.Clock N.Reader.Inlet N.Writer.Outlet port terms.now count (state network.old clock.old service.old.keep (E.told errors.old) (O.contents output.old)) (state network.new clock.new service.new.keep (E.told errors.new) (O.contents output.new)) result }
 {
     match network.bind(Ipv4Addr::LOCALHOST, port) {
         Ok(given) => serve_loop(
-            alloc, files, network, given, service, count, timeouts, logs, clock, output, errors,
+            alloc, files, network, given, service, count, terms, clock, output, errors,
         ),
         Err(cause) => {
             tell_cause(errors, cause);
@@ -71,13 +72,12 @@ fn serve_opened<K: Keep, F: Files<K>, N: Connections, C: Clock, O: Write, E: Err
     keep: K,
     port: u16,
     count: u64,
-    timeouts: &Timeouts,
-    logs: bool,
+    terms: &Terms,
     output: &mut O,
     errors: &mut E,
 ) -> Exit
-    ensures line { ServesAt logs result (stream (O.contents output.old) (O.contents output.new)) }
-    ensures serves { ServesOpened K.Keep F.Files N.Connections C.Clock N.Reader.Inlet N.Writer.Outlet db.now port timeouts.now logs count keep (environment files.old network.old clock.old) (environment files.new network.new clock.new) result (stream (O.contents output.old) (O.contents output.new)) (error_stream (E.told errors.old) (E.told errors.new)) }
+    ensures line { ServesAt terms.now.logs result (stream (O.contents output.old) (O.contents output.new)) }
+    ensures serves { ServesOpened K.Keep F.Files N.Connections C.Clock N.Reader.Inlet N.Writer.Outlet db.now port terms.now count keep (environment files.old network.old clock.old) (environment files.new network.new clock.new) result (stream (O.contents output.old) (O.contents output.new)) (error_stream (E.told errors.old) (E.told errors.new)) }
 {
     let mut service = Service::new(keep);
     let exit = serve_at(
@@ -88,8 +88,7 @@ fn serve_opened<K: Keep, F: Files<K>, N: Connections, C: Clock, O: Write, E: Err
         &mut service,
         port,
         count,
-        timeouts,
-        logs,
+        terms,
         output,
         errors,
     );
@@ -106,13 +105,12 @@ fn serve<K: Keep, F: Files<K>, N: Connections, C: Clock, O: Write, E: ErrorStrea
     db: &str,
     port: u16,
     count: u64,
-    timeouts: &Timeouts,
-    logs: bool,
+    terms: &Terms,
     output: &mut O,
     errors: &mut E,
 ) -> Exit
-    ensures line { ServesAt logs result (stream (O.contents output.old) (O.contents output.new)) }
-    ensures serves { ServesFrom K.Keep F.Files N.Connections C.Clock N.Reader.Inlet N.Writer.Outlet db.now port timeouts.now logs count (environment files.old network.old clock.old) (environment files.new network.new clock.new) result (stream (O.contents output.old) (O.contents output.new)) (error_stream (E.told errors.old) (E.told errors.new))
+    ensures line { ServesAt terms.now.logs result (stream (O.contents output.old) (O.contents output.new)) }
+    ensures serves { ServesFrom K.Keep F.Files N.Connections C.Clock N.Reader.Inlet N.Writer.Outlet db.now port terms.now count (environment files.old network.old clock.old) (environment files.new network.new clock.new) result (stream (O.contents output.old) (O.contents output.new)) (error_stream (E.told errors.old) (E.told errors.new))
         ⊎ (RefusesToOpen K.Keep F.Files db.now Opening.Created files.old files.new result (stream (O.contents output.old) (O.contents output.new)) (error_stream (E.told errors.old) (E.told errors.new)) × IsAlone (environment files.old network.old clock.old) (environment files.new network.new clock.new)) }
 {
     let keep = match open_one(files, db, Opening::Created, output, errors) {
@@ -120,7 +118,7 @@ fn serve<K: Keep, F: Files<K>, N: Connections, C: Clock, O: Write, E: ErrorStrea
         Err(exit) => return exit,
     };
     serve_opened(
-        alloc, files, network, clock, db, keep, port, count, timeouts, logs, output, errors,
+        alloc, files, network, clock, db, keep, port, count, terms, output, errors,
     )
 }
 
@@ -132,13 +130,12 @@ fn serve_checked<K: Keep, F: Files<K>, N: Connections, C: Clock, O: Write, E: Er
     db: &str,
     port: u16,
     count: u64,
-    timeouts: &Timeouts,
-    logs: bool,
+    terms: &Terms,
     output: &mut O,
     errors: &mut E,
 ) -> Exit
-    ensures line { ServesAt logs result (stream (O.contents output.old) (O.contents output.new)) }
-    ensures serves { (ServesChecked K.Keep F.Files N.Connections C.Clock N.Reader.Inlet N.Writer.Outlet db.now port timeouts.now logs count (environment files.old network.old clock.old) (environment files.new network.new clock.new) result (stream (O.contents output.old) (O.contents output.new)) (error_stream (E.told errors.old) (E.told errors.new))
+    ensures line { ServesAt terms.now.logs result (stream (O.contents output.old) (O.contents output.new)) }
+    ensures serves { (ServesChecked K.Keep F.Files N.Connections C.Clock N.Reader.Inlet N.Writer.Outlet db.now port terms.now count (environment files.old network.old clock.old) (environment files.new network.new clock.new) result (stream (O.contents output.old) (O.contents output.new)) (error_stream (E.told errors.old) (E.told errors.new))
         ⊎ (RefusesUnsound K.Keep F.Files db.now Cause.Faults files.old files.new result (stream (O.contents output.old) (O.contents output.new)) (error_stream (E.told errors.old) (E.told errors.new)) × IsAlone (environment files.old network.old clock.old) (environment files.new network.new clock.new)))
         ⊎ (RefusesToOpen K.Keep F.Files db.now Opening.Existing files.old files.new result (stream (O.contents output.old) (O.contents output.new)) (error_stream (E.told errors.old) (E.told errors.new)) × IsAlone (environment files.old network.old clock.old) (environment files.new network.new clock.new)) }
 {
@@ -148,7 +145,7 @@ fn serve_checked<K: Keep, F: Files<K>, N: Connections, C: Clock, O: Write, E: Er
     };
     if look_first(alloc, files, &mut keep, Cause::Faults, errors) {
         return serve_opened(
-            alloc, files, network, clock, db, keep, port, count, timeouts, logs, output, errors,
+            alloc, files, network, clock, db, keep, port, count, terms, output, errors,
         );
     }
     close_after(files, db, keep, errors);
@@ -156,7 +153,7 @@ fn serve_checked<K: Keep, F: Files<K>, N: Connections, C: Clock, O: Write, E: Er
 }
 
 /// Answers connections from the file at a path. If `checks` is true, it checks the tables first and never creates a file.
-pub fn serve_as_asked<K: Keep, F: Files<K>, N: Connections, C: Clock, O: Write, E: ErrorStream>(
+fn serve_as_asked<K: Keep, F: Files<K>, N: Connections, C: Clock, O: Write, E: ErrorStream>(
     alloc: Global,
     files: &mut F,
     network: &mut N,
@@ -164,22 +161,92 @@ pub fn serve_as_asked<K: Keep, F: Files<K>, N: Connections, C: Clock, O: Write, 
     db: &str,
     port: u16,
     count: u64,
-    timeouts: &Timeouts,
-    logs: bool,
+    terms: &Terms,
     checks: bool,
     output: &mut O,
     errors: &mut E,
 ) -> Exit
-    ensures line { ServesAt logs result (stream (O.contents output.old) (O.contents output.new)) }
-    ensures serves { ServesAsAsked K.Keep F.Files N.Connections C.Clock N.Reader.Inlet N.Writer.Outlet checks db.now port timeouts.now logs count (environment files.old network.old clock.old) (environment files.new network.new clock.new) result (stream (O.contents output.old) (O.contents output.new)) (error_stream (E.told errors.old) (E.told errors.new)) }
+    ensures line { ServesAt terms.now.logs result (stream (O.contents output.old) (O.contents output.new)) }
+    ensures serves { ServesAsAsked K.Keep F.Files N.Connections C.Clock N.Reader.Inlet N.Writer.Outlet checks db.now port terms.now count (environment files.old network.old clock.old) (environment files.new network.new clock.new) result (stream (O.contents output.old) (O.contents output.new)) (error_stream (E.told errors.old) (E.told errors.new)) }
 {
     if checks {
         serve_checked(
-            alloc, files, network, clock, db, port, count, timeouts, logs, output, errors,
+            alloc, files, network, clock, db, port, count, terms, output, errors,
         )
     } else {
         serve(
-            alloc, files, network, clock, db, port, count, timeouts, logs, output, errors,
+            alloc, files, network, clock, db, port, count, terms, output, errors,
         )
+    }
+}
+
+// Reads a secret from the input, and opens the door to it.
+fn open_door<I: Read>(alloc: Global, input: &mut I) -> Result<Door, Unfit>
+    ensures is { IfOk result (IsDoor true (I.remaining input.old)) }
+    ensures has { OnOk result (HasDoor true (I.remaining input.old)) }
+    ensures syntax { IsErrOf result Unfit.Syntax → HasNoSecret (I.remaining input.old) }
+{
+    match input_secret(alloc, input) {
+        Ok(secret) => Ok(Door::opened_by(&secret)),
+        Err(unfit) => Err(unfit),
+    }
+}
+
+// The door that is asked for: open if `operates` is true.
+fn read_door<I: Read>(alloc: Global, operates: bool, input: &mut I) -> Result<Door, Unfit>
+    ensures is { IfOk result (IsDoor operates (I.remaining input.old)) }
+    ensures has { OnOk result (HasDoor operates (I.remaining input.old)) }
+    ensures asked { OnErr result (operates ≡ true) }
+    ensures syntax { IsErrOf result Unfit.Syntax → HasNoSecret (I.remaining input.old) }
+{
+    if operates {
+        open_door(alloc, input)
+    } else {
+        Ok(Door::Closed)
+    }
+}
+
+/// Answers connections from the file at a path, with these timeouts, with the log or without it. If `operates` is true, the
+/// operator's door is open, and its secret is read before the file is opened.
+pub fn serve_with_door<
+    K: Keep,
+    F: Files<K>,
+    N: Connections,
+    C: Clock,
+    I: Read,
+    O: Write,
+    E: ErrorStream,
+>(
+    alloc: Global,
+    files: &mut F,
+    network: &mut N,
+    clock: &mut C,
+    db: &str,
+    port: u16,
+    count: u64,
+    timeouts: Timeouts,
+    logs: bool,
+    checks: bool,
+    operates: bool,
+    input: &mut I,
+    output: &mut O,
+    errors: &mut E,
+) -> Exit
+    ensures line { ServesBehind operates logs (I.remaining input.old) result (stream (O.contents output.old) (O.contents output.new)) (error_stream (E.told errors.old) (E.told errors.new)) }
+    ensures serves { ServesWithDoor K.Keep F.Files N.Connections C.Clock N.Reader.Inlet N.Writer.Outlet operates checks db.now port timeouts logs count (I.remaining input.old) (environment files.old network.old clock.old) (environment files.new network.new clock.new) result (stream (O.contents output.old) (O.contents output.new)) (error_stream (E.told errors.old) (E.told errors.new)) }
+{
+    match read_door(alloc, operates, input) {
+        Ok(door) => {
+            let terms = Terms {
+                timeouts,
+                logs,
+                door,
+            };
+            serve_as_asked(
+                alloc, files, network, clock, db, port, count, &terms, checks, output, errors,
+            )
+        }
+        Err(Unfit::Syntax) => say_why(output, errors, Exit::Usage, SECRET_FORM),
+        Err(Unfit::Down) => refuse(output, errors, Cause::Input),
     }
 }

@@ -5,5 +5,6 @@ pub mod Acts
 pub mod Queries
 pub mod Table
 pub mod Tokens
+pub mod Doors
 pub mod Inner
 pub mod Methods

@@ -4,6 +4,7 @@
 mod acts;
 mod asks;
 mod digests;
+mod doors;
 mod laws;
 mod methods;
 mod paths;
@@ -15,6 +16,7 @@ mod tokens;
 pub use acts::{Asked, AskedAct};
 pub use asks::asked;
 pub use digests::secret_digest;
+pub use doors::{is_at_door, may_enter};
 pub use laws::methods_are_listed;
 pub use policies::allowed;
 pub use routes::Routes;

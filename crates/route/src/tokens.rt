@@ -100,7 +100,7 @@ fn secret_in(alloc: Global, bytes: &[u8]) -> Result<Secret, Refusal>
 }
 
 // The bytes before and after the first such byte.
-fn cut_at(bytes: &[u8], byte: u8) -> (&[u8], &[u8])
+pub(crate) fn cut_at(bytes: &[u8], byte: u8) -> (&[u8], &[u8])
     ensures first { result.0.now ≡ before byte bytes.now }
     ensures rest { result.1.now ≡ behind byte bytes.now }
 {
@@ -110,7 +110,7 @@ fn cut_at(bytes: &[u8], byte: u8) -> (&[u8], &[u8])
     }
 }
 
-fn unspaced(bytes: &[u8]) -> &[u8]
+pub(crate) fn unspaced(bytes: &[u8]) -> &[u8]
     ensures { result.now ≡ unspaced bytes.now }
 {
     match bytes {

@@ -1,5 +1,5 @@
 -- One exchange: the reply to what was read, and what is written in all.
-use Rattle.std.proofs.Common.{◌≡◌, ◌≢◌, ℕ, Bool, true, false, List, [], ◌++◌, Option, Some, None, Result, Ok, Err, IsSome, IfSome, IfErr, refl, sym, ap, subst, ◌∙◌, inl, inr}
+use Rattle.std.proofs.Common.{◌≡◌, ◌≢◌, ℕ, Bool, true, false, List, [], ◌++◌, Option, Some, None, Result, Ok, Err, IsSome, IfSome, IfErr, IsErrOf, refl, sym, ap, subst, ◌∙◌, ◌⊎◌, inl, inr}
 use Rattle.std.specs.Io.KnownBytes.{Appends, Consumes}
 use Rattle.std.specs.Str.{bytes_eq}
 use Rattle.std.proofs.lemmas.Slice.Eq.{bytes_eq-Decides}
@@ -20,7 +20,7 @@ use Rattle.serve.specs.Asks.{Ask, Owner, owner_of, organization, unattributed, o
 use Rattle.serve.specs.Asks as ask
 use Rattle.serve.specs.Steps.{Said, replies, refusing, request_step, step}
 use Rattle.serve.specs.Inner.Prepared.{IsPrepared}
-use Rattle.serve.specs.Inner.Replying.{without_body, PreparesFor, LogsFor, LogsDownFor, due_reply, due_row, Settles}
+use Rattle.serve.specs.Inner.Replying.{without_body, PreparesFor, LogsFor, LogsDownFor, AnswersTo, due_reply, due_row, Settles}
 use Rattle.serve.specs.Inner.Tracing.{as_unavailable}
 use Rattle.serve.specs.Service.{same_owner, record_for, asked_by, ask_of, Asks, Carries, Stays, said_to, IsSaidText, is_head, after_ask}
 use Rattle.serve.specs.Exchanges.{IsServed, IsUnavailableFor, IsAnswered, Exchanges, ChangesAtMostOne, ComesAsTold, ChangesAsTold}
@@ -49,7 +49,7 @@ message_answered old mid new at awaited message p stays prepared carried =
     (carries_after old mid new a stays (carried a (prepared_after old mid a p stays prepared)), prepared_said old at awaited message (asked_of message) p prepared)
 
 -- what is asked moves the record of one organization at most
-carried_one : (a : Ask) (old new : List ℕ → Option Organization) → Carries a old new → ChangesAtMostOne old new
+pub carried_one : (a : Ask) (old new : List ℕ → Option Organization) → Carries a old new → ChangesAtMostOne old new
 carried_one silent old new carries = ([], (λ other apart. carries other))
 carried_one (ask.refused at awaited refusal is_head) old new carries = ([], (λ other apart. carries other))
 carried_one (requests at awaited asked content_md5 body) old new carries = (asked.caller, (λ other apart. carries other ∙ stays_apart (requests at awaited asked content_md5 body) other old (bytes_eq other asked.caller) refl apart))
@@ -103,14 +103,6 @@ down_makes_nothing : (now : ℕ) (old : List ℕ → Option Organization) (readi
 down_makes_nothing now old None row h = unavailable_makes_nothing row now h
 down_makes_nothing now old (Some reading) row h = row_makes_nothing (record_for old (owner_of (ask_of now reading))) (ask_of now reading) row h
 
-read_makes_nothing : (now : ℕ) (old : List ℕ → Option Organization) (read : Result Message WireFault) (row : LogRow) → LogsDownFor now old read row → MakesNothing row
-read_makes_nothing now old (Ok message) row h = let a : Ask = asked_by now false message (asked_of message) in row_makes_nothing (record_for old (owner_of a)) a row (h false)
-read_makes_nothing now old (Err (Refused refusal head)) row h = unavailable_makes_nothing row now h
-read_makes_nothing now old (Err Down) row h = unavailable_makes_nothing row now h
-read_makes_nothing now old (Err Ended) row h = absurd h
-read_makes_nothing now old (Err Read) row h = absurd h
-read_makes_nothing now old (Err Continue) row h = absurd h
-
 pub stayed_told : (row : LogRow) (old new : List ℕ → Option Organization) → MakesNothing row → Stays old new → ChangesAsTold row old new
 stayed_told row old new nothing stays = record {
   others = λ org apart. stays org;
@@ -118,9 +110,6 @@ stayed_told row old new nothing stays = record {
   own = λ org named. subst (ComesAsTold row (old org)) (sym (stays org)) (still_told row (old org) nothing.version nothing.run);
   nobody = λ none. (nothing.version, nothing.run);
 }
-
-pub down_told : (now : ℕ) (old new : List ℕ → Option Organization) (read : Result Message WireFault) (row : LogRow) → LogsDownFor now old read row → Stays old new → ChangesAsTold row old new
-down_told now old new read row h stays = stayed_told row old new (read_makes_nothing now old read row h) stays
 
 -- what is asked changes what its row tells
 asked_told : (a : Ask) (row : LogRow) (old new : List ℕ → Option Organization) → AreLawful old → Some row ≡ row_of_ask (record_for old (owner_of a)) a → Carries a old new → ChangesAsTold row old new
@@ -259,56 +248,75 @@ abbrev Received : Option (List ℕ) → Option (List ℕ) → (List ℕ → Type
 Received old new P = (received : List ℕ) × Consumes old new received × P received
 
 -- the reply is written, or a part of it
-pub replied : {T : Type 0} (unread left : Option (List ℕ)) (now : ℕ) (read : Result Message WireFault) (old new : List ℕ → Option Organization) (is_down : Bool) (row : Option LogRow) (a b c : Option (List ℕ)) (text : List ℕ) (result : Result T LinkFault)
-    → Received unread left (λ received. ReportsReceived received left a b read) → AnswersRead now read old new is_down text row
-    → Writes b c text result → IfErr result (λ fault. fault ≡ LinkWrite)
-    → Received unread left (λ received. Exchanges now received left old new a c is_down row result)
-replied unread left now read old new is_down row a b c text (Ok done) told answers writes fault =
-    let r = answers told.0 left a b told.2 in
-    (told.0, told.1, (r.0, text, r.2, Appends-then a b c (continue_if r.0) text r.1 writes))
-replied {T = T} unread left now read old new is_down row a b c text (Err e) told answers writes fault =
-    let r = answers told.0 left a b told.2 in
-    let is = subst (λ (x : List ℕ). IsAnswered now told.0 old new r.0 x row is_down) writes.3 r.2 in
-    subst (λ (f : LinkFault). Received unread left (λ received. Exchanges now received left old new a c is_down row {T = T} (Err f))) (sym fault)
-    (told.0, told.1, (r.0, writes.0, writes.1, writes.2, is, Appends-then a b c (continue_if r.0) writes.0 r.1 writes.4))
+pub replied : {T : Type 0} (now : ℕ) (read : Result Message WireFault) (old new : List ℕ → Option Organization) (is_down : Bool) (row : Option LogRow) (b c : Option (List ℕ)) (text : List ℕ) (result : Result T LinkFault)
+    → AnswersRead now read old new is_down text row → Writes b c text result → IfErr result (λ fault. fault ≡ LinkWrite)
+    → AnswersTo now read old new b c is_down row result
+replied now read old new is_down row b c text (Ok done) answers writes fault received left a told =
+    let r = answers received left a b told in
+    (r.0, text, r.2, Appends-then a b c (continue_if r.0) text r.1 writes)
+replied {T = T} now read old new is_down row b c text (Err e) answers writes fault received left a told =
+    let r = answers received left a b told in
+    let is = subst (λ (x : List ℕ). IsAnswered now received old new r.0 x row is_down) writes.3 r.2 in
+    subst (λ (f : LinkFault). Exchanges now received left old new a c is_down row {T = T} (Err f)) (sym fault)
+    (r.0, writes.0, writes.1, writes.2, is, Appends-then a b c (continue_if r.0) writes.0 r.1 writes.4)
 
 -- nothing is read, and the refusal is written
 pub refused_unread : {T : Type 0} (left : Option (List ℕ)) (now : ℕ) (rows : List ℕ → Option Organization) (row : LogRow) (a c : Option (List ℕ)) (text : List ℕ) (result : Result T LinkFault)
     → row ≡ unavailable_row now → IsReplyText (unavailable_answer false) now text → Writes a c text result → IfErr result (λ fault. fault ≡ LinkWrite)
     → Received left left (λ received. Exchanges now received left rows rows a c true (Some row) result)
-refused_unread left now rows row a c text result is is_text =
-    replied left left now (Err Down) rows rows true (Some row) a a c text result ([], Consumes-none left, Appends-none a) (refused_read now (Err Down) rows rows text row (λ org. refl) is_text is)
+refused_unread left now rows row a c text result is is_text writes fault = (
+  [],
+  Consumes-none left,
+  replied now (Err Down) rows rows true (Some row) a c text result (refused_read now (Err Down) rows rows text row (λ org. refl) is_text is) writes fault [] left a (Appends-none a),
+)
 
 -- no reply: what received is unfinished, or `100 Continue` wasn't taken
-pub no_reply : (unread left : Option (List ℕ)) (now : ℕ) (read : Result Message WireFault) (old new : List ℕ → Option Organization) (row : LogRow) (a b : Option (List ℕ)) (fault : LinkFault)
-    → row ≡ silent_row now
-    → Received unread left (λ received. ReportsReceived received left a b read) → fault ≢ LinkWrite
+pub no_reply : (now : ℕ) (read : Result Message WireFault) (old new : List ℕ → Option Organization) (row : LogRow) (b : Option (List ℕ)) (fault : LinkFault)
+    → row ≡ silent_row now → fault ≢ LinkWrite
     → (fault ≡ LinkEnded → read ≡ Err Ended) → (fault ≡ LinkRead → read ≡ Err Read) → (fault ≡ LinkContinue → read ≡ Err Continue)
-    → Received unread left (λ received. Exchanges now received left old new a b false (Some row) {T = Unit {0}} (Err fault))
-no_reply unread left now read old new row a b LinkEnded no_row told write ended failed continued =
-    let r = subst (λ (r : Result Message WireFault). ReportsReceived told.0 left a b r) (ended refl) told.2 in
-    (told.0, told.1, (refl, ap Some no_row, r.0, r.1, r.2))
-no_reply unread left now read old new row a b LinkRead no_row told write ended failed continued =
-    let r = subst (λ (r : Result Message WireFault). ReportsReceived told.0 left a b r) (failed refl) told.2 in
-    (told.0, told.1, (refl, ap Some no_row, r.0, r.1))
-no_reply unread left now read old new row a b LinkContinue no_row told write ended failed continued =
-    let r = subst (λ (r : Result Message WireFault). ReportsReceived told.0 left a b r) (continued refl) told.2 in
-    (told.0, told.1, (refl, ap Some no_row, r.0, r.1))
-no_reply unread left now read old new row a b LinkWrite no_row told write ended failed continued = absurd (write refl)
+    → AnswersTo now read old new b b false (Some row) {T = Unit {0}} (Err fault)
+no_reply now read old new row b LinkEnded no_row write ended failed continued received left a told =
+    let r = subst (λ (r : Result Message WireFault). ReportsReceived received left a b r) (ended refl) told in (refl, ap Some no_row, r.0, r.1, r.2)
+no_reply now read old new row b LinkRead no_row write ended failed continued received left a told =
+    let r = subst (λ (r : Result Message WireFault). ReportsReceived received left a b r) (failed refl) told in (refl, ap Some no_row, r.0, r.1)
+no_reply now read old new row b LinkContinue no_row write ended failed continued received left a told =
+    let r = subst (λ (r : Result Message WireFault). ReportsReceived received left a b r) (continued refl) told in (refl, ap Some no_row, r.0, r.1)
+no_reply now read old new row b LinkWrite no_row write ended failed continued received left a told = absurd (write refl)
 
--- at most one record changes where a reply was due
-pub replied_one : {T : Type 0} (unread left : Option (List ℕ)) (now : ℕ) (old new : List ℕ → Option Organization) (a c : Option (List ℕ)) (is_down : Bool) (row : Option LogRow) (result : Result T LinkFault)
-    → Received unread left (λ received. Exchanges now received left old new a c is_down row result) → IfErr result (λ fault. fault ≡ LinkWrite) → ChangesAtMostOne old new
-replied_one unread left now old new a c is_down row (Ok done) h fault = answered_one now h.0 old new h.2.0 h.2.1 row is_down h.2.2
-replied_one {T = T} unread left now old new a c is_down row (Err e) h fault =
-    let x = subst (λ (f : LinkFault). Exchanges now h.0 left old new a c is_down row {T = T} (Err f)) fault h.2 in answered_one now h.0 old new x.0 (x.1 ++ x.2) row is_down x.4
+-- where memory was refused inside the reading nothing is prepared
+pub not_prepared : (now : ℕ) (rows : List ℕ → Option Organization) (read : Result Message WireFault) (p : Prepared) → PreparesFor now rows read p → read ≡ Err Down → ⊥
+not_prepared now rows read p prepared is = subst (λ (r : Result Message WireFault). PreparesFor now rows r p) is prepared
 
--- what changed is what the row tells, where a reply was due
-pub replied_told : {T : Type 0} (unread left : Option (List ℕ)) (now : ℕ) (old new : List ℕ → Option Organization) (a c : Option (List ℕ)) (is_down : Bool) (row : LogRow) (result : Result T LinkFault) → AreLawful old
-    → Received unread left (λ received. Exchanges now received left old new a c is_down (Some row) result) → IfErr result (λ fault. fault ≡ LinkWrite) → ChangesAsTold row old new
-replied_told unread left now old new a c is_down row (Ok done) lawful h fault = answered_told now h.0 old new h.2.0 h.2.1 row is_down lawful h.2.2
-replied_told {T = T} unread left now old new a c is_down row (Err e) lawful h fault =
-    let x = subst (λ (f : LinkFault). Exchanges now h.0 left old new a c is_down (Some row) {T = T} (Err f)) fault h.2 in answered_told now h.0 old new x.0 (x.1 ++ x.2) row is_down lawful x.4
+-- an exchange ended before a reply
+abbrev pub EndsBefore : {T : Type 0} → Result T LinkFault → Type 0
+EndsBefore result = IsErrOf result LinkEnded ⊎ (IsErrOf result LinkRead ⊎ IsErrOf result LinkContinue)
+
+-- at most one record changes
+pub exchanged_one : {T : Type 0} (left : Option (List ℕ)) (now : ℕ) (received : List ℕ) (old new : List ℕ → Option Organization) (a c : Option (List ℕ)) (is_down : Bool) (row : Option LogRow) (result : Result T LinkFault)
+    → Exchanges now received left old new a c is_down row result → (EndsBefore result → Stays old new) → ChangesAtMostOne old new
+exchanged_one left now received old new a c is_down row (Ok done) h stays = answered_one now received old new h.0 h.1 row is_down h.2
+exchanged_one left now received old new a c is_down row (Err LinkWrite) h stays = answered_one now received old new h.0 (h.1 ++ h.2) row is_down h.4
+exchanged_one left now received old new a c is_down row (Err LinkEnded) h stays = stayed_one old new (stays (inl refl))
+exchanged_one left now received old new a c is_down row (Err LinkRead) h stays = stayed_one old new (stays (inr (inl refl)))
+exchanged_one left now received old new a c is_down row (Err LinkContinue) h stays = stayed_one old new (stays (inr (inr refl)))
+
+silent_told : (row : Option LogRow) (now : ℕ) (old new : List ℕ → Option Organization) → row ≡ Some (silent_row now) → Stays old new → IfSome row (λ told. ChangesAsTold told old new)
+silent_told row now old new is stays =
+    subst (λ (r : Option LogRow). IfSome r (λ told. ChangesAsTold told old new)) (sym is) (stayed_told (silent_row now) old new (silent_makes_nothing (silent_row now) now refl) stays)
+
+any_told : (now : ℕ) (received : List ℕ) (old new : List ℕ → Option Organization) (awaited : Bool) (text : List ℕ) (row : Option LogRow) (is_down : Bool)
+    → AreLawful old → IsAnswered now received old new awaited text row is_down → IfSome row (λ told. ChangesAsTold told old new)
+any_told now received old new awaited text None is_down lawful h = tt
+any_told now received old new awaited text (Some row) is_down lawful h = answered_told now received old new awaited text row is_down lawful h
+
+-- what changed is what the row tells
+pub exchanged_told : {T : Type 0} (left : Option (List ℕ)) (now : ℕ) (received : List ℕ) (old new : List ℕ → Option Organization) (a c : Option (List ℕ)) (is_down : Bool) (row : Option LogRow) (result : Result T LinkFault)
+    → AreLawful old → Exchanges now received left old new a c is_down row result → (EndsBefore result → Stays old new) → IfSome row (λ told. ChangesAsTold told old new)
+exchanged_told left now received old new a c is_down row (Ok done) lawful h stays = any_told now received old new h.0 h.1 row is_down lawful h.2
+exchanged_told left now received old new a c is_down row (Err LinkWrite) lawful h stays = any_told now received old new h.0 (h.1 ++ h.2) row is_down lawful h.4
+exchanged_told left now received old new a c is_down row (Err LinkEnded) lawful h stays = silent_told row now old new h.1 (stays (inl refl))
+exchanged_told left now received old new a c is_down row (Err LinkRead) lawful h stays = silent_told row now old new h.1 (stays (inr (inl refl)))
+exchanged_told left now received old new a c is_down row (Err LinkContinue) lawful h stays = silent_told row now old new h.1 (stays (inr (inr refl)))
 
 -- what was read of a whole input, as of what received
 of_input : (at : ℕ) (rows : List ℕ → Option Organization) (read : Result Message WireFault) (p : Prepared) (bytes : List ℕ) (a b : Option (List ℕ)) → PreparesFor at rows read p → ReportsInput bytes a b read → ReportsReceived bytes None a b read

@@ -62,7 +62,7 @@ carried_leaves org now r (Ok (Carry ws act)) refusal e =
     ruled_leaves org ws r (rules act now (seen_at r ws))
     (rules_change_nothing act now (seen_at r ws) (refuses_by org ws (rules act now (seen_at r ws)).answer refusal e) ∙ standing_at r ws)
 
-command_leaves : (r : Option Organization) (command : Admin) → (command_step r command).answer ≢ Done → (command_step r command).left ≡ r
+pub command_leaves : (r : Option Organization) (command : Admin) → (command_step r command).answer ≢ Done → (command_step r command).left ≡ r
 command_leaves None (OrgAdd org limit) apart = absurd (apart refl)
 command_leaves (Some o) (OrgAdd org limit) apart = refl
 command_leaves None (TokenAdd org name role secret bounds) apart = refl

@@ -1,4 +1,5 @@
 pub mod ActLemmas
+pub mod WordLemmas
 pub mod CheckLemmas
 pub mod RecordLemmas
 pub mod JudgingLemmas
@@ -16,4 +17,5 @@ pub mod AbsentExamples
 pub mod TokenExamples
 pub mod LogLemmas
 pub mod ToldLemmas
+pub mod DoorLemmas
 pub mod TellingLemmas

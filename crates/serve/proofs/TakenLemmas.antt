@@ -1,5 +1,7 @@
 -- One step taken: what it asks is carried out, and this is the text of what is said.
-use Rattle.std.proofs.Common.{◌≡◌, ℕ, Bool, List, Option, Result, IfOk, refl, sym, ap, subst, ◌∙◌}
+use Rattle.std.proofs.Common.{◌≡◌, ℕ, Bool, true, false, not, ◌&&◌, ◌||◌, cond, List, Option, Some, None, is_some, Result, IfOk, refl, sym, ap, subst, ◌∙◌}
+use Rattle.std.specs.FinMap.{get}
+use Rattle.sha2.specs.Sha256.{sha256}
 use Rattle.machine.specs.declared.records.Organization.{Organization}
 use Rattle.route.specs.Asks.{Asking, asked_of, asks}
 use Rattle.route.specs.Asks as route
@@ -11,16 +13,20 @@ use Rattle.serve.specs.Asks.{Ask, silent, requests, commands, organization}
 use Rattle.serve.specs.Asks as ask
 use Rattle.serve.specs.Inner.Prepared.{IsPrepared, Foresees}
 use Rattle.serve.specs.Logs.{workspace_named}
-use Rattle.serve.specs.Steps.{request_step}
+use Rattle.serve.specs.Steps.{request_step, command_step}
 use Rattle.serve.specs.Service.{asked_by, Asks, Carries, Stays, said_to, IsSaidText, after_ask, is_own, ask_of}
-use Rattle.serve.specs.Service.{IsAsked, IsAdminAnswer, admin_word, token_list_text, ListsAll, IsListedBy, IsListed}
-use Rattle.serve.specs.Inner.Taking.{IsTaken, IsOnOne, IsTimely}
+use Rattle.serve.specs.Service.{IsAsked, IsAdminAnswer, admin_word, token_list_text, told_text, ListsAll, IsListedBy, IsListed}
+use Rattle.serve.specs.Inner.Taking.{IsTaken, IsOnOne, IsTimely, IsTold, IsCarriedOut}
+use Rattle.serve.specs.declared.commands.Told.{Told}
 use Rattle.serve.specs.declared.steps.Step.{Step}
 use Rattle.serve.specs.declared.steps.Step.TheVariants.{Command, Request}
 use Rattle.serve.specs.declared.steps.Admin.{Admin}
 use Rattle.serve.specs.declared.steps.Admin.TheVariants.{OrgAdd, OrgLimit, OrgRemove, OrgList, TokenAdd, TokenList, TokenRevoke}
-use Rattle.machine.specs.Tokens.{tokens_told}
+use Rattle.machine.specs.Effects.{effect}
+use Rattle.machine.specs.Removal.{has_use}
+use Rattle.machine.specs.Tokens.{has_digest, with_token, without_token, token_of, tokens_told, ListsOrganizations}
 use Rattle.machine.specs.declared.keeps.AdminAnswer.{AdminAnswer}
+use Rattle.machine.specs.declared.keeps.AdminAnswer.TheVariants.{Done, Exists, Absent, InUse, Organizations, Tokens}
 use Rattle.serve.proofs.RecordLemmas.{if_ok}
 use Rattle.machine.specs.Ranges.{IsMoment}
 
@@ -69,17 +75,16 @@ reading_listed at unfinished records text = tt
 reading_listed at (wire.refused refusal head) records text = tt
 reading_listed at (whole message awaited) records text = asking_listed at awaited message (asked_of message) records text
 
--- the list of all organizations
-pub list_taken : (old new : List ℕ → Option Organization) (command : Admin) (text : List ℕ) → command ≡ OrgList → Stays old new → ListsAll old text
-    → (at : ℕ) → Carries (commands at command) old new × IsSaidText (said_to old (commands at command)) text × IsListedBy old command text
-list_taken old new command text is stays listed at =
-    subst (λ (c : Admin). Carries (commands at c) old new × IsSaidText (said_to old (commands at c)) text × IsListedBy old c text) (sym is) (stays, (listed.0, listed.2), listed)
+-- the list of all organizations, and that of an organization's tokens: nothing changes
+pub list_carried : (old new : List ℕ → Option Organization) (command : Admin) (told : Told) → command ≡ OrgList → Stays old new
+    → (answer : AdminAnswer) → ListsOrganizations old answer → IsTold answer told → IsCarriedOut command old new told
+list_carried old new command told is stays answer listed tells =
+    subst (λ (c : Admin). IsCarriedOut c old new told) (sym is) (record { answer = answer; answered = listed; tells = tells; carries = λ at. stays })
 
--- the list of an organization's tokens
-pub tokens_taken : (old new : List ℕ → Option Organization) (command : Admin) (org text : List ℕ) → command ≡ TokenList org → Stays old new → text ≡ token_list_text (tokens_told (old org))
-    → (at : ℕ) → Carries (commands at command) old new × IsSaidText (said_to old (commands at command)) text × IsListedBy old command text
-tokens_taken old new command org text is stays listed at =
-    subst (λ (c : Admin). Carries (commands at c) old new × IsSaidText (said_to old (commands at c)) text × IsListedBy old c text) (sym is) (stays, (tokens_told (old org), listed), listed)
+pub tokens_carried : (old new : List ℕ → Option Organization) (command : Admin) (org : List ℕ) (told : Told) → command ≡ TokenList org → Stays old new
+    → IsTold (tokens_told (old org)) told → IsCarriedOut command old new told
+tokens_carried old new command org told is stays tells =
+    subst (λ (c : Admin). IsCarriedOut c old new told) (sym is) (record { answer = tokens_told (old org); answered = refl; tells = tells; carries = λ at. stays })
 
 -- a request
 pub request_taken : {E : Type 0} (s : Step) (at : ℕ) (bytes came : List ℕ) (old new : List ℕ → Option Organization) (res : Result (List ℕ) E) → s ≡ Request at bytes → came ≡ bytes → IsMoment at
@@ -95,13 +100,65 @@ request_taken s at bytes came old new res is same moment h =
       listed = subst (λ (a : Ask). IsListed old a text) (sym taken.1.is) (reading_listed at taken.1.reading old text);
     }) h
 
--- the word of a command on one organization
-pub word_taken : (rows : List ℕ → Option Organization) (command : Admin) (answer : AdminAnswer) (text : List ℕ) (at : ℕ) → IsAdminAnswer rows command answer → text ≡ admin_word answer → IsOnOne command
-    → IsSaidText (said_to rows (commands at command)) text
-word_taken rows (OrgAdd org limit) answer text at is made one = made ∙ ap admin_word is
-word_taken rows (OrgLimit org limit) answer text at is made one = made ∙ ap admin_word is
-word_taken rows (OrgRemove org is_forced) answer text at is made one = made ∙ ap admin_word is
-word_taken rows OrgList answer text at is made one = absurd one
-word_taken rows (TokenAdd org name role secret bounds) answer text at is made one = made ∙ ap admin_word is
-word_taken rows (TokenList org) answer text at is made one = absurd one
-word_taken rows (TokenRevoke org name) answer text at is made one = made ∙ ap admin_word is
+-- the text of an answer on one organization is its word
+abbrev IsWord : AdminAnswer → Type 0
+IsWord answer = admin_word answer ≡ told_text answer
+
+step_word : (r : Option Organization) (command : Admin) → IsOnOne command → IsWord (command_step r command).answer
+step_word None (OrgAdd org limit) one = refl
+step_word (Some o) (OrgAdd org limit) one = refl
+step_word None (OrgLimit org limit) one = refl
+step_word (Some o) (OrgLimit org limit) one = refl
+step_word None (OrgRemove org is_forced) one = refl
+step_word (Some o) (OrgRemove org is_forced) one = removed (not is_forced && has_use o)
+  where
+    removed : (b : Bool) → IsWord (cond b (effect InUse (Some o)) (effect Done None)).answer
+    removed true = refl
+    removed false = refl
+step_word r OrgList one = absurd one
+step_word None (TokenAdd org name role secret bounds) one = refl
+step_word (Some o) (TokenAdd org name role secret bounds) one = added (is_some (get o.tokens name) || has_digest (sha256 secret) o)
+  where
+    added : (b : Bool) → IsWord (cond b (effect Exists (Some o)) (effect Done (Some (with_token o name (token_of (sha256 secret) role bounds))))).answer
+    added true = refl
+    added false = refl
+step_word r (TokenList org) one = absurd one
+step_word None (TokenRevoke org name) one = refl
+step_word (Some o) (TokenRevoke org name) one = taken (is_some (get o.tokens name))
+  where
+    taken : (b : Bool) → IsWord (cond b (effect Done (Some (without_token o name))) (effect Absent (Some o))).answer
+    taken true = refl
+    taken false = refl
+
+pub word_told : (rows : List ℕ → Option Organization) (command : Admin) (answer : AdminAnswer) → IsAdminAnswer rows command answer → IsOnOne command → IsWord answer
+word_told rows (OrgAdd org limit) answer is one = subst IsWord (sym is) (step_word (rows org) (OrgAdd org limit) one)
+word_told rows (OrgLimit org limit) answer is one = subst IsWord (sym is) (step_word (rows org) (OrgLimit org limit) one)
+word_told rows (OrgRemove org is_forced) answer is one = subst IsWord (sym is) (step_word (rows org) (OrgRemove org is_forced) one)
+word_told rows OrgList answer is one = absurd one
+word_told rows (TokenAdd org name role secret bounds) answer is one = subst IsWord (sym is) (step_word (rows org) (TokenAdd org name role secret bounds) one)
+word_told rows (TokenList org) answer is one = absurd one
+word_told rows (TokenRevoke org name) answer is one = subst IsWord (sym is) (step_word (rows org) (TokenRevoke org name) one)
+
+-- a list of all organizations, and one of tokens, is its text
+list_said : (rows : List ℕ → Option Organization) (answer : AdminAnswer) (text : List ℕ) → ListsOrganizations rows answer → text ≡ told_text answer → ListsAll rows text
+list_said rows Done text listed made = absurd listed
+list_said rows Exists text listed made = absurd listed
+list_said rows Absent text listed made = absurd listed
+list_said rows InUse text listed made = absurd listed
+list_said rows (Organizations listing) text listed made = (listing, listed, made)
+list_said rows (Tokens listing) text listed made = absurd listed
+
+tokens_said : (r : Option Organization) → told_text (tokens_told r) ≡ token_list_text (tokens_told r)
+tokens_said None = refl
+tokens_said (Some o) = refl
+
+-- the text of an answer is that of what the machine says, and of the list that is asked for
+pub said_told : (rows : List ℕ → Option Organization) (command : Admin) (answer : AdminAnswer) (text : List ℕ) (at : ℕ) → IsAdminAnswer rows command answer → text ≡ told_text answer
+    → IsSaidText (said_to rows (commands at command)) text × IsListedBy rows command text
+said_told rows (OrgAdd org limit) answer text at is made = (made ∙ sym (word_told rows (OrgAdd org limit) answer is tt) ∙ ap admin_word is, tt)
+said_told rows (OrgLimit org limit) answer text at is made = (made ∙ sym (word_told rows (OrgLimit org limit) answer is tt) ∙ ap admin_word is, tt)
+said_told rows (OrgRemove org is_forced) answer text at is made = (made ∙ sym (word_told rows (OrgRemove org is_forced) answer is tt) ∙ ap admin_word is, tt)
+said_told rows OrgList answer text at is made = let listed = list_said rows answer text is made in ((listed.0, listed.2), listed)
+said_told rows (TokenAdd org name role secret bounds) answer text at is made = (made ∙ sym (word_told rows (TokenAdd org name role secret bounds) answer is tt) ∙ ap admin_word is, tt)
+said_told rows (TokenList org) answer text at is made = let listed = made ∙ ap told_text is ∙ tokens_said (rows org) in ((tokens_told (rows org), listed), listed)
+said_told rows (TokenRevoke org name) answer text at is made = (made ∙ sym (word_told rows (TokenRevoke org name) answer is tt) ∙ ap admin_word is, tt)

@@ -127,10 +127,10 @@ task_goes r now asked content_md5 body (Ok (Carry its_ws its_act)) e =
       started = refl;
     })
 
-keeps_same : (w v : Workspace) → w ≡ v → KeepsVersions w v
+pub keeps_same : (w v : Workspace) → w ≡ v → KeepsVersions w v
 keeps_same w v same = subst (KeepsVersions w) same (record { next = refl; left = λ n u e. e })
 
-none_starts : (w v : Workspace) (n : ℕ) → w ≡ v → Starts n w v → ⊥
+pub none_starts : (w v : Workspace) (n : ℕ) → w ≡ v → Starts n w v → ⊥
 none_starts w v n same (unheld, held) = let none : ⊥ = cc (sym unheld ∙ ap (λ (x : Workspace). holds x.holder n) same ∙ held) in none
 
 -- of a record that stays a row tells that nothing was made

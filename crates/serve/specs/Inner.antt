@@ -4,4 +4,5 @@ pub mod Prepared
 pub mod Units
 pub mod Taking
 pub mod Replying
+pub mod Doors
 pub mod Tracing

@@ -1,10 +1,15 @@
 pub mod Asks
+pub mod Parts
+pub mod Bounds
+pub mod Words
+pub mod Lines
 pub mod Checks
 pub mod Steps
 pub mod Logs
 pub mod Service
 pub mod Runs
 pub mod Exchanges
+pub mod Doors
 pub mod Laws
 pub mod Custody
 pub mod Book

@@ -1,5 +1,5 @@
 -- What the log tells of an exchange: by what was asked, the record before it, and what it was answered.
-use Rattle.std.specs.Prelude.{◌≡◌, ◌⊎◌, ℕ, zero, suc, ◌==◌, if◌then◌else◌, List, Option, Some, None, Result, Ok, Err}
+use Rattle.std.specs.Prelude.{◌≡◌, ◌⊎◌, ℕ, zero, suc, true, false, ◌==◌, if◌then◌else◌, List, Option, Some, None, Result, Ok, Err}
 use Rattle.std.specs.Option.{option_or}
 use Rattle.basis.specs.Acts.{act_number}
 use Rattle.basis.specs.Checks.{and_then}
@@ -126,11 +126,17 @@ traced now r (Ok (Carry ws act)) = trace_of (workspace_in r ws) (rules act now (
 
 -- a row of which nothing is known but the moment: no message was read whole, and there is no reply
 abbrev pub silent_row : ℕ → LogRow
-silent_row at = record { act = None; at = at; id = None; number = None; organization = None; refusal = None; run = None; status = None; token = None; version = None; workspace = None }
+silent_row at = record { act = None; at = at; id = None; number = None; operator = false; organization = None; refusal = None; run = None; status = None; subject = None; token = None; version = None; workspace = None }
 
 -- the row with an answer
 abbrev pub with_answer : Answer → LogRow → LogRow
 with_answer answer row = record row { status = Some answer.status; refusal = answer.refusal }
+
+-- the row of a request at the operator's door: what its command asks, the organization that it names, and the token that it added or revoked,
+-- each if there is one; and the answer
+abbrev pub operator_row : ℕ → Option LogAct → Option (List ℕ) → Option (List ℕ) → Answer → LogRow
+operator_row at act org subject answer =
+    record (silent_row at) { act = act; operator = true; organization = org; refusal = answer.refusal; status = Some answer.status; subject = subject }
 
 -- the row of a request, by what is asked, what was answered, the token's name, the ID in the document, and what the rules did
 abbrev pub row_of_request : ℕ → Asked → Answer → Option (List ℕ) → Option (List ℕ) → Trace → LogRow
@@ -139,10 +145,12 @@ row_of_request at asked answer token id trace = record {
   at = at;
   id = option_or id asked.lock_id;
   number = option_or (number_named asked.act) (option_or trace.shown_run trace.version);
+  operator = false;
   organization = Some asked.caller;
   refusal = answer.refusal;
   run = trace.run;
   status = Some answer.status;
+  subject = None;
   token = token;
   version = trace.version;
   workspace = workspace_named asked.act;

@@ -3,6 +3,8 @@ use Rattle.std.specs.Prelude.{◌≡◌, ℕ, Bool, true, false, List, [], ◌�
 use Rattle.std.specs.List.{flat_map}
 use Rattle.std.specs.Str.{bytes_eq}
 use Rattle.machine.specs.declared.keeps.AdminAnswer.{AdminAnswer}
+use Rattle.basis.specs.declared.refusals.Refusal.{Refusal}
+use Rattle.basis.specs.declared.refusals.Refusal.TheVariants as why
 use Rattle.basis.specs.Roles.{role_word}
 use Rattle.machine.specs.Tokens.{AreOrganizations, ListsOrganizations, tokens_told}
 use Rattle.machine.specs.declared.keeps.AdminAnswer.TheVariants.{Done, Exists, Absent, InUse, Organizations, Tokens}
@@ -97,6 +99,24 @@ token_list_text Absent = admin_word Absent
 token_list_text InUse = admin_word InUse
 token_list_text (Organizations rows) = admin_word (Organizations rows)
 token_list_text (Tokens rows) = token_lines rows
+
+-- the text of an answer: a word or a list
+abbrev pub told_text : AdminAnswer → List ℕ
+told_text Done = admin_word Done
+told_text Exists = admin_word Exists
+told_text Absent = admin_word Absent
+told_text InUse = admin_word InUse
+told_text (Organizations rows) = org_lines rows
+told_text (Tokens rows) = token_lines rows
+
+-- why a command is refused, if it is
+abbrev pub refusal_told : AdminAnswer → Option Refusal
+refusal_told Done = None
+refusal_told Exists = Some why.Exists
+refusal_told Absent = Some why.Absent
+refusal_told InUse = Some why.InUse
+refusal_told (Organizations rows) = None
+refusal_told (Tokens rows) = None
 
 -- the text of what is said
 abbrev pub IsSaidText : Said → List ℕ → Type 0

@@ -214,7 +214,7 @@ pub fn missed<K: Keep>(
 }
 
 /// Whether Content-MD5, where it is sent, is the MD5 of the body (RFC 1864).
-fn digest_checked(content_md5: &Option<Bytes>, body: &Bytes) -> Result<(), Refusal>
+pub fn digest_checked(content_md5: &Option<Bytes>, body: &Bytes) -> Result<(), Refusal>
     ensures { result ≡ digest_checked content_md5.now body.now }
 {
     match content_md5 {

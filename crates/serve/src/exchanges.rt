@@ -7,18 +7,21 @@ ghost use Rattle.machine.specs.Keeping.{Lasts, LastsWhere};
 ghost use Rattle.serve.specs.Asks.{Ask};
 ghost use Rattle.serve.specs.Service.{Stays};
 ghost use Rattle.serve.specs.Exchanges.{Exchanges, ChangesAtMostOne, ChangesAsTold};
+ghost use Rattle.serve.specs.Doors.{ExchangesWith, IsToldAtDoor};
+ghost use Rattle.serve.specs.Inner.Doors.{AnswersOpen};
 ghost use Rattle.serve.specs.Inner.Prepared.{IsPrepared};
-ghost use Rattle.serve.specs.Inner.Replying.{due_reply, due_row, Settles};
+ghost use Rattle.serve.specs.Inner.Replying.{AnswersTo, due_reply, due_row, Settles};
 
+use crate::doors::{Door, Operated, operate};
 use crate::logs::{as_unavailable, silent_row};
-use crate::messages::{commit, prepare, without_body};
+use crate::messages::{commit, is_head, prepare, without_body};
 use crate::prepared::Prepared;
 use basis::{Down, Moment};
 use docs::LogRow;
 use machine::Keep;
-use route::Routes;
+use route::{Routes, is_at_door};
 use std::alloc::Global;
-use wire::{Inlet, Outlet, Reply, read_message, write_reply};
+use wire::{Inlet, Message, Outlet, Reply, WireFault, read_message, write_reply};
 
 /// Why an exchange ended without a whole reply. After the first three no rows changed.
 #[derive(Clone, Copy, PartialEq, Eq)]
@@ -102,6 +105,48 @@ fn row_after(ready: Prepared, is_down: bool) -> LogRow
     }
 }
 
+// Answers and carries out what was read, and writes the reply.
+fn answer_read<K: Keep, O: Outlet>(
+    alloc: Global,
+    keep: &mut K,
+    routes: &Routes,
+    now: Moment,
+    read: Result<Message, WireFault>,
+    outlet: &mut O,
+    is_down: &mut bool,
+    row: &mut Option<LogRow>,
+) -> Result<(), LinkFault>
+    requires { (O.broken outlet.old ≡ true) ↔ IsErrOf read WireFault.Continue }
+    ensures lasts { Lasts K.clean K.sound K.keyed K.shielded keep.old keep.new }
+    ensures told { K.clean keep.new → K.sound keep.old → AnswersTo now read (K.rows keep.old) (K.rows keep.new) (O.written outlet.old) (O.written outlet.new) is_down.new row.new result }
+    ensures stays { K.clean keep.new → (IsErrOf result LinkFault.Ended ⊎ (IsErrOf result LinkFault.Read ⊎ IsErrOf result LinkFault.Continue))
+        → Stays (K.rows keep.old) (K.rows keep.new) }
+    ensures ended { IsErrOf result LinkFault.Ended ↔ IsErrOf read WireFault.Ended }
+    ensures read { IsErrOf result LinkFault.Read ↔ IsErrOf read WireFault.Read }
+    ensures continues { IsErrOf result LinkFault.Continue ↔ IsErrOf read WireFault.Continue }
+    ensures down { K.clean keep.new → K.sound keep.old → IsErrOf read WireFault.Down → is_down.new ≡ true }
+    ensures written { (O.broken outlet.new ≡ true) ↔ (IsErrOf result LinkFault.Continue ⊎ IsErrOf result LinkFault.Write) }
+{
+    *is_down = false;
+    let head_only = without_body(&read);
+    match prepare(alloc, keep, routes, now, read) {
+        Ok(Ok(ready)) => {
+            let result = settle(alloc, keep, &ready, head_only, now, outlet, is_down);
+            *row = Some(row_after(ready, *is_down));
+            result
+        }
+        Ok(Err(so_far)) => {
+            *is_down = true;
+            *row = Some(so_far);
+            refuse_exchange(head_only, now, outlet)
+        }
+        Err(fault) => {
+            *row = Some(silent_row(now));
+            Err(fault)
+        }
+    }
+}
+
 /// One exchange over a keep; `is_down` tells then whether it was answered by the 503 of memory or a store
 /// that refused, and `row` what the log tells of it.
 pub fn exchange<K: Keep, I: Inlet, O: Outlet>(
@@ -128,23 +173,107 @@ pub fn exchange<K: Keep, I: Inlet, O: Outlet>(
     ensures written { (O.broken outlet.new ≡ true) ↔ (IsErrOf result LinkFault.Continue ⊎ IsErrOf result LinkFault.Write) }
 {
     keep.records_are_lawful();
-    *is_down = false;
     let read = read_message(alloc, inlet, outlet);
-    let head_only = without_body(&read);
-    match prepare(alloc, keep, routes, now, read) {
-        Ok(Ok(ready)) => {
-            let result = settle(alloc, keep, &ready, head_only, now, outlet, is_down);
-            *row = Some(row_after(ready, *is_down));
-            result
+    answer_read(alloc, keep, routes, now, read, outlet, is_down, row)
+}
+
+// Answers a message at the open door, and carries out its command.
+fn answer_at_door<K: Keep, O: Outlet>(
+    alloc: Global,
+    keep: &mut K,
+    digest: &[u8; 32],
+    now: Moment,
+    message: &Message,
+    outlet: &mut O,
+    is_down: &mut bool,
+    row: &mut Option<LogRow>,
+) -> Result<(), LinkFault>
+    requires { O.broken outlet.old ≡ false }
+    ensures lasts { Lasts K.clean K.sound K.keyed K.shielded keep.old keep.new }
+    ensures text { K.clean keep.new → K.sound keep.old → (text : List ℕ) × IsToldAtDoor digest.now now message.now (K.rows keep.old) (K.rows keep.new) text row.new is_down.new
+        × Writes (O.written outlet.old) (O.written outlet.new) text result }
+    ensures fault { IfErr result (λ fault. fault ≡ LinkFault.Write) }
+    ensures cause { O.broken outlet.new ≡ is_err result }
+{
+    match operate(alloc, keep, digest, now, message) {
+        Ok(operated) => {
+            let Operated { reply, row: told } = operated;
+            *is_down = false;
+            *row = Some(told);
+            write_due(&reply, now, outlet)
         }
-        Ok(Err(so_far)) => {
+        Err(so_far) => {
             *is_down = true;
             *row = Some(so_far);
-            refuse_exchange(head_only, now, outlet)
+            refuse_exchange(is_head(message), now, outlet)
         }
-        Err(fault) => {
-            *row = Some(silent_row(now));
-            Err(fault)
+    }
+}
+
+// Answers what was read while the door is open: at the door, or past it.
+fn answer_open<K: Keep, O: Outlet>(
+    alloc: Global,
+    keep: &mut K,
+    routes: &Routes,
+    digest: &[u8; 32],
+    now: Moment,
+    read: Result<Message, WireFault>,
+    outlet: &mut O,
+    is_down: &mut bool,
+    row: &mut Option<LogRow>,
+) -> Result<(), LinkFault>
+    requires { (O.broken outlet.old ≡ true) ↔ IsErrOf read WireFault.Continue }
+    ensures lasts { Lasts K.clean K.sound K.keyed K.shielded keep.old keep.new }
+    ensures told { K.clean keep.new → K.sound keep.old → AnswersOpen digest.now now read (K.rows keep.old) (K.rows keep.new) (O.written outlet.old) (O.written outlet.new) is_down.new row.new result }
+    ensures stays { K.clean keep.new → (IsErrOf result LinkFault.Ended ⊎ (IsErrOf result LinkFault.Read ⊎ IsErrOf result LinkFault.Continue))
+        → Stays (K.rows keep.old) (K.rows keep.new) }
+    ensures ended { IsErrOf result LinkFault.Ended ↔ IsErrOf read WireFault.Ended }
+    ensures read { IsErrOf result LinkFault.Read ↔ IsErrOf read WireFault.Read }
+    ensures written { (O.broken outlet.new ≡ true) ↔ (IsErrOf result LinkFault.Continue ⊎ IsErrOf result LinkFault.Write) }
+{
+    match read {
+        Ok(message) => {
+            if is_at_door(&message) {
+                answer_at_door(alloc, keep, digest, now, &message, outlet, is_down, row)
+            } else {
+                answer_read(alloc, keep, routes, now, Ok(message), outlet, is_down, row)
+            }
+        }
+        Err(fault) => answer_read(alloc, keep, routes, now, Err(fault), outlet, is_down, row),
+    }
+}
+
+/// The same as `exchange`, with an operator's door.
+pub fn exchange_with<K: Keep, I: Inlet, O: Outlet>(
+    alloc: Global,
+    keep: &mut K,
+    routes: &Routes,
+    door: &Door,
+    now: Moment,
+    inlet: &mut I,
+    outlet: &mut O,
+    is_down: &mut bool,
+    row: &mut Option<LogRow>,
+) -> Result<(), LinkFault>
+    requires reads { I.broken inlet.old ≡ false }
+    requires writes { O.broken outlet.old ≡ false }
+    ensures lasts { Lasts K.clean K.sound K.keyed K.shielded keep.old keep.new }
+    ensures told { K.clean keep.new → K.sound keep.old → (received : List ℕ) × Consumes (I.left inlet.old) (I.left inlet.new) received
+        × ExchangesWith door.now now received (I.left inlet.new) (K.rows keep.old) (K.rows keep.new) (O.written outlet.old) (O.written outlet.new) is_down.new row.new result }
+    ensures stays { K.clean keep.new → (IsErrOf result LinkFault.Ended ⊎ (IsErrOf result LinkFault.Read ⊎ IsErrOf result LinkFault.Continue))
+        → Stays (K.rows keep.old) (K.rows keep.new) }
+    ensures others { K.clean keep.new → K.sound keep.old → ChangesAtMostOne (K.rows keep.old) (K.rows keep.new) }
+    ensures changes { K.clean keep.new → K.sound keep.old → IfSome row.new (λ told. ChangesAsTold told (K.rows keep.old) (K.rows keep.new)) }
+    ensures read { (I.broken inlet.new ≡ true) ↔ IsErrOf result LinkFault.Read }
+    ensures end { I.ended inlet.old ≡ false → ((I.ended inlet.new ≡ true) ↔ IsErrOf result LinkFault.Ended) }
+    ensures written { (O.broken outlet.new ≡ true) ↔ (IsErrOf result LinkFault.Continue ⊎ IsErrOf result LinkFault.Write) }
+{
+    keep.records_are_lawful();
+    let read = read_message(alloc, inlet, outlet);
+    match door {
+        Door::Closed => answer_read(alloc, keep, routes, now, read, outlet, is_down, row),
+        Door::Open { digest } => {
+            answer_open(alloc, keep, routes, digest, now, read, outlet, is_down, row)
         }
     }
 }

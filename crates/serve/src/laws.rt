@@ -1,6 +1,7 @@
 //! Laws of steps and runs, each the contract of a call that does nothing.
 ghost use Rattle.serve.specs.Laws.{OneAsking, TwoWorlds, SameStepsAskTheSame, RefusedStepsChangeNothing, OutOfReachIsNotFound, OutOfReachIsAsAbsent, OutsideThePrefixIsNotFound, OutsideThePrefixIsAsAbsent, NamesDecideNothing, SecretsAreNotTold};
 ghost use Rattle.serve.specs.Custody.{StepsChangeWhatTheyName, LocksAreKept, OrganizationsGoByRemoval, RemovalsAreCarriedOut, OrganizationsBeginAnew, StepsAreRepeatable, RepeatsLeaveTheWorkspace, LockedTellsTheHolder, SameBytesAskAgain, RequestsChangeTheirWorkspaceAlone};
+ghost use Rattle.serve.specs.Doors.{OnlyTheSecretOpens};
 ghost use Rattle.serve.specs.Book.{BooksAreOfTheRun, PeriodsAreTheStepsBetween};
 
 /// The steps of a list ask one list of things.
@@ -116,4 +117,9 @@ pub fn names_decide_nothing()
 /// name and caller.
 pub fn secrets_are_not_told()
     ensures { SecretsAreNotTold }
+{}
+
+/// Nobody without the operator's secret changes anything at the operator's door.
+pub fn only_the_secret_opens()
+    ensures { OnlyTheSecretOpens }
 {}

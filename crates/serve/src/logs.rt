@@ -1,10 +1,10 @@
 //! What the log tells of an exchange.
 ghost use Rattle.std.specs.Prelude.{◌≡◌, ◌+◌, Some, None};
-ghost use Rattle.serve.specs.Logs.{act_logged, workspace_named, number_named, number_given, no_trace, silent_row, with_answer, row_of_request, unavailable_row};
+ghost use Rattle.serve.specs.Logs.{act_logged, workspace_named, number_named, number_given, no_trace, silent_row, with_answer, operator_row, row_of_request, unavailable_row};
 ghost use Rattle.machine.specs.Laws.{holds};
 ghost use Rattle.serve.specs.Inner.Tracing.{told_by, edit_number, edit_start, version_by, run_by, trace_by, read_so_far, as_unavailable};
 
-use basis::{Holder, LockId, Moment, Number, Refusal, Text, WsName};
+use basis::{Holder, LockId, Moment, Number, OrgName, Refusal, Text, WsName};
 use docs::{LogAct, LogRow};
 use machine::{Act, Answer, Change, Decision, Edit, Unit, Version};
 use route::{Asked, AskedAct};
@@ -189,10 +189,12 @@ pub fn silent_row(at: Moment) -> LogRow
         at,
         id: None,
         number: None,
+        operator: false,
         organization: None,
         refusal: None,
         run: None,
         status: None,
+        subject: None,
         token: None,
         version: None,
         workspace: None,
@@ -232,6 +234,28 @@ pub fn as_unavailable(row: LogRow) -> LogRow
     }
 }
 
+/// The row of a request at the operator's door: what its command asks, the organization that it names, and the token that it
+/// added or revoked, each if there is one.
+pub fn operator_row(
+    at: Moment,
+    act: Option<LogAct>,
+    organization: Option<OrgName>,
+    subject: Option<OrgName>,
+    reply: &Reply,
+) -> LogRow
+    ensures { result ≡ operator_row at act organization subject reply.now }
+{
+    LogRow {
+        act,
+        operator: true,
+        organization,
+        refusal: reply.refusal(),
+        status: Some(reply.status()),
+        subject,
+        ..silent_row(at)
+    }
+}
+
 /// The row of a request.
 pub fn request_row(at: Moment, asked: Asked, reply: &Reply, facts: RowFacts) -> LogRow
     ensures { result ≡ row_of_request at asked reply.now facts.token facts.id facts.trace }
@@ -252,10 +276,12 @@ pub fn request_row(at: Moment, asked: Asked, reply: &Reply, facts: RowFacts) -> 
         at,
         id: id.or(lock_id),
         number: number_named(&act).or(trace.shown_run.or(trace.version)),
+        operator: false,
         organization: Some(caller),
         refusal,
         run: trace.run,
         status: Some(reply.status()),
+        subject: None,
         token,
         version: trace.version,
         workspace: workspace_named(act),

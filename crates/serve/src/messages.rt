@@ -22,7 +22,8 @@ use route::{Asked, Routes, asked};
 use std::alloc::Global;
 use wire::{FromRead, Message, Reply, ToWrite, WireFault, read_message, write_reply};
 
-fn is_head(message: &Message) -> bool
+/// Whether the method of a message is HEAD.
+pub fn is_head(message: &Message) -> bool
     ensures { result ≡ is_head message.now }
 {
     message.method.as_str() == "HEAD"

@@ -2,74 +2,28 @@
 ghost use Rattle.std.specs.Prelude.{◌≡◌, ◌≤◌, ◌<◌, ℕ, List, Option, Some, None, IfOk, IsErrOf, true, false, IfSome, ◌↔◌, ◌⊎◌, OnOk, OnErr, length, take};
 ghost use Rattle.std.specs.Io.KnownBytes.{Consumes};
 ghost use Rattle.serve.specs.Exchanges.{Exchanges, ChangesAtMostOne, ChangesAsTold};
+ghost use Rattle.serve.specs.Doors.{ExchangesWith};
 ghost use Rattle.serve.specs.Inner.Taking.{IsTaken, RunsTo};
 ghost use Rattle.serve.specs.Asks.{Ask, commands, unattributed, operator};
-ghost use Rattle.serve.specs.Service.{IsSaidText, Stays, Carries, said_to, AreAsked, IsAdminAnswer, ListsAll, IsListedBy, org_lines, token_list_text};
-ghost use Rattle.serve.specs.Inner.Taking.{IsOnOne};
-ghost use Rattle.machine.specs.Keeping.{Looks, Lasts};
-ghost use Rattle.machine.specs.Tokens.{tokens_told};
-ghost use Rattle.machine.specs.declared.keeps.AdminAnswer.TheVariants.{Organizations};
-ghost use Rattle.machine.specs.declared.keeps.OrgRow.{OrgRow};
+ghost use Rattle.serve.specs.Service.{IsSaidText, Stays, Carries, said_to, AreAsked, IsAdminAnswer, IsListedBy};
+ghost use Rattle.machine.specs.Keeping.{Lasts};
 ghost use Rattle.serve.specs.AbsentForms.{RepliesAreThoseOfAbsentForms, RepliesOutsideThePrefixAreThoseOfAbsentForms, RepliesOutsideThePrefixAreNotFound, OutOfReachRepliesNotFound};
 ghost use Rattle.serve.specs.Book.{LocksKeepOthersOut, RunsKeepOthersOut, NoIdWhereNobodyHolds, LocksEndByUnlock, OneRunAtATime, StartsRise, RepeatsLeaveIt, DoneOnceIsDone, OfEachBook};
 ghost use Rattle.serve.specs.Runs.{IsOwnMachine, IsOwnRecord, AreOwnReplies, ListsAreTold};
 
-use crate::commands::{admin_word, command, org_lines, token_list_text};
-use crate::exchanges::{LinkFault, exchange, refuse_exchange};
+use crate::commands::{Told, command, tell};
+use crate::doors::Door;
+use crate::exchanges::{LinkFault, exchange, exchange_with, refuse_exchange};
 use crate::logs::unavailable_row;
 use crate::messages::take_request;
 use crate::steps::{Admin, Step};
 use basis::numbers::MAX_MOMENT;
-use basis::{Bytes, Down, Moment, OrgName};
+use basis::{Bytes, Down, Moment};
 use docs::LogRow;
 use machine::{AdminAnswer, Keep};
 use route::Routes;
 use std::alloc::Global;
 use wire::{Inlet, Outlet};
-
-// The most bytes of the word that answers an operator's command.
-const MAX_ADMIN_WORD: usize = 15;
-
-/// A command on one organization is carried out once there is room for its word.
-fn take_word<K: Keep>(alloc: Global, keep: &mut K, asked: &Admin) -> Result<Bytes, Down>
-    ensures lasts { Lasts K.clean K.sound K.keyed K.shielded keep.old keep.new }
-    ensures ok { K.clean keep.new → K.sound keep.old → IfOk result (λ text. (at : ℕ) → Carries (commands at asked.now) (K.rows keep.old) (K.rows keep.new)
-        × (IsOnOne asked.now → IsSaidText (said_to (K.rows keep.old) (commands at asked.now)) text)) }
-    ensures err { K.clean keep.new → OnErr result (Stays (K.rows keep.old) (K.rows keep.new)) }
-{
-    let mut text = Vec::with_capacity(alloc, MAX_ADMIN_WORD)?;
-    let answer = command(alloc, keep, asked)?;
-    text.extend_from_slice(admin_word(&answer)).unwrap();
-    Ok(Bytes::new(text))
-}
-
-fn list_lines(alloc: Global, answer: &AdminAnswer) -> Result<Bytes, Down>
-    ensures { IfOk result (λ text. (rows : List OrgRow) × (answer.now ≡ Organizations rows) × (text ≡ org_lines rows)) }
-{
-    match answer {
-        AdminAnswer::Organizations(rows) => Ok(Bytes::new(org_lines(alloc, rows.as_slice())?)),
-        AdminAnswer::Done | AdminAnswer::Exists => Err(Down),
-        AdminAnswer::Absent | AdminAnswer::InUse | AdminAnswer::Tokens(_) => Err(Down),
-    }
-}
-
-/// The list of all organizations, which changes nothing.
-fn take_list<K: Keep>(alloc: Global, keep: &mut K) -> Result<Bytes, Down>
-    ensures looks { Looks K.rows K.clean K.sound K.keyed K.shielded keep.old keep.new }
-    ensures ok { K.clean keep.new → K.sound keep.old → IfOk result (ListsAll (K.rows keep.old)) }
-{
-    let answer = keep.org_list(alloc)?;
-    list_lines(alloc, &answer)
-}
-
-/// The list of an organization's tokens, which changes nothing.
-fn take_tokens<K: Keep>(alloc: Global, keep: &mut K, org: &OrgName) -> Result<Bytes, Down>
-    ensures looks { Looks K.rows K.clean K.sound K.keyed K.shielded keep.old keep.new }
-    ensures ok { K.clean keep.new → K.sound keep.old → IfOk result (λ text. text ≡ token_list_text (tokens_told (K.rows keep.old org.now))) }
-{
-    let answer = keep.token_list(alloc, org)?;
-    Ok(Bytes::new(token_list_text(alloc, &answer)?))
-}
 
 fn take_command<K: Keep>(alloc: Global, keep: &mut K, asked: &Admin) -> Result<Bytes, Down>
     ensures lasts { Lasts K.clean K.sound K.keyed K.shielded keep.old keep.new }
@@ -77,15 +31,9 @@ fn take_command<K: Keep>(alloc: Global, keep: &mut K, asked: &Admin) -> Result<B
         × IsSaidText (said_to (K.rows keep.old) (commands at asked.now)) text × IsListedBy (K.rows keep.old) asked.now text) }
     ensures err { K.clean keep.new → OnErr result (Stays (K.rows keep.old) (K.rows keep.new)) }
 {
-    match asked {
-        Admin::OrgList => take_list(alloc, keep),
-        Admin::TokenList { org } => take_tokens(alloc, keep, org),
-        Admin::OrgAdd { .. } => take_word(alloc, keep, asked),
-        Admin::OrgLimit { .. } => take_word(alloc, keep, asked),
-        Admin::OrgRemove { .. } => take_word(alloc, keep, asked),
-        Admin::TokenAdd { .. } => take_word(alloc, keep, asked),
-        Admin::TokenRevoke { .. } => take_word(alloc, keep, asked),
-    }
+    let told = tell(alloc, keep, asked)?;
+    let Told { text, .. } = told;
+    Ok(text)
 }
 
 /// One step: what it is answered, once it is carried out.
@@ -251,6 +199,58 @@ impl<K: Keep> Service<K> {
                     alloc,
                     &mut self.keep,
                     &routes,
+                    now,
+                    inlet,
+                    outlet,
+                    &mut self.was_down,
+                    &mut self.row,
+                );
+                self.routes = Some(routes);
+                result
+            }
+            Err(_) => {
+                self.was_down = true;
+                self.row = Some(unavailable_row(now));
+                refuse_exchange(false, now, outlet)
+            }
+        }
+    }
+
+    /// The same as `exchange`, with an operator's door. If it is open, a request that comes to it with its secret has an
+    /// operator's command carried out.
+    pub fn exchange_with<I: Inlet, O: Outlet>(
+        &mut self,
+        alloc: Global,
+        door: &Door,
+        now: Moment,
+        inlet: &mut I,
+        outlet: &mut O,
+    ) -> Result<(), LinkFault>
+        requires reads { I.broken inlet.old ≡ false }
+        requires writes { O.broken outlet.old ≡ false }
+        ensures lasts { Lasts K.clean K.sound K.keyed K.shielded self.old.keep self.new.keep }
+        ensures told { K.clean self.new.keep → K.sound self.old.keep → (received : List ℕ) × Consumes (I.left inlet.old) (I.left inlet.new) received
+            × ExchangesWith door.now now received (I.left inlet.new) (K.rows self.old.keep) (K.rows self.new.keep) (O.written outlet.old) (O.written outlet.new) self.new.was_down self.new.row result }
+
+        // What needs no bytes: where no whole message received no record changes, and never more than one does.
+        ensures stays { K.clean self.new.keep → (IsErrOf result LinkFault.Ended ⊎ (IsErrOf result LinkFault.Read ⊎ IsErrOf result LinkFault.Continue))
+            → Stays (K.rows self.old.keep) (K.rows self.new.keep) }
+        ensures others { K.clean self.new.keep → K.sound self.old.keep → ChangesAtMostOne (K.rows self.old.keep) (K.rows self.new.keep) }
+        ensures changes { K.clean self.new.keep → K.sound self.old.keep → IfSome self.new.row (λ row. ChangesAsTold row (K.rows self.old.keep) (K.rows self.new.keep)) }
+        ensures read { (I.broken inlet.new ≡ true) ↔ IsErrOf result LinkFault.Read }
+
+        // Where a read has told the input's end, it ended inside the message: an unfinished message is never answered.
+        ensures end { I.ended inlet.old ≡ false → ((I.ended inlet.new ≡ true) ↔ IsErrOf result LinkFault.Ended) }
+        ensures written { (O.broken outlet.new ≡ true) ↔ (IsErrOf result LinkFault.Continue ⊎ IsErrOf result LinkFault.Write) }
+        ensures taken { self.new.taken ≡ self.old.taken }
+    {
+        match take_routes(alloc, &mut self.routes) {
+            Ok(routes) => {
+                let result = exchange_with(
+                    alloc,
+                    &mut self.keep,
+                    &routes,
+                    door,
                     now,
                     inlet,
                     outlet,

@@ -1,7 +1,7 @@
 //! An operator's command, by the words that a frame has; and the list of tokens and the removal of an organization, which no frame asks for.
 use basis::{Moment, OrgName, Unfit};
 use program::frame_headers::FrameHeader;
-use program::lines::split_words;
+use serve::words::split_words;
 use serve::{Admin, Step};
 use std::alloc::{AllocError, Global};
 use story_runner::plays::ReadsCommands;

@@ -7,10 +7,10 @@ use machine::PlainKeep;
 use program::environment::Connections;
 use program::exits::Exit;
 use program::reasons::Cause;
-use program::serving::serve_loop;
+use program::serving::{Terms, serve_loop};
 use program::streams::Counted;
 use program::timeouts::{IDLE_SECONDS, MAX_SECONDS, MOST_SECONDS, Seconds, Timeouts};
-use serve::Service;
+use serve::{Door, Service};
 use std::alloc::Global;
 use std::io::{Read, Write};
 use std::net::{Ipv4Addr, Shutdown, TcpStream};
@@ -239,7 +239,7 @@ impl Bout<'_> {
         network: &mut Slow<'_>,
         service: &mut Service<PlainKeep>,
         count: u64,
-        timeouts: &Timeouts,
+        timeouts: Timeouts,
         told: &[u8],
     ) -> Result<(), Failure> {
         let mut clock = StandingClock {
@@ -247,6 +247,11 @@ impl Bout<'_> {
         };
         let mut output = Vec::new(alloc);
         let mut errors = Counted::new(Vec::new(alloc));
+        let terms = Terms {
+            timeouts,
+            logs: false,
+            door: Door::Closed,
+        };
         let exit = serve_loop(
             alloc,
             &MemoryFile::new(alloc, ""),
@@ -254,8 +259,7 @@ impl Bout<'_> {
             8090,
             service,
             count,
-            timeouts,
-            false,
+            &terms,
             &mut clock,
             &mut output,
             &mut errors,
@@ -296,7 +300,7 @@ pub fn answer_one(
     };
     let usual = timeouts(IDLE_SECONDS, MOST_SECONDS)?;
     let mut network = Slow::new(rt, network);
-    bout.serve(rt.alloc(), &mut network, service, 1, &usual, b"")?;
+    bout.serve(rt.alloc(), &mut network, service, 1, usual, b"")?;
     bout.check_got(rt.alloc(), &mut peer)
 }
 
@@ -322,7 +326,7 @@ pub fn answer_rude(
     };
     let usual = timeouts(IDLE_SECONDS, MOST_SECONDS)?;
     let mut network = Slow::new(rt, network);
-    bout.serve(rt.alloc(), &mut network, service, 4, &usual, TWO_LEFT)?;
+    bout.serve(rt.alloc(), &mut network, service, 4, usual, TWO_LEFT)?;
     bout.check_got(rt.alloc(), &mut peer)?;
     match status_got(&mut flooding) {
         Ok(status) => compare_bytes(rt.alloc(), bout.line, b"HTTP/1.1 413", &status),
@@ -361,14 +365,7 @@ pub fn answer_idle(
         trickling: None,
         is_deaf: true,
     };
-    bout.serve(
-        rt.alloc(),
-        &mut network,
-        service,
-        3,
-        &short,
-        SILENT_AND_DEAF,
-    )?;
+    bout.serve(rt.alloc(), &mut network, service, 3, short, SILENT_AND_DEAF)?;
     drop(silent);
     drop(second);
     bout.check_got(rt.alloc(), &mut peer)
@@ -398,7 +395,7 @@ pub fn answer_trickling(
         &mut network,
         service,
         3,
-        &short,
+        short,
         SILENT_AND_TRICKLING,
     )?;
     drop(silent);

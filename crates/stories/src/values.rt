@@ -4,7 +4,7 @@ use basis::{
     Limit, LockId, Moment, Number, OrgName, RunAsk, Secret, SettingsAsk, StateHead, Unfit, WsName,
 };
 use docs::{DocFault, digest_fits, read_lock, read_run, read_settings, read_state};
-use program::lines::split_line;
+use serve::lines::split_line;
 use std::alloc::{AllocError, Global};
 use story_runner::books::{Part, Plot};
 use story_runner::definitions::Unread;

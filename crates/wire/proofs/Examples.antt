@@ -3,10 +3,10 @@ use Rattle.std.proofs.Common.{◌≡◌, ℕ, List, length, true, false, Some, N
 use Rattle.std.specs.Prelude.{codes}
 use Rattle.std.specs.Fmt.{digits}
 use Rattle.basis.specs.declared.refusals.Allow.TheVariants.{States}
-use Rattle.basis.specs.declared.refusals.Refusal.TheVariants.{NoToken, NoMethod, TooLarge}
+use Rattle.basis.specs.declared.refusals.Refusal.TheVariants.{NoToken, NoMethod, TooLarge, BadSecret, Exists}
 use Rattle.wire.specs.Framing.{max_body, length_refusal}
 use Rattle.wire.specs.Heads.{head_len}
-use Rattle.wire.specs.Replies.{empty_answer, no_content_answer, document_answer, refused_answer, unavailable_answer, text_with_date}
+use Rattle.wire.specs.Replies.{empty_answer, no_content_answer, document_answer, refused_answer, unavailable_answer, text_answer, text_with_date}
 
 abbrev date : List ℕ
 date = codes "Tue, 14 Nov 2023 22:13:20 GMT"
@@ -36,6 +36,23 @@ head_asked : text_with_date (refused_answer (NoMethod States) (codes "{\"error\"
     ≡ codes "HTTP/1.1 405 Method Not Allowed\r\nDate: Tue, 14 Nov 2023 22:13:20 GMT\r\nConnection: close\r\nCache-Control: private, no-store\r\nAllow: DELETE, GET, LOCK, POST, PUT, UNLOCK\r\nContent-Type: application/json\r\nContent-Length: 21\r\n\r\n"
 unfolding digits
 head_asked = refl
+
+-- the operator's secret is missing
+no_secret : text_with_date (refused_answer BadSecret (codes "{\"error\":\"bad-token\"}") false) date
+    ≡ codes "HTTP/1.1 401 Unauthorized\r\nDate: Tue, 14 Nov 2023 22:13:20 GMT\r\nConnection: close\r\nCache-Control: private, no-store\r\nWWW-Authenticate: Operator realm=\"custody\"\r\nContent-Type: application/json\r\nContent-Length: 21\r\n\r\n{\"error\":\"bad-token\"}"
+unfolding digits
+no_secret = refl
+
+-- what an operator's command is answered
+commanded : text_with_date (text_answer None (codes "ok\n")) date
+    ≡ codes "HTTP/1.1 200 OK\r\nDate: Tue, 14 Nov 2023 22:13:20 GMT\r\nConnection: close\r\nCache-Control: private, no-store\r\nContent-Type: text/plain; charset=utf-8\r\nContent-Length: 3\r\n\r\nok\n"
+unfolding digits
+commanded = refl
+
+command_refused : text_with_date (text_answer (Some Exists) (codes "refused exists\n")) date
+    ≡ codes "HTTP/1.1 409 Conflict\r\nDate: Tue, 14 Nov 2023 22:13:20 GMT\r\nConnection: close\r\nCache-Control: private, no-store\r\nContent-Type: text/plain; charset=utf-8\r\nContent-Length: 15\r\n\r\nrefused exists\n"
+unfolding digits
+command_refused = refl
 
 -- the lengths of replies at that moment
 length_done : length (text_with_date empty_answer date) ≡ 128

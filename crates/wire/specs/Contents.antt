@@ -11,4 +11,4 @@ content_bytes Fixed = down_text
 content_bytes (Held bytes) = bytes
 
 abbrev pub answer_of : Inside → Answer
-answer_of r = record { status = r.status; refusal = r.refusal; body = content_bytes r.content; is_head = r.is_head }
+answer_of r = record { status = r.status; refusal = r.refusal; body = content_bytes r.content; is_head = r.is_head; is_text = r.is_text }

@@ -3,28 +3,38 @@ use Rattle.std.specs.Prelude.{◌≡◌, ℕ, List, [], ◌∷◌, ◌++◌, len
 use Rattle.httpdate.specs.declared.date.HttpDate.{HttpDate}
 use Rattle.httpdate.specs.Date.{unix_secs, date_text}
 use Rattle.basis.specs.declared.refusals.Refusal.{Refusal}
-use Rattle.basis.specs.declared.refusals.Refusal.TheVariants.{TwoTokens, NoToken, BadToken, NeedWrite, NeedAdmin, NoMethod, Unavailable}
+use Rattle.basis.specs.declared.refusals.Refusal.TheVariants.{TwoTokens, NoToken, BadToken, BadSecret, NeedWrite, NeedAdmin, NoMethod, Unavailable}
 use Rattle.basis.specs.Refusals.{line_of, allow_text}
 use Rattle.wire.specs.Links.{line_end}
 
--- what is answered; `is_head` says that the method is HEAD, whose reply leaves the body out
+-- what is answered; `is_head` says that the method is HEAD, whose reply leaves the body out; `is_text`, that the body is text and not JSON
 pub record Answer : Type 0 where
   pub status : ℕ
   pub refusal : Option Refusal
   pub body : List ℕ
   pub is_head : Bool
+  pub is_text : Bool
 
 abbrev pub empty_answer : Answer
-empty_answer = record { status = 200; refusal = None; body = []; is_head = false }
+empty_answer = record { status = 200; refusal = None; body = []; is_head = false; is_text = false }
 
 abbrev pub no_content_answer : Answer
-no_content_answer = record { status = 204; refusal = None; body = []; is_head = false }
+no_content_answer = record { status = 204; refusal = None; body = []; is_head = false; is_text = false }
 
 abbrev pub document_answer : List ℕ → Answer
-document_answer body = record { status = 200; refusal = None; body = body; is_head = false }
+document_answer body = record { status = 200; refusal = None; body = body; is_head = false; is_text = false }
 
 abbrev pub refused_answer : Refusal → List ℕ → Bool → Answer
-refused_answer refusal body is_head = record { status = (line_of refusal).status; refusal = Some refusal; body = body; is_head = is_head }
+refused_answer refusal body is_head = record { status = (line_of refusal).status; refusal = Some refusal; body = body; is_head = is_head; is_text = false }
+
+-- 200, or the status of a refusal
+abbrev pub status_of : Option Refusal → ℕ
+status_of None = 200
+status_of (Some refusal) = (line_of refusal).status
+
+-- lines of text; if the request is refused, they say so
+abbrev pub text_answer : Option Refusal → List ℕ → Answer
+text_answer refusal body = record { status = status_of refusal; refusal = refusal; body = body; is_head = false; is_text = true }
 
 -- the document of the refusal for want of memory
 abbrev pub down_text : List ℕ
@@ -65,11 +75,12 @@ abbrev pub allow_line : Option Refusal → List ℕ
 allow_line (Some (NoMethod allow)) = codes "Allow: " ++ allow_text allow ++ line_end
 allow_line _ = []
 
--- why a bearer token is needed or was refused (RFC 6750, section 3)
+-- why a bearer token is needed or was refused (RFC 6750, section 3); or that the operator's secret is needed, for every reason
 abbrev pub challenge_of : Refusal → Option (List ℕ)
 challenge_of NoToken = Some (codes "Bearer realm=\"custody\"")
 challenge_of TwoTokens = Some (codes "Bearer realm=\"custody\", error=\"invalid_request\"")
 challenge_of BadToken = Some (codes "Bearer realm=\"custody\", error=\"invalid_token\"")
+challenge_of BadSecret = Some (codes "Operator realm=\"custody\"")
 challenge_of NeedWrite = Some (codes "Bearer realm=\"custody\", error=\"insufficient_scope\"")
 challenge_of NeedAdmin = Some (codes "Bearer realm=\"custody\", error=\"insufficient_scope\"")
 challenge_of _ = None
@@ -82,10 +93,15 @@ abbrev pub challenge_line : Option Refusal → List ℕ
 challenge_line None = []
 challenge_line (Some refusal) = challenge_field (challenge_of refusal)
 
--- a body that isn't empty is a JSON document
-abbrev pub type_line : List ℕ → List ℕ
-type_line [] = []
-type_line (b ∷ body) = codes "Content-Type: application/json" ++ line_end
+-- the type of a body: text, or a JSON document
+abbrev pub type_of : Bool → List ℕ
+type_of true = codes "text/plain; charset=utf-8"
+type_of false = codes "application/json"
+
+-- a body that is not empty has a type
+abbrev pub type_line : Bool → List ℕ → List ℕ
+type_line is_text [] = []
+type_line is_text (b ∷ body) = codes "Content-Type: " ++ type_of is_text ++ line_end
 
 -- every status but 204 has a length
 abbrev pub length_line : ℕ → ℕ → List ℕ
@@ -99,7 +115,7 @@ sent_body false body = body
 abbrev pub head_text : Answer → List ℕ → List ℕ
 head_text answer date =
     status_line answer.status ++ date_line date ++ fixed_lines ++ allow_line answer.refusal ++ challenge_line answer.refusal
-    ++ type_line answer.body ++ length_line answer.status (length answer.body) ++ line_end
+    ++ type_line answer.is_text answer.body ++ length_line answer.status (length answer.body) ++ line_end
 
 abbrev pub text_with_date : Answer → List ℕ → List ℕ
 text_with_date answer date = head_text answer date ++ sent_body answer.is_head answer.body

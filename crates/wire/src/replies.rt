@@ -1,6 +1,6 @@
 //! An answer, from which a reply is written.
 ghost use Rattle.std.specs.Prelude.{◌≡◌, false, None};
-ghost use Rattle.wire.specs.Replies.{empty_answer, no_content_answer, document_answer, refused_answer, unavailable_answer};
+ghost use Rattle.wire.specs.Replies.{empty_answer, no_content_answer, document_answer, refused_answer, unavailable_answer, status_of, text_answer};
 ghost use Rattle.wire.specs.Contents.{content_bytes};
 
 use basis::{Bytes, Refusal};
@@ -14,6 +14,8 @@ pub struct Reply {
     refusal: Option<Refusal>,
     content: Content,
     is_head: bool,
+    // Whether the body is text, and not JSON.
+    is_text: bool,
 }
 
 impl Model for Reply {
@@ -28,13 +30,14 @@ impl Model for Reply {
 
 impl Reply {
     fn answered(status: u16, content: Content) -> Reply
-        ensures { result ≡ record { status = status; refusal = None; body = content_bytes content; is_head = false } }
+        ensures { result ≡ record { status = status; refusal = None; body = content_bytes content; is_head = false; is_text = false } }
     {
         Reply {
             status,
             refusal: None,
             content,
             is_head: false,
+            is_text: false,
         }
     }
 
@@ -68,6 +71,20 @@ impl Reply {
             refusal: Some(refusal),
             content: Content::Held(body),
             is_head,
+            is_text: false,
+        }
+    }
+
+    /// Lines of text; if the request is refused, they say so.
+    pub fn text(refusal: Option<Refusal>, body: Bytes) -> Reply
+        ensures { result ≡ text_answer refusal body }
+    {
+        Reply {
+            status: status_of(refusal),
+            refusal,
+            content: Content::Held(body),
+            is_head: false,
+            is_text: true,
         }
     }
 
@@ -80,6 +97,7 @@ impl Reply {
             refusal: Some(Refusal::Unavailable),
             content: Content::Fixed,
             is_head,
+            is_text: false,
         }
     }
 
@@ -107,6 +125,22 @@ impl Reply {
         ensures { result ≡ self.now.is_head }
     {
         self.is_head
+    }
+
+    pub(crate) fn is_text(&self) -> bool
+        ensures { result ≡ self.now.is_text }
+    {
+        self.is_text
+    }
+}
+
+// 200, or the status of a refusal.
+fn status_of(refusal: Option<Refusal>) -> u16
+    ensures { result ≡ status_of refusal }
+{
+    match refusal {
+        None => 200,
+        Some(refusal) => refusal.status(),
     }
 }
 

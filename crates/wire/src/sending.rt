@@ -4,7 +4,7 @@ ghost use Rattle.std.specs.Option.{option_copied};
 ghost use Rattle.httpdate.specs.Date.{date_text};
 ghost use Rattle.arrayvec.specs.ArrayVec.{array_vec_len};
 ghost use Rattle.wire.specs.Links.{Writes};
-ghost use Rattle.wire.specs.Replies.{IsReplyText, head_text, phrase_of, status_line, date_line, fixed_lines, allow_line, challenge_of, challenge_field, challenge_line, type_line, length_line, sent_body};
+ghost use Rattle.wire.specs.Replies.{IsReplyText, head_text, phrase_of, status_line, date_line, fixed_lines, allow_line, challenge_of, challenge_field, challenge_line, type_of, type_line, length_line, sent_body};
 
 use crate::devices::{Broken, Outlet};
 use crate::replies::Reply;
@@ -119,7 +119,7 @@ fn put_head(head: &mut Head, reply: &Reply, date: HttpDate)
     add_fixed(head);
     add_allow(head, reply.refusal());
     add_challenge(head, reply.refusal());
-    add_type(head, body);
+    add_type(head, reply.is_text(), body);
     add_length(head, reply.status(), body.len());
     add(head, b"\r\n");
 }
@@ -192,18 +192,31 @@ fn add_challenge_field(head: &mut Head, challenge: Option<&'static [u8]>)
     }
 }
 
-fn add_type(head: &mut Head, body: &[u8])
+fn type_of(is_text: bool) -> &'static [u8]
+    ensures text { result.now ≡ type_of is_text }
+    ensures short { length result.now ≤ 25 }
+{
+    if is_text {
+        b"text/plain; charset=utf-8"
+    } else {
+        b"application/json"
+    }
+}
+
+fn add_type(head: &mut Head, is_text: bool, body: &[u8])
     requires { array_vec_len head.old ≤ 300 }
-    ensures items { head.new.items ≡ head.old.items ++ type_line body.now }
-    ensures len { array_vec_len head.new ≤ 340 }
+    ensures items { head.new.items ≡ head.old.items ++ type_line is_text body.now }
+    ensures len { array_vec_len head.new ≤ 350 }
 {
     if !body.is_empty() {
-        add(head, b"Content-Type: application/json\r\n");
+        add(head, b"Content-Type: ");
+        add(head, type_of(is_text));
+        add(head, b"\r\n");
     }
 }
 
 fn add_length(head: &mut Head, status: u16, len: usize)
-    requires { array_vec_len head.old ≤ 340 }
+    requires { array_vec_len head.old ≤ 350 }
     ensures items { head.new.items ≡ head.old.items ++ length_line status len }
     ensures len { array_vec_len head.new ≤ 400 }
 {
@@ -260,6 +273,7 @@ fn challenge(refusal: Refusal) -> Option<&'static [u8]>
         Refusal::NoToken => Some(b"Bearer realm=\"custody\""),
         Refusal::TwoTokens => Some(b"Bearer realm=\"custody\", error=\"invalid_request\""),
         Refusal::BadToken => Some(b"Bearer realm=\"custody\", error=\"invalid_token\""),
+        Refusal::BadSecret => Some(b"Operator realm=\"custody\""),
         Refusal::NeedWrite | Refusal::NeedAdmin => {
             Some(b"Bearer realm=\"custody\", error=\"insufficient_scope\"")
         }

@@ -1,7 +1,6 @@
 -- Contracts between functions: what is printed to both streams, and what happens to an open store.
 use Rattle.std.specs.Prelude.{◌≡◌, ◌⊎◌, ℕ, List, [], Bool, true, false, Option, Result, Ok}
 use Rattle.basis.specs.declared.memory.Down.{Down}
-use Rattle.command_line.specs.declared.timeouts.Timeouts.{Timeouts}
 use Rattle.machine.specs.declared.keeps.Keep as keep
 use Rattle.machine.specs.Keeping.{Lasts}
 use Rattle.wire.specs.declared.devices.Inlet as inlet
@@ -12,6 +11,7 @@ use Rattle.program.specs.declared.environment.Clock as clock
 use Rattle.program.specs.declared.environment.Connections as connections
 use Rattle.program.specs.declared.environment.Files as files
 use Rattle.program.specs.declared.reasons.Cause.{Cause}
+use Rattle.program.specs.declared.serving.Terms.{Terms}
 use Rattle.program.specs.declared.totals.Looked.{Looked}
 use Rattle.program.specs.Outcomes.{Stream, Errors, Environment, error_stream, Says, GetsSome, SaysServed, LooksFor, Closes, TellsUnsound}
 use Rattle.program.specs.Serving.{Serves, state, AnswersAtPort}
@@ -33,13 +33,13 @@ module _ {K F : Type 0} (k : keep.Ghosts K) (f : files.Ghosts F K) where
 
 module _ {K F N C R W : Type 0} (k : keep.Ghosts K) (f : files.Ghosts F K) (n : connections.Ghosts N R W) (c : clock.Ghosts C) (i : inlet.Ghosts R) (o : outlet.Ghosts W) where
   -- connections are answered from an open store, which is then closed at this path
-  pub record ServesOpened (path : List ℕ) (port : ℕ) (timeouts : Timeouts) (logs : Bool) (count : ℕ) (before : K) (old new : Environment F N C) (e : Exit) (output : Stream) (errors : Errors) : Type 0 where
+  pub record ServesOpened (path : List ℕ) (port : ℕ) (terms : Terms) (count : ℕ) (before : K) (old new : Environment F N C) (e : Exit) (output : Stream) (errors : Errors) : Type 0 where
     pub after : K
     pub lasts : Lasts k.clean k.sound k.keyed k.shielded before after
-    pub serves : k.clean after → k.sound before → Serves count (k.rows before) (k.rows after)
+    pub serves : k.clean after → k.sound before → Serves terms.door count (k.rows before) (k.rows after)
     pub served : Exit
     pub told : Option (List ℕ)
     pub lines : Told
-    pub answers : AnswersAtPort k f n c i o port timeouts logs count (state old.network old.clock before errors.old output.old) (state new.network new.clock after lines told) served
+    pub answers : AnswersAtPort k f n c i o port terms count (state old.network old.clock before errors.old output.old) (state new.network new.clock after lines told) served
     pub says : SaysServed served e told output.new
     pub closes : Closes k f path old.files new.files after (error_stream lines errors.new)

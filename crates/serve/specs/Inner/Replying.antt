@@ -5,12 +5,15 @@ use Rattle.route.specs.Asks.{asked_of}
 use Rattle.wire.specs.declared.messages.Message.{Message}
 use Rattle.wire.specs.declared.messages.WireFault.{WireFault}
 use Rattle.wire.specs.declared.messages.WireFault.TheVariants.{Ended, Read, Continue, Refused, Down}
+use Rattle.wire.specs.Links.{ReportsReceived}
 use Rattle.wire.specs.Replies.{Answer, unavailable_answer}
 use Rattle.docs.specs.declared.logs.LogRow.{LogRow}
 use Rattle.serve.specs.Asks.{Ask, owner_of}
 use Rattle.serve.specs.Asks as ask
 use Rattle.serve.specs.Logs.{row_of_ask, unavailable_row, IsUnavailableRow}
 use Rattle.serve.specs.Service.{is_head, asked_by, record_for, Carries, Stays}
+use Rattle.serve.specs.Exchanges.{Exchanges}
+use Rattle.serve.specs.declared.exchanges.LinkFault.{LinkFault}
 use Rattle.serve.specs.Inner.Prepared.{IsPrepared}
 use Rattle.serve.specs.Inner.Tracing.{as_unavailable}
 use Rattle.serve.specs.declared.prepared.Prepared.{Prepared}
@@ -56,6 +59,11 @@ LogsDownFor at rows (Err Down) row = row ≡ unavailable_row at
 LogsDownFor at rows (Err Ended) row = ⊥
 LogsDownFor at rows (Err Read) row = ⊥
 LogsDownFor at rows (Err Continue) row = ⊥
+
+-- what was read is answered: by whatever was received that it reports, this is the exchange
+abbrev pub AnswersTo : ℕ → Result Message WireFault → (List ℕ → Option Organization) → (List ℕ → Option Organization) → Option (List ℕ) → Option (List ℕ) → Bool → Option LogRow → {T : Type 0} → Result T LinkFault → Type 0
+AnswersTo now read old new between after is_down row result =
+    (received : List ℕ) (left before : Option (List ℕ)) → ReportsReceived received left before between read → Exchanges now received left old new before after is_down row result
 
 -- the row that is due: of what was prepared (`false`), or that of its 503 (`true`)
 abbrev pub due_row : Bool → LogRow → LogRow

@@ -1,11 +1,13 @@
 -- Contracts between functions: one step taken, and a run of steps over the records of all organizations.
-use Rattle.std.specs.Prelude.{ℕ, List, Option, ⊤}
+use Rattle.std.specs.Prelude.{◌≡◌, ℕ, List, Option, ⊤}
 use Rattle.machine.specs.declared.records.Organization.{Organization}
 use Rattle.serve.specs.declared.steps.Step.{Step}
 use Rattle.serve.specs.declared.steps.Admin.{Admin}
 use Rattle.serve.specs.declared.steps.Admin.TheVariants.{OrgAdd, OrgLimit, OrgRemove, OrgList, TokenAdd, TokenList, TokenRevoke}
 use Rattle.serve.specs.Asks.{Ask, Owner, silent, requests, commands}
-use Rattle.serve.specs.Service.{IsAsked, AreAsked, Carries, said_to, IsSaidText, IsListed}
+use Rattle.machine.specs.declared.keeps.AdminAnswer.{AdminAnswer}
+use Rattle.serve.specs.declared.commands.Told.{Told}
+use Rattle.serve.specs.Service.{IsAsked, AreAsked, Carries, said_to, IsSaidText, IsListed, IsAdminAnswer, told_text, refusal_told}
 use Rattle.serve.specs.Runs.{IsOwnRecord, AreOwnReplies, ListsAreTold}
 use Rattle.std.specs.List.{AllByRecursion}
 use Rattle.machine.specs.Ranges.{IsMoment}
@@ -44,3 +46,15 @@ IsOnOne OrgList = ⊥
 IsOnOne (TokenAdd org name role secret bounds) = ⊤
 IsOnOne (TokenList org) = ⊥
 IsOnOne (TokenRevoke org name) = ⊤
+
+-- an answer as text, and whether it is a refusal
+pub record IsTold (answer : AdminAnswer) (told : Told) : Type 0 where
+  pub refusal : told.refusal ≡ refusal_told answer
+  pub text : told.text ≡ told_text answer
+
+-- a command is carried out, at any time, and this is its answer as text
+pub record IsCarriedOut (command : Admin) (old new : List ℕ → Option Organization) (told : Told) : Type 0 where
+  pub answer : AdminAnswer
+  pub answered : IsAdminAnswer old command answer
+  pub tells : IsTold answer told
+  pub carries : (at : ℕ) → Carries (commands at command) old new

@@ -13,7 +13,8 @@ returns-in_default-clause-syntax c is =
     let command = c.args.command.now in
     passed (bytes_eq command (codes "serve")) _ _ (λ e. c.in_default.not-serve ((bytes_eq-Decides command (codes "serve")).0 e))
     (passed (bytes_eq command (codes "check")) _ _ (λ e. c.in_default.not-check ((bytes_eq-Decides command (codes "check")).0 e))
+    (passed (bytes_eq command (codes "admin")) _ _ (λ e. c.in_default.not-admin ((bytes_eq-Decides command (codes "admin")).0 e))
     (passed (bytes_eq command (codes "org-copy")) _ _ (λ e. c.in_default.not-text ((bytes_eq-Decides command (codes "org-copy")).0 e))
     (passed (bytes_eq command (codes "compact")) _ _ (λ e. c.in_default.not-compact ((bytes_eq-Decides command (codes "compact")).0 e))
     (passed (bytes_eq command (codes "token-add")) _ _ (λ e. c.in_default.not-text-2 ((bytes_eq-Decides command (codes "token-add")).0 e))
-    (c.carrying.ensures.syntax is)))))
+    (c.carrying.ensures.syntax is))))))

@@ -8,9 +8,9 @@ use Rattle.program.proofs.serving.serve_loop.Given as goal
 abbrev pub invariant-connections : goal.invariant-connections
 invariant-connections g l = record {
   lasts : Lasts g.K.Keep.clean g.K.Keep.sound g.K.Keep.keyed g.K.Keep.shielded l.fn.service.keep l.service.keep;
-  serves : g.K.Keep.clean l.service.keep → g.K.Keep.sound l.fn.service.keep → ServesTo l.place (g.K.Keep.rows l.fn.service.keep) (g.K.Keep.rows l.service.keep);
+  serves : g.K.Keep.clean l.service.keep → g.K.Keep.sound l.fn.service.keep → ServesTo l.fn.terms.door l.place (g.K.Keep.rows l.fn.service.keep) (g.K.Keep.rows l.service.keep);
   answers : (moments : List ℕ) × (length moments ≡ l.place)
-      × AnswersAll g.K.Keep g.F.Files g.N.Connections g.C.Clock g.N.Reader.Inlet g.N.Writer.Outlet l.fn.timeouts l.fn.logs 1 moments
+      × AnswersAll g.K.Keep g.F.Files g.N.Connections g.C.Clock g.N.Reader.Inlet g.N.Writer.Outlet l.fn.terms 1 moments
       (state l.fn.network l.fn.clock l.fn.service.keep (g.E.ErrorStream.told l.fn.errors) (g.O.Write.contents l.initial.output))
       (state l.network l.clock l.service.keep (g.E.ErrorStream.told l.errors) (g.O.Write.contents l.output));
 }

@@ -9,7 +9,7 @@ use Rattle.program.proofs.EnvironmentLemmas.{serves_checked, opens_sound, looks_
 use Rattle.program.proofs.starting.serve_checked.Goals as goal
 
 pub returns-in-Err-clause-line : goal.returns-in-Err-clause-line
-returns-in-Err-clause-line g c = refused_serving c.args.logs c.in-Err.exit _ _ (refused_by g.K.Keep g.F.Files c.args.db.now Existing c.args.files.now c.open_one.new.files c.in-Err.exit (g.O.Write.contents c.args.output.now) (g.O.Write.contents c.open_one.new.output) (g.E.ErrorStream.told c.args.errors.now) (g.E.ErrorStream.told c.open_one.new.errors) c.in-Err.ensures.refused)
+returns-in-Err-clause-line g c = refused_serving c.args.terms.now.logs c.in-Err.exit _ _ (refused_by g.K.Keep g.F.Files c.args.db.now Existing c.args.files.now c.open_one.new.files c.in-Err.exit (g.O.Write.contents c.args.output.now) (g.O.Write.contents c.open_one.new.output) (g.E.ErrorStream.told c.args.errors.now) (g.E.ErrorStream.told c.open_one.new.errors) c.in-Err.ensures.refused)
 
 pub returns-then-look_first-clause-serves : goal.returns-then-look_first-clause-serves
 returns-then-look_first-clause-serves g c =
@@ -17,7 +17,7 @@ returns-then-look_first-clause-serves g c =
     let out = g.O.Write.contents in
     let look = subst (λ (is_sound : Bool). LooksFirst g.K.Keep g.F.Files Faults c.in-Ok.keep is_sound c.look_first.new.store (error_stream (err c.open_one.new.errors) (err c.look_first.new.errors))) c.if-look_first.true c.look_first.ensures in
     inl (inl (serves_checked g.K.Keep g.F.Files g.N.Connections g.C.Clock g.N.Reader.Inlet g.N.Writer.Outlet
-    c.args.db.now c.args.port c.args.timeouts.now c.args.logs c.args.count c.args.files.now c.open_one.new.files c.serve_opened.new.files
+    c.args.db.now c.args.port c.args.terms.now c.args.count c.args.files.now c.open_one.new.files c.serve_opened.new.files
     c.args.network.now c.serve_opened.new.network c.args.clock.now c.serve_opened.new.clock c.look_first.new.store c.serve_opened.result
     (out c.args.output.now) (out c.open_one.new.output) (out c.serve_opened.new.output)
     (err c.args.errors.now) (err c.look_first.new.errors) (err c.serve_opened.new.errors)

@@ -1,67 +1,20 @@
-use Rattle.std.proofs.Common.{◌≡◌, Bool, true, Some, Result, Ok, Err, IfOk, IfErr, sym, ap, subst, rules}
-use Rattle.wire.specs.Replies.{IsReplyText, unavailable_answer}
-use Rattle.docs.specs.declared.logs.LogRow.{LogRow}
-use Rattle.serve.specs.Inner.Replying.{PreparesFor, LogsFor, LogsDownFor, due_reply, due_row}
-use Rattle.serve.specs.declared.prepared.Prepared.{Prepared}
-use Rattle.machine.proofs.LastingLemmas.{lasts_behind}
-use Rattle.serve.proofs.ExchangeLemmas.{AnswersRead, answered_read, asks_something, replied, replied_one, replied_told, silent_makes_nothing, stayed_told, refused_read, down_told, no_reply}
+use Rattle.serve.proofs.ExchangeLemmas.{exchanged_one, exchanged_told}
 use Rattle.serve.proofs.exchanges.exchange.Goals as goal
 
-pub returns-in-Ok-Ok-clause-lasts : goal.returns-in-Ok-Ok-clause-lasts
-returns-in-Ok-Ok-clause-lasts g c = lasts_behind c.args.keep.now c.prepare.new.keep c.settle-result.new.keep c.prepare.ensures.looks c.settle-result.ensures.lasts (λ before sound.
-    let some : c.in-Ok-Ok.field-0 ≡ Ok c.in-Ok-Ok.ready = search rules in
-    let ok = subst (λ (o : Result Prepared LogRow). IfOk o (λ r. PreparesFor c.args.now (g.K.Keep.rows c.args.keep.now) c.read_message-read.result r)) some (c.in-Ok-Ok.ensures.ok before sound) in
-    asks_something c.args.now c.read_message-read.result (g.K.Keep.rows c.args.keep.now) (g.K.Keep.rows c.prepare.new.keep) c.in-Ok-Ok.ready (c.prepare.ensures.looks.same before) ok)
+pub returns-clause-told : goal.returns-clause-told
+returns-clause-told g c = λ clean sound.
+    let read = c.read_message-read.ensures.answer in
+    (read.0, read.1, c.answer_read.ensures.told clean sound read.0 (g.I.Inlet.left c.read_message-read.new.inlet) (g.O.Outlet.written c.args.outlet.now) read.2)
 
-pub returns-in-Ok-Ok-clause-told : goal.returns-in-Ok-Ok-clause-told
-returns-in-Ok-Ok-clause-told g c = λ clean sound.
-    let before : g.K.Keep.clean c.prepare.new.keep = c.settle-result.ensures.lasts.so_far clean in
-    let some : c.in-Ok-Ok.field-0 ≡ Ok c.in-Ok-Ok.ready = search rules in
-    let ok = subst (λ (o : Result Prepared LogRow). IfOk o (λ r. PreparesFor c.args.now (g.K.Keep.rows c.args.keep.now) c.read_message-read.result r)) some (c.in-Ok-Ok.ensures.ok before sound) in
-    let logs = subst (λ (o : Result Prepared LogRow). IfOk o (λ r. LogsFor c.args.now (g.K.Keep.rows c.args.keep.now) c.read_message-read.result r.row)) some (c.in-Ok-Ok.ensures.logs before sound) in
-    let t = c.settle-result.ensures.text in
-    let is_row : Some (due_row c.settle-result.new.down c.in-Ok-Ok.ready.row) ≡ Some c.row_after.result = ap Some (sym c.row_after.ensures) in
-    let is_text = subst (λ (head : Bool). IsReplyText (due_reply c.settle-result.new.down head c.in-Ok-Ok.ready.reply) c.args.now t.0) c.without_body-head_only.ensures t.1 in
-    replied (g.I.Inlet.left c.args.inlet.now) (g.I.Inlet.left c.read_message-read.new.inlet) c.args.now c.read_message-read.result (g.K.Keep.rows c.args.keep.now) (g.K.Keep.rows c.settle-result.new.keep) c.settle-result.new.down (Some c.row_after.result)
-    (g.O.Outlet.written c.args.outlet.now) (g.O.Outlet.written c.read_message-read.new.outlet) (g.O.Outlet.written c.settle-result.new.outlet) t.0 c.settle-result.result c.read_message-read.ensures.answer
-    (subst (AnswersRead c.args.now c.read_message-read.result (g.K.Keep.rows c.args.keep.now) (g.K.Keep.rows c.settle-result.new.keep) c.settle-result.new.down t.0) is_row
-    (answered_read c.args.now c.read_message-read.result (g.K.Keep.rows c.args.keep.now) (g.K.Keep.rows c.prepare.new.keep) (g.K.Keep.rows c.settle-result.new.keep) c.in-Ok-Ok.ready c.in-Ok-Ok.ready.row c.settle-result.new.down t.0
-    (c.prepare.ensures.looks.same before) ok logs (c.settle-result.ensures.settled clean (c.prepare.ensures.looks.kept before sound)) is_text))
-    t.2 c.settle-result.ensures.fault
+pub returns-clause-others : goal.returns-clause-others
+returns-clause-others g c = λ clean sound.
+    let told = returns-clause-told g c clean sound in
+    exchanged_one (g.I.Inlet.left c.read_message-read.new.inlet) c.args.now told.0 (g.K.Keep.rows c.args.keep.now) (g.K.Keep.rows c.answer_read.new.keep)
+    (g.O.Outlet.written c.args.outlet.now) (g.O.Outlet.written c.answer_read.new.outlet) c.answer_read.new.is_down c.answer_read.new.row c.answer_read.result told.2 (c.answer_read.ensures.stays clean)
 
-pub returns-in-Ok-Ok-clause-others : goal.returns-in-Ok-Ok-clause-others
-returns-in-Ok-Ok-clause-others g c = λ clean sound.
-    replied_one (g.I.Inlet.left c.args.inlet.now) (g.I.Inlet.left c.read_message-read.new.inlet) c.args.now (g.K.Keep.rows c.args.keep.now) (g.K.Keep.rows c.settle-result.new.keep)
-    (g.O.Outlet.written c.args.outlet.now) (g.O.Outlet.written c.settle-result.new.outlet) c.settle-result.new.down (Some c.row_after.result) c.settle-result.result (returns-in-Ok-Ok-clause-told g c clean sound) c.settle-result.ensures.fault
-
-pub returns-in-Ok-Err-clause-told : goal.returns-in-Ok-Err-clause-told
-returns-in-Ok-Err-clause-told g c = λ clean sound.
-    let down : c.in-Ok-Err.field-0 ≡ Err c.in-Ok-Err.so_far = search rules in
-    let logs = subst (λ (o : Result Prepared LogRow). IfErr o (λ row. LogsDownFor c.args.now (g.K.Keep.rows c.args.keep.now) c.read_message-read.result row)) down (c.in-Ok-Err.ensures.down clean sound) in
-    let t = c.refuse_exchange.ensures.text in
-    let is_text = subst (λ (head : Bool). IsReplyText (unavailable_answer head) c.args.now t.0) c.without_body-head_only.ensures t.1 in
-    replied (g.I.Inlet.left c.args.inlet.now) (g.I.Inlet.left c.read_message-read.new.inlet) c.args.now c.read_message-read.result (g.K.Keep.rows c.args.keep.now) (g.K.Keep.rows c.prepare.new.keep) true (Some c.in-Ok-Err.so_far)
-    (g.O.Outlet.written c.args.outlet.now) (g.O.Outlet.written c.read_message-read.new.outlet) (g.O.Outlet.written c.refuse_exchange.new.outlet) t.0 c.refuse_exchange.result c.read_message-read.ensures.answer
-    (refused_read c.args.now c.read_message-read.result (g.K.Keep.rows c.args.keep.now) (g.K.Keep.rows c.prepare.new.keep) t.0 c.in-Ok-Err.so_far (c.prepare.ensures.looks.same clean) is_text logs)
-    t.2 c.refuse_exchange.ensures.fault
-
-pub returns-in-Err-clause-told : goal.returns-in-Err-clause-told
-returns-in-Err-clause-told g c = λ clean sound.
-    no_reply (g.I.Inlet.left c.args.inlet.now) (g.I.Inlet.left c.read_message-read.new.inlet) c.args.now c.read_message-read.result (g.K.Keep.rows c.args.keep.now) (g.K.Keep.rows c.prepare.new.keep) c.silent_row.result
-    (g.O.Outlet.written c.args.outlet.now) (g.O.Outlet.written c.read_message-read.new.outlet) c.in-Err.fault
-    c.silent_row.ensures c.read_message-read.ensures.answer c.in-Err.ensures.never_write (λ e. c.in-Err.ensures.ended.0 (ap Err e)) (λ e. c.in-Err.ensures.read.0 (ap Err e)) (λ e. c.in-Err.ensures.continues.0 (ap Err e))
-
-pub returns-in-Ok-Ok-clause-changes : goal.returns-in-Ok-Ok-clause-changes
-returns-in-Ok-Ok-clause-changes g c = λ clean sound.
-    replied_told (g.I.Inlet.left c.args.inlet.now) (g.I.Inlet.left c.read_message-read.new.inlet) c.args.now (g.K.Keep.rows c.args.keep.now) (g.K.Keep.rows c.settle-result.new.keep)
-    (g.O.Outlet.written c.args.outlet.now) (g.O.Outlet.written c.settle-result.new.outlet) c.settle-result.new.down c.row_after.result c.settle-result.result
-    (c.records_are_lawful.ensures (c.prepare.ensures.looks.so_far (c.settle-result.ensures.lasts.so_far clean)) sound) (returns-in-Ok-Ok-clause-told g c clean sound) c.settle-result.ensures.fault
-
-pub returns-in-Ok-Err-clause-changes : goal.returns-in-Ok-Err-clause-changes
-returns-in-Ok-Err-clause-changes g c = λ clean sound.
-    let down : c.in-Ok-Err.field-0 ≡ Err c.in-Ok-Err.so_far = search rules in
-    let logs = subst (λ (o : Result Prepared LogRow). IfErr o (λ row. LogsDownFor c.args.now (g.K.Keep.rows c.args.keep.now) c.read_message-read.result row)) down (c.in-Ok-Err.ensures.down clean sound) in
-    down_told c.args.now (g.K.Keep.rows c.args.keep.now) (g.K.Keep.rows c.prepare.new.keep) c.read_message-read.result c.in-Ok-Err.so_far logs (c.prepare.ensures.looks.same clean)
-
-pub returns-in-Err-clause-changes : goal.returns-in-Err-clause-changes
-returns-in-Err-clause-changes g c = λ clean sound. stayed_told c.silent_row.result (g.K.Keep.rows c.args.keep.now) (g.K.Keep.rows c.prepare.new.keep) (silent_makes_nothing c.silent_row.result c.args.now c.silent_row.ensures) (c.prepare.ensures.looks.same clean)
+pub returns-clause-changes : goal.returns-clause-changes
+returns-clause-changes g c = λ clean sound.
+    let told = returns-clause-told g c clean sound in
+    exchanged_told (g.I.Inlet.left c.read_message-read.new.inlet) c.args.now told.0 (g.K.Keep.rows c.args.keep.now) (g.K.Keep.rows c.answer_read.new.keep)
+    (g.O.Outlet.written c.args.outlet.now) (g.O.Outlet.written c.answer_read.new.outlet) c.answer_read.new.is_down c.answer_read.new.row c.answer_read.result
+    (c.records_are_lawful.ensures (c.answer_read.ensures.lasts.so_far clean) sound) told.2 (c.answer_read.ensures.stays clean)

@@ -1,6 +1,0 @@
-use Rattle.std.proofs.Common.{arith}
-use Rattle.program.proofs.WordLemmas.{no_org_add}
-use Rattle.program.proofs.frame_headers.FrameHeader.read_org_add.Goals as goal
-
-pub returns-in_default-clause-syntax : goal.returns-in_default-clause-syntax
-returns-in_default-clause-syntax c _ = no_org_add c.args.words.now (λ e. grind arith) (λ e. grind arith)

@@ -1,0 +1,20 @@
+use Rattle.std.proofs.Common.{rules, refl, inl, inr}
+use Rattle.program.proofs.starting.serve_with_door.Goals as goal
+
+pub returns-in-Ok-clause-line : goal.returns-in-Ok-clause-line
+returns-in-Ok-clause-line g c = inl (c.in-Ok.ensures.has, c.serve_as_asked.ensures.line)
+
+pub returns-in-Ok-clause-serves : goal.returns-in-Ok-clause-serves
+returns-in-Ok-clause-serves g c = inl (c.in-Ok.door, c.in-Ok.ensures.is, c.serve_as_asked.ensures.serves)
+
+pub returns-in-Err-Syntax-clause-line : goal.returns-in-Err-Syntax-clause-line
+returns-in-Err-Syntax-clause-line g c = inr (search rules, inl (search rules, search rules))
+
+pub returns-in-Err-Syntax-clause-serves : goal.returns-in-Err-Syntax-clause-serves
+returns-in-Err-Syntax-clause-serves g c = inr (search rules, refl, inl (search rules, search rules, c.say_why.ensures.told))
+
+pub returns-in-Err-Down-clause-line : goal.returns-in-Err-Down-clause-line
+returns-in-Err-Down-clause-line g c = inr (search rules, inr (search rules))
+
+pub returns-in-Err-Down-clause-serves : goal.returns-in-Err-Down-clause-serves
+returns-in-Err-Down-clause-serves g c = inr (search rules, refl, inr (search rules, c.refuse.ensures.why))

@@ -1,0 +1,324 @@
+-- An exchange with an open door.
+use Rattle.std.proofs.Common.{◌≡◌, ◌≢◌, ◌⊎◌, inl, inr, ℕ, Bool, true, false, List, ◌++◌, Option, Some, None, IsSome, IfSome, Result, Ok, Err, IfOk, IfErr, IsErrOf, refl, sym, ap, ap₂, subst, ◌∙◌}
+use Rattle.std.specs.Prelude.{OnOk, is_none, codes}
+use Rattle.std.specs.Str.{bytes_eq}
+use Rattle.std.proofs.lemmas.Slice.Eq.{bytes_eq-Decides}
+use Rattle.sha2.specs.Sha256.{sha256}
+use Rattle.basis.specs.Checks.{and_then}
+use Rattle.basis.specs.declared.refusals.Allow.TheVariants.{Actions}
+use Rattle.basis.specs.declared.refusals.Refusal.{Refusal}
+use Rattle.basis.specs.declared.refusals.Refusal.TheVariants.{NoMethod, BadQuery, BadSecret, Unavailable}
+use Rattle.docs.specs.declared.logs.LogRow.{LogRow}
+use Rattle.machine.specs.Custody.{KeepsVersions}
+use Rattle.machine.specs.Laws.{AreLawful}
+use Rattle.machine.specs.Queue.{Starts}
+use Rattle.machine.specs.Records.{workspace_in}
+use Rattle.machine.specs.declared.keeps.AdminAnswer.{AdminAnswer}
+use Rattle.machine.specs.declared.keeps.AdminAnswer.TheVariants.{Done}
+use Rattle.machine.specs.declared.records.Organization.{Organization}
+use Rattle.machine.specs.declared.records.Workspace.{Workspace}
+use Rattle.route.specs.Doors.{is_at_door, operator_of, has_digest, brings_secret, may_enter, passes as passes_if}
+use Rattle.wire.specs.Links.{ReportsReceived, continue_if, Writes}
+use Rattle.wire.specs.Messages.{unfinished, refused, whole}
+use Rattle.wire.specs.Replies.{Answer, IsReplyText, text_answer}
+use Rattle.wire.specs.declared.messages.Message.{Message}
+use Rattle.wire.specs.declared.messages.WireFault.{WireFault}
+use Rattle.wire.specs.declared.messages.WireFault.TheVariants.{Refused, Down, Ended, Read, Continue}
+use Rattle.wire.proofs.LinkLemmas.{Appends-then}
+use Rattle.wire.proofs.ReadingLemmas.{reads_one}
+use Rattle.serve.specs.Asks.{commands, organization}
+use Rattle.serve.specs.Doors.{commanded, act_commanded, org_commanded, subject_of, told_row, unserved_row, IsToldAtDoor, ComeNotToDoor, PassesDoor, ExchangesOpen, ExchangesWith, BringsSecret, OnlyTheSecretOpens}
+use Rattle.serve.specs.Exchanges.{Exchanges, ChangesAtMostOne, OfNamed, Makes, ComesAsTold, ChangesAsTold}
+use Rattle.serve.specs.Logs.{operator_row}
+use Rattle.serve.specs.Service.{is_head, is_own, after_ask, Carries, Stays, IsAdminAnswer, refusal_told}
+use Rattle.serve.specs.Steps.{command_step}
+use Rattle.serve.specs.Inner.Doors.{Operates, TurnsAway, OperatesOrNot, AnswersOpen, ReadsElsewhere}
+use Rattle.serve.specs.Inner.Replying.{AnswersTo}
+use Rattle.serve.specs.Inner.Taking.{IsCarriedOut}
+use Rattle.serve.specs.declared.commands.Told.{Told}
+use Rattle.serve.specs.declared.doors.Door.{Door}
+use Rattle.serve.specs.declared.doors.Door.TheVariants.{Closed, Open}
+use Rattle.serve.specs.declared.doors.Operated.{Operated}
+use Rattle.serve.specs.declared.exchanges.LinkFault.{LinkFault}
+use Rattle.serve.specs.declared.exchanges.LinkFault.TheVariants.{Ended as LinkEnded, Read as LinkRead, Continue as LinkContinue, Write as LinkWrite}
+use Rattle.serve.specs.declared.steps.Admin.{Admin}
+use Rattle.serve.specs.declared.steps.Admin.TheVariants.{OrgAdd, OrgLimit, OrgRemove, OrgList, TokenAdd, TokenList, TokenRevoke}
+use Rattle.serve.proofs.CustodyLemmas.{one_of}
+use Rattle.serve.proofs.ExchangeLemmas.{MakesNothing, EndsBefore, exchanged_one, exchanged_told, carried_one, stayed_one, stayed_told}
+use Rattle.serve.proofs.LawLemmas.{command_leaves}
+use Rattle.serve.proofs.RemovalLemmas.{Comes, command_comes}
+use Rattle.serve.proofs.ToldLemmas.{keeps_same, none_starts}
+
+pub if_err : {T E : Type 0} {P Q : E → Type 0} (r : Result T E) → ((e : E) → P e → Q e) → IfErr r P → IfErr r Q
+if_err (Ok x) weaker h = tt
+if_err (Err e) weaker h = weaker e h
+
+-- ---- by the door, or at it
+
+one_message : (m n : Message) (a b : Bool) → whole m a ≡ whole n b → m ≡ n
+one_message m n a b e = cc
+
+not_both : (b : Bool) → b ≡ false → b ≡ true → ⊥
+not_both b unset set = let none : ⊥ = cc in none
+
+-- what was read elsewhere doesn't come to the door
+elsewhere : (received : List ℕ) (left before between : Option (List ℕ)) (read : Result Message WireFault) → ReadsElsewhere read → (read ≡ Err Down → ⊥) → (read ≡ Err Continue → ⊥)
+    → ReportsReceived received left before between read → ComeNotToDoor received
+elsewhere received left before between (Ok message) away down continued told other awaited comes =
+    let same : message ≡ other = one_message message other told.0 awaited (reads_one received (whole message told.0) (whole other awaited) told.1 comes.reads) in
+    not_both (is_at_door other) (subst (λ (m : Message). is_at_door m ≡ false) same away) comes.at_door
+elsewhere received left before between (Err (Refused refusal head)) away down continued told other awaited comes =
+    let none : refused refusal head ≡ whole other awaited = reads_one received (refused refusal head) (whole other awaited) told.0 comes.reads in let no : ⊥ = cc in no
+elsewhere received left before between (Err Ended) away down continued told other awaited comes =
+    let none : unfinished ≡ whole other awaited = reads_one received unfinished (whole other awaited) told.0 comes.reads in let no : ⊥ = cc in no
+elsewhere received left before between (Err Read) away down continued told other awaited comes =
+    let none : unfinished ≡ whole other awaited = reads_one received unfinished (whole other awaited) told.0 comes.reads in let no : ⊥ = cc in no
+elsewhere received left before between (Err Down) away down continued told other awaited comes = down refl
+elsewhere received left before between (Err Continue) away down continued told other awaited comes = continued refl
+
+passes : {T : Type 0} (received : List ℕ) (is_down : Bool) (result : Result T LinkFault) → (is_down ≡ false → (result ≡ Err LinkContinue → ⊥) → ComeNotToDoor received) → PassesDoor received is_down result
+passes received false (Ok done) h = h refl (λ e. let none : ⊥ = cc in none)
+passes received false (Err LinkWrite) h = h refl (λ e. let none : ⊥ = cc in none)
+passes received false (Err LinkEnded) h = tt
+passes received false (Err LinkRead) h = tt
+passes received false (Err LinkContinue) h = tt
+passes received true (Ok done) h = tt
+passes received true (Err LinkWrite) h = tt
+passes received true (Err LinkEnded) h = tt
+passes received true (Err LinkRead) h = tt
+passes received true (Err LinkContinue) h = tt
+
+-- what was read elsewhere is answered as before
+pub passed : {T : Type 0} (digest : List ℕ) (now : ℕ) (read : Result Message WireFault) (old new : List ℕ → Option Organization) (b c : Option (List ℕ)) (is_down : Bool) (row : Option LogRow) (result : Result T LinkFault)
+    → ReadsElsewhere read → (IsErrOf read Down → is_down ≡ true) → (IsErrOf read Continue → IsErrOf result LinkContinue)
+    → AnswersTo now read old new b c is_down row result → AnswersOpen digest now read old new b c is_down row result
+passed digest now read old new b c is_down row result away down continued answers received left before told = inl (
+  passes received is_down result (λ up written. elsewhere received left before b read away
+      (λ e. not_both is_down up (down e))
+      (λ e. written (continued e)) told),
+  answers received left before told,
+)
+
+-- a message at the door is answered there
+pub at_door : {T : Type 0} (digest : List ℕ) (now : ℕ) (message : Message) (old new : List ℕ → Option Organization) (b c : Option (List ℕ)) (is_down : Bool) (row : Option LogRow) (text : List ℕ) (result : Result T LinkFault)
+    → is_at_door message ≡ true → IsToldAtDoor digest now message old new text row is_down → Writes b c text result → IfErr result (λ fault. fault ≡ LinkWrite)
+    → AnswersOpen digest now (Ok message) old new b c is_down row result
+at_door digest now message old new b c is_down row text (Ok done) comes is writes fault received left before told =
+    inr (message, told.0, record { reads = told.1; at_door = comes }, (text, is, Appends-then before b c (continue_if told.0) text told.2 writes))
+at_door {T = T} digest now message old new b c is_down row text (Err e) comes is writes fault received left before told =
+    subst (λ (f : LinkFault). ExchangesOpen digest now received left old new before c is_down row {T = T} (Err f)) (sym fault)
+    (inr (
+      message,
+      told.0,
+      record { reads = told.1; at_door = comes },
+      (writes.0, writes.1, writes.2, subst (λ (x : List ℕ). IsToldAtDoor digest now message old new x row is_down) writes.3 is, Appends-then before b c (continue_if told.0) writes.0 told.2 writes.4),
+    ))
+
+-- ---- what is told
+
+-- a command that is carried out has its reply and its row
+pub carried_out : (at : ℕ) (command : Admin) (old new : List ℕ → Option Organization) (told : Told) (done : Operated) → IsCarriedOut command old new told
+    → done.reply ≡ text_answer told.refusal told.text
+    → done.row ≡ operator_row at (Some (act_commanded command)) (org_commanded command) (subject_of command told.refusal) (text_answer told.refusal told.text)
+    → Operates at command old new done
+carried_out at command old new told done carried reply row = record {
+  answer = carried.answer;
+  answered = carried.answered;
+  carries = carried.carries at;
+  reply = reply ∙ ap₂ text_answer carried.tells.refusal carried.tells.text;
+  row = row ∙ ap₂ (λ (r : Option Refusal) (t : List ℕ). operator_row at (Some (act_commanded command)) (org_commanded command) (subject_of command r) (text_answer r t)) carried.tells.refusal carried.tells.text;
+}
+
+-- a message that is turned away changes nothing
+pub turned : {E : Type 0} (digest : List ℕ) (at : ℕ) (message : Message) (rows : List ℕ → Option Organization) (refusal : Refusal) (head : Bool) (res : Result Operated E) → head ≡ is_head message
+    → (refusal ≢ Unavailable → commanded digest message ≡ Err refusal) → OnOk res (refusal ≢ Unavailable) → IfOk res (TurnsAway at refusal head)
+    → IfOk res (OperatesOrNot digest at message rows rows)
+turned digest at message rows refusal head (Ok done) same refuses known away =
+    inr (refusal, refuses known, (λ org. refl), subst (λ (h : Bool). TurnsAway at refusal h done) same away)
+turned digest at message rows refusal head (Err e) same refuses known away = tt
+
+-- what was done at the door is told
+pub told_at_door : (digest : List ℕ) (now : ℕ) (message : Message) (old new : List ℕ → Option Organization) (done : Operated) (text : List ℕ)
+    → OperatesOrNot digest now message old new done → IsReplyText done.reply now text → IsToldAtDoor digest now message old new text (Some done.row) false
+told_at_door digest now message old new done text (inl (command, asks, operates)) is = inl (record {
+  command = command;
+  asks = asks;
+  carries = operates.carries;
+  answer = operates.answer;
+  answered = operates.answered;
+  is = subst (λ (a : Answer). IsReplyText a now text) operates.reply is;
+  logged = ap Some operates.row;
+})
+told_at_door digest now message old new done text (inr (refusal, refuses, stays, away)) is = inr (record {
+  refusal = refusal;
+  refused = refuses;
+  stays = stays;
+  is = subst (λ (a : Answer). IsReplyText a now text) away.reply is;
+  logged = ap Some away.row;
+})
+
+-- ---- what changes
+
+-- a row that tells of no version and of no run, where workspaces stay or go
+abbrev StayOrGo : Option Organization → Option Organization → Type 0
+StayOrGo r after = (ws : List ℕ) → (workspace_in after ws ≡ workspace_in r ws) ⊎ (workspace_in after ws ≡ None)
+
+goes_as_told : (row : LogRow) (r after : Option Organization) → MakesNothing row → StayOrGo r after → ComesAsTold row r after
+goes_as_told row r after nothing stay = record {
+  version = subst (λ (o : Option ℕ). IfSome o (λ n. OfNamed row.workspace r after (Makes n))) (sym nothing.version) tt;
+  run = subst (λ (o : Option ℕ). IfSome o (λ n. OfNamed row.workspace r after (Starts n))) (sym nothing.run) tt;
+  versions = λ ws w v stood stands. inl (kept ws w v stood stands (stay ws));
+  runs = λ ws w v n stood stands starts. absurd (started ws w v n stood stands starts (stay ws));
+  anew = λ ws v gone stands. absurd (come ws v gone stands (stay ws));
+}
+  where
+    kept : (ws : List ℕ) (w v : Workspace) → workspace_in r ws ≡ Some w → workspace_in after ws ≡ Some v → (workspace_in after ws ≡ workspace_in r ws) ⊎ (workspace_in after ws ≡ None) → KeepsVersions w v
+    kept ws w v stood stands (inl same) = keeps_same w v (one_of w v (sym stood ∙ sym same ∙ stands))
+    kept ws w v stood stands (inr none) = absurd (let no : ⊥ = cc (sym none ∙ stands) in no)
+
+    started : (ws : List ℕ) (w v : Workspace) (n : ℕ) → workspace_in r ws ≡ Some w → workspace_in after ws ≡ Some v → Starts n w v → (workspace_in after ws ≡ workspace_in r ws) ⊎ (workspace_in after ws ≡ None) → ⊥
+    started ws w v n stood stands starts (inl same) = none_starts w v n (one_of w v (sym stood ∙ sym same ∙ stands)) starts
+    started ws w v n stood stands starts (inr none) = let no : ⊥ = cc (sym none ∙ stands) in no
+
+    come : (ws : List ℕ) (v : Workspace) → workspace_in r ws ≡ None → workspace_in after ws ≡ Some v → (workspace_in after ws ≡ workspace_in r ws) ⊎ (workspace_in after ws ≡ None) → ⊥
+    come ws v gone stands (inl same) = let no : ⊥ = cc (sym gone ∙ sym same ∙ stands) in no
+    come ws v gone stands (inr none) = let no : ⊥ = cc (sym none ∙ stands) in no
+
+command_stays : (r : Option Organization) (command : Admin) → StayOrGo r (command_step r command).left
+command_stays r command ws = by_case (command_comes r command)
+  where
+    by_case : Comes r command → (workspace_in (command_step r command).left ws ≡ workspace_in r ws) ⊎ (workspace_in (command_step r command).left ws ≡ None)
+    by_case (inl removed) = inr (ap (λ (o : Option Organization). workspace_in o ws) removed.gone)
+    by_case (inr leaves) = inl (leaves.keeps ws)
+
+moved : (at : ℕ) (command : Admin) (b : Bool) (r : Option Organization) → StayOrGo r (after_ask b (commands at command) r)
+moved at command true r = command_stays r command
+moved at command false r = λ ws. inl refl
+
+apart_name : (org own : List ℕ) (b : Bool) → bytes_eq org own ≡ b → Some own ≢ Some org → bytes_eq org own ≡ false
+apart_name org own true e apart = absurd (apart (ap Some (sym ((bytes_eq-Decides org own).0 e))))
+apart_name org own false e apart = e
+
+not_own : (at : ℕ) (command : Admin) (org : List ℕ) → org_commanded command ≢ Some org → is_own (organization org) (commands at command) ≡ false
+not_own at (OrgAdd own limit) org apart = apart_name org own (bytes_eq org own) refl apart
+not_own at (OrgLimit own limit) org apart = apart_name org own (bytes_eq org own) refl apart
+not_own at (OrgRemove own is_forced) org apart = apart_name org own (bytes_eq org own) refl apart
+not_own at OrgList org apart = refl
+not_own at (TokenAdd own name role secret bounds) org apart = apart_name org own (bytes_eq org own) refl apart
+not_own at (TokenList own) org apart = refl
+not_own at (TokenRevoke own name) org apart = apart_name org own (bytes_eq org own) refl apart
+
+-- a command that is refused changes nothing
+not_done : (answer said : AdminAnswer) → answer ≡ said → IsSome (refusal_told answer) → said ≢ Done
+not_done answer said is some done = let none : IsSome (refusal_told Done) = subst IsSome (ap refusal_told (is ∙ done)) some in let no : ⊥ = cc in no
+
+own_leaves : (at : ℕ) (command : Admin) (old : List ℕ → Option Organization) (own org : List ℕ) (b : Bool) → bytes_eq org own ≡ b → (command_step (old own) command).answer ≢ Done
+    → after_ask b (commands at command) (old org) ≡ old org
+own_leaves at command old own org true e apart =
+    let same : org ≡ own = (bytes_eq-Decides org own).0 e in
+    subst (λ (name : List ℕ). (command_step (old name) command).left ≡ old name) (sym same) (command_leaves (old own) command apart)
+own_leaves at command old own org false e apart = refl
+
+refused_leaves : (at : ℕ) (command : Admin) (answer : AdminAnswer) (old : List ℕ → Option Organization) → IsAdminAnswer old command answer → IsSome (refusal_told answer)
+    → (org : List ℕ) → after_ask (is_own (organization org) (commands at command)) (commands at command) (old org) ≡ old org
+refused_leaves at (OrgAdd own limit) answer old is some org = own_leaves at (OrgAdd own limit) old own org (bytes_eq org own) refl (not_done answer _ is some)
+refused_leaves at (OrgLimit own limit) answer old is some org = own_leaves at (OrgLimit own limit) old own org (bytes_eq org own) refl (not_done answer _ is some)
+refused_leaves at (OrgRemove own is_forced) answer old is some org = own_leaves at (OrgRemove own is_forced) old own org (bytes_eq org own) refl (not_done answer _ is some)
+refused_leaves at OrgList answer old is some org = refl
+refused_leaves at (TokenAdd own name role secret bounds) answer old is some org = own_leaves at (TokenAdd own name role secret bounds) old own org (bytes_eq org own) refl (not_done answer _ is some)
+refused_leaves at (TokenList own) answer old is some org = refl
+refused_leaves at (TokenRevoke own name) answer old is some org = own_leaves at (TokenRevoke own name) old own org (bytes_eq org own) refl (not_done answer _ is some)
+
+-- a command changes what its row tells
+command_told : (now : ℕ) (command : Admin) (answer : AdminAnswer) (old new : List ℕ → Option Organization) → IsAdminAnswer old command answer → Carries (commands now command) old new
+    → ChangesAsTold (told_row now command answer) old new
+command_told now command answer old new answered carries = record {
+  others = λ org apart. carries org ∙ ap (λ (b : Bool). after_ask b (commands now command) (old org)) (not_own now command org apart);
+  refused = λ some org. carries org ∙ refused_leaves now command answer old answered some org;
+  own = λ org named. goes_as_told (told_row now command answer) (old org) (new org) (record { version = refl; run = refl })
+      (subst (StayOrGo (old org)) (sym (carries org)) (moved now command (is_own (organization org) (commands now command)) (old org)));
+  nobody = λ none. (refl, refl);
+}
+
+row_told : (row : Option LogRow) (told : LogRow) (old new : List ℕ → Option Organization) → row ≡ Some told → ChangesAsTold told old new → IfSome row (λ row. ChangesAsTold row old new)
+row_told row told old new is changes = subst (λ (r : Option LogRow). IfSome r (λ row. ChangesAsTold row old new)) (sym is) changes
+
+unserved_makes_nothing : (now : ℕ) (command : Option Admin) → MakesNothing (unserved_row now command)
+unserved_makes_nothing now None = record { version = refl; run = refl }
+unserved_makes_nothing now (Some command) = record { version = refl; run = refl }
+
+-- at the door, what changes is told
+changed_at_door : (digest : List ℕ) (now : ℕ) (message : Message) (old new : List ℕ → Option Organization) (text : List ℕ) (row : Option LogRow) (is_down : Bool)
+    → IsToldAtDoor digest now message old new text row is_down → IfSome row (λ told. ChangesAsTold told old new)
+changed_at_door digest now message old new text row false (inl done) = row_told row _ old new done.logged (command_told now done.command done.answer old new done.answered done.carries)
+changed_at_door digest now message old new text row false (inr away) = row_told row _ old new away.logged (stayed_told _ old new (record { version = refl; run = refl }) away.stays)
+changed_at_door digest now message old new text row true down = row_told row _ old new down.logged (stayed_told (unserved_row now down.command) old new (unserved_makes_nothing now down.command) down.stays)
+
+one_at_door : (digest : List ℕ) (now : ℕ) (message : Message) (old new : List ℕ → Option Organization) (text : List ℕ) (row : Option LogRow) (is_down : Bool)
+    → IsToldAtDoor digest now message old new text row is_down → ChangesAtMostOne old new
+one_at_door digest now message old new text row false (inl done) = carried_one (commands now done.command) old new done.carries
+one_at_door digest now message old new text row false (inr away) = stayed_one old new away.stays
+one_at_door digest now message old new text row true down = stayed_one old new down.stays
+
+pub open_one : {T : Type 0} (digest : List ℕ) (left : Option (List ℕ)) (now : ℕ) (received : List ℕ) (old new : List ℕ → Option Organization) (a c : Option (List ℕ)) (is_down : Bool) (row : Option LogRow) (result : Result T LinkFault)
+    → ExchangesOpen digest now received left old new a c is_down row result → (EndsBefore result → Stays old new) → ChangesAtMostOne old new
+open_one digest left now received old new a c is_down row result (inl h) stays = exchanged_one left now received old new a c is_down row result h.1 stays
+open_one digest left now received old new a c is_down row (Ok done) (inr h) stays = one_at_door digest now h.0 old new h.3.0 row is_down h.3.1
+open_one digest left now received old new a c is_down row (Err LinkWrite) (inr h) stays = one_at_door digest now h.0 old new (h.3.0 ++ h.3.1) row is_down h.3.3
+open_one digest left now received old new a c is_down row (Err LinkEnded) (inr h) stays = absurd h.3
+open_one digest left now received old new a c is_down row (Err LinkRead) (inr h) stays = absurd h.3
+open_one digest left now received old new a c is_down row (Err LinkContinue) (inr h) stays = absurd h.3
+
+pub open_told : {T : Type 0} (digest : List ℕ) (left : Option (List ℕ)) (now : ℕ) (received : List ℕ) (old new : List ℕ → Option Organization) (a c : Option (List ℕ)) (is_down : Bool) (row : Option LogRow) (result : Result T LinkFault)
+    → AreLawful old → ExchangesOpen digest now received left old new a c is_down row result → (EndsBefore result → Stays old new) → IfSome row (λ told. ChangesAsTold told old new)
+open_told digest left now received old new a c is_down row result lawful (inl h) stays = exchanged_told left now received old new a c is_down row result lawful h.1 stays
+open_told digest left now received old new a c is_down row (Ok done) lawful (inr h) stays = changed_at_door digest now h.0 old new h.3.0 row is_down h.3.1
+open_told digest left now received old new a c is_down row (Err LinkWrite) lawful (inr h) stays = changed_at_door digest now h.0 old new (h.3.0 ++ h.3.1) row is_down h.3.3
+open_told digest left now received old new a c is_down row (Err LinkEnded) lawful (inr h) stays = absurd h.3
+open_told digest left now received old new a c is_down row (Err LinkRead) lawful (inr h) stays = absurd h.3
+open_told digest left now received old new a c is_down row (Err LinkContinue) lawful (inr h) stays = absurd h.3
+
+-- nothing was read, and the refusal is written
+pub refused_with : {T : Type 0} (door : Door) (left : Option (List ℕ)) (now : ℕ) (received : List ℕ) (rows : List ℕ → Option Organization) (a c : Option (List ℕ)) (row : Option LogRow) (result : Result T LinkFault)
+    → Exchanges now received left rows rows a c true row result → ExchangesWith door now received left rows rows a c true row result
+refused_with Closed left now received rows a c row result h = h
+refused_with (Open digest) left now received rows a c row (Ok done) h = inl (tt, h)
+refused_with (Open digest) left now received rows a c row (Err LinkWrite) h = inl (tt, h)
+refused_with (Open digest) left now received rows a c row (Err LinkEnded) h = inl (tt, h)
+refused_with (Open digest) left now received rows a c row (Err LinkRead) h = inl (tt, h)
+refused_with (Open digest) left now received rows a c row (Err LinkContinue) h = inl (tt, h)
+
+-- ---- nobody without the secret
+
+knows_secret : (digest field : List ℕ) (found : Option (List ℕ)) → operator_of field ≡ found → has_digest digest found ≡ true → (secret : List ℕ) × (operator_of field ≡ Some secret) × (sha256 secret ≡ digest)
+knows_secret digest field None e is = absurd (let none : ⊥ = cc in none)
+knows_secret digest field (Some secret) e is = (secret, e, (bytes_eq-Decides (sha256 secret) digest).0 is)
+
+field_brings : (digest : List ℕ) (message : Message) (authorization : Option (List ℕ)) → message.authorization ≡ authorization → brings_secret digest authorization ≡ true → BringsSecret digest message
+field_brings digest message None e is = absurd (let none : ⊥ = cc in none)
+field_brings digest message (Some field) e is = let k = knows_secret digest field (operator_of field) refl is in (field, k.0, e, k.1, k.2)
+
+passed_check : {A : Type 0} (b : Bool) (refusal : Refusal) (next : Unit {0} → Result A Refusal) (a : A) → and_then (passes_if b refusal) next ≡ Ok a → (b ≡ true) × (next tt ≡ Ok a)
+passed_check true refusal next a e = (refl, e)
+passed_check false refusal next a e = absurd (let none : ⊥ = cc in none)
+
+first_passes : {A B : Type 0} (m : Result A Refusal) (next : A → Result B Refusal) (b : B) → and_then m next ≡ Ok b → (a : A) × (m ≡ Ok a)
+first_passes (Ok a) next b e = (a, refl)
+first_passes (Err refusal) next b e = absurd (let none : ⊥ = cc in none)
+
+last_check : (b : Bool) (refusal : Refusal) (u : Unit {0}) → passes_if b refusal ≡ Ok u → b ≡ true
+last_check true refusal u e = refl
+last_check false refusal u e = absurd (let none : ⊥ = cc in none)
+
+entered : (digest : List ℕ) (message : Message) (u : Unit {0}) → may_enter digest message ≡ Ok u → brings_secret digest message.authorization ≡ true
+entered digest message u e =
+    let by_method = passed_check (bytes_eq message.method (codes "POST")) (NoMethod Actions) _ u e in
+    let by_query = passed_check (is_none message.query) BadQuery _ u by_method.1 in
+    last_check (brings_secret digest message.authorization) BadSecret u by_query.1
+
+pub only_the_secret_opens : OnlyTheSecretOpens
+only_the_secret_opens digest now message old new text row false (inl done) =
+    let enters = first_passes (may_enter digest message) _ done.command done.asks in
+    inl (field_brings digest message message.authorization refl (entered digest message enters.0 enters.1))
+only_the_secret_opens digest now message old new text row false (inr away) = inr away.stays
+only_the_secret_opens digest now message old new text row true down = inr down.stays

@@ -1,0 +1,6 @@
+use Rattle.std.proofs.Common.{arith}
+use Rattle.serve.proofs.WordLemmas.{no_org_remove}
+use Rattle.serve.proofs.words.read_org_remove.Goals as goal
+
+pub returns-in_default-clause-syntax : goal.returns-in_default-clause-syntax
+returns-in_default-clause-syntax c _ = no_org_remove c.args.words.now (λ e. grind arith) (λ e. grind arith)

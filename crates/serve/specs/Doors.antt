@@ -1,0 +1,178 @@
+-- The operator's door: what a request that comes to it asks for and is answered, and what an exchange with a door is.
+use Rattle.std.specs.Prelude.{◌≡◌, ◌⊎◌, ℕ, ◌<◌, ◌++◌, ⊤, Bool, true, false, nat_le, cond, List, length, Option, Some, None, IfSome, option_and_then, Result, Ok, Err, IsTrue}
+use Rattle.std.specs.Io.KnownBytes.{Appends}
+use Rattle.sha2.specs.Sha256.{sha256}
+use Rattle.basis.specs.declared.refusals.Refusal.{Refusal}
+use Rattle.basis.specs.declared.refusals.Refusal.TheVariants.{BadBody}
+use Rattle.basis.specs.Checks.{or_refused, and_then}
+use Rattle.docs.specs.Bodies.{error_text}
+use Rattle.docs.specs.declared.logs.LogAct.{LogAct}
+use Rattle.docs.specs.declared.logs.LogAct.TheVariants.{OfOperator}
+use Rattle.docs.specs.declared.logs.LogRow.{LogRow}
+use Rattle.docs.specs.declared.logs.OperatorAct.TheVariants.{AddOrganization, LimitOrganization, RemoveOrganization, ListOrganizations, AddToken, ListTokens, RevokeToken}
+use Rattle.machine.specs.declared.keeps.AdminAnswer.{AdminAnswer}
+use Rattle.machine.specs.declared.records.Organization.{Organization}
+use Rattle.route.specs.Doors.{is_at_door, operator_of, may_enter}
+use Rattle.wire.specs.declared.messages.Message.{Message}
+use Rattle.wire.specs.Messages.{Reads, whole}
+use Rattle.wire.specs.Links.{continue_if}
+use Rattle.wire.specs.Replies.{Answer, IsReplyText, text_answer, refused_answer, unavailable_answer}
+use Rattle.serve.specs.declared.doors.Door.{Door}
+use Rattle.serve.specs.declared.doors.Door.TheVariants.{Closed, Open}
+use Rattle.serve.specs.declared.exchanges.LinkFault.{LinkFault}
+use Rattle.serve.specs.declared.exchanges.LinkFault.TheVariants.{Ended, Read, Continue, Write}
+use Rattle.serve.specs.declared.steps.Admin.{Admin}
+use Rattle.serve.specs.declared.steps.Admin.TheVariants.{OrgAdd, OrgLimit, OrgRemove, OrgList, TokenAdd, TokenList, TokenRevoke}
+use Rattle.serve.specs.Asks.{commands}
+use Rattle.serve.specs.Checks.{digest_checked}
+use Rattle.serve.specs.Exchanges.{Exchanges}
+use Rattle.serve.specs.Lines.{only_line}
+use Rattle.serve.specs.Logs.{operator_row}
+use Rattle.serve.specs.Service.{is_head, Carries, Stays, IsAdminAnswer, told_text, refusal_told}
+use Rattle.serve.specs.Words.{command_in_line}
+
+-- the door that is open to this secret
+abbrev pub opened_by : List ℕ → Door
+opened_by secret = Open (sha256 secret)
+
+-- the command that a body of at most 4,096 bytes is: one line, with or without its line feed
+abbrev pub command_in : List ℕ → Result Admin Refusal
+command_in body = or_refused BadBody (cond (nat_le (length body) 4096) (option_and_then command_in_line (only_line body)) None)
+
+-- the command that a message at the open door asks for, or the refusal of the first check that fails: the method, the query, the secret
+-- of this digest, Content-MD5, the body
+abbrev pub commanded : List ℕ → Message → Result Admin Refusal
+commanded digest message =
+    and_then (may_enter digest message) (λ _. and_then (digest_checked message.content_md5 message.body) (λ _. command_in message.body))
+
+-- what a command asks, as the log names it
+abbrev pub act_commanded : Admin → LogAct
+act_commanded (OrgAdd org limit) = OfOperator AddOrganization
+act_commanded (OrgLimit org limit) = OfOperator LimitOrganization
+act_commanded (OrgRemove org is_forced) = OfOperator RemoveOrganization
+act_commanded OrgList = OfOperator ListOrganizations
+act_commanded (TokenAdd org name role secret bounds) = OfOperator AddToken
+act_commanded (TokenList org) = OfOperator ListTokens
+act_commanded (TokenRevoke org name) = OfOperator RevokeToken
+
+-- the organization that a command names
+abbrev pub org_commanded : Admin → Option (List ℕ)
+org_commanded (OrgAdd org limit) = Some org
+org_commanded (OrgLimit org limit) = Some org
+org_commanded (OrgRemove org is_forced) = Some org
+org_commanded OrgList = None
+org_commanded (TokenAdd org name role secret bounds) = Some org
+org_commanded (TokenList org) = Some org
+org_commanded (TokenRevoke org name) = Some org
+
+-- the token that a command adds or revokes
+abbrev pub token_commanded : Admin → Option (List ℕ)
+token_commanded (OrgAdd org limit) = None
+token_commanded (OrgLimit org limit) = None
+token_commanded (OrgRemove org is_forced) = None
+token_commanded OrgList = None
+token_commanded (TokenAdd org name role secret bounds) = Some name
+token_commanded (TokenList org) = None
+token_commanded (TokenRevoke org name) = Some name
+
+abbrev pub unless_refused : Option Refusal → Option (List ℕ) → Option (List ℕ)
+unless_refused None name = name
+unless_refused (Some refusal) name = None
+
+-- the token that was added or revoked; none if the command is refused
+abbrev pub subject_of : Admin → Option Refusal → Option (List ℕ)
+subject_of command refusal = unless_refused refusal (token_commanded command)
+
+-- the reply to a command that is carried out: what the program would print
+abbrev pub told_answer : AdminAnswer → Answer
+told_answer answer = text_answer (refusal_told answer) (told_text answer)
+
+-- the row of the log for a command that is carried out, for a message that is turned away, and for a 503: with the command if it had been read
+abbrev pub told_row : ℕ → Admin → AdminAnswer → LogRow
+told_row now command answer = operator_row now (Some (act_commanded command)) (org_commanded command) (subject_of command (refusal_told answer)) (told_answer answer)
+
+abbrev pub turned_row : ℕ → Answer → LogRow
+turned_row now answer = operator_row now None None None answer
+
+abbrev pub unserved_row : ℕ → Option Admin → LogRow
+unserved_row now None = operator_row now None None None (unavailable_answer false)
+unserved_row now (Some command) = operator_row now (Some (act_commanded command)) (org_commanded command) None (unavailable_answer false)
+
+-- the command that a message asks for is carried out: the machine's step, of the organization that it names alone. This is the reply's
+-- text, and the row of the log
+pub record IsOperated (digest : List ℕ) (now : ℕ) (message : Message) (old new : List ℕ → Option Organization) (text : List ℕ) (row : Option LogRow) : Type 0 where
+  pub command : Admin
+  pub asks : commanded digest message ≡ Ok command
+  pub carries : Carries (commands now command) old new
+  pub answer : AdminAnswer
+  pub answered : IsAdminAnswer old command answer
+  pub is : IsReplyText (told_answer answer) now text
+  pub logged : row ≡ Some (told_row now command answer)
+
+-- a message is turned away: nothing changes
+pub record IsTurnedAway (digest : List ℕ) (now : ℕ) (message : Message) (old new : List ℕ → Option Organization) (text : List ℕ) (row : Option LogRow) : Type 0 where
+  pub refusal : Refusal
+  pub refused : commanded digest message ≡ Err refusal
+  pub stays : Stays old new
+  pub is : IsReplyText (refused_answer refusal (error_text refusal) (is_head message)) now text
+  pub logged : row ≡ Some (turned_row now (refused_answer refusal (error_text refusal) (is_head message)))
+
+-- an allocation or the store failed: nothing changes. The row has the command if it had been read
+pub record IsUnserved (digest : List ℕ) (now : ℕ) (message : Message) (old new : List ℕ → Option Organization) (text : List ℕ) (row : Option LogRow) : Type 0 where
+  pub stays : Stays old new
+  pub is : IsReplyText (unavailable_answer (is_head message)) now text
+  pub command : Option Admin
+  pub asks : IfSome command (λ c. commanded digest message ≡ Ok c)
+  pub logged : row ≡ Some (unserved_row now command)
+
+-- a message at the open door is answered: its command is carried out, or it is turned away (`false`); or an allocation or the store failed
+-- (`true`)
+abbrev pub IsToldAtDoor : List ℕ → ℕ → Message → (List ℕ → Option Organization) → (List ℕ → Option Organization) → List ℕ → Option LogRow → Bool → Type 0
+IsToldAtDoor digest now message old new text row false = IsOperated digest now message old new text row ⊎ IsTurnedAway digest now message old new text row
+IsToldAtDoor digest now message old new text row true = IsUnserved digest now message old new text row
+
+-- the bytes are a message that comes to the door; whether `100 Continue` is awaited
+pub record ComesToDoor (received : List ℕ) (message : Message) (awaited : Bool) : Type 0 where
+  pub reads : Reads received (whole message awaited)
+  pub at_door : IsTrue (is_at_door message)
+
+-- what an exchange answers to bytes that come to the open door; it never ends before a reply
+abbrev pub AnswersAtDoor : List ℕ → ℕ → Message → Bool → (List ℕ → Option Organization) → (List ℕ → Option Organization) → Option (List ℕ) → Option (List ℕ) → Bool → Option LogRow → {T : Type 0} → Result T LinkFault → Type 0
+AnswersAtDoor digest now message awaited old new before after is_down row (Ok done) =
+    (text : List ℕ) × IsToldAtDoor digest now message old new text row is_down × Appends before after (continue_if awaited ++ text)
+AnswersAtDoor digest now message awaited old new before after is_down row (Err Write) =
+    (part : List ℕ) × (rest : List ℕ) × (0 < length rest) × IsToldAtDoor digest now message old new (part ++ rest) row is_down × Appends before after (continue_if awaited ++ part)
+AnswersAtDoor digest now message awaited old new before after is_down row (Err Ended) = ⊥
+AnswersAtDoor digest now message awaited old new before after is_down row (Err Read) = ⊥
+AnswersAtDoor digest now message awaited old new before after is_down row (Err Continue) = ⊥
+
+-- the bytes do not come to the door
+abbrev pub ComeNotToDoor : List ℕ → Type 0
+ComeNotToDoor received = (message : Message) (awaited : Bool) → ComesToDoor received message awaited → ⊥
+
+-- bytes pass by the door: if they were answered, and not by the 503 of a failed allocation or store, they do not come to it
+abbrev pub PassesDoor : List ℕ → Bool → {T : Type 0} → Result T LinkFault → Type 0
+PassesDoor received false (Ok done) = ComeNotToDoor received
+PassesDoor received false (Err Write) = ComeNotToDoor received
+PassesDoor received is_down result = ⊤
+
+-- an exchange while the door is open to the secret of a digest. The bytes pass by the door, and it is the exchange that it would be without a
+-- door; or they come to it, and are answered there
+abbrev pub ExchangesOpen : List ℕ → ℕ → List ℕ → Option (List ℕ) → (List ℕ → Option Organization) → (List ℕ → Option Organization) → Option (List ℕ) → Option (List ℕ) → Bool → Option LogRow → {T : Type 0} → Result T LinkFault → Type 0
+ExchangesOpen digest now received left old new before after is_down row result =
+    (PassesDoor received is_down result × Exchanges now received left old new before after is_down row result)
+    ⊎ ((message : Message) × (awaited : Bool) × ComesToDoor received message awaited × AnswersAtDoor digest now message awaited old new before after is_down row result)
+
+-- an exchange with a door; if it is closed, it is the exchange that it would be without a door
+abbrev pub ExchangesWith : Door → ℕ → List ℕ → Option (List ℕ) → (List ℕ → Option Organization) → (List ℕ → Option Organization) → Option (List ℕ) → Option (List ℕ) → Bool → Option LogRow → {T : Type 0} → Result T LinkFault → Type 0
+ExchangesWith Closed now received left old new before after is_down row result = Exchanges now received left old new before after is_down row result
+ExchangesWith (Open digest) now received left old new before after is_down row result = ExchangesOpen digest now received left old new before after is_down row result
+
+-- a message brings a secret of this digest
+abbrev pub BringsSecret : List ℕ → Message → Type 0
+BringsSecret digest message = (field : List ℕ) × (secret : List ℕ) × (message.authorization ≡ Some field) × (operator_of field ≡ Some secret) × (sha256 secret ≡ digest)
+
+-- a message without the secret changes nothing at the door
+abbrev pub OnlyTheSecretOpens : Type 0
+OnlyTheSecretOpens = (digest : List ℕ) (now : ℕ) (message : Message) (old new : List ℕ → Option Organization) (text : List ℕ) (row : Option LogRow) (is_down : Bool)
+    → IsToldAtDoor digest now message old new text row is_down → BringsSecret digest message ⊎ Stays old new

@@ -1,0 +1,234 @@
+//! The operator's door: an operator's command in a request.
+ghost use Rattle.std.specs.Prelude.{◌≡◌, ◌≢◌, Some, None, IfOk, IfErr, OnOk, OnErr};
+ghost use Rattle.basis.specs.Inner.Checks.{Follows};
+ghost use Rattle.machine.specs.Keeping.{Lasts};
+ghost use Rattle.wire.specs.Replies.{text_answer};
+ghost use Rattle.serve.specs.Doors.{opened_by, command_in, commanded, act_commanded, org_commanded, token_commanded, unless_refused, subject_of, unserved_row};
+ghost use Rattle.serve.specs.Logs.{operator_row};
+ghost use Rattle.serve.specs.Service.{Stays};
+ghost use Rattle.serve.specs.Inner.Doors.{Operates, TurnsAway, OperatesOrNot, IsRowSoFar};
+
+use crate::checks::digest_checked;
+use crate::commands::{Told, tell};
+use crate::lines::{MAX_LINE, only_line};
+use crate::logs::operator_row;
+use crate::messages::is_head;
+use crate::requests::refuse;
+use crate::steps::Admin;
+use crate::words::read_command_line;
+use basis::{Down, Moment, OrgName, Refusal, Secret, Unfit};
+use docs::{LogAct, LogRow, OperatorAct};
+use machine::Keep;
+use route::{may_enter, secret_digest};
+use std::alloc::Global;
+use wire::{Message, Reply};
+
+/// The operator's door: closed, or open to the secret of this digest.
+#[derive(Drop)]
+pub enum Door {
+    Closed,
+    Open { digest: [u8; 32] },
+}
+
+impl Door {
+    /// A door that is open to this secret. The secret is not kept.
+    pub fn opened_by(secret: &Secret) -> Door
+        ensures { result ≡ opened_by secret.now }
+    {
+        Door::Open {
+            digest: secret_digest(secret),
+        }
+    }
+}
+
+// The command that a body is.
+fn command_in(alloc: Global, body: &[u8]) -> Result<Admin, Refusal>
+    ensures { Follows result (command_in body.now) }
+{
+    if body.len() > MAX_LINE {
+        return Err(Refusal::BadBody);
+    }
+    let Some(line) = only_line(body) else {
+        return Err(Refusal::BadBody);
+    };
+    match read_command_line(alloc, line) {
+        Ok(command) => Ok(command),
+        Err(Unfit::Syntax) => Err(Refusal::BadBody),
+        Err(Unfit::Down) => Err(Refusal::Unavailable),
+    }
+}
+
+// The command that a message at the door asks for, or the refusal of the first check that fails: the method, the query, the
+// secret, Content-MD5, the body. `Unavailable` if an allocation fails.
+fn commanded(alloc: Global, digest: &[u8; 32], message: &Message) -> Result<Admin, Refusal>
+    ensures { Follows result (commanded digest.now message.now) }
+{
+    match may_enter(digest, message) {
+        Ok(()) => {}
+        Err(refusal) => return Err(refusal),
+    }
+    match digest_checked(&message.content_md5, &message.body) {
+        Ok(()) => command_in(alloc, message.body.as_slice()),
+        Err(refusal) => Err(refusal),
+    }
+}
+
+fn act_of(asked: &Admin) -> LogAct
+    ensures { result ≡ act_commanded asked.now }
+{
+    match asked {
+        Admin::OrgAdd { .. } => LogAct::OfOperator(OperatorAct::AddOrganization),
+        Admin::OrgLimit { .. } => LogAct::OfOperator(OperatorAct::LimitOrganization),
+        Admin::OrgRemove { .. } => LogAct::OfOperator(OperatorAct::RemoveOrganization),
+        Admin::OrgList => LogAct::OfOperator(OperatorAct::ListOrganizations),
+        Admin::TokenAdd { .. } => LogAct::OfOperator(OperatorAct::AddToken),
+        Admin::TokenList { .. } => LogAct::OfOperator(OperatorAct::ListTokens),
+        Admin::TokenRevoke { .. } => LogAct::OfOperator(OperatorAct::RevokeToken),
+    }
+}
+
+// The names in a command.
+#[derive(Drop)]
+struct Names {
+    org: Option<OrgName>,
+    token: Option<OrgName>,
+}
+
+impl Names {
+    fn of_org(org: OrgName) -> Names
+        ensures org { result.org ≡ Some org }
+        ensures token { result.token ≡ None }
+    {
+        Names {
+            org: Some(org),
+            token: None,
+        }
+    }
+
+    fn of_token(org: OrgName, name: OrgName) -> Names
+        ensures org { result.org ≡ Some org }
+        ensures token { result.token ≡ Some name }
+    {
+        Names {
+            org: Some(org),
+            token: Some(name),
+        }
+    }
+}
+
+fn names_in(asked: Admin) -> Names
+    ensures org { result.org ≡ org_commanded asked }
+    ensures token { result.token ≡ token_commanded asked }
+{
+    match asked {
+        Admin::OrgAdd { org, .. } => Names::of_org(org),
+        Admin::OrgLimit { org, .. } => Names::of_org(org),
+        Admin::OrgRemove { org, .. } => Names::of_org(org),
+        Admin::OrgList => Names {
+            org: None,
+            token: None,
+        },
+        Admin::TokenAdd { org, name, .. } => Names::of_token(org, name),
+        Admin::TokenList { org } => Names::of_org(org),
+        Admin::TokenRevoke { org, name } => Names::of_token(org, name),
+    }
+}
+
+// The token that was added or revoked.
+fn subject_in(token: Option<OrgName>, refusal: Option<Refusal>) -> Option<OrgName>
+    ensures { result ≡ unless_refused refusal token }
+{
+    match refusal {
+        None => token,
+        Some(_) => None,
+    }
+}
+
+/// A reply at the door, and its row of the log.
+#[derive(Drop)]
+pub struct Operated {
+    pub reply: Reply,
+    pub row: LogRow,
+}
+
+// The reply and the row for a command that is carried out.
+fn answered(at: Moment, asked: Admin, told: Told) -> Operated
+    ensures reply { result.reply ≡ text_answer told.refusal told.text }
+    ensures row { result.row ≡ operator_row at (Some (act_commanded asked)) (org_commanded asked) (subject_of asked told.refusal) (text_answer told.refusal told.text) }
+{
+    let Told { refusal, text } = told;
+    let act = act_of(&asked);
+    let Names { org, token } = names_in(asked);
+    let reply = Reply::text(refusal, text);
+    let row = operator_row(at, Some(act), org, subject_in(token, refusal), &reply);
+    Operated { reply, row }
+}
+
+// The row of a 503, if this command had been read.
+fn row_so_far(at: Moment, asked: Admin) -> LogRow
+    ensures { result ≡ unserved_row at (Some asked) }
+{
+    let act = act_of(&asked);
+    let Names { org, token } = names_in(asked);
+    drop(token);
+    let reply = Reply::unavailable(false);
+    operator_row(at, Some(act), org, None, &reply)
+}
+
+// The row of a 503, if no command had been read.
+fn unread_row(at: Moment) -> LogRow
+    ensures { result ≡ unserved_row at None }
+{
+    let reply = Reply::unavailable(false);
+    operator_row(at, None, None, None, &reply)
+}
+
+fn carry_out<K: Keep>(
+    alloc: Global,
+    keep: &mut K,
+    at: Moment,
+    asked: Admin,
+) -> Result<Operated, LogRow>
+    ensures lasts { Lasts K.clean K.sound K.keyed K.shielded keep.old keep.new }
+    ensures ok { K.clean keep.new → K.sound keep.old → IfOk result (Operates at asked (K.rows keep.old) (K.rows keep.new)) }
+    ensures err { K.clean keep.new → OnErr result (Stays (K.rows keep.old) (K.rows keep.new)) }
+    ensures row { IfErr result (λ row. row ≡ unserved_row at (Some asked)) }
+{
+    match tell(alloc, keep, &asked) {
+        Ok(told) => Ok(answered(at, asked, told)),
+        Err(Down) => Err(row_so_far(at, asked)),
+    }
+}
+
+fn turn_away(alloc: Global, at: Moment, refusal: Refusal, is_head: bool) -> Result<Operated, LogRow>
+    ensures known { OnOk result (refusal ≢ Refusal.Unavailable) }
+    ensures ok { IfOk result (TurnsAway at refusal is_head) }
+    ensures row { IfErr result (λ row. row ≡ unserved_row at None) }
+{
+    match refuse(alloc, refusal, is_head) {
+        Ok(reply) => {
+            let row = operator_row(at, None, None, None, &reply);
+            Ok(Operated { reply, row })
+        }
+        Err(Down) => Err(unread_row(at)),
+    }
+}
+
+/// Carries out the command of a message at the open door, and returns the reply; or the row of a 503.
+pub fn operate<K: Keep>(
+    alloc: Global,
+    keep: &mut K,
+    digest: &[u8; 32],
+    at: Moment,
+    message: &Message,
+) -> Result<Operated, LogRow>
+    ensures lasts { Lasts K.clean K.sound K.keyed K.shielded keep.old keep.new }
+    ensures ok { K.clean keep.new → K.sound keep.old → IfOk result (OperatesOrNot digest.now at message.now (K.rows keep.old) (K.rows keep.new)) }
+    ensures err { K.clean keep.new → OnErr result (Stays (K.rows keep.old) (K.rows keep.new)) }
+    ensures row { IfErr result (IsRowSoFar digest.now at message.now) }
+{
+    match commanded(alloc, digest, message) {
+        Ok(asked) => carry_out(alloc, keep, at, asked),
+        Err(refusal) => turn_away(alloc, at, refusal, is_head(message)),
+    }
+}

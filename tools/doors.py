@@ -1,0 +1,256 @@
+#!/usr/bin/env python3
+"""Tests the operator's door of a service: `serve --operator`, by requests over 127.0.0.1 and exact replies; and `admin`.
+
+    python3 tools/doors.py CUSTODY    the program as `rt ci` or `rt run` leaves it
+    python3 tools/doors.py story      prints the stories of the door, with the same requests, replies and lines of the log
+
+It prints a line for each thing that holds, and ends with status 1 at the first that does not.
+"""
+
+import base64
+import hashlib
+import json
+import os
+import subprocess
+import sys
+import tempfile
+
+from harness import MADE, NEW_FILE, SECRET_FORM, Service, free_port, look_at, ok, reply, said
+
+SECRET = b"operatoroperator1"
+TOKEN = b"writewritewrite1"
+ADMIN = b"Bearer acme.adminadminadmin1"
+CONTINUE = b"HTTP/1.1 100 Continue\r\n\r\n"
+AT, DATE = 1700000000, b"Tue, 14 Nov 2023 22:13:20 GMT"
+
+REFUSED = {
+    "no-method": reply(b"405 Method Not Allowed\r\nAllow: POST", b'{"error":"no-method"}'),
+    "bad-query": reply(b"400 Bad Request", b'{"error":"bad-query"}'),
+    "bad-token": reply(b'401 Unauthorized\r\nWWW-Authenticate: Operator realm="custody"', b'{"error":"bad-token"}'),
+    "bad-digest": reply(b"400 Bad Request", b'{"error":"bad-digest"}'),
+    "bad-body": reply(b"400 Bad Request", b'{"error":"bad-body"}'),
+    "bad-message": reply(b"400 Bad Request", b'{"error":"bad-message"}'),
+    "no-route": reply(b"404 Not Found", b'{"error":"no-route"}'),
+}
+STATUSES = {b"ok\n": b"200 OK", b"refused exists\n": b"409 Conflict", b"refused absent\n": b"404 Not Found", b"refused in-use\n": b"409 Conflict"}
+NO_FILE = b"custody: there is no file at the path, or it is empty; only org-add, serve without --check, and --to create one\n"
+BAD_LINE, STOPPED = b"custody: bad line %d\n", b"custody: stopped at line %d\n"
+NO_TOKEN = reply(b'401 Unauthorized\r\nWWW-Authenticate: Bearer realm="custody", error="invalid_token"', b'{"error":"bad-token"}')
+KEYS = ["act", "end", "id", "number", "organization", "refusal", "run", "status", "token", "version", "workspace"]
+
+
+def message(line, body=b"", *fields, secret=b"Operator " + SECRET):
+    fields = [b"Host: c", *([] if secret is None else [b"Authorization: " + secret]), *fields, b"Content-Length: %d" % len(body)]
+    return b"\r\n".join([line, *fields, b"", body])
+
+
+def ordered(text):
+    """`reply` puts the fields of a refusal after the status; this moves them to where the service has them."""
+    head, end, body = text.partition(b"\r\n\r\n")
+    lines = head.split(b"\r\n")
+    own = [line for line in lines if line.startswith((b"Allow:", b"WWW-Authenticate:"))]
+    rest = [line for line in lines if line not in own]
+    place = next((i for i, line in enumerate(rest) if line.startswith(b"Content-Type:")), len(rest))
+    return b"\r\n".join(rest[:place] + own + rest[place:]) + end + body
+
+
+class Exchange:
+    """A request, the reply that is due, and its line of the log."""
+
+    def __init__(self, what, sent, due, **row):
+        self.what, self.sent, self.due = what, sent, ordered(due) if due else due
+        self.row = {**dict.fromkeys(KEYS), "end": "ok", **row}
+
+
+def at_door(body, *fields, line=b"POST /operator HTTP/1.1", **secret):
+    return message(line, body, *fields, **secret)
+
+
+def turned(what, sent, word):
+    return Exchange(what, sent, REFUSED[word], operator=True, subject=None, refusal=word, status=int(REFUSED[word].split(b" ")[1]))
+
+
+def done(command, text, act, org=None, subject=None, sent=None):
+    """A command, and what the program prints of it."""
+    status = STATUSES.get(text, b"200 OK")
+    refusal = text.decode().split()[1] if text.startswith(b"refused") else None
+    due = reply(status, text).replace(b"application/json", b"text/plain; charset=utf-8")
+    row = {"act": act, "organization": org, "refusal": refusal, "status": int(status[:3]), "operator": True, "subject": subject}
+    return Exchange(command.decode().strip(), sent or at_door(command), due, **row)
+
+
+def listed(text=b""):
+    return done(b"org-list", text, "list organizations")
+
+
+def refusals():
+    """What the door turns away, in the order of its checks, and what does not come to it. Nothing changes."""
+    org = b"org-add acme"
+    for method in [b"GET", b"PUT", b"DELETE", b"LOCK", b"UNLOCK"]:
+        yield turned("the method %s" % method.decode(), at_door(b"", line=method + b" /operator?a HTTP/1.1", secret=None), "no-method")
+    for query in [b"?", b"?a=b", b"?access_token=acme." + TOKEN]:
+        yield turned("a query", at_door(org, line=b"POST /operator%s HTTP/1.1" % query, secret=None), "bad-query")
+    wrong = [None, b"", b"Operator", b"Operator ", SECRET, b"Bearer " + SECRET, b"Basic " + SECRET, b"Bearer acme." + SECRET, b"Operator acme." + SECRET]
+    wrong += [b"Operator " + text for text in [SECRET[:-1], SECRET + b"1", SECRET[:-1] + b"2", SECRET.upper(), SECRET + b" " + SECRET, TOKEN]]
+    for secret in wrong:
+        yield turned("the field %s" % secret, at_door(b"no command", b"Content-MD5: no", secret=secret), "bad-token")
+    yield turned("another MD5", at_door(b"no command", b"Content-MD5: " + base64.b64encode(bytes(16))), "bad-digest")
+    for body in [b"", b"\n", b"no command", b"org-add", b"org-add Acme", b"org-add acme\n\n", b"org-add acme\norg-list", b"org-add  acme", b" org-list", b"org-list acme",
+                 b"org-add acme\r\n", b"org-remove acme forced", b"token-add acme ci write " + TOKEN[:-1], b"token-add acme ci owner " + TOKEN, b"token-list", b"org-add \xff",
+                 b"org-add acme" + b" " * 4085, b"check", b"serve", b"admin org-list"]:
+        yield turned("the body %s" % body[:40], at_door(body), "bad-body")
+    yield listed()
+    for path in [b"//operator", b"/operator/", b"/v1/../operator", b"/Operator", b"/operator%20", b"/%6fperator", b"/v1/operator"]:
+        yield Exchange("the path %s" % path, at_door(org, line=b"POST %s HTTP/1.1" % path), REFUSED["no-route"], refusal="no-route", status=404)
+    yield Exchange("two fields", at_door(org, b"Authorization: Operator " + SECRET), REFUSED["bad-message"], refusal="bad-message", status=400)
+    yield listed()
+
+
+def commands():
+    """Each command does what the program's command does, and gets its answer."""
+    yield done(b"org-add acme\n", b"ok\n", "add organization", "acme")
+    yield done(b"org-add acme 7", b"refused exists\n", "add organization", "acme")
+    yield done(b"org-limit acme 3", b"ok\n", "limit organization", "acme")
+    yield done(b"org-limit beta 3", b"refused absent\n", "limit organization", "beta")
+    yield listed(b"acme 0 3\n")
+    yield done(b"token-add acme ci write " + TOKEN, b"ok\n", "add token", "acme", "ci")
+    yield done(b"token-add acme other write " + TOKEN, b"refused exists\n", "add token", "acme")
+    yield done(b"token-add acme root admin adminadminadmin1 until=253402300799 prefix=ne", b"ok\n", "add token", "acme", "root")
+    yield done(b"token-list acme", b"ci write - -\nroot admin 253402300799 ne\n", "list tokens", "acme")
+    yield done(b"token-list beta", b"refused absent\n", "list tokens", "beta")
+    digest = b"Content-MD5: " + base64.b64encode(hashlib.md5(b"org-list").digest())
+    for sent in [
+        at_door(b"org-list", digest),
+        at_door(b"org-list", secret=b"oPERATOR   " + SECRET),
+        at_door(b"org-list", line=b"POST http://c/operator HTTP/1.1"),
+    ]:
+        yield done(b"org-list", b"acme 0 3\n", "list organizations", sent=sent)
+    awaited = done(b"org-list", b"acme 0 3\n", "list organizations", sent=at_door(b"org-list", b"Expect: 100-continue"))
+    awaited.due = CONTINUE + awaited.due
+    yield awaited
+    put = message(b"PUT /v1/acme/workspaces/net HTTP/1.1", secret=ADMIN)
+    yield Exchange("a token that was added", put, ok(MADE), act="put workspace", organization="acme", status=200, token="root", workspace="net")
+    as_token = message(b"GET /v1/acme/workspaces HTTP/1.1", secret=b"Bearer acme." + SECRET)
+    yield Exchange("the operator's secret as a token", as_token, NO_TOKEN, act="list workspaces", organization="acme", refusal="bad-token", status=401)
+    lock = message(b"LOCK /v1/acme/state/net HTTP/1.1", b'{"ID":"5f2c"}', secret=ADMIN)
+    yield Exchange("a lock", lock, ok(), act="lock", id="5f2c", organization="acme", status=200, token="root", workspace="net")
+    yield done(b"org-remove acme", b"refused in-use\n", "remove organization", "acme")
+    yield done(b"token-revoke acme root", b"ok\n", "revoke token", "acme", "root")
+    yield done(b"token-revoke acme root", b"refused absent\n", "revoke token", "acme")
+    gone = message(b"GET /v1/acme/workspaces HTTP/1.1", secret=ADMIN)
+    yield Exchange("a token that was revoked", gone, NO_TOKEN, act="list workspaces", organization="acme", refusal="bad-token", status=401)
+    yield done(b"org-remove acme force", b"ok\n", "remove organization", "acme")
+    yield done(b"org-remove acme", b"refused absent\n", "remove organization", "acme")
+    yield listed()
+
+
+def cuts():
+    """Whatever is missing of a request, nothing is answered, and nothing changes."""
+    whole = at_door(b"org-add acme")
+    for cut in range(len(whole)):
+        yield Exchange("%d bytes of a request" % cut, whole[:cut], b"", end="ended")
+    yield listed()
+
+
+class Door(Service):
+    """A service with an open door and a log."""
+
+    def __init__(self, program):
+        with tempfile.TemporaryFile() as given:
+            given.write(SECRET + b"\n")
+            given.seek(0)
+            super().__init__(program, "t.db", None, "--operator", "--log", given=given, errors=subprocess.DEVNULL)
+        self.place = 0
+
+    def answers(self, one):
+        self.place += 1
+        said("the reply to %s" % one.what, self.asked(one.sent), one.due)
+        line = json.loads(self.process.stdout.readline())
+        said("the connection of %s" % one.what, line.pop("connection"), self.place)
+        del line["at"]
+        said("the line of %s" % one.what, line, one.row)
+
+
+def look_at_secrets(program):
+    """Without a secret on its input, a service with a door does not start, and creates no file."""
+    words = ["serve", "--db", "t.db", "--port", str(free_port()), "--count", "1", "--operator"]
+    for what, given in [("no secret", b""), ("an empty line", b"\n"), ("two lines", SECRET + b"\n" + SECRET + b"\n"), ("a short secret", b"short\n"), ("a secret with a CR", SECRET + b"\r\n")]:
+        program.is_due(what, words, 2, b"refused usage\n", SECRET_FORM, given)
+    said("what lies in the folder", os.listdir(program.folder), [])
+    print("right: a service with a door starts only with a secret; otherwise it creates no file")
+
+
+def look_at_exchanges(program):
+    for what, exchanges in [("what comes to the door without its secret or without a command", refusals()), ("commands", commands()), ("requests that are cut off at each byte", cuts())]:
+        with Door(program) as door:
+            for one in exchanges:
+                door.answers(one)
+            print("right: %s, with the log's line of each (%d)" % (what, door.place))
+
+
+def look_at_closed_door(program):
+    """Without the flag nobody is let in."""
+    with Service(program, "t.db", 1) as service:
+        said("the door that is closed", service.asked(at_door(b"org-list")), REFUSED["no-route"])
+    print("right: without the flag there is no door")
+
+
+def look_at_batches(program):
+    """`admin` carries out the commands on standard input in order, up to the first that does not end with status 0."""
+    words, before = ["admin", "--db", "b.db"], sorted(os.listdir(program.folder))
+    program.is_due("no commands", words, 0, b"")
+    program.is_due("a first command that creates no file", words, 3, b"refused down\n", NO_FILE, b"org-list\n")
+    program.is_due("a line that is not a command", words, 2, b"refused usage\n", BAD_LINE % 2, b"org-add acme\nno command\norg-list\n")
+    said("what lies in the folder", sorted(os.listdir(program.folder)), before)
+    given = b"org-add acme\ntoken-add acme ci write %s\norg-list\ntoken-list acme" % TOKEN
+    program.is_due("commands", words, 0, b"ok\nok\nacme 0 200\nci write - -\n", NEW_FILE, given)
+    program.is_due("commands up to one that is refused", words, 1, b"ok\nrefused exists\n", STOPPED % 2, b"org-limit acme 3\norg-add acme\norg-remove acme\n")
+    program.is_due("what they did", ["org-list", "--db", "b.db"], 0, b"acme 0 3\n")
+    print("right: admin carries out the commands on standard input in order, and says at which line it stops")
+
+
+# ----------------------------------------------------------------------------------------------------
+# The same as stories
+# ----------------------------------------------------------------------------------------------------
+
+
+def escaped(text):
+    return "".join(chr(b) if 32 <= b < 127 and b != 92 else "\\x%02x" % b for b in text)
+
+
+def pieces(text):
+    """A message as the lines of a story: its head, and its body."""
+    if not text:
+        return []
+    if text.startswith(CONTINUE):
+        return ["> HTTP/1.1 100 Continue", ">", *pieces(text[len(CONTINUE):])]
+    head, _, body = text.partition(b"\r\n\r\n")
+    lines = [("> " + line.decode()).rstrip() if line.endswith(b":") or not line.endswith(b" ") else "\\ %s\\r\\n" % line.decode() for line in head.split(b"\r\n")]
+    plain = all(32 <= b < 127 or b == 10 for b in body) and not body.endswith(b" ")
+    return [*lines, ">", *(["| " + line if line else "|" for line in body.decode().split("\n")] if body and plain else ["\\ " + escaped(body)] if body else [])]
+
+
+def log_of(place, row):
+    return json.dumps({**row, "at": AT, "connection": place}, sort_keys=True, separators=(",", ":"))
+
+
+def story(name, exchanges):
+    exchanges = list(exchanges)
+    lines = ["story %s" % name, "file m.db", ""]
+    for one in exchanges:
+        due = one.due.replace(b"Date: DATE", b"Date: " + DATE)
+        lines += ["peer", *pieces(one.sent), "=", *pieces(due), ""]
+    lines += ["$ serve --db m.db --port 8090 --count %d --log --operator" % len(exchanges), "| " + SECRET.decode(), "= 0", "| listening 127.0.0.1:8090"]
+    lines += ["| " + log_of(place, one.row) for place, one in enumerate(exchanges, 1)]
+    return [*lines, "|", "?", "| custody: there was no file at the path; a new one was created", "|", ""]
+
+
+def stories():
+    return [*story("operator's commands come by the door", commands()), *story("the door turns away what has no secret or no command", refusals())]
+
+
+if __name__ == "__main__":
+    if sys.argv[1:] == ["story"]:
+        print("\n".join(stories()))
+    else:
+        look_at(__doc__, look_at_secrets, look_at_exchanges, look_at_closed_door, look_at_batches)
