@@ -4,6 +4,13 @@ use Rattle.program.specs.Inner.Serving.{TakesOne}
 use Rattle.program.proofs.ServingLemmas.{after_reply_lasts, after_reply_rows}
 use Rattle.program.proofs.serving.serve_next.Goals as goal
 
+pub returns-then-after_reply-clause-takes : goal.returns-then-after_reply-clause-takes
+returns-then-after_reply-clause-takes g c clean sound =
+    let mid = c.answer_next.new.service in
+    let before = (after_reply_lasts g.K.Keep g.F.Files mid.was_down mid.keep c.after_reply.result c.after_reply.new.service.keep c.after_reply.ensures).so_far clean in
+    subst (λ rows. TakesOne c.args.terms.now.door (g.K.Keep.rows c.args.service.now.keep) rows) (sym (after_reply_rows g.K.Keep g.F.Files mid.was_down mid.keep c.after_reply.result c.after_reply.new.service.keep c.after_reply.ensures clean (c.in-Ok.ensures.lasts.kept before sound)))
+    (c.in-Ok.ensures.takes before sound)
+
 pub returns-then-is_told-clause-takes : goal.returns-then-is_told-clause-takes
 returns-then-is_told-clause-takes g c clean sound =
     let mid = c.answer_next.new.service in
