@@ -14,13 +14,16 @@ import os
 import subprocess
 import sys
 import tempfile
+import threading
 
-from harness import MADE, NEW_FILE, SECRET_FORM, Service, free_port, look_at, ok, reply, said
+from harness import MADE, NEW_FILE, SECRET_FORM, Service, Wrong, free_port, look_at, ok, reply, said, wait_until
 
 SECRET = b"operatoroperator1"
 TOKEN = b"writewritewrite1"
 ADMIN = b"Bearer acme.adminadminadmin1"
 CONTINUE = b"HTTP/1.1 100 Continue\r\n\r\n"
+# How many clients work while the operator does, and how many rounds each has to complete before and after.
+CLIENTS, ROUNDS = 40, 3
 AT, DATE = 1700000000, b"Tue, 14 Nov 2023 22:13:20 GMT"
 
 REFUSED = {
@@ -153,14 +156,18 @@ def cuts():
 
 
 class Door(Service):
-    """A service with an open door and a log."""
+    """A service with an open door, and with a log unless `words` are others."""
 
-    def __init__(self, program):
+    def __init__(self, program, path="t.db", words=("--log",)):
         with tempfile.TemporaryFile() as given:
             given.write(SECRET + b"\n")
             given.seek(0)
-            super().__init__(program, "t.db", None, "--operator", "--log", given=given, errors=subprocess.DEVNULL)
+            super().__init__(program, path, None, "--operator", *words, given=given, errors=subprocess.DEVNULL)
         self.place = 0
+
+    def commands(self, *pairs):
+        for command, text in pairs:
+            said("the reply to %s" % command.decode(), self.asked(at_door(command)), done(command, text, None).due)
 
     def answers(self, one):
         self.place += 1
@@ -209,6 +216,60 @@ def look_at_batches(program):
     print("right: admin carries out the commands on standard input in order, and says at which line it stops")
 
 
+class Client(threading.Thread):
+    """Locks, updates, reads and unlocks a state of its own, round after round."""
+
+    def __init__(self, service, name, stop):
+        super().__init__(daemon=True)
+        self.service, self.path, self.stop, self.rounds, self.failed = service, b"/v1/acme/state/%s" % name, stop, 0, None
+
+    def run(self):
+        own = self.path[-4:]
+        lock = b'{"ID":"%s"}' % own
+        try:
+            while not self.stop.is_set():
+                for method, query, body in [(b"LOCK", b"", lock), (b"POST", b"?ID=" + own, b'{"serial":%d}' % self.rounds), (b"GET", b"", b""), (b"UNLOCK", b"", lock)]:
+                    came = self.service.asked(message(b"%s %s%s HTTP/1.1" % (method, self.path, query), body, secret=ADMIN))
+                    if not came.startswith(b"HTTP/1.1 200 "):
+                        raise Wrong("%s of %s: %s" % (method.decode(), self.path.decode(), came))
+                self.rounds += 1
+        except (Wrong, OSError) as wrong:
+            self.failed = wrong
+
+
+def look_at_work(program):
+    """While clients work, a team is added, its token is replaced, and it is removed. Nobody's request fails."""
+    put, first, second = b"PUT /v1/beta/workspaces/net HTTP/1.1", b"Bearer beta.firstfirstfirst11", b"Bearer beta.secondsecond2222"
+    with Door(program, "w.db", ()) as door:
+        door.commands((b"org-add acme", b"ok\n"), (b"token-add acme root admin adminadminadmin1", b"ok\n"))
+        names, stop = [b"n%03d" % place for place in range(CLIENTS)], threading.Event()
+        for name in names:
+            said("a new workspace", door.asked(message(b"PUT /v1/acme/workspaces/%s HTTP/1.1" % name, secret=ADMIN)), ok(MADE.replace(b"net", name)))
+        clients = [Client(door, name, stop) for name in names]
+
+        def rounds_behind(counts):
+            wait_until(lambda: all(one.failed or one.rounds >= count + ROUNDS for one, count in zip(clients, counts)), "a client doesn't get on")
+
+        try:
+            for one in clients:
+                one.start()
+            rounds_behind([0] * CLIENTS)
+            door.commands((b"org-add beta", b"ok\n"), (b"token-add beta first admin firstfirstfirst11", b"ok\n"))
+            said("the team's token", door.asked(message(put, secret=first)), ok(MADE))
+            door.commands((b"token-add beta second admin secondsecond2222", b"ok\n"), (b"token-revoke beta first", b"ok\n"))
+            said("the token that was revoked", door.asked(message(put, secret=first)), ordered(NO_TOKEN))
+            said("the token in its place", door.asked(message(put, secret=second)), ok(MADE))
+            door.commands((b"org-list", b"acme %d 200\nbeta 1 200\n" % CLIENTS), (b"org-remove beta", b"ok\n"), (b"org-list", b"acme %d 200\n" % CLIENTS))
+            said("a token of a team that is gone", door.asked(message(put, secret=second)), ordered(NO_TOKEN))
+            rounds_behind([one.rounds for one in clients])
+        finally:
+            stop.set()
+        for one in clients:
+            one.join()
+        said("the requests that failed", [str(one.failed) for one in clients if one.failed], [])
+    print("right: while %d clients work, a team is added, its token is replaced, and it is removed" % CLIENTS)
+
+
 # ----------------------------------------------------------------------------------------------------
 # The same as stories
 # ----------------------------------------------------------------------------------------------------
@@ -253,4 +314,4 @@ if __name__ == "__main__":
     if sys.argv[1:] == ["story"]:
         print("\n".join(stories()))
     else:
-        look_at(__doc__, look_at_secrets, look_at_exchanges, look_at_closed_door, look_at_batches)
+        look_at(__doc__, look_at_secrets, look_at_exchanges, look_at_closed_door, look_at_batches, look_at_work)
