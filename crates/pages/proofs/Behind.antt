@@ -9,9 +9,9 @@ use Rattle.statements.specs.Rows.{Kept, PageRow, id_of}
 use Rattle.statements.specs.Tables.{Tables}
 use Rattle.statements.proofs.Found.{found_holds}
 use Rattle.pages.specs.declared.scans.PageRow.{PageRow as ReadRow}
-use Rattle.pages.specs.declared.scans.HeadRow.{HeadRow}
+use Rattle.pages.specs.declared.scans.Unhashed.{Unhashed}
 use Rattle.pages.specs.Heads.{head_in}
-use Rattle.pages.specs.Inner.Scans.{is_behind, page_row, head_of, head_row, head_row_behind}
+use Rattle.pages.specs.Inner.Scans.{is_behind, page_row, unhashed_of, unhashed_row, unhashed_behind, hashed}
 
 -- what a test lets through is none where it finds none
 none_found : {X : Type 0} (p : X → Bool) (xs : List X) → find p xs ≡ None → filter p xs ≡ []
@@ -57,19 +57,20 @@ module _ {R : Type 0} where
           let less : y.0 <ℤ x.0 = found_holds (λ (z : Kept R). y.0 <ℤ z.0) (is_behind id) ys x keyed.0 e in
           more e ∙ ap (λ (l : List (Kept R)). x ∷ l) (sym (ap (λ (b : Bool). cond b (y ∷ filter (is_behind (Some x.0)) ys) (filter (is_behind (Some x.0)) ys)) (not_below x.0 y.0 less)))
 
-module _ (key_of : List ℕ → List ℕ) (t : Tables) where
-  -- no row is found, so there is no head
-  pub no_head : (o : Option (Kept PageRow)) → None ≡ option_map page_row o → None ≡ option_map (head_row key_of t) o
-  no_head None is = refl
-  no_head (Some x) is = absurd (let none : ⊥ = cc in none)
+module _ (t : Tables) where
+  -- no row is found, so there is none with what is found for it
+  pub no_row : (o : Option (Kept PageRow)) → None ≡ option_map page_row o → None ≡ option_map (unhashed_row t) o
+  no_row None is = refl
+  no_row (Some x) is = absurd (let none : ⊥ = cc in none)
 
-  -- the head of the row that is found
-  pub one_head : (o : Option (Kept PageRow)) (page : ReadRow) (head : PageHead) → Some page ≡ option_map page_row o → head ≡ head_of key_of page t → Some (record { id = page.id; head = head }) ≡ option_map (head_row key_of t) o
-  one_head None page head is told = absurd (let none : ⊥ = cc in none)
-  one_head (Some x) page head is told =
+  -- the row that is found, with what is found for it
+  pub one_row : (o : Option (Kept PageRow)) (page : ReadRow) (row : Unhashed) → Some page ≡ option_map page_row o → row ≡ unhashed_of page t → Some row ≡ option_map (unhashed_row t) o
+  one_row None page row is told = absurd (let none : ⊥ = cc in none)
+  one_row (Some x) page row is told =
       let same : page ≡ page_row x = cc in
-      λ i. Some (record { id = (same i).id; head = (told ∙ ap (λ (p : ReadRow). head_of key_of p t) same) i })
+      ap (λ (r : Unhashed). Some r) (told ∙ ap (λ (p : ReadRow). unhashed_of p t) same)
 
+module _ (key_of : List ℕ → List ℕ) (t : Tables) where
   abbrev pub behind_heads : Option ℤ → List PageHead
   behind_heads id = map (head_in key_of t) (filter (is_behind id) t.pages)
 
@@ -80,22 +81,38 @@ module _ (key_of : List ℕ → List ℕ) (t : Tables) where
   pub heads_begin : AreHeadsBefore [] None
   heads_begin = ap (map (head_in key_of t)) (filter_all (is_behind None) t.pages (all_of (λ (x : Kept PageRow). is_behind None x ≡ true) (λ x. refl) t.pages))
 
-  pub heads_more : (heads : List PageHead) (id : Option ℤ) (row : HeadRow) → IsKeyedBy id_of t.pages → Some row ≡ head_row_behind key_of id t → AreHeadsBefore heads id → AreHeadsBefore (heads ++ row.head ∷ []) (Some row.id)
+  pub heads_more : (heads : List PageHead) (id : Option ℤ) (row : Unhashed) → IsKeyedBy id_of t.pages → Some row ≡ unhashed_behind id t → AreHeadsBefore heads id → AreHeadsBefore (heads ++ hashed key_of row ∷ []) (Some row.page.id)
   heads_more heads id row keyed is before = go (find (is_behind id) t.pages) refl is
     where
-      go : (o : Option (Kept PageRow)) → find (is_behind id) t.pages ≡ o → Some row ≡ option_map (head_row key_of t) o → AreHeadsBefore (heads ++ row.head ∷ []) (Some row.id)
+      go : (o : Option (Kept PageRow)) → find (is_behind id) t.pages ≡ o → Some row ≡ option_map (unhashed_row t) o → AreHeadsBefore (heads ++ hashed key_of row ∷ []) (Some row.page.id)
       go None e is = absurd (let none : ⊥ = cc in none)
       go (Some x) e is =
-          let same : row ≡ head_row key_of t x = cc in
+          let same : row ≡ unhashed_row t x = cc in
           let rest = ap (map (head_in key_of t)) (rest_behind id t.pages x keyed e) in
-          subst (λ (r : HeadRow). AreHeadsBefore (heads ++ r.head ∷ []) (Some r.id)) (sym same)
+          subst (λ (r : Unhashed). AreHeadsBefore (heads ++ hashed key_of r ∷ []) (Some r.page.id)) (sym same)
           (append_assoc heads (head_in key_of t x ∷ []) (behind_heads (Some x.0)) ∙ ap (λ (l : List PageHead). heads ++ l) (sym rest) ∙ before)
 
-  pub heads_end : (heads : List PageHead) (id : Option ℤ) → None ≡ head_row_behind key_of id t → AreHeadsBefore heads id → heads ≡ map (head_in key_of t) t.pages
+  pub heads_end : (heads : List PageHead) (id : Option ℤ) → None ≡ unhashed_behind id t → AreHeadsBefore heads id → heads ≡ map (head_in key_of t) t.pages
   heads_end heads id is before = go (find (is_behind id) t.pages) refl is
     where
-      go : (o : Option (Kept PageRow)) → find (is_behind id) t.pages ≡ o → None ≡ option_map (head_row key_of t) o → heads ≡ map (head_in key_of t) t.pages
+      go : (o : Option (Kept PageRow)) → find (is_behind id) t.pages ≡ o → None ≡ option_map (unhashed_row t) o → heads ≡ map (head_in key_of t) t.pages
       go None e is =
           let none = ap (map (head_in key_of t)) (none_found (is_behind id) t.pages e) in
           sym (append-nil heads) ∙ sym (ap (λ (l : List PageHead). heads ++ l) none) ∙ before
       go (Some x) e is = absurd (let none : ⊥ = cc in none)
+
+  -- the heads so far, those of the rows that were read and have no keys yet, and those of the rows that are still to come
+  abbrev pub AreReadBefore : List PageHead → List Unhashed → Option ℤ → Type 0
+  AreReadBefore heads window id = AreHeadsBefore (heads ++ map (hashed key_of) window) id
+
+  pub reads_begin : (heads : List PageHead) (window : List Unhashed) → heads ≡ [] → window ≡ [] → AreReadBefore heads window None
+  reads_begin heads window none empty =
+      subst (λ (l : List PageHead). AreReadBefore l window None) (sym none) (subst (λ (w : List Unhashed). AreReadBefore [] w None) (sym empty) heads_begin)
+
+  pub reads_more : (heads more : List PageHead) (window rest : List Unhashed) (id : Option ℤ) (row : Unhashed) → IsKeyedBy id_of t.pages → Some row ≡ unhashed_behind id t
+      → more ++ map (hashed key_of) rest ≡ heads ++ map (hashed key_of) window ++ hashed key_of row ∷ [] → AreReadBefore heads window id → AreReadBefore more rest (Some row.page.id)
+  reads_more heads more window rest id row keyed is same before =
+      subst (λ (l : List PageHead). AreHeadsBefore l (Some row.page.id)) (sym same) (heads_more (heads ++ map (hashed key_of) window) id row keyed is before)
+
+  pub reads_end : (heads all : List PageHead) (window : List Unhashed) (id : Option ℤ) → None ≡ unhashed_behind id t → all ≡ heads ++ map (hashed key_of) window → AreReadBefore heads window id → all ≡ map (head_in key_of t) t.pages
+  reads_end heads all window id is same before = same ∙ heads_end (heads ++ map (hashed key_of) window) id is before

@@ -14,3 +14,4 @@ pub mod Referring
 pub mod RowReads
 pub mod RowTexts
 pub mod Sights
+pub mod Windows

@@ -1,9 +1,9 @@
-//! Reads all pages, one at a time, and keeps what is said of each without its bytes.
-ghost use Rattle.std.specs.Prelude.{◌≡◌, map, Some, None};
+//! Reads all pages, one at a time, and keeps what is said of each without its bytes. Hashes four of them at once.
+ghost use Rattle.std.specs.Prelude.{◌≡◌, ◌<◌, ◌≤◌, [], ◌∷◌, ◌++◌, map, take, length, Some, None, OnOk};
 ghost use Rattle.statements.specs.Steps.{Equals, Queries, Sees};
 ghost use Rattle.pages.specs.Rows.{equal_page};
 ghost use Rattle.pages.specs.Heads.{has_twin, head_in};
-ghost use Rattle.pages.specs.Inner.Scans.{IsPageRow, page_row_behind, head_from, head_of, head_row_behind};
+ghost use Rattle.pages.specs.Inner.Scans.{IsPageRow, page_row_behind, unhashed_of, unhashed_behind, head_under, hashed};
 
 use crate::keys::PageKey;
 use crate::rows::{EQUAL_PAGE, PageUse};
@@ -23,11 +23,11 @@ pub(crate) struct PageRow {
     pub uses: u64,
 }
 
-/// The head of a page, with the rowid of its row.
+/// A row of page, with the first page that has its key and its bytes. It is not hashed yet.
 #[derive(Drop)]
-pub(crate) struct HeadRow {
-    pub id: i64,
-    pub head: PageHead,
+pub(crate) struct Unhashed {
+    pub page: PageRow,
+    pub found: Option<PageUse>,
 }
 
 impl Read for PageRow {
@@ -96,11 +96,38 @@ fn has_twin(found: Option<PageUse>, twin: u64) -> bool
     }
 }
 
-/// The head of a page, computed from its row and from the first page that has its key and its bytes.
-fn head_from<K: PageKey>(page: PageRow, found: Option<PageUse>) -> PageHead
-    ensures { result ≡ head_from K.key_of page found }
+/// Finds the first page that has a row's key and bytes.
+fn look_up<S: Alter>(conn: &mut Connection<S>, page: PageRow) -> Result<Unhashed, Error>
+    ensures { Queries S.Store (Equals (unhashed_of page)) conn.old conn.new result }
 {
-    let key = K::key(page.bytes.as_slice());
+    match equal(conn, page.key.as_slice(), page.bytes.as_slice()) {
+        Ok(found) => Ok(Unhashed { page, found }),
+        Err(error) => Err(error),
+    }
+}
+
+/// The first row of page, or the first one after the row with this rowid, and the first page that has its key and its bytes.
+fn next_behind<S: Alter>(
+    conn: &mut Connection<S>,
+    id: Option<i64>,
+) -> Result<Option<Unhashed>, Error>
+    ensures { Sees S.Store (Equals (unhashed_behind id)) conn.old conn.new result }
+{
+    let found = row_behind(conn, id)?;
+    match found {
+        None => Ok(None),
+        Some(page) => {
+            let row = look_up(conn, page)?;
+            Ok(Some(row))
+        }
+    }
+}
+
+/// The head of a page whose bytes have this key.
+fn head_under(row: Unhashed, key: &[u8; 32]) -> PageHead
+    ensures { result ≡ head_under key.now row }
+{
+    let page = row.page;
     let is_keyed = key.as_slice() == page.key.as_slice();
     PageHead {
         key: page.key,
@@ -108,38 +135,72 @@ fn head_from<K: PageKey>(page: PageRow, found: Option<PageUse>) -> PageHead
         size: page.bytes.as_slice().len() as u64,
         uses: page.uses,
         is_keyed,
-        is_first: has_twin(found, page.twin),
+        is_first: has_twin(row.found, page.twin),
     }
 }
 
-fn head<S: Alter, K: PageKey>(conn: &mut Connection<S>, page: PageRow) -> Result<PageHead, Error>
-    ensures { Queries S.Store (Equals (head_of K.key_of page)) conn.old conn.new result }
+/// The keys of the bytes of the first four rows, as far as there are rows. Three keys at once cost less than one by one, two do not.
+fn keys_of<K: PageKey>(rows: &[Unhashed]) -> [[u8; 32]; 4]
+    ensures { take (length rows.now) result ≡ take 4 (map (λ row. K.key_of row.page.bytes) rows.now) }
 {
-    match equal(conn, page.key.as_slice(), page.bytes.as_slice()) {
-        Ok(found) => Ok(head_from::<K>(page, found)),
-        Err(error) => Err(error),
+    match rows {
+        [] => [[0; 32]; 4],
+        [a] => [K::key(a.page.bytes.as_slice()), [0; 32], [0; 32], [0; 32]],
+        [a, b] => [
+            K::key(a.page.bytes.as_slice()),
+            K::key(b.page.bytes.as_slice()),
+            [0; 32],
+            [0; 32],
+        ],
+        [a, b, c] => K::keys([
+            a.page.bytes.as_slice(),
+            b.page.bytes.as_slice(),
+            c.page.bytes.as_slice(),
+            &[],
+        ]),
+        [a, b, c, d, ..] => K::keys([
+            a.page.bytes.as_slice(),
+            b.page.bytes.as_slice(),
+            c.page.bytes.as_slice(),
+            d.page.bytes.as_slice(),
+        ]),
     }
 }
 
-/// The head of the first page, or of the first one after the row with this rowid.
-fn head_behind<S: Alter, K: PageKey>(
-    conn: &mut Connection<S>,
-    id: Option<i64>,
-) -> Result<Option<HeadRow>, Error>
-    ensures { Sees S.Store (Equals (head_row_behind K.key_of id)) conn.old conn.new result }
+/// Adds the heads of the window's rows, at most four, after the others, and empties the window.
+fn flush<K: PageKey>(heads: &mut Vec<PageHead>, window: &mut Vec<Unhashed>) -> Result<(), Error>
+    requires few { length window.old.items ≤ 4 }
+    ensures heads { OnOk result (heads.new.items ≡ heads.old.items ++ map (hashed K.key_of) window.old.items) }
+    ensures window { OnOk result (window.new.items ≡ []) }
 {
-    let found = row_behind(conn, id)?;
-    match found {
-        None => Ok(None),
-        Some(page) => {
-            let id = page.id;
-            let head = head::<S, K>(conn, page)?;
-            Ok(Some(HeadRow { id, head }))
-        }
+    let keys = keys_of::<K>(window.as_slice());
+    let count = window.len();
+    'rows: for at in 0..count {
+        let row = window.remove(0);
+        let head = head_under(row, &keys[at]);
+        heads.push(head)?;
     }
+    Ok(())
 }
 
-/// The heads of all pages, in the order of their rowids. Only one page is in memory at a time.
+/// Adds a row to the window, which is flushed once it has four.
+fn add_row<K: PageKey>(
+    heads: &mut Vec<PageHead>,
+    window: &mut Vec<Unhashed>,
+    row: Unhashed,
+) -> Result<(), Error>
+    requires few { length window.old.items < 4 }
+    ensures heads { OnOk result (heads.new.items ++ map (hashed K.key_of) window.new.items ≡ heads.old.items ++ map (hashed K.key_of) window.old.items ++ hashed K.key_of row ∷ []) }
+    ensures few { OnOk result (length window.new.items < 4) }
+{
+    window.push(row)?;
+    if window.len() < 4 {
+        return Ok(());
+    }
+    flush::<K>(heads, window)
+}
+
+/// The heads of all pages, in the order of their rowids. At most four pages are in memory at a time.
 pub fn heads<S: Alter, K: PageKey>(
     alloc: Global,
     conn: &mut Connection<S>,
@@ -147,15 +208,19 @@ pub fn heads<S: Alter, K: PageKey>(
     ensures { Sees S.Store (Equals (λ t. map (head_in K.key_of t) t.pages)) conn.old conn.new result }
 {
     let mut heads = Vec::new(alloc);
+    let mut window = Vec::new(alloc);
     let mut behind: Option<i64> = None;
     'pages: for count in 0..u64::MAX {
-        let found = head_behind::<S, K>(conn, behind)?;
+        let found = next_behind::<S>(conn, behind)?;
         match found {
-            None => return Ok(Items::new(heads)),
+            None => {
+                flush::<K>(&mut heads, &mut window)?;
+                return Ok(Items::new(heads));
+            }
             Some(row) => {
-                let id = row.id;
+                let id = row.page.id;
                 behind = Some(id);
-                heads.push(row.head)?;
+                add_row::<K>(&mut heads, &mut window, row)?;
             }
         }
     }

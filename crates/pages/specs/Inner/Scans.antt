@@ -6,11 +6,10 @@ use Rattle.sqlite_value.specs.Order.{Row, column}
 use Rattle.statements.specs.declared.rows.PageHead.{PageHead}
 use Rattle.statements.specs.Rows.{Kept, PageRow, number}
 use Rattle.statements.specs.Tables.{Tables}
-use Rattle.pages.specs.declared.rows.PageUse.{PageUse}
 use Rattle.pages.specs.declared.scans.PageRow.{PageRow as ReadRow}
-use Rattle.pages.specs.declared.scans.HeadRow.{HeadRow}
+use Rattle.pages.specs.declared.scans.Unhashed.{Unhashed}
 use Rattle.pages.specs.Rows.{equal_page}
-use Rattle.pages.specs.Heads.{has_twin, head_in}
+use Rattle.pages.specs.Heads.{has_twin}
 
 pub record IsPageRow (row : Row) (page : ReadRow) : Type 0 where
   pub id : column row 0 ≡ Int page.id
@@ -32,21 +31,26 @@ page_row x = record { id = x.0; key = x.1.key; twin = x.1.twin; bytes = x.1.byte
 abbrev pub page_row_behind : Option ℤ → Tables → Option ReadRow
 page_row_behind id t = option_map page_row (find (is_behind id) t.pages)
 
-abbrev pub head_from : (List ℕ → List ℕ) → ReadRow → Option PageUse → PageHead
-head_from key_of page found = record {
-  key = page.key;
-  twin = page.twin;
-  size = length page.bytes;
-  uses = page.uses;
-  is_keyed = bytes_eq (key_of page.bytes) page.key;
-  is_first = has_twin found page.twin;
+-- with the first page of its key that has its bytes
+abbrev pub unhashed_of : ReadRow → Tables → Unhashed
+unhashed_of page t = record { page = page; found = equal_page page.key page.bytes t }
+
+abbrev pub unhashed_row : Tables → Kept PageRow → Unhashed
+unhashed_row t x = unhashed_of (page_row x) t
+
+abbrev pub unhashed_behind : Option ℤ → Tables → Option Unhashed
+unhashed_behind id t = option_map (unhashed_row t) (find (is_behind id) t.pages)
+
+-- what is said of a page whose bytes have this key
+abbrev pub head_under : List ℕ → Unhashed → PageHead
+head_under key row = record {
+  key = row.page.key;
+  twin = row.page.twin;
+  size = length row.page.bytes;
+  uses = row.page.uses;
+  is_keyed = bytes_eq key row.page.key;
+  is_first = has_twin row.found row.page.twin;
 }
 
-abbrev pub head_of : (List ℕ → List ℕ) → ReadRow → Tables → PageHead
-head_of key_of page t = head_from key_of page (equal_page page.key page.bytes t)
-
-abbrev pub head_row : (List ℕ → List ℕ) → Tables → Kept PageRow → HeadRow
-head_row key_of t x = record { id = x.0; head = head_in key_of t x }
-
-abbrev pub head_row_behind : (List ℕ → List ℕ) → Option ℤ → Tables → Option HeadRow
-head_row_behind key_of id t = option_map (head_row key_of t) (find (is_behind id) t.pages)
+abbrev pub hashed : (List ℕ → List ℕ) → Unhashed → PageHead
+hashed key_of row = head_under (key_of row.page.bytes) row
