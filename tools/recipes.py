@@ -47,7 +47,7 @@ TOP = os.path.dirname(HERE)
 REPOSITORY, STAND_INS, JOURNAL, ROOM = "/repository", "/stand-ins", "/journal", "/room"
 PATH = STAND_INS + ":/usr/local/sbin:/usr/local/bin:/usr/sbin:/usr/bin:/sbin:/bin"
 CONFIGURATION = "/configuration"
-ENVIRONMENT = {"PATH": PATH, "HOME": "/root", "LANG": "C.UTF-8", "TF_IN_AUTOMATION": "1", "CHECKPOINT_DISABLE": "1"}
+ENVIRONMENT = {"PATH": PATH, "HOME": "/root", "LANG": "C.UTF-8", "CHECKPOINT_DISABLE": "1"}
 
 # Lines of blocks that are not run, by their beginnings.
 LEFT = {
@@ -104,18 +104,21 @@ class Unit:
         return found
 
     def spawn(self, words, settings):
-        only = lambda key, default: settings.get(key, [default])[-1]
-        env = {"PATH": PATH}
-        lines = [line for text in settings.get("Environment", []) for line in shlex.split(text)]
+        def only(key, default):
+            return settings.get(key, [default])[-1]
+
+        pairs = [pair for text in settings.get("Environment", []) for pair in shlex.split(text)]
         for path in settings.get("EnvironmentFile", []):
             with open(path, encoding="utf-8") as file:
-                lines += file.read().split("\n")
-        env.update(line.split("=", 1) for line in lines if "=" in line)
+                pairs += file.read().splitlines()
+        env = {"PATH": PATH, **dict(pair.split("=", 1) for pair in pairs)}
         words = [re.sub(r"\$\{(\w+)\}", lambda found: env[found[1]], word) for word in shlex.split(words)]
-        user, kind = only("User", None), only("StandardInput", "null")
-        who = {"user": user, "group": only("Group", user), "extra_groups": []} if user else {}
-        with open(kind.removeprefix("file:") if kind != "null" else os.devnull, "rb") as given, open("%s/%s" % (JOURNAL, self.name), "ab") as lines:
-            return subprocess.Popen(words, stdin=given, stdout=lines, stderr=lines, cwd="/", env=env, umask=int(only("UMask", "0022"), 8), start_new_session=True, **who)
+        user, given = only("User", None), only("StandardInput", "file:" + os.devnull)
+        how = {"cwd": "/", "env": env, "umask": int(only("UMask", "0022"), 8), "start_new_session": True}
+        if user:
+            how.update(user=user, group=only("Group", user), extra_groups=[])
+        with open(given.removeprefix("file:"), "rb") as reads, open("%s/%s" % (JOURNAL, self.name), "ab") as lines:
+            return subprocess.Popen(words, stdin=reads, stdout=lines, stderr=lines, **how)
 
     def start(self):
         settings = self.settings()
@@ -471,7 +474,7 @@ def readme():
         first.waits(LISTENS)
         second.begins(page.block("(umask 077; echo 'header"))
         second.waits('"name":"net"')
-        wait_until(lambda: answers(8443), "the front doesn't listen")
+        serves(8443)
         configures(REPOSITORY, "a")
         third.runs(page, "export TF_HTTP_USERNAME=", ["successfully initialized", "Enter a value:", "Apply complete!"], given="yes\n")
         third.runs(page, "curl -K ci.curl", ['"status":"planning"', "Error acquiring the state lock", "ID=run-1", '"status":"canceled"'], ["1 terraform plan"])
@@ -484,6 +487,12 @@ def readme():
 def answers(port):
     with socket.socket() as link:
         return link.connect_ex(("127.0.0.1", port)) == 0
+
+
+def serves(*ports):
+    """Waits until a service that was started listens."""
+    for port in ports or [8090]:
+        wait_until(lambda: answers(port), "nobody listens at %d" % port)
 
 
 def operating(machine):
@@ -551,7 +560,7 @@ def at_the_door(page, shell):
         curl -sS -K /root/beta.root.curl -X PUT "$beta/workspaces/net"
         curl -sS -K /root/beta.root.curl -X LOCK -d '%s' "$beta/state/net" """ % LOCK)
     start = "echo org-remove "
-    shell.runs(page, start, ["^refused in-use$", "409"], ["22 "])
+    shell.runs(page, start, ["^refused in-use$"], ["22 "])
     shell.does('curl -sS -K /root/beta.root.curl -X UNLOCK "$beta/state/net"')
     shell.runs(page, start, ["^ok$"])
     work.turn()
@@ -570,11 +579,11 @@ def at_the_door(page, shell):
 def locks(page, shell):
     who, owner = 'curl -sS -K /root/acme.ci.curl "$CUSTODY/workspaces/net"\n', 'curl -sS -K /root/acme.ci.curl "$CUSTODY/workspaces/net" | jq'
     shell.runs(page, who, [r'"holder":null.*"name":"net".*\}$'])
-    shell.does("cd %s; export TF_HTTP_USERNAME=\"acme.$(cat /root/acme.ci)\"; ( sleep 60 | terraform apply -var value=b > /dev/null ) & terraform=$!" % CONFIGURATION)
+    shell.does("cd %s; export TF_HTTP_USERNAME=\"acme.$(cat /root/acme.ci)\"; terraform apply -var value=b < <(sleep %d) > /dev/null & owner=$!" % (CONFIGURATION, PATIENCE))
     wait_until(lambda: '"holder":null' not in shell.does(who), "a Terraform doesn't lock")
     shell.runs(page, who, [r'"holder":"[0-9a-f-]{36}"', r'"Operation":"OperationTypeApply"', '"Who":"'])
     # (its owner is killed)
-    shell.does("pkill -9 -f '^terraform apply -var value=b'")
+    shell.does("kill -9 $owner")
     shell.runs(page, owner, [r'^\{"ID":"[0-9a-f-]{36}"\}$'])
     shell.does(who, ['"holder":null'])
     lock = 'curl -sS -K /root/acme.ci.curl -X LOCK -d \'%s\' "$CUSTODY/state/net"\n' % LOCK
@@ -606,22 +615,26 @@ def backups(page, shell, machine):
     shell.does(page.inline("find /srv/custody -mindepth 1 -maxdepth 1 -name '20*' -mtime +90 -exec rm -r {} +") + "ls -d " + newest)
     restore = page.block("from=/root/backup-2026-01-31-")
     shell.does("cp -rp %s %s" % (copies[-1], re.match(r"from=(\S+)", restore)[1]))
-    state = 'curl -sS --retry 6 --retry-all-errors -K /root/acme.ci.curl "$CUSTODY/workspaces/net"\n'
+    state = 'curl -sS -K /root/acme.ci.curl "$CUSTODY/workspaces/net"\n'
+    serves()
     before = shell.does(state, ['"name":"net"'])
     shell.runs(page, "from=", [COUNTS, COUNTS], block=restore)
+    serves()
     said("what was restored", shell.does(state), before)
     shell.does("cp -rp %s /root/look\n" % copies[-1] + page.inline("sqlite3 /root/look/custody.db 'PRAGMA integrity_check; PRAGMA foreign_key_check'") + "rm -r /root/look", ["^ok$"])
     # (another program writes to the file)
     shell.does("""systemctl stop custody
         sqlite3 /var/lib/custody/custody.db "UPDATE org SET cap = 300 WHERE name = 'acme'; PRAGMA wal_checkpoint(TRUNCATE)" > /dev/null
         chown custody: /var/lib/custody/custody.db*
-        as_custody check --db /var/lib/custody/custody.db""", ["refused down", "the file is damaged"], ["3 "])
+        as_custody check --db /var/lib/custody/custody.db""", ["the file is damaged", "refused down"], ["3 "])
     shell.runs(page, "systemctl stop custody\ninstall -d -m 700 /root/spoiled")
     page.inline("from=/root/fresh")
     shell.runs(page, "from=", [COUNTS, COUNTS], block=re.sub(r"^from=.*", "from=/root/fresh", restore))
+    serves()
     said("what was restored", shell.does(state), before)
     # (an upgrade)
     shell.does("systemctl stop custody\n" + page.inline("install -m 755 crates/custody/out/custody /usr/local/bin/custody") + "systemctl start custody")
+    serves()
     shell.does(state, ['"name":"net"'])
     shell.does(page.inline("systemctl show -p NRestarts --value custody"), ["^0$"])
     shell.does(page.inline("systemctl is-failed custody-backup"), ["^inactive$"], ["1 "])
@@ -701,8 +714,8 @@ def migrates(page, first):
 def growing():
     page = Page("docs/GROWING.md")
     beta = "https://state.example.com/v1/beta"
-    look = 'curl -sS --retry 6 --retry-all-errors --retry-delay 1 -K /root/beta.root.curl "%s/workspaces/net"\n' % beta
-    acme = 'curl -sS --retry 6 --retry-all-errors --retry-delay 1 -K /root/acme.ci.curl "$CUSTODY/workspaces/net"\n'
+    look = 'curl -sS -K /root/beta.root.curl "%s/workspaces/net"\n' % beta
+    acme = 'curl -sS -K /root/acme.ci.curl "$CUSTODY/workspaces/net"\n'
     with Shell(first=variables()) as shell:
         shell.does("rm /root/beta.*; echo org-add beta | operator; new_token beta root admin; curl -sS -K /root/beta.root.curl -X PUT %s/workspaces/net" % beta, ["ok", "ok", "net"])
         shell.does("curl -sS -K /root/beta.root.curl -X LOCK -d '%s' %s/state/net" % (LOCK, beta))
@@ -714,20 +727,24 @@ def growing():
         shell.runs(page, "cd /var/lib\n", ["^ok$"])
         shell.runs(page, "as_custody org-remove", ["^ok$"])
         shell.does(page.inline("systemctl start custody custody@beta"))
+        serves(8090, 8091)
         maps(page, "127.0.0.1:8091")
         shell.does("nginx -s reload\n" + look, ['"holder":"5f2c"'])
         shell.does("curl -sS -K /root/beta.root.curl -X UNLOCK -d '{\"ID\":\"5f2c\"}' %s/state/net\n" % beta + look, ['"holder":null'])
         shell.does(acme, ['"name":"net"'])
-        shell.does("echo token-list beta | PORT=8091 operator; echo token-list beta | operator", ["^root admin - -$", "refused absent"], ["22 "])
+        operator = page.inline("PORT=8091 operator").strip()
+        shell.does("PORT=8091 new_token beta ci write; echo token-list beta | %s; echo token-list beta | operator" % operator, ["ok", "^ci write", "^root admin - -$", "refused absent"], ["22 "])
         old = "cd /var/lib/custody\nold="
         # (once it is put back, and once it stays)
         shell.runs(page, old, ["^ok$", COUNTS, COUNTS])
         shell.runs(page, 'runuser -u custody -- mkdir -m 700 "$old/unused"')
+        serves()
         shell.does(acme, ['"name":"net"'])
         time.sleep(1)
         counts = re.findall(r"^organizations .*", shell.runs(page, old, ["^ok$", COUNTS, COUNTS]), re.M)
         said("both second lines", counts[0], counts[1])
         shell.runs(page, "systemctl start custody\n")
+        serves()
         shell.does(acme, ['"name":"net"'])
     page.done()
 
