@@ -172,7 +172,7 @@ class Machine:
             case ("nginx", ["-s", "reload"]) | ("systemctl", ["reload", "nginx"]):
                 return self.reload()
             case "systemctl", ["daemon-reload"]:
-                return 0, ""
+                return self.verifies()
             case "systemctl", ["enable", "--now", name] if name.endswith(".timer"):
                 return (0 if os.path.exists("/etc/systemd/system/" + name) else 1), ""
             case "systemctl", ["start", *names] | ["enable", "--now", *names]:
@@ -187,6 +187,14 @@ class Machine:
             case "systemctl", ["is-failed", name]:
                 return (0, "failed\n") if self.unit(name).failed else (1, "inactive\n")
         return 1, "%s: no stand-in for %s\n" % (program, words)
+
+    def verifies(self):
+        """Whether systemd can read the units, if its program for that is here."""
+        if not shutil.which("systemd-analyze"):
+            return 0, ""
+        units = glob.glob("/etc/systemd/system/custody*")
+        done = subprocess.run(["systemd-analyze", "verify", *units], stdout=subprocess.PIPE, stderr=subprocess.STDOUT, text=True, check=False)
+        return (1 if done.stdout else done.returncode), done.stdout
 
     def reload(self):
         with open("/etc/nginx/conf.d/custody.conf", encoding="utf-8") as file:
@@ -344,7 +352,10 @@ class Shell:
             return file.read()
 
     def waits(self, text):
-        wait_until(lambda: text in self.said(), "a session doesn't say %s" % text, PATIENCE)
+        try:
+            wait_until(lambda: text in self.said(), "", PATIENCE)
+        except Wrong:
+            raise Wrong("a session doesn't say %s, but\n%s" % (text, self.said())) from None
 
     def ends(self):
         """What the piece printed, and the commands that failed."""
@@ -613,12 +624,13 @@ def backups(page, shell, machine):
     newest = sorted(glob.glob("/srv/custody/20*"))[-1]
     shell.does("custody check --db %s/custody.db | cmp - %s/check" % (newest, newest))
     shell.does(page.inline("find /srv/custody -mindepth 1 -maxdepth 1 -name '20*' -mtime +90 -exec rm -r {} +") + "ls -d " + newest)
-    restore = page.block("from=/root/backup-2026-01-31-")
-    shell.does("cp -rp %s %s" % (copies[-1], re.match(r"from=(\S+)", restore)[1]))
+    chosen, restore = page.block("from=/root/backup-2026-01-31-"), "systemctl stop custody\nlost="
+    shell.does("cp -rp %s %s" % (copies[-1], re.match(r"from=(\S+)", chosen)[1]))
     state = 'curl -sS -K /root/acme.ci.curl "$CUSTODY/workspaces/net"\n'
     serves()
     before = shell.does(state, ['"name":"net"'])
-    shell.runs(page, "from=", [COUNTS, COUNTS], block=restore)
+    shell.runs(page, "from=", [COUNTS], block=chosen)
+    shell.runs(page, restore, [COUNTS])
     serves()
     said("what was restored", shell.does(state), before)
     shell.does("cp -rp %s /root/look\n" % copies[-1] + page.inline("sqlite3 /root/look/custody.db 'PRAGMA integrity_check; PRAGMA foreign_key_check'") + "rm -r /root/look", ["^ok$"])
@@ -628,8 +640,8 @@ def backups(page, shell, machine):
         chown custody: /var/lib/custody/custody.db*
         as_custody check --db /var/lib/custody/custody.db""", ["the file is damaged", "refused down"], ["3 "])
     shell.runs(page, "systemctl stop custody\ninstall -d -m 700 /root/spoiled")
-    page.inline("from=/root/fresh")
-    shell.runs(page, "from=", [COUNTS, COUNTS], block=re.sub(r"^from=.*", "from=/root/fresh", restore))
+    shell.runs(page, "from=", [COUNTS], block=re.sub(r"^from=.*", page.inline("from=/root/fresh").strip(), chosen))
+    shell.runs(page, restore, [COUNTS])
     serves()
     said("what was restored", shell.does(state), before)
     # (an upgrade)
@@ -669,7 +681,7 @@ def runners():
         shell.does(page.inline("runner.sh net job-18 plan_only"), ["^run-2: planned_and_finished$"])
         # (a runner dies)
         shell.does(anew % "")
-        other.does("cd %s; export TOKEN=\"acme.$(cat /root/acme.ci)\"" % CONFIGURATION)
+        other.does("cd %s; export CUSTODY TOKEN=\"acme.$(cat /root/acme.ci)\"" % CONFIGURATION)
         other.begins("runner.sh net job-19")
         other.waits("waits for confirm or discard")
         os.killpg(other.process.pid, signal.SIGKILL)
@@ -680,20 +692,25 @@ def runners():
         configures(CONFIGURATION, "brief", apply=revoke)
         shell.does('TOKEN="acme.$(cat /root/acme.brief)" runner.sh net job-20', ["run-1: "], ["1 "])
         said("whether errored.tfstate is there", os.path.exists(CONFIGURATION + "/errored.tfstate"), True)
-        shell.runs(page, 'export TF_HTTP_ADDRESS="$CUSTODY/state/net?ID=run-1"', ['"status":"applied"'])
-        # (the same without a run)
-        shell.does((anew % "") + first + "rm /root/acme.brief*; new_token acme brief write")
-        shell.does('TF_HTTP_USERNAME="acme.$(cat /root/acme.brief)" terraform apply -auto-approve', ["Error saving state: HTTP error: 401", "Error releasing the state lock"], ["1 "])
+        shell.runs(page, 'TF_HTTP_ADDRESS="$CUSTODY/state/net?ID=run-1"', ['"status":"applied"'])
+        said("whether errored.tfstate is there", os.path.exists(CONFIGURATION + "/errored.tfstate"), False)
+        # (the same without a run, of a first state and of another)
+        shell.does((anew % "") + first)
         release = Page("docs/OPERATING.md").block('curl -sS -K /root/acme.ci.curl "$CUSTODY/workspaces/net" | jq')
-        shell.does(release, ['"ID":"'])
-        shell.runs(page, "terraform state push errored.tfstate")
-        shell.does("terraform plan", ["No changes"])
+        for value, error in [("brief", "failed checking for existing remote state"), ("other", "Error saving state: HTTP error: 401")]:
+            configures(CONFIGURATION, value, apply=revoke)
+            shell.does("rm /root/acme.brief*; new_token acme brief write")
+            shell.does('TF_HTTP_USERNAME="acme.$(cat /root/acme.brief)" terraform apply -auto-approve', [error, "Error releasing the state lock"], ["1 "])
+            shell.does(release, ['"ID":"'])
+            shell.runs(page, "terraform state push errored.tfstate")
+            shell.does("terraform plan", ["No changes"])
         migrates(page, first)
         # (net gets two versions)
         configures(CONFIGURATION, "one")
         shell.does((anew % "") + "terraform apply -auto-approve; terraform apply -auto-approve -var value=two", ["Apply complete!", "Apply complete!"])
         shell.runs(page, 'curl -sS -K /root/acme.ci.curl "$CUSTODY/versions/net"', ['"number":1', "the text of version 1 is the newest, with serial", "No changes"])
         shell.runs(page, "address()", ['"name":"net2"', "No changes"])
+        shell.runs(page, "rm moved.tfstate")
         shell.does('curl -sS -w "%{http_code}" -K /root/acme.ci.curl "$CUSTODY/state/net"', ["^204$"])
     page.done()
 
