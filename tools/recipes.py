@@ -49,11 +49,10 @@ PATH = STAND_INS + ":/usr/local/sbin:/usr/local/bin:/usr/sbin:/usr/bin:/sbin:/bi
 CONFIGURATION = "/configuration"
 ENVIRONMENT = {"PATH": PATH, "HOME": "/root", "LANG": "C.UTF-8", "CHECKPOINT_DISABLE": "1"}
 
-# Lines of blocks that are not run, by their beginnings.
-LEFT = {
-    "rt ci ": "it proves everything, for hours",
-    "exchanges -f ": "it never ends: it is run alone, and ended",
-}
+# The lines of blocks that are not run, by their beginnings.
+LEFT = {"rt ci ": "it proves everything, for hours"}
+# The last line of a block, which never ends: it is run in a session of its own, and ended.
+ENDLESS = "exchanges -f "
 
 
 # ----------------------------------------------------------------------------------------------------
@@ -292,13 +291,18 @@ class Page:
         return text + "\n"
 
     def done(self):
+        """How many blocks there are, each of which was taken."""
         for place, (heading, text) in enumerate(self.blocks):
             if place not in self.taken:
                 raise Wrong("%s, %s: nothing runs the block %s" % (self.name, heading, text))
+        return len(self.blocks)
 
 
+# (the trap doesn't see a chain of `&&` that fails before its end, so `recipes_end` looks at the status of each line, too)
 DRIVER = """
-trap 'printf "%s %s\\n" "$?" "${BASH_COMMAND%%$'"'\\n'"'*}" >> "$recipes_faults"' ERR
+recipes_note() { printf '%s %s\\n' "$1" "${2%%$'\\n'*}" >> "$recipes_faults"; recipes_noted=1; }
+recipes_end() { [ "$1" = 0 ] || [ "$recipes_noted" ] || recipes_note "$1" "$2"; recipes_noted=; }
+trap 'recipes_note "$?" "$BASH_COMMAND"' ERR
 while read -r -u "$recipes_next" recipes_block; do
     source "$recipes_block" < "$recipes_block.given" > "$recipes_block.said" 2>&1
     echo >&"$recipes_done"
@@ -306,11 +310,24 @@ done
 """
 
 
+def commands_of(text):
+    """The lines of a text, joined where bash needs the next one."""
+    piece = ""
+    for line in text.rstrip().splitlines():
+        piece += line
+        if not line.endswith("\\") and subprocess.run(["bash", "-n", "-c", piece], stderr=subprocess.DEVNULL, check=False).returncode == 0:
+            yield piece
+            piece = ""
+        else:
+            piece += "\n"
+    if piece:
+        raise Wrong("bash can't read " + piece)
+
+
 class Shell:
     """A bash session. Commands that fail are noted, with their status."""
 
-    number = ran = 0
-    left = {}
+    number, runs_done, left = 0, [], []
 
     def __init__(self, folder=REPOSITORY, first=""):
         Shell.number += 1
@@ -342,6 +359,7 @@ class Shell:
     def begins(self, text, given=""):
         self.pieces += 1
         path = "%s/%d" % (self.place, self.pieces)
+        text = "".join("%s\nrecipes_end $? %s\n" % (one, shlex.quote(one)) for one in commands_of(text))
         for name, content in [(path, text), (path + ".given", given), (path + ".said", ""), (self.faults, "")]:
             with open(name, "w", encoding="utf-8") as file:
                 file.write(content)
@@ -364,7 +382,7 @@ class Shell:
         os.read(self.done, 1)
         with open(self.faults, encoding="utf-8") as file:
             faults = file.read().splitlines()
-        return self.said(), [line for line in dict.fromkeys(faults) if not line.split(" ", 1)[1].startswith('source "$recipes_block"')]
+        return self.said(), list(dict.fromkeys(faults))
 
     def is_right(self, what, prints=(), faults=()):
         """Whether these patterns come in this order in what a piece printed, and these commands failed with these statuses."""
@@ -387,18 +405,22 @@ class Shell:
     def runs(self, page, start, prints=(), faults=(), given="", block=None):
         """A block of a page."""
         text = block or page.block(start)
-        for line in text.splitlines():
-            for begin, reason in LEFT.items():
-                if line.startswith(begin):
-                    Shell.left[line] = "%s: %s" % (page.name, reason)
-        self.begins("".join(line for line in text.splitlines(keepends=True) if not line.startswith(tuple(LEFT))), given)
+        for begin, reason in LEFT.items():
+            if lines_of(text, begin):
+                Shell.left.append("%s: %s (%s)" % (page.name, begin, reason))
+        self.begins("".join(line for line in text.splitlines(keepends=True) if not line.startswith((*LEFT, ENDLESS))), given)
         return self.right(page, start, prints, faults)
 
     def right(self, page, start, prints=(), faults=()):
         came = self.is_right("%s: %s" % (page.name, start), prints, faults)
-        Shell.ran += 1
-        print("right: %s: %s" % (page.name, start.split("\n")[0]), flush=True)
+        tell(page, start)
         return came
+
+
+def tell(page, start):
+    line = "%s: %s" % (page.name, start.replace("\n", " .. "))
+    Shell.runs_done.append(line)
+    print("right:", line, flush=True)
 
 
 # ----------------------------------------------------------------------------------------------------
@@ -489,10 +511,9 @@ def readme():
         configures(REPOSITORY, "a")
         third.runs(page, "export TF_HTTP_USERNAME=", ["successfully initialized", "Enter a value:", "Apply complete!"], given="yes\n")
         third.runs(page, "curl -K ci.curl", ['"status":"planning"', "Error acquiring the state lock", "ID=run-1", '"status":"canceled"'], ["1 terraform plan"])
-        for shell, what in [(first, "custody="), (second, "(umask 077; echo")]:
-            Shell.ran += 1
-            print("right: %s: %s" % (page.name, what))
-    page.done()
+        tell(page, "custody=")
+        tell(page, "(umask 077; echo")
+    return page.done()
 
 
 def answers(port):
@@ -506,16 +527,15 @@ def serves(*ports):
         wait_until(lambda: answers(port), "nobody listens at %d" % port)
 
 
-def operating(machine):
+def operating():
     page = Page("docs/OPERATING.md")
     with Shell() as shell:
         installs(page, shell)
-        work = at_the_door(page, shell)
-        work.end()
+        at_the_door(page, shell)
         locks(page, shell)
-        backups(page, shell, machine)
+        backups(page, shell)
         log(page, shell)
-    page.done()
+    return page.done()
 
 
 def variables():
@@ -575,6 +595,7 @@ def at_the_door(page, shell):
     shell.does('curl -sS -K /root/beta.root.curl -X UNLOCK "$beta/state/net"')
     shell.runs(page, start, ["^ok$"])
     work.turn()
+    work.end()
     with open(JOURNAL + "/custody", encoding="utf-8") as file:
         lines = [json.loads(line) for line in file if line.startswith("{")]
     mine = [line for line in lines if line["token"] == "work"]
@@ -584,7 +605,6 @@ def at_the_door(page, shell):
     # (the pages go on with the token ci)
     shell.does("rm /root/acme.ci /root/acme.ci.curl; new_token acme ci write")
     print("right: meanwhile a Terraform applied %d times: %d requests, none of which failed" % (work.turns, len(mine)))
-    return work
 
 
 def locks(page, shell):
@@ -610,7 +630,7 @@ def locks(page, shell):
     shell.does('curl -sS -K /root/acme.ci.curl -X POST "$CUSTODY/runs/net/1/actions/cancel"; cd %s' % REPOSITORY, ['"canceled"'])
 
 
-def backups(page, shell, machine):
+def backups(page, shell):
     stop = "to=/root/backup-$(date +%F-%H%M%S)\ninstall"
     shell.runs(page, stop, [COUNTS])
     time.sleep(1)
@@ -658,7 +678,7 @@ def log(page, shell):
     block = page.block("exchanges()")
     shell.runs(page, "exchanges()", [r"^ +\d+ locked|^ +\d+ held-by-run acme net$", r'^\["20.*"ci","lock","5f2c",null\]$'], block=block)
     with Shell(first=lines_of(block, "exchanges()")) as other:
-        other.begins(lines_of(block, "exchanges -f"))
+        other.begins(lines_of(block, ENDLESS))
         other.waits('"force unlock"')
 
 
@@ -701,8 +721,12 @@ def runners():
             configures(CONFIGURATION, value, apply=revoke)
             shell.does("rm /root/acme.brief*; new_token acme brief write")
             shell.does('TF_HTTP_USERNAME="acme.$(cat /root/acme.brief)" terraform apply -auto-approve', [error, "Error releasing the state lock"], ["1 "])
+            # (while the lock holds, the file stays)
+            push = "terraform state push errored.tfstate"
+            shell.does(page.block(push), ["already locked"], ["1 "])
             shell.does(release, ['"ID":"'])
-            shell.runs(page, "terraform state push errored.tfstate")
+            shell.runs(page, push)
+            said("whether errored.tfstate is there", os.path.exists(CONFIGURATION + "/errored.tfstate"), False)
             shell.does("terraform plan", ["No changes"])
         migrates(page, first)
         # (net gets two versions)
@@ -712,7 +736,7 @@ def runners():
         shell.runs(page, "address()", ['"name":"net2"', "No changes"])
         shell.runs(page, "rm moved.tfstate")
         shell.does('curl -sS -w "%{http_code}" -K /root/acme.ci.curl "$CUSTODY/state/net"', ["^204$"])
-    page.done()
+    return page.done()
 
 
 def migrates(page, first):
@@ -763,7 +787,7 @@ def growing():
         shell.runs(page, "systemctl start custody\n")
         serves()
         shell.does(acme, ['"name":"net"'])
-    page.done()
+    return page.done()
 
 
 def maps(page, place):
@@ -828,16 +852,13 @@ def inside(place, program):
     server.machine = machine
     threading.Thread(target=server.serve_forever, daemon=True).start()
     try:
-        readme()
-        operating(machine)
-        runners()
-        growing()
+        blocks = sum(page() for page in (readme, operating, runners, growing))
     except (Wrong, OSError, subprocess.SubprocessError) as wrong:
         print("WRONG:", wrong)
         sys.exit(1)
-    print("%d blocks ran as they stand; these lines of them were left:" % Shell.ran)
-    for line, reason in Shell.left.items():
-        print("    %s (%s)" % (line, reason))
+    print("right: the %d blocks of the pages ran, %d times in all" % (blocks, len(Shell.runs_done)))
+    for line in Shell.left:
+        print("left:", line)
 
 
 def main():
