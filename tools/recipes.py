@@ -552,6 +552,7 @@ def installs(page, shell):
     shell.runs(page, "new_secret /root/operator", ["^ok$", "^ok$", "^ok$", '"name":"net"'])
     for path in glob.glob("/root/acme.*") + glob.glob("/root/operator*"):
         said("the mode of " + path, os.stat(path).st_mode & 0o777, 0o600)
+    shows_no_secret(shell)
     configures(CONFIGURATION, "a")
     shell.does("cd " + CONFIGURATION)
     shell.runs(page, "export TF_HTTP_USERNAME", ["successfully initialized", "Enter a value:", "Apply complete!"], given="yes\n")
@@ -560,6 +561,20 @@ def installs(page, shell):
             with open(path, "rb") as file, open("/root/acme.ci", "rb") as secret:
                 said("the token in " + path, secret.read().strip() in file.read(), False)
     shell.does("cd " + REPOSITORY)
+
+
+def shows_no_secret(shell):
+    """No process that adds a token has its secret, or the operator's, among its words."""
+    if not shutil.which("strace"):
+        Shell.left.append("the words of processes (no strace)")
+        return
+    shell.does("declare -f > /room/functions; strace -f -qq -s 9999 -e trace=execve -o /room/words bash -c '. /room/functions; new_token acme seen read'", ["^ok$"])
+    with open("/room/words", encoding="utf-8") as file:
+        words = file.read()
+    for path in ["/root/acme.seen", "/root/operator"]:
+        with open(path, encoding="ascii") as file:
+            said("whether a process shows " + path, [file.read().strip() in words, "curl" in words], [False, True])
+    shell.does("echo token-revoke acme seen | operator; rm /root/acme.seen*", ["^ok$"])
 
 
 def at_the_door(page, shell):
@@ -757,7 +772,7 @@ def growing():
     beta = "https://state.example.com/v1/beta"
     look = 'curl -sS -K /root/beta.root.curl "%s/workspaces/net"\n' % beta
     acme = 'curl -sS -K /root/acme.ci.curl "$CUSTODY/workspaces/net"\n'
-    with Shell(first=variables()) as shell:
+    with Shell(first=variables()) as shell, Shell(CONFIGURATION, variables()) as other:
         shell.does("rm /root/beta.*; echo org-add beta | operator; new_token beta root admin; curl -sS -K /root/beta.root.curl -X PUT %s/workspaces/net" % beta, ["ok", "ok", "net"])
         shell.does("curl -sS -K /root/beta.root.curl -X LOCK -d '%s' %s/state/net" % (LOCK, beta))
         shell.runs(page, "install -m 644 docs/operating/custody@.service")
@@ -766,13 +781,16 @@ def growing():
         shell.does("nginx -s reload; curl -sS -i -K /root/beta.root.curl %s/workspaces/net" % beta, ["503", "Retry-After: 15"])
         shell.does(acme, ['"name":"net"'])
         shell.runs(page, "cd /var/lib\n", ["^ok$"])
+        # (a Terraform that comes meanwhile waits)
+        other.begins("terraform apply -auto-approve -var value=moved")
         shell.runs(page, "as_custody org-remove", ["^ok$"])
+        time.sleep(2)
         shell.does(page.inline("systemctl start custody custody@beta"))
         serves(8090, 8091)
         maps(page, "127.0.0.1:8091")
         shell.does("nginx -s reload\n" + look, ['"holder":"5f2c"'])
         shell.does("curl -sS -K /root/beta.root.curl -X UNLOCK -d '{\"ID\":\"5f2c\"}' %s/state/net\n" % beta + look, ['"holder":null'])
-        shell.does(acme, ['"name":"net"'])
+        other.is_right("a Terraform during the move", ["Apply complete!"])
         operator = page.inline("PORT=8091 operator").strip()
         shell.does("PORT=8091 new_token beta ci write; echo token-list beta | %s; echo token-list beta | operator" % operator, ["ok", "^ci write", "^root admin - -$", "refused absent"], ["22 "])
         old = "cd /var/lib/custody\nold="
