@@ -3,12 +3,13 @@
 
     python3 tools/recipes.py CUSTODY    as root; the program as `rt ci` or `rt run` leaves it
 
-It needs curl, jq, openssl, sqlite3 and Terraform, and no network. It runs in namespaces of its own (files, processes, network) over a
-copy of `/` that is dropped at the end (an overlay), so it adds users, installs units and listens at 443 without changing this machine.
+It needs curl, jq, openssl, sqlite3 and Terraform, on the filesystem of `/`, and no network. It runs in namespaces of its own (files,
+processes, network) over a copy of `/` that is dropped at the end (an overlay), so it adds users, installs units and listens at 443
+without changing this machine.
 
 Each page has a bash session. A block has to end without a failing command, except where the page says so, and print what the page
-says. Between blocks the script makes what a block is for, such as a lock whose owner was killed. Each block of a page is run, or
-is in LEFT with the reason. Commands that the pages have inside sentences run too, if a check below names them.
+says. Between blocks the script makes what a block is for, such as a lock whose owner was killed. Each block has to be run by a
+check below; LEFT has the lines that are left out, with the reason. Checks run commands inside sentences, too (`inline`).
 
 What this machine may lack has a stand-in, so these are not tested: systemd (units start, stop and restart with their user, input and
 environment, but none of their restrictions holds, and the timer never comes), journald, nginx (tools/front.py, with the certificate and the
@@ -253,7 +254,7 @@ def ask(words):
         link.sendall(json.dumps([words[0], words[1:]]).encode() + b"\n")
         with link.makefile() as stream:
             status, text = json.load(stream)
-    (sys.stderr if status else sys.stdout).write(text) if words[1:2] != ["is-failed"] else sys.stdout.write(text)
+    sys.stdout.write(text)
     sys.exit(status)
 
 
@@ -374,15 +375,18 @@ class Shell:
             wait_until(lambda: text in self.said(), "", PATIENCE)
         except Wrong:
             raise Wrong("a session doesn't say %s, but\n%s" % (text, self.said())) from None
+        said("commands that failed", self.failed(), [])
+
+    def failed(self):
+        with open(self.faults, encoding="utf-8") as file:
+            return list(dict.fromkeys(file.read().splitlines()))
 
     def ends(self):
         """What the piece printed, and the commands that failed."""
         if not select.select([self.done], [], [], PATIENCE)[0]:
             raise Wrong("a block doesn't end; it printed:\n" + self.said())
         os.read(self.done, 1)
-        with open(self.faults, encoding="utf-8") as file:
-            faults = file.read().splitlines()
-        return self.said(), list(dict.fromkeys(faults))
+        return self.said(), self.failed()
 
     def is_right(self, what, prints=(), faults=()):
         """Whether these patterns come in this order in what a piece printed, and these commands failed with these statuses."""
