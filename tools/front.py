@@ -119,10 +119,13 @@ class Peer(socketserver.BaseRequestHandler):
             pass
 
     def send_on(self, request, link):
+        self.send_to(self.server.to, request, link)
+
+    def send_to(self, port, request, link):
         try:
-            back = socket.create_connection(("127.0.0.1", self.server.to), timeout=130)
+            back = socket.create_connection(("127.0.0.1", port), timeout=130)
         except OSError:
-            link.sendall(b"HTTP/1.1 502 Bad Gateway\r\nContent-Length: 0\r\nConnection: close\r\n\r\n")
+            link.sendall(self.server.away)
             return
         with back:
             back.sendall(request)
@@ -133,6 +136,8 @@ class Peer(socketserver.BaseRequestHandler):
 class Front(socketserver.ThreadingTCPServer):
     allow_reuse_address = True
     daemon_threads = True
+    # The reply if nobody answers at the port.
+    away = b"HTTP/1.1 502 Bad Gateway\r\nContent-Length: 0\r\nConnection: close\r\n\r\n"
 
 
 def main():
@@ -150,4 +155,5 @@ def main():
         front.serve_forever()
 
 
-main()
+if __name__ == "__main__":
+    main()

@@ -1,0 +1,903 @@
+#!/usr/bin/env python3
+"""Runs the recipes of README, OPERATING, RUNNERS and GROWING, block by block, as the pages have them.
+
+    python3 tools/recipes.py CUSTODY    as root; the program as `rt ci` or `rt run` leaves it
+
+It needs curl, jq, openssl, sqlite3 and Terraform, on the filesystem of `/`, and no network. It runs in namespaces of its own (files,
+processes, network) over a copy of `/` that is dropped at the end (an overlay), so it adds users, installs units and listens at 443
+without changing this machine.
+
+Each page has a bash session. A block has to end without a failing command, except where the page says so, and print what the page
+says. Between blocks the script makes what a block is for, such as a lock whose owner was killed. Each block has to be run by a
+check below; LEFT has the lines that are left out, with the reason. Checks run commands inside sentences, too (`inline`).
+
+What this machine may lack has a stand-in, so these are not tested: systemd (units start, stop and restart with their user, input and
+environment, but none of their restrictions holds, and the timer never comes), journald, nginx (tools/front.py, with the certificate and the
+map of nginx.conf alone), apt-get, rsync (a copy to a folder) and `rt` (the program that is given).
+
+During the recipes at the operator's door a Terraform applies again and again, under a lock and without retries: each of its requests
+has to succeed. The script prints a line for each block, then how many ran and which were left. It ends with status 1 at the first
+that is wrong.
+"""
+
+import contextlib
+import fcntl
+import glob
+import json
+import os
+import re
+import select
+import shlex
+import shutil
+import signal
+import socket
+import socketserver
+import ssl
+import struct
+import subprocess
+import sys
+import tempfile
+import textwrap
+import threading
+import time
+
+from front import Front, Peer
+from harness import HERE, PATIENCE, Wrong, said, wait_until
+
+TOP = os.path.dirname(HERE)
+REPOSITORY, STAND_INS, JOURNAL, ROOM = "/repository", "/stand-ins", "/journal", "/room"
+PATH = STAND_INS + ":/usr/local/sbin:/usr/local/bin:/usr/sbin:/usr/bin:/sbin:/bin"
+CONFIGURATION = "/configuration"
+ENVIRONMENT = {"PATH": PATH, "HOME": "/root", "LANG": "C.UTF-8", "CHECKPOINT_DISABLE": "1"}
+
+# The lines of blocks that are not run, by their beginnings.
+LEFT = {"rt ci ": "it proves everything, for hours"}
+# The last line of a block, which never ends: it is run in a session of its own, and ended.
+ENDLESS = "exchanges -f "
+
+
+# ----------------------------------------------------------------------------------------------------
+# What this machine lacks
+# ----------------------------------------------------------------------------------------------------
+
+PROGRAMS = {
+    "systemctl": 'exec python3 %s/tools/recipes.py --ask systemctl "$@"' % REPOSITORY,
+    "nginx": 'exec python3 %s/tools/recipes.py --ask nginx "$@"' % REPOSITORY,
+    # (its lines have no times: everything is newer than an hour)
+    "journalctl": """
+        follow= unit=
+        while [ $# -gt 0 ]; do
+            case "$1" in -f) follow=-f ;; -u) unit=$2; shift ;; -o | --since) shift ;; *) echo "journalctl: $1" >&2; exit 1 ;; esac
+            shift
+        done
+        exec tail -n +1 $follow "%s/$unit"
+        """ % JOURNAL,
+    "apt-get": """
+        [ "$1" = install ] || exit 1
+        mkdir -p /etc/nginx/conf.d /etc/nginx/sites-enabled /var/lib/nginx && touch /etc/nginx/sites-enabled/default
+        """,
+    "rsync": """
+        [ "$1" = -a ] && mkdir -p "${3#*:}" && cp -rp "$2." "${3#*:}"
+        """,
+    "rt": """
+        case "$1 $2" in "run --" | "try --") ;; *) exit 1 ;; esac
+        shift 2; mkdir -p out && cp /given out/custody && exec out/custody "$@"
+        """,
+}
+
+
+class Unit:
+    """A unit, by the lines of its file."""
+
+    def __init__(self, name):
+        self.name, self.process, self.restarts, self.failed = name, None, 0, False
+        self.lock = threading.RLock()
+
+    def settings(self):
+        base, at, instance = self.name.partition("@")
+        found = {}
+        with open("/etc/systemd/system/%s%s.service" % (base, at), encoding="utf-8") as file:
+            for line in file:
+                key, equals, value = line.strip().partition("=")
+                if equals and not key.startswith("#"):
+                    found.setdefault(key, []).append(value.replace("%i", instance))
+        return found
+
+    def spawn(self, words, settings):
+        def only(key, default):
+            return settings.get(key, [default])[-1]
+
+        pairs = [pair for text in settings.get("Environment", []) for pair in shlex.split(text)]
+        for path in settings.get("EnvironmentFile", []):
+            with open(path, encoding="utf-8") as file:
+                pairs += file.read().splitlines()
+        env = {"PATH": PATH, **dict(pair.split("=", 1) for pair in pairs)}
+        words = [re.sub(r"\$\{(\w+)\}", lambda found: env[found[1]], word) for word in shlex.split(words)]
+        user, given = only("User", None), only("StandardInput", "file:" + os.devnull)
+        how = {"cwd": "/", "env": env, "umask": int(only("UMask", "0022"), 8), "start_new_session": True}
+        if user:
+            how.update(user=user, group=only("Group", user), extra_groups=[])
+        with open(given.removeprefix("file:"), "rb") as reads, open("%s/%s" % (JOURNAL, self.name), "ab") as lines:
+            return subprocess.Popen(words, stdin=reads, stdout=lines, stderr=lines, **how)
+
+    def start(self):
+        settings = self.settings()
+        if not all(map(os.path.exists, settings.get("AssertPathExists", []))):
+            return 1, "Assertion failed on job for %s.service.\n" % self.name
+        if "oneshot" in settings.get("Type", []):
+            self.failed = any(self.spawn(words, settings).wait() for words in settings["ExecStart"])
+            return int(self.failed), ""
+        with self.lock:
+            if not self.process:
+                self.process = self.spawn(settings["ExecStart"][0], settings)
+                threading.Thread(target=self.watch, args=[self.process], daemon=True).start()
+        return 0, ""
+
+    def watch(self, process):
+        """Starts a service again when it ends, unless it was stopped."""
+        process.wait()
+        with self.lock:
+            if self.process is not process:
+                return
+            self.process = None
+        time.sleep(1)
+        self.restarts += 1
+        self.start()
+
+    def stop(self):
+        with self.lock:
+            process, self.process = self.process, None
+        if process:
+            process.terminate()
+            process.wait()
+
+    def show(self, what):
+        return {"MainPID": self.process.pid if self.process else 0, "NRestarts": self.restarts}[what]
+
+
+class Machine:
+    """What answers for systemctl and nginx."""
+
+    def __init__(self):
+        self.units, self.front = {}, None
+
+    def unit(self, name):
+        return self.units.setdefault(name.removesuffix(".service"), Unit(name.removesuffix(".service")))
+
+    def asked(self, program, words):
+        """The status and the output of a command."""
+        match program, words:
+            case "nginx", ["-t"]:
+                return 0, ""
+            case ("nginx", ["-s", "reload"]) | ("systemctl", ["reload", "nginx"]):
+                return self.reload()
+            case "systemctl", ["daemon-reload"]:
+                return self.verifies()
+            case "systemctl", ["enable", "--now", name] if name.endswith(".timer"):
+                return (0 if os.path.exists("/etc/systemd/system/" + name) else 1), ""
+            case "systemctl", ["start", *names] | ["enable", "--now", *names]:
+                done = [self.unit(name).start() for name in names]
+                return max(status for status, _ in done), "".join(text for _, text in done)
+            case "systemctl", ["stop", *names]:
+                for name in names:
+                    self.unit(name).stop()
+                return 0, ""
+            case "systemctl", ["show", "-p", what, "--value", name]:
+                return 0, "%d\n" % self.unit(name).show(what)
+            case "systemctl", ["is-failed", name]:
+                return (0, "failed\n") if self.unit(name).failed else (1, "inactive\n")
+        return 1, "%s: no stand-in for %s\n" % (program, words)
+
+    def verifies(self):
+        """Whether systemd can read the units, if its program for that is here."""
+        if not shutil.which("systemd-analyze"):
+            return 0, ""
+        units = glob.glob("/etc/systemd/system/custody*")
+        done = subprocess.run(["systemd-analyze", "verify", *units], stdout=subprocess.PIPE, stderr=subprocess.STDOUT, text=True, check=False)
+        return (1 if done.stdout else done.returncode), done.stdout
+
+    def reload(self):
+        with open("/etc/nginx/conf.d/custody.conf", encoding="utf-8") as file:
+            text = file.read()
+        if not self.front:
+            self.front = NginxFront(("127.0.0.1", 443), Routed)
+            self.front.context = ssl.SSLContext(ssl.PROTOCOL_TLS_SERVER)
+            self.front.context.load_cert_chain(*(re.search(r"^ *%s +(\S+);" % key, text, re.M)[1] for key in ("ssl_certificate", "ssl_certificate_key")))
+            threading.Thread(target=self.front.serve_forever, daemon=True).start()
+        lines = re.search(r"^map \$uri \$custody \{\n(.*?)^\}", text, re.M | re.S)[1]
+        self.front.places = re.findall(r"^ *(\S+) +(\S+);", lines, re.M)
+        return 0, ""
+
+    def end(self):
+        for unit in self.units.values():
+            unit.stop()
+
+
+class NginxFront(Front):
+    away = b"HTTP/1.1 503 Service Unavailable\r\nContent-Length: 5\r\nRetry-After: 15\r\nConnection: close\r\n\r\naway\n"
+    absent = b"HTTP/1.1 404 Not Found\r\nContent-Length: 0\r\nConnection: close\r\n\r\n"
+
+
+class Routed(Peer):
+    """A request to `/v1/` goes where the map of nginx.conf says."""
+
+    def send_on(self, request, link):
+        path = request.split(b" ", 2)[1].decode("latin-1").partition("?")[0]
+        if not path.startswith("/v1/"):
+            link.sendall(self.server.absent)
+            return
+        places = self.server.places
+        place = next((to for key, to in places if key.startswith("~") and re.search(key[1:], path)), dict(places)["default"])
+        if place == "moving":
+            link.sendall(self.server.away)
+        else:
+            self.send_to(int(place.partition(":")[2]), request, link)
+
+
+class Asked(socketserver.StreamRequestHandler):
+    def handle(self):
+        try:
+            came = self.server.machine.asked(*json.loads(self.rfile.readline()))
+        except (OSError, KeyError, TypeError) as fault:
+            came = 1, "%s\n" % fault
+        self.wfile.write(json.dumps(came).encode())
+
+
+class Socket(socketserver.ThreadingUnixStreamServer):
+    daemon_threads = True
+
+
+def ask(words):
+    """A stand-in's side: asks the script, and prints and ends as it says."""
+    with socket.socket(socket.AF_UNIX) as link:
+        link.connect(STAND_INS + "/socket")
+        link.sendall(json.dumps([words[0], words[1:]]).encode() + b"\n")
+        with link.makefile() as stream:
+            status, text = json.load(stream)
+    sys.stdout.write(text)
+    sys.exit(status)
+
+
+# ----------------------------------------------------------------------------------------------------
+# Pages and sessions
+# ----------------------------------------------------------------------------------------------------
+
+
+class Page:
+    """The blocks of a page, each with the heading above it."""
+
+    def __init__(self, name):
+        self.name = name
+        with open("%s/%s" % (REPOSITORY, name), encoding="utf-8") as file:
+            self.text = file.read()
+        self.blocks, self.taken, heading = [], set(), ""
+        for found in re.finditer(r"^#+ ([^\n]*)$|^( *)```sh\n(.*?)^ *```$", self.text, re.M | re.S):
+            if found[1]:
+                heading = found[1]
+            else:
+                self.blocks.append((heading, textwrap.dedent(found[3])))
+
+    def block(self, start):
+        """The block that begins so."""
+        found = [place for place, (_, text) in enumerate(self.blocks) if text.startswith(start)]
+        if len(found) != 1:
+            raise Wrong("%s has %d blocks that begin with %s" % (self.name, len(found), start))
+        self.taken.add(found[0])
+        return self.blocks[found[0]][1]
+
+    def inline(self, text):
+        """A command inside a sentence."""
+        if "`%s`" % text not in self.text:
+            raise Wrong("%s doesn't have `%s`" % (self.name, text))
+        return text + "\n"
+
+    def done(self):
+        """How many blocks there are, each of which was taken."""
+        for place, (heading, text) in enumerate(self.blocks):
+            if place not in self.taken:
+                raise Wrong("%s, %s: nothing runs the block %s" % (self.name, heading, text))
+        return len(self.blocks)
+
+
+# (the trap doesn't see a chain of `&&` that fails before its end, so `recipes_end` looks at the status of each line, too)
+DRIVER = """
+recipes_note() { printf '%s %s\\n' "$1" "${2%%$'\\n'*}" >> "$recipes_faults"; recipes_noted=1; }
+recipes_end() { [ "$1" = 0 ] || [ "$recipes_noted" ] || recipes_note "$1" "$2"; recipes_noted=; }
+trap 'recipes_note "$?" "$BASH_COMMAND"' ERR
+while read -r -u "$recipes_next" recipes_block; do
+    source "$recipes_block" < "$recipes_block.given" > "$recipes_block.said" 2>&1
+    echo >&"$recipes_done"
+done
+"""
+
+
+def commands_of(text):
+    """The lines of a text, joined where bash needs the next one."""
+    piece = ""
+    for line in text.rstrip().splitlines():
+        piece += line
+        if not line.endswith("\\") and subprocess.run(["bash", "-n", "-c", piece], stderr=subprocess.DEVNULL, check=False).returncode == 0:
+            yield piece
+            piece = ""
+        else:
+            piece += "\n"
+    if piece:
+        raise Wrong("bash can't read " + piece)
+
+
+class Shell:
+    """A bash session. Commands that fail are noted, with their status."""
+
+    number, runs_done, left = 0, [], []
+
+    def __init__(self, folder=REPOSITORY, first=""):
+        Shell.number += 1
+        self.place, self.pieces = "%s/%d" % (ROOM, Shell.number), 0
+        os.mkdir(self.place)
+        self.faults = self.place + "/faults"
+        with open(self.place + "/driver", "w", encoding="utf-8") as file:
+            file.write(DRIVER)
+        reads, self.next = os.pipe()
+        self.done, writes = os.pipe()
+        env = {**ENVIRONMENT, "recipes_next": str(reads), "recipes_done": str(writes), "recipes_faults": self.faults}
+        self.process = subprocess.Popen(
+            ["bash", "--norc", "--noprofile", self.place + "/driver"],
+            stdin=subprocess.DEVNULL, cwd=folder, env=env, pass_fds=[reads, writes], start_new_session=True,
+        )
+        os.close(reads)
+        os.close(writes)
+        if first:
+            self.does(first)
+
+    def __enter__(self):
+        return self
+
+    def __exit__(self, *_):
+        with contextlib.suppress(ProcessLookupError):
+            os.killpg(self.process.pid, signal.SIGKILL)
+        self.process.wait()
+
+    def begins(self, text, given=""):
+        self.pieces += 1
+        path = "%s/%d" % (self.place, self.pieces)
+        text = "".join("%s\nrecipes_end $? %s\n" % (one, shlex.quote(one)) for one in commands_of(text))
+        for name, content in [(path, text), (path + ".given", given), (path + ".said", ""), (self.faults, "")]:
+            with open(name, "w", encoding="utf-8") as file:
+                file.write(content)
+        os.write(self.next, path.encode() + b"\n")
+
+    def said(self):
+        with open("%s/%d.said" % (self.place, self.pieces), encoding="utf-8", errors="replace") as file:
+            return file.read()
+
+    def waits(self, text):
+        try:
+            wait_until(lambda: text in self.said(), "", PATIENCE)
+        except Wrong:
+            raise Wrong("a session doesn't say %s, but\n%s" % (text, self.said())) from None
+        said("commands that failed", self.failed(), [])
+
+    def failed(self):
+        with open(self.faults, encoding="utf-8") as file:
+            return list(dict.fromkeys(file.read().splitlines()))
+
+    def ends(self):
+        """What the piece printed, and the commands that failed."""
+        if not select.select([self.done], [], [], PATIENCE)[0]:
+            raise Wrong("a block doesn't end; it printed:\n" + self.said())
+        os.read(self.done, 1)
+        return self.said(), self.failed()
+
+    def is_right(self, what, prints=(), faults=()):
+        """Whether these patterns come in this order in what a piece printed, and these commands failed with these statuses."""
+        came, failed = self.ends()
+        if len(failed) != len(faults) or not all(map(re.match, faults, failed)):
+            raise Wrong("%s: these commands failed: %s\nand it printed:\n%s" % (what, failed, came))
+        left = came
+        for pattern in prints:
+            found = re.search(pattern, left, re.M)
+            if not found:
+                raise Wrong("%s: %s is missing in\n%s" % (what, pattern, came))
+            left = left[found.end():]
+        return came
+
+    def does(self, text, prints=(), faults=(), given=""):
+        """What the script itself does between blocks."""
+        self.begins(text, given)
+        return self.is_right(text, prints, faults)
+
+    def runs(self, page, start, prints=(), faults=(), given="", block=None):
+        """A block of a page."""
+        text = block or page.block(start)
+        for begin, reason in LEFT.items():
+            if lines_of(text, begin):
+                Shell.left.append("%s: %s (%s)" % (page.name, begin, reason))
+        self.begins("".join(line for line in text.splitlines(keepends=True) if not line.startswith((*LEFT, ENDLESS))), given)
+        return self.right(page, start, prints, faults)
+
+    def right(self, page, start, prints=(), faults=()):
+        came = self.is_right("%s: %s" % (page.name, start), prints, faults)
+        tell(page, start)
+        return came
+
+
+def tell(page, start):
+    line = "%s: %s" % (page.name, start.replace("\n", " .. "))
+    Shell.runs_done.append(line)
+    print("right:", line, flush=True)
+
+
+# ----------------------------------------------------------------------------------------------------
+# Terraform
+# ----------------------------------------------------------------------------------------------------
+
+MAIN = """variable "value" {
+  default = "%s"
+}
+resource "terraform_data" "one" {
+  input = var.value%s
+}
+output "one" {
+  value = terraform_data.one.output
+}
+"""
+
+
+def configures(folder, value, backend=True, apply=""):
+    """A configuration without providers, with the backend of OPERATING. `apply` is a command that its apply runs."""
+    os.makedirs(folder, exist_ok=True)
+    with open("%s/docs/OPERATING.md" % REPOSITORY, encoding="utf-8") as file:
+        block = re.search(r"^```hcl\n(.*?)^```$", file.read(), re.M | re.S)[1]
+    more = '\n  triggers_replace = var.value\n  provisioner "local-exec" {\n    command = %s\n  }' % json.dumps(apply) if apply else ""
+    with open(folder + "/main.tf", "w", encoding="utf-8") as file:
+        file.write((block if backend else "") + MAIN % (value, more))
+
+
+class Work(threading.Thread):
+    """A Terraform that applies again and again, under a lock, without retries."""
+
+    def __init__(self, env):
+        super().__init__(daemon=True)
+        self.env, self.folder, self.turns, self.ended, self.fault = env, "/work", 0, False, None
+        configures(self.folder, 0)
+        self.terraform("init", "-input=false")
+        self.start()
+
+    def terraform(self, *words):
+        done = subprocess.run(["terraform", *words, "-no-color"], cwd=self.folder, env=self.env, capture_output=True, text=True, check=False)
+        if done.returncode:
+            self.fault = self.fault or "terraform %s: %s%s" % (words, done.stdout, done.stderr)
+
+    def run(self):
+        while not self.ended and not self.fault:
+            self.terraform("apply", "-input=false", "-auto-approve", "-var", "value=%d" % self.turns)
+            self.turns += 1
+
+    def turn(self):
+        """Waits until an apply has ended that began later."""
+        due = self.turns + 2
+        wait_until(lambda: self.turns >= due or self.fault, "a Terraform hangs", PATIENCE)
+        if self.fault:
+            raise Wrong(self.fault)
+
+    def end(self):
+        self.ended = True
+        self.join()
+        if self.fault:
+            raise Wrong(self.fault)
+
+
+# ----------------------------------------------------------------------------------------------------
+# The pages
+# ----------------------------------------------------------------------------------------------------
+
+COUNTS = r"^ok\norganizations \d+ workspaces \d+ versions \d+ runs \d+ newest \d+$"
+LISTENS = "listening 127.0.0.1:8090"
+LOCK = '{"ID":"5f2c","Operation":"OperationTypeApply","Who":"ann@laptop","Created":"2026-01-31T04:00:00Z"}'
+
+
+def lines_of(block, start):
+    """The lines of a block that begin so."""
+    return "".join(line for line in block.splitlines(keepends=True) if line.startswith(start))
+
+
+def readme():
+    page = Page("README.md")
+    with Shell() as first, Shell() as second, Shell() as third:
+        with open(REPOSITORY + "/crates/custody/stdout", encoding="utf-8") as file:
+            due = file.read()
+        said("what the first command prints", first.runs(page, "(cd crates/custody && rt try"), due)
+        first.begins(page.block("custody="))
+        first.waits(LISTENS)
+        second.begins(page.block("(umask 077; echo 'header"))
+        second.waits('"name":"net"')
+        serves(8443)
+        configures(REPOSITORY, "a")
+        third.runs(page, "export TF_HTTP_USERNAME=", ["successfully initialized", "Enter a value:", "Apply complete!"], given="yes\n")
+        third.runs(page, "curl -K ci.curl", ['"status":"planning"', "Error acquiring the state lock", "ID=run-1", '"status":"canceled"'], ["1 terraform plan"])
+        tell(page, "custody=")
+        tell(page, "(umask 077; echo")
+    return page.done()
+
+
+def answers(port):
+    with socket.socket() as link:
+        return link.connect_ex(("127.0.0.1", port)) == 0
+
+
+def serves(*ports):
+    """Waits until a service that was started listens."""
+    for port in ports or [8090]:
+        wait_until(lambda: answers(port), "nobody listens at %d" % port)
+
+
+def operating():
+    page = Page("docs/OPERATING.md")
+    with Shell() as shell:
+        installs(page, shell)
+        at_the_door(page, shell)
+        locks(page, shell)
+        backups(page, shell)
+        log(page, shell)
+    return page.done()
+
+
+def variables():
+    """What another session on this server needs first."""
+    page = Page("docs/OPERATING.md")
+    return lines_of(page.block("openssl req"), "export ") + page.block("as_custody()") + lines_of(page.block("export TF_HTTP_USERNAME"), "export ")
+
+
+def installs(page, shell):
+    shell.runs(page, "(cd crates/custody && rt run", ["Usage"])
+    shell.runs(page, "openssl req")
+    shell.runs(page, "apt-get install nginx")
+    shell.runs(page, "as_custody()")
+    shell.runs(page, "new_secret /root/operator", ["^ok$", "^ok$", "^ok$", '"name":"net"'])
+    for path in glob.glob("/root/acme.*") + glob.glob("/root/operator*"):
+        said("the mode of " + path, os.stat(path).st_mode & 0o777, 0o600)
+    shows_no_secret(shell)
+    configures(CONFIGURATION, "a")
+    shell.does("cd " + CONFIGURATION)
+    shell.runs(page, "export TF_HTTP_USERNAME", ["successfully initialized", "Enter a value:", "Apply complete!"], given="yes\n")
+    for path in glob.glob(CONFIGURATION + "/.terraform/**", recursive=True):
+        if os.path.isfile(path):
+            with open(path, "rb") as file, open("/root/acme.ci", "rb") as secret:
+                said("the token in " + path, secret.read().strip() in file.read(), False)
+    shell.does("cd " + REPOSITORY)
+
+
+def shows_no_secret(shell):
+    """No process that adds a token has its secret, or the operator's, among its words."""
+    if not shutil.which("strace"):
+        Shell.left.append("the words of processes (no strace)")
+        return
+    shell.does("declare -f > /room/functions; strace -f -qq -s 9999 -e trace=execve -o /room/words bash -c '. /room/functions; new_token acme seen read'", ["^ok$"])
+    with open("/room/words", encoding="utf-8") as file:
+        words = file.read()
+    for path in ["/root/acme.seen", "/root/operator"]:
+        with open(path, encoding="ascii") as file:
+            said("whether a process shows " + path, [file.read().strip() in words, "curl" in words], [False, True])
+    shell.does("echo token-revoke acme seen | operator; rm /root/acme.seen*", ["^ok$"])
+
+
+def at_the_door(page, shell):
+    """The recipes at the door, while a Terraform works."""
+    shell.does('new_token acme work write; curl -sS -K /root/acme.root.curl -X PUT "$CUSTODY/workspaces/work"')
+    env = dict(line.split("=", 1) for line in shell.does("export -p; env").splitlines() if re.match(r"(TF_|SSL_|CURL_)\w+=", line))
+    with open("/root/acme.work", encoding="ascii") as file:
+        env["TF_HTTP_USERNAME"] = "acme." + file.read().strip()
+    for key in ["TF_HTTP_ADDRESS", "TF_HTTP_LOCK_ADDRESS", "TF_HTTP_UNLOCK_ADDRESS"]:
+        env[key] = env[key].replace("/net", "/work")
+    work = Work({**ENVIRONMENT, **env, "TF_HTTP_RETRY_MAX": "0"})
+    work.turn()
+    shell.runs(page, "echo token-list acme", [r"^ci write - -$", r"^root admin - -$", "^ok$"])
+    work.turn()
+    shell.runs(page, "echo token-revoke acme ci |", ["^ok$"])
+    shell.does("echo token-list acme | operator", [r"^ci-3 write \d{10} -$", "^root admin"])
+    shell.does('curl -sS -K /root/acme.ci-3.curl "$CUSTODY/workspaces/net"', ['"name":"net"'])
+    shell.does(lines_of(page.block("exchanges()"), "exchanges()"))
+    shell.runs(page, "echo token-revoke acme ci-3", ["^ok$", "^ok$", r'^\["20.*Z","show workspace","net",200\]$'])
+    shell.does('curl -sS -K /root/acme.ci-3.curl "$CUSTODY/workspaces/net"', ["bad-token"])
+    work.turn()
+    teams = ["beta"] + ["team-%d" % number for number in range(20)]
+    shell.does("printf '%%s\\n' %s > teams" % " ".join(teams))
+    shell.runs(page, "while read -r team", ["^ok$"] * (2 * len(teams)))
+    shell.does(page.inline("sed 's/^/org-add /' teams | as_custody admin --db /var/lib/custody/custody.db").replace("custody.db", "new.db"), ["^ok$"] * len(teams))
+    shell.does("rm /var/lib/custody/new.db*")
+    work.turn()
+    # (beta has a lock, then none)
+    shell.does("""beta=https://state.example.com/v1/beta
+        curl -sS -K /root/beta.root.curl -X PUT "$beta/workspaces/net"
+        curl -sS -K /root/beta.root.curl -X LOCK -d '%s' "$beta/state/net" """ % LOCK)
+    start = "echo org-remove "
+    shell.runs(page, start, ["^refused in-use$"], ["22 "])
+    shell.does('curl -sS -K /root/beta.root.curl -X UNLOCK "$beta/state/net"')
+    shell.runs(page, start, ["^ok$"])
+    work.turn()
+    work.end()
+    with open(JOURNAL + "/custody", encoding="utf-8") as file:
+        lines = [json.loads(line) for line in file if line.startswith("{")]
+    mine = [line for line in lines if line["token"] == "work"]
+    said("requests of a Terraform that fail", [line for line in mine if line["status"] not in (200, 204)], [])
+    doors = [place for place, line in enumerate(lines) if line.get("operator")]
+    said("commands among them", len(doors) > 2 * len(teams) and any(line["token"] == "work" for line in lines[doors[5]:doors[-1]]), True)
+    # (the pages go on with the token ci)
+    shell.does("rm /root/acme.ci /root/acme.ci.curl; new_token acme ci write")
+    print("right: meanwhile a Terraform applied %d times: %d requests, none of which failed" % (work.turns, len(mine)))
+
+
+def locks(page, shell):
+    who, owner = 'curl -sS -K /root/acme.ci.curl "$CUSTODY/workspaces/net"\n', 'curl -sS -K /root/acme.ci.curl "$CUSTODY/workspaces/net" | jq'
+    shell.runs(page, who, [r'"holder":null.*"name":"net".*\}$'])
+    shell.does("cd %s; export TF_HTTP_USERNAME=\"acme.$(cat /root/acme.ci)\"; terraform apply -var value=b < <(sleep %d) > /dev/null & owner=$!" % (CONFIGURATION, PATIENCE))
+    wait_until(lambda: '"holder":null' not in shell.does(who), "a Terraform doesn't lock")
+    shell.runs(page, who, [r'"holder":"[0-9a-f-]{36}"', r'"Operation":"OperationTypeApply"', '"Who":"'])
+    # (its owner is killed)
+    shell.does("kill -9 $owner")
+    shell.runs(page, owner, [r'^\{"ID":"[0-9a-f-]{36}"\}$'])
+    shell.does(who, ['"holder":null'])
+    lock = 'curl -sS -K /root/acme.ci.curl -X LOCK -d \'%s\' "$CUSTODY/state/net"\n' % LOCK
+    shell.does(lock)
+    shell.runs(page, 'curl -sS -K /root/acme.root.curl -X UNLOCK')
+    shell.does(who, ['"holder":null'])
+    shell.does(lock)
+    page.inline("terraform force-unlock -force LOCK-ID")
+    shell.does('TF_HTTP_USERNAME="acme.$(cat /root/acme.root)" terraform force-unlock -force 5f2c', ["successfully unlocked"])
+    shell.does('curl -sS -K /root/acme.ci.curl -X POST "$CUSTODY/runs/net"', ['"planning"'])
+    shell.runs(page, who, ['"holder":"run-1"', "held-by-run"])
+    shell.does('curl -sS -K /root/acme.ci.curl "$CUSTODY/runs/net/1"', ['"created":[0-9]+'])
+    shell.does('curl -sS -K /root/acme.ci.curl -X POST "$CUSTODY/runs/net/1/actions/cancel"; cd %s' % REPOSITORY, ['"canceled"'])
+
+
+def backups(page, shell):
+    stop = "to=/root/backup-$(date +%F-%H%M%S)\ninstall"
+    shell.runs(page, stop, [COUNTS])
+    time.sleep(1)
+    shell.runs(page, "to=/root/backup-$(date +%F-%H%M%S)\ndocs/", [COUNTS])
+    copies = sorted(glob.glob("/root/backup-*"))
+    said("the copies", [sorted(os.listdir(path)) for path in copies], [["custody.db", "custody.db-wal"]] * 2)
+    shell.runs(page, "apt-get install rsync")
+    with open(JOURNAL + "/custody-backup", encoding="utf-8") as file:
+        said("what check says of the daily copy", re.search(COUNTS, file.read(), re.M) is not None, True)
+    # (the other machine's folder is one of this machine)
+    newest = sorted(glob.glob("/srv/custody/20*"))[-1]
+    shell.does("custody check --db %s/custody.db | cmp - %s/check" % (newest, newest))
+    shell.does(page.inline("find /srv/custody -mindepth 1 -maxdepth 1 -name '20*' -mtime +90 -exec rm -r {} +") + "ls -d " + newest)
+    chosen, restore = page.block("from=/root/backup-2026-01-31-"), "systemctl stop custody\nlost="
+    shell.does("cp -rp %s %s" % (copies[-1], re.match(r"from=(\S+)", chosen)[1]))
+    state = 'curl -sS -K /root/acme.ci.curl "$CUSTODY/workspaces/net"\n'
+    serves()
+    before = shell.does(state, ['"name":"net"'])
+    shell.runs(page, "from=", [COUNTS], block=chosen)
+    shell.runs(page, restore, [COUNTS])
+    serves()
+    said("what was restored", shell.does(state), before)
+    shell.does("cp -rp %s /root/look\n" % copies[-1] + page.inline("sqlite3 /root/look/custody.db 'PRAGMA integrity_check; PRAGMA foreign_key_check'") + "rm -r /root/look", ["^ok$"])
+    # (another program writes to the file)
+    shell.does("""systemctl stop custody
+        sqlite3 /var/lib/custody/custody.db "UPDATE org SET cap = 300 WHERE name = 'acme'; PRAGMA wal_checkpoint(TRUNCATE)" > /dev/null
+        chown custody: /var/lib/custody/custody.db*
+        as_custody check --db /var/lib/custody/custody.db""", ["the file is damaged", "refused down"], ["3 "])
+    shell.runs(page, "systemctl stop custody\ninstall -d -m 700 /root/spoiled")
+    shell.runs(page, "from=", [COUNTS], block=re.sub(r"^from=.*", page.inline("from=/root/fresh").strip(), chosen))
+    shell.runs(page, restore, [COUNTS])
+    serves()
+    said("what was restored", shell.does(state), before)
+    # (an upgrade)
+    shell.does("systemctl stop custody\n" + page.inline("install -m 755 crates/custody/out/custody /usr/local/bin/custody") + "systemctl start custody")
+    serves()
+    shell.does(state, ['"name":"net"'])
+    shell.does(page.inline("systemctl show -p NRestarts --value custody"), ["^0$"])
+    shell.does(page.inline("systemctl is-failed custody-backup"), ["^inactive$"], ["1 "])
+    shell.does(page.inline("find /var/backups/custody -maxdepth 1 -name '20*' -mtime -1"), ["^/var/backups/custody/20"])
+    shell.does(page.inline("df /var/lib/custody /var/lib/nginx"))
+
+
+def log(page, shell):
+    block = page.block("exchanges()")
+    shell.runs(page, "exchanges()", [r"^ +\d+ locked|^ +\d+ held-by-run acme net$", r'^\["20.*"ci","lock","5f2c",null\]$'], block=block)
+    with Shell(first=lines_of(block, "exchanges()")) as other:
+        other.begins(lines_of(block, ENDLESS))
+        other.waits('"force unlock"')
+
+
+def runners():
+    page = Page("docs/RUNNERS.md")
+    anew = 'curl -sS -K /root/acme.root.curl -X DELETE "$CUSTODY/workspaces/net"; curl -sS -K /root/acme.root.curl -X PUT%s "$CUSTODY/workspaces/net"\n'
+    first = variables()
+    with Shell(first=first) as shell, Shell(first=first) as other:
+        block = page.block("install -m 755 docs/operating/runner.sh")
+        here, _, there = block.partition("# in another shell")
+        install, runs = here.split("\n", 1)
+        shell.does(anew % "")
+        configures(CONFIGURATION, "runner")
+        shell.does(install)
+        shell.does("cd " + CONFIGURATION)
+        shell.begins(runs)
+        shell.waits("waits for confirm or discard")
+        other.does("#" + there, ['"status":"applying"'])
+        shell.right(page, install, ["Apply complete!", "^run-1: applied$"])
+        shell.does(page.inline("runner.sh net job-18 plan_only"), ["^run-2: planned_and_finished$"])
+        # (a runner dies)
+        shell.does(anew % "")
+        other.does("cd %s; export CUSTODY TOKEN=\"acme.$(cat /root/acme.ci)\"" % CONFIGURATION)
+        other.begins("runner.sh net job-19")
+        other.waits("waits for confirm or discard")
+        os.killpg(other.process.pid, signal.SIGKILL)
+        shell.runs(page, 'curl -sS -K /root/acme.ci.curl "$CUSTODY/runs/net/1"', ['"status":"planned"', '"status":"discarded"'])
+        # (a runner's token ends during its apply)
+        shell.does((anew % " -d '{\"auto_apply\":true}'") + "new_token acme brief write")
+        revoke = "curl -sS -K /root/operator.curl --data-binary 'token-revoke acme brief' http://127.0.0.1:8090/operator"
+        configures(CONFIGURATION, "brief", apply=revoke)
+        shell.does('TOKEN="acme.$(cat /root/acme.brief)" runner.sh net job-20', ["run-1: "], ["1 "])
+        said("whether errored.tfstate is there", os.path.exists(CONFIGURATION + "/errored.tfstate"), True)
+        shell.runs(page, 'TF_HTTP_ADDRESS="$CUSTODY/state/net?ID=run-1"', ['"status":"applied"'])
+        said("whether errored.tfstate is there", os.path.exists(CONFIGURATION + "/errored.tfstate"), False)
+        # (the same without a run, of a first state and of another)
+        shell.does((anew % "") + first)
+        release = Page("docs/OPERATING.md").block('curl -sS -K /root/acme.ci.curl "$CUSTODY/workspaces/net" | jq')
+        for value, error in [("brief", "failed checking for existing remote state"), ("other", "Error saving state: HTTP error: 401")]:
+            configures(CONFIGURATION, value, apply=revoke)
+            shell.does("rm /root/acme.brief*; new_token acme brief write")
+            shell.does('TF_HTTP_USERNAME="acme.$(cat /root/acme.brief)" terraform apply -auto-approve', [error, "Error releasing the state lock"], ["1 "])
+            # (while the lock holds, the file stays)
+            push = "terraform state push errored.tfstate"
+            shell.does(page.block(push), ["already locked"], ["1 "])
+            shell.does(release, ['"ID":"'])
+            shell.runs(page, push)
+            said("whether errored.tfstate is there", os.path.exists(CONFIGURATION + "/errored.tfstate"), False)
+            shell.does("terraform plan", ["No changes"])
+        migrates(page, first)
+        # (net gets two versions)
+        configures(CONFIGURATION, "one")
+        shell.does((anew % "") + "terraform apply -auto-approve; terraform apply -auto-approve -var value=two", ["Apply complete!", "Apply complete!"])
+        shell.runs(page, 'curl -sS -K /root/acme.ci.curl "$CUSTODY/versions/net"', ['"number":1', "the text of version 1 is the newest, with serial", "No changes"])
+        shell.runs(page, "address()", ['"name":"net2"', "No changes"])
+        shell.runs(page, "rm moved.tfstate")
+        shell.does('curl -sS -w "%{http_code}" -K /root/acme.ci.curl "$CUSTODY/state/net"', ["^204$"])
+    return page.done()
+
+
+def migrates(page, first):
+    """A local state goes to custody."""
+    folder = "/local"
+    configures(folder, "local", backend=False)
+    with Shell(folder, first) as shell:
+        shell.does("terraform init; terraform apply -auto-approve", ["Apply complete!"])
+        shell.does("""curl -sS -K /root/acme.root.curl -X PUT "$CUSTODY/workspaces/local"
+            export TF_HTTP_ADDRESS="$CUSTODY/state/local"; export TF_HTTP_LOCK_ADDRESS="$TF_HTTP_ADDRESS" TF_HTTP_UNLOCK_ADDRESS="$TF_HTTP_ADDRESS" """)
+        configures(folder, "local")
+        shell.runs(page, "terraform init -migrate-state", ["successfully initialized", "No changes"], given="yes\n")
+        said("the local state", [os.path.exists(folder + "/terraform.tfstate") and os.path.getsize(folder + "/terraform.tfstate") > 0, os.path.exists(folder + "/terraform.tfstate.backup")], [False, True])
+
+
+def growing():
+    page = Page("docs/GROWING.md")
+    beta = "https://state.example.com/v1/beta"
+    look = 'curl -sS -K /root/beta.root.curl "%s/workspaces/net"\n' % beta
+    acme = 'curl -sS -K /root/acme.ci.curl "$CUSTODY/workspaces/net"\n'
+    with Shell(first=variables()) as shell, Shell(CONFIGURATION, variables()) as other:
+        shell.does("rm /root/beta.*; echo org-add beta | operator; new_token beta root admin; curl -sS -K /root/beta.root.curl -X PUT %s/workspaces/net" % beta, ["ok", "ok", "net"])
+        shell.does("curl -sS -K /root/beta.root.curl -X LOCK -d '%s' %s/state/net" % (LOCK, beta))
+        shell.runs(page, "install -m 644 docs/operating/custody@.service")
+        shell.does("systemctl start custody@beta", ["Assertion failed"], ["1 "])
+        maps(page, "moving")
+        shell.does("nginx -s reload; curl -sS -i -K /root/beta.root.curl %s/workspaces/net" % beta, ["503", "Retry-After: 15"])
+        shell.does(acme, ['"name":"net"'])
+        shell.runs(page, "cd /var/lib\n", ["^ok$"])
+        # (a Terraform that comes meanwhile waits)
+        other.begins("terraform apply -auto-approve -var value=moved")
+        shell.runs(page, "as_custody org-remove", ["^ok$"])
+        time.sleep(2)
+        shell.does(page.inline("systemctl start custody custody@beta"))
+        serves(8090, 8091)
+        maps(page, "127.0.0.1:8091")
+        shell.does("nginx -s reload\n" + look, ['"holder":"5f2c"'])
+        shell.does("curl -sS -K /root/beta.root.curl -X UNLOCK -d '{\"ID\":\"5f2c\"}' %s/state/net\n" % beta + look, ['"holder":null'])
+        other.is_right("a Terraform during the move", ["Apply complete!"])
+        operator = page.inline("PORT=8091 operator").strip()
+        shell.does("PORT=8091 new_token beta ci write; echo token-list beta | %s; echo token-list beta | operator" % operator, ["ok", "^ci write", "^root admin - -$", "refused absent"], ["22 "])
+        old = "cd /var/lib/custody\nold="
+        # (once it is put back, and once it stays)
+        shell.runs(page, old, ["^ok$", COUNTS, COUNTS])
+        shell.runs(page, 'runuser -u custody -- mkdir -m 700 "$old/unused"')
+        serves()
+        shell.does(acme, ['"name":"net"'])
+        time.sleep(1)
+        counts = re.findall(r"^organizations .*", shell.runs(page, old, ["^ok$", COUNTS, COUNTS]), re.M)
+        said("both second lines", counts[0], counts[1])
+        shell.runs(page, "systemctl start custody\n")
+        serves()
+        shell.does(acme, ['"name":"net"'])
+    return page.done()
+
+
+def maps(page, place):
+    """Writes the page's map, with this place for beta."""
+    block = re.search(r"^```nginx\n(.*?)^```$", page.text, re.M | re.S)[1]
+    path = "/etc/nginx/conf.d/custody.conf"
+    with open(path, encoding="utf-8") as file:
+        text = file.read()
+    key = "~^/v1/beta/"
+    block = re.sub(r"(%s +)\S+;" % re.escape(key), lambda found: found[1] + place + ";", block)
+    with open(path, "w", encoding="utf-8") as file:
+        file.write(re.sub(r"^map \$uri \$custody \{\n.*?^\}\n", lambda _: block, text, flags=re.M | re.S))
+
+
+# ----------------------------------------------------------------------------------------------------
+# The copy of this machine
+# ----------------------------------------------------------------------------------------------------
+
+
+def mounts(place, program):
+    """Makes the copy, and moves into it."""
+    subprocess.run(["mount", "-t", "tmpfs", "tmpfs", place], check=True)
+    root = place + "/root"
+    for name in ["up", "work", "root"]:
+        os.mkdir("%s/%s" % (place, name))
+    subprocess.run(["mount", "-t", "overlay", "overlay", "-o", "lowerdir=/,upperdir=%s/up,workdir=%s/work" % (place, place), root], check=True)
+    for name in ["dev", "sys"]:
+        subprocess.run(["mount", "--rbind", "/" + name, "%s/%s" % (root, name)], check=True)
+    subprocess.run(["mount", "-t", "proc", "proc", root + "/proc"], check=True)
+    for name in [REPOSITORY, STAND_INS, JOURNAL, ROOM]:
+        os.mkdir(root + name)
+    for name in ["docs", "tools"]:
+        shutil.copytree("%s/%s" % (TOP, name), "%s%s/%s" % (root, REPOSITORY, name))
+    shutil.copy(TOP + "/README.md", root + REPOSITORY)
+    os.makedirs(root + REPOSITORY + "/crates/custody")
+    for name in ["stdin", "stdout"]:
+        shutil.copy("%s/crates/custody/%s" % (TOP, name), "%s%s/crates/custody" % (root, REPOSITORY))
+    shutil.copy(program, root + "/given")
+    os.chmod(root + "/given", 0o755)
+    os.chroot(root)
+    os.chdir(REPOSITORY)
+
+
+def stands_in():
+    """Writes the stand-ins, and lets loopback carry the name of the pages."""
+    for name, text in PROGRAMS.items():
+        with open("%s/%s" % (STAND_INS, name), "w", encoding="utf-8") as file:
+            file.write("#!/bin/sh\n" + textwrap.dedent(text).strip() + "\n")
+        os.chmod(file.name, 0o755)
+    os.symlink(os.path.realpath(sys.executable), STAND_INS + "/python3")
+    with open("/etc/hosts", "w", encoding="utf-8") as file:
+        file.write("127.0.0.1 localhost state.example.com\n")
+    with socket.socket() as link:     # SIOCSIFFLAGS: up, running, loopback
+        fcntl.ioctl(link, 0x8914, struct.pack("16sh14x", b"lo", 0x49))
+
+
+def inside(place, program):
+    mounts(place, program)
+    stands_in()
+    machine = Machine()
+    server = Socket(STAND_INS + "/socket", Asked)
+    server.machine = machine
+    threading.Thread(target=server.serve_forever, daemon=True).start()
+    try:
+        blocks = sum(page() for page in (readme, operating, runners, growing))
+    except (Wrong, OSError, subprocess.SubprocessError) as wrong:
+        print("WRONG:", wrong)
+        sys.exit(1)
+    print("right: the %d blocks of the pages ran, %d times in all" % (blocks, len(Shell.runs_done)))
+    for line in Shell.left:
+        print("left:", line)
+
+
+def main():
+    match sys.argv[1:]:
+        case ["--ask", *words]:
+            ask(words)
+        case ["--inside", place, program]:
+            inside(place, program)
+        case [program]:
+            # (the copy is in memory, and ends with the processes that see it)
+            with tempfile.TemporaryDirectory() as place:
+                spaces = ["unshare", "--mount", "--net", "--pid", "--fork", "--kill-child", "--propagation", "private"]
+                sys.exit(subprocess.run([*spaces, sys.executable, __file__, "--inside", place, os.path.abspath(program)], check=False).returncode)
+        case _:
+            sys.exit(__doc__)
+
+
+if __name__ == "__main__":
+    main()
