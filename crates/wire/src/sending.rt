@@ -3,7 +3,7 @@ ghost use Rattle.std.specs.Prelude.{◌≡◌, ◌≤◌, ◌<◌, ◌+◌, ℕ,
 ghost use Rattle.std.specs.Option.{option_copied};
 ghost use Rattle.httpdate.specs.Date.{date_text};
 ghost use Rattle.arrayvec.specs.ArrayVec.{array_vec_len};
-ghost use Rattle.wire.specs.Links.{Writes};
+ghost use Rattle.wire.specs.Links.{Writes, line_end};
 ghost use Rattle.wire.specs.Replies.{IsReplyText, head_text, phrase_of, status_line, date_line, fixed_lines, allow_line, challenge_of, challenge_field, challenge_line, type_of, type_line, length_line, sent_body};
 
 use crate::devices::{Broken, Outlet};
@@ -192,14 +192,14 @@ fn add_challenge_field(head: &mut Head, challenge: Option<&'static [u8]>)
     }
 }
 
-fn type_of(is_text: bool) -> &'static [u8]
-    ensures text { result.now ≡ type_of is_text }
-    ensures short { length result.now ≤ 25 }
+fn line_of_type(is_text: bool) -> &'static [u8]
+    ensures text { result.now ≡ codes "Content-Type: " ++ type_of is_text ++ line_end }
+    ensures short { length result.now ≤ 41 }
 {
     if is_text {
-        b"text/plain; charset=utf-8"
+        b"Content-Type: text/plain; charset=utf-8\r\n"
     } else {
-        b"application/json"
+        b"Content-Type: application/json\r\n"
     }
 }
 
@@ -209,9 +209,7 @@ fn add_type(head: &mut Head, is_text: bool, body: &[u8])
     ensures len { array_vec_len head.new ≤ 350 }
 {
     if !body.is_empty() {
-        add(head, b"Content-Type: ");
-        add(head, type_of(is_text));
-        add(head, b"\r\n");
+        add(head, line_of_type(is_text));
     }
 }
 
