@@ -13,12 +13,11 @@ import json
 import os
 import subprocess
 import sys
-import tempfile
 import threading
 
-from harness import MADE, NEW_FILE, SECRET_FORM, Service, Wrong, free_port, look_at, ok, reply, said, wait_until
+from harness import MADE, NEW_FILE, SECRET_FORM, Service, Wrong, free_port, look_at, ok, reply, said, secret_file, wait_until
+from harness import OPERATOR as SECRET
 
-SECRET = b"operatoroperator1"
 TOKEN = b"writewritewrite1"
 ADMIN = b"Bearer acme.adminadminadmin1"
 CONTINUE = b"HTTP/1.1 100 Continue\r\n\r\n"
@@ -159,10 +158,7 @@ class Door(Service):
     """A service with an open door, and with a log unless `words` are others."""
 
     def __init__(self, program, path="t.db", words=("--log",)):
-        with tempfile.TemporaryFile() as given:
-            given.write(SECRET + b"\n")
-            given.seek(0)
-            super().__init__(program, path, None, "--operator", *words, given=given, errors=subprocess.DEVNULL)
+        super().__init__(program, path, None, "--operator", *words, given=secret_file(), errors=subprocess.DEVNULL)
         self.place = 0
 
     def commands(self, *pairs):

@@ -27,6 +27,9 @@ HERE = os.path.dirname(os.path.abspath(__file__))
 # Seconds after which a silent program or peer counts as hanging; and those after which what `wait_until` waits for counts as missing.
 PATIENCE, SOON = 60, 20
 
+# The secret of the operator's door, which each service opens if DOOR is in the environment.
+OPERATOR = b"operatoroperator1"
+
 # The first port that a service may get, and how many are tried.
 FIRST_PORT, TRIED_PORTS = 10_000, 100
 
@@ -123,7 +126,8 @@ class Program:
 class Service:
     """`serve` over a file, at a port of its own. It ends by its count (None: it has no count). Its `with` block kills it at the end.
 
-    If `lines` names a file, standard output goes there. Standard input is the file `given`. `Program.start` gets `how`."""
+    If `lines` names a file, standard output goes there. Standard input is the file `given`. `Program.start` gets `how`. If DOOR is in
+    the environment, the operator's door is open."""
 
     # Seconds that its peers wait, and whether they keep their side of the connection open after a request.
     patience, stays = PATIENCE, False
@@ -131,6 +135,8 @@ class Service:
     def __init__(self, program, path, count, *words, port=None, lines=None, given=subprocess.DEVNULL, **how):
         self.port = port or free_port()
         ends = ["--unlimited"] if count is None else ["--count", str(count)]
+        if "DOOR" in os.environ and "--operator" not in words:
+            words, given = (*words, "--operator"), secret_file()
         words = ["serve", "--db", path, "--port", str(self.port), *ends, *words]
         with open(lines, "wb") if lines else contextlib.nullcontext(subprocess.PIPE) as output:
             self.process = program.start(words, given, output, **how)
@@ -168,6 +174,14 @@ class Service:
     def asked(self, sent):
         """The reply to a request, undated."""
         return undated(answered(self.port, sent, stays=self.stays, patience=self.patience))
+
+
+def secret_file():
+    """A file to read the operator's secret from."""
+    given = tempfile.TemporaryFile()
+    given.write(OPERATOR + b"\n")
+    given.seek(0)
+    return given
 
 
 def first_line(path):

@@ -1,11 +1,11 @@
 -- Operator's commands one after another.
-use Rattle.std.proofs.Common.{◌≡◌, ◌⊎◌, inl, inr, ℕ, ◌+◌, ◌<◌, List, [], ◌∷◌, ◌++◌, Bool, Option, ap, sym, subst, ◌∙◌, append-nil, drop, get_or, length}
+use Rattle.std.proofs.Common.{◌≡◌, ◌⊎◌, inl, inr, ℕ, ◌+◌, ◌<◌, List, [], ◌∷◌, ◌++◌, Bool, Option, IfSome, ap, sym, subst, ◌∙◌, append-nil, arith, drop, get_or, length, refl}
 use Rattle.std.proofs.lemmas.List.{drop_more}
 use Rattle.machine.specs.declared.keeps.Keep as keep
 use Rattle.serve.specs.declared.steps.Admin.{Admin}
 use Rattle.serve.specs.declared.steps.Admin.TheVariants.{OrgAdd, OrgLimit, OrgRemove, OrgList, TokenAdd, TokenList, TokenRevoke}
 use Rattle.program.specs.Batches.{Ends, AreCommands}
-use Rattle.program.specs.Outcomes.{Stream, stream, error_stream, IsSaid, Opens, Closes, opening_of, CarriesEach, CarriesLines, AnswersCommand, AnswersLine, AnswersList, AnswersTokens, EndsBatch}
+use Rattle.program.specs.Outcomes.{Stream, Errors, stream, error_stream, IsSaid, Opens, Closes, RefusesToOpen, opening_of, CarriesEach, CarriesLines, CarriesAll, AnswersCommand, AnswersLine, AnswersList, AnswersTokens, EndsBatch}
 use Rattle.program.specs.Streams.{Told}
 use Rattle.program.specs.declared.exits.Exit.{Exit}
 use Rattle.program.specs.declared.exits.Exit.TheVariants as exit
@@ -90,7 +90,24 @@ module _ {K F : Type 0} (k : keep.Ghosts K) (f : files.Ghosts F K) where
     others = λ other kept differs held. closes.others other kept differs (opens.others other kept differs held);
   }
 
+  -- at least one command, and the first of them
+  pub carries_some : (path : List ℕ) (commands : List Admin) (first : Admin) (old new : F) (e : Exit) (output : Stream) (errors : Errors) → 0 < length commands → first ≡ get_or commands 0 first
+      → CarriesLines k f path first commands old new e output errors ⊎ RefusesToOpen k f path (opening_of first) old new e output errors
+      → CarriesAll k f path commands old new e output errors
+  carries_some path [] first old new e output errors within is h = absurd (omega (arith, within))
+  carries_some path (command ∷ commands) first old new e output errors within is h =
+      subst (λ (c : Admin). CarriesLines k f path c (command ∷ commands) old new e output errors ⊎ RefusesToOpen k f path (opening_of c) old new e output errors) is h
+
+  -- no command
+  pub carries_none : (path : List ℕ) (commands : List Admin) (old : F) (output : Option (List ℕ)) (errors : Told) → length commands < 1 → CarriesAll k f path commands old old exit.Done (stream output output) (error_stream errors errors)
+  carries_none path [] old output errors below = (refl, refl, refl, refl)
+  carries_none path (command ∷ commands) old output errors below = absurd (omega (arith, below))
+
 -- what isn't opened ends so
 pub refusal_ends : (result : Exit) (old new : Option (List ℕ)) → IsSaid exit.Down result old new ⊎ IsSaid exit.Schema result old new → EndsBatch result
 refusal_ends result old new (inl h) = said EndsBatch exit.Down result old new (λ h. tt) tt h
 refusal_ends result old new (inr h) = said EndsBatch exit.Schema result old new (λ h. tt) tt h
+
+-- whether a line that is not a command follows is known
+pub batch_known : (input : Option (List ℕ)) (commands : List Admin) (is_bad told : Bool) → is_bad ≡ told → IfSome input (λ bytes. AreCommands bytes commands is_bad) → IfSome input (λ bytes. AreCommands bytes commands told)
+batch_known input commands is_bad told is h = subst (λ (b : Bool). IfSome input (λ bytes. AreCommands bytes commands b)) is h

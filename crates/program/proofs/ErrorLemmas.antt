@@ -1,13 +1,12 @@
 -- Lines on the error stream, one behind the other.
-use Rattle.std.proofs.Common.{◌≡◌, ◌<◌, ◌+◌, ◌++◌, ◌∷◌, [], ℕ, List, Option, Result, Ok, Err, ◌∙◌, sym, subst, append_assoc, ap, refl, length, take, drop, take-append-drop, get_or, inl, inr}
+use Rattle.std.proofs.Common.{◌≡◌, ◌<◌, ◌+◌, ◌++◌, ◌∷◌, [], ℕ, List, Result, Ok, Err, ◌∙◌, sym, subst, append_assoc, ap, refl, length, take, drop, take-append-drop, get_or, inl, inr}
 use Rattle.std.proofs.lemmas.List.{append-nil, at_drop_more}
 use Rattle.std.specs.Io.KnownBytes.{Appends, Keeps}
-use Rattle.wire.specs.Links.{Writes}
 use Rattle.wire.proofs.LinkLemmas.{Appends-then, Appends-kept}
 use Rattle.serve.specs.declared.exchanges.LinkFault.{LinkFault}
 use Rattle.program.specs.Errors.{connection_line, fault_line, fault_text}
 use Rattle.program.specs.Replies.{answer_line, fault_lines}
-use Rattle.program.specs.Streams.{Told, one_more, failures_after, GetsFront, GetsWhole, GetsPart, Tells, TellsBy}
+use Rattle.program.specs.Streams.{Told, one_more, failures_after, GetsWhole, GetsPart, Tells, TellsBy}
 
 pub behind : (x y z end : List ℕ) → x ++ y ++ z ++ end ≡ x ++ (y ++ z ++ end)
 behind [] y z end = refl
@@ -70,11 +69,6 @@ took_more old mid new text prefix rest back n is so_far more counted left = (
 pub took_part : (old mid new : Told) (text prefix rest : List ℕ) → text ≡ prefix ++ rest → GetsWhole old mid prefix → Keeps mid.bytes new.bytes → new.failures ≡ one_more mid.failures → GetsPart old new text
 took_part old mid new text prefix rest is so_far kept counted =
     ((prefix, rest, is, Appends-kept old.bytes mid.bytes new.bytes prefix so_far.0 kept), counted ∙ ap one_more so_far.1)
-
--- what was written of a text is a front of it
-pub gets_of : {T E : Type 0} (old new : Option (List ℕ)) (text : List ℕ) (r : Result T E) → Writes old new text r → GetsFront old new text
-gets_of old new text (Ok done) h = (text, [], sym (append-nil text), h)
-gets_of old new text (Err fault) h = (h.0, h.1, h.3, h.4)
 
 -- the line of one fault more stands behind those so far
 pub lines_more : (faults : List (List ℕ)) (i : ℕ) (fault text front : List ℕ) → i < length faults → fault ≡ get_or faults i fault → text ≡ fault

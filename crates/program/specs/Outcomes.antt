@@ -280,7 +280,7 @@ EndsBatch e = ⊤
 -- operator's commands for a file, one per line. If a line is not a command, `refused usage`, and on the error stream the number of that line
 abbrev pub AnswersBatch : Option (List ℕ) → Exit → Stream → Errors → Type 0
 AnswersBatch input exit.Usage output errors =
-    Says exit.Usage output × (commands : List Admin) × IfSome input (λ bytes. AreCommands bytes commands true) × Tells errors.old errors.new (bad_line_text (length commands + 1))
+    Says exit.Usage output × (batch : List Admin) × IfSome input (λ bytes. AreCommands bytes batch true) × Tells errors.old errors.new (bad_line_text (length batch + 1))
 AnswersBatch input e output errors = EndsBatch e
 
 -- the replies to the frames before a bad one, and on the error stream the number of the bad one, from 1
@@ -459,36 +459,36 @@ module _ {K F : Type 0} (k : keep.Ghosts K) (f : files.Ghosts F K) where
   -- error stream gets the number of its line, and no later command was carried out
   abbrev pub CarriesEach : List Admin → ℕ → K → K → Exit → Option (List ℕ) → Option (List ℕ) → Told → Told → Type 0
   CarriesEach [] line old new e out out' err err' = (new ≡ old) × (e ≡ exit.Done) × (out' ≡ out) × (err' ≡ err)
-  CarriesEach (command ∷ commands) line old new e out out' err err' =
+  CarriesEach (command ∷ batch) line old new e out out' err err' =
       ((mid : K) × (heard : Option (List ℕ)) × (noted : Told)
-      × CarriesOne command old mid exit.Done (stream out heard) (error_stream err noted) × CarriesEach commands (suc line) mid new e heard out' noted err')
+      × CarriesOne command old mid exit.Done (stream out heard) (error_stream err noted) × CarriesEach batch (suc line) mid new e heard out' noted err')
       ⊎ ((e ≢ exit.Done) × (noted : Told) × CarriesOne command old new e (stream out out') (error_stream err noted) × Tells noted err' (stopped_text line))
 
   -- these commands were carried out on the store at a path, which was opened once. What they left is there now, and nothing else changed. The
   -- first command decides whether a database may be created
-  pub record CarriesLines (path : List ℕ) (first : Admin) (commands : List Admin) (old new : F) (e : Exit) (output : Stream) (errors : Errors) : Type 0 where
+  pub record CarriesLines (path : List ℕ) (first : Admin) (batch : List Admin) (old new : F) (e : Exit) (output : Stream) (errors : Errors) : Type 0 where
     pub before : K
     pub after : K
     pub worked : F
     pub noted : Told
     pub told : Told
     pub opens : Opens path (opening_of first) old worked before (error_stream errors.old noted)
-    pub carries : CarriesEach commands 1 before after e output.old output.new noted told
+    pub carries : CarriesEach batch 1 before after e output.old output.new noted told
     pub closes : Closes path worked new after (error_stream told errors.new)
     pub others : OthersStay f.holds path old new
 
   -- the same, or the store at the path is not opened; without a command nothing is done
   abbrev pub CarriesAll : List ℕ → List Admin → F → F → Exit → Stream → Errors → Type 0
   CarriesAll path [] old new e output errors = (new ≡ old) × (e ≡ exit.Done) × (output.new ≡ output.old) × (errors.new ≡ errors.old)
-  CarriesAll path (first ∷ commands) old new e output errors =
-      CarriesLines path first (first ∷ commands) old new e output errors ⊎ RefusesToOpen path (opening_of first) old new e output errors
+  CarriesAll path (first ∷ batch) old new e output errors =
+      CarriesLines path first (first ∷ batch) old new e output errors ⊎ RefusesToOpen path (opening_of first) old new e output errors
 
   -- all lines of the input are commands, and they are carried out; or one is not, or the input could not be read, and nothing changes
   abbrev pub CarriesAllAt : List ℕ → Option (List ℕ) → F → F → Exit → Stream → Errors → Type 0
   CarriesAllAt path input old new e output errors =
-      ((commands : List Admin) × IfSome input (λ bytes. AreCommands bytes commands false) × CarriesAll path commands old new e output errors)
-      ⊎ ((new ≡ old) × (((commands : List Admin) × IfSome input (λ bytes. AreCommands bytes commands true)
-      × IsSaid exit.Usage e output.old output.new × Tells errors.old errors.new (bad_line_text (length commands + 1)))
+      ((batch : List Admin) × IfSome input (λ bytes. AreCommands bytes batch false) × CarriesAll path batch old new e output errors)
+      ⊎ ((new ≡ old) × (((batch : List Admin) × IfSome input (λ bytes. AreCommands bytes batch true)
+      × IsSaid exit.Usage e output.old output.new × Tells errors.old errors.new (bad_line_text (length batch + 1)))
       ⊎ (RefusesDown e output × TellsCause cause.Input errors)))
 
   -- the tables of a store were checked, and this is reported of what was found. If there was no fault and the store `is_ours`, it is sound and
