@@ -57,7 +57,9 @@ pub fn first_options(rt: &HostRuntime) -> io::Result<Options> {
 /// What is kept in memory of the file at a path.
 pub fn options(rt: &HostRuntime, path: &str) -> io::Result<Options> {
     let mut options = Options::new(RandomState::new(rt)?.hash_one(&0u8));
-    let page = page_bytes(rt, path).unwrap_or(DB_PAGE_BYTES).max(LEAST_PAGE);
+    let page = page_bytes(rt, path)
+        .unwrap_or(DB_PAGE_BYTES)
+        .max(LEAST_PAGE);
     let bytes = file_bytes(rt, path).unwrap_or(0);
     options.cache_pages = (bytes.clamp(FEWEST_BYTES, MOST_BYTES) / page) as usize;
     options.spill_pages = (MOST_HELD / page) as usize;
