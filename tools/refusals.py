@@ -7,7 +7,7 @@
 Request for memory number N is refused, for N from 1 on, until a run meets no refusal; and then N and the one behind it. (Of
 many alike in a row, of a command or a replay, some: refuse.c.)
 tools/refusals.txt has what is done meanwhile: requests of a service over a file, each by itself, over what the requests
-before it left; frames over a database in memory; commands on a file. Each run has to end in the right reply, with the
+before it left; frames over a database in memory; commands on a file. Commands at the operator's door stand below. Each run has to end in the right reply, with the
 rows of the tables that are due, or in a 503 (`refused down`), with the rows as before; and what was refused is sent
 again and has its right reply. Rows are read by SQLite's own library.
 
@@ -29,6 +29,7 @@ import subprocess
 import sys
 import tempfile
 
+import doors
 import logged
 import stories
 from harness import ANSWERED_503, HERE, LOG_STAYS, NEW_FILE, UNCHANGED, UNLOGGED, UNREAD, Wrong, answered, compiled
@@ -72,6 +73,23 @@ REPLAYED = [
     "a run writes by its ID, while it applies",
     "two organizations share the pages of one text",
     "ten runs with keys",
+]
+
+# Commands at the operator's door, the replies, and what they leave in the tables.
+AT_DOOR = [
+    (b"org-add acme", b"ok\n", "INSERT INTO org VALUES ('acme', 200)"),
+    (
+        b"token-add acme ci write writewritewrite1 until=253402300799 prefix=ne",
+        b"ok\n",
+        "INSERT INTO token VALUES ('acme', 'ci', sha('writewritewrite1'), 1)",
+        "INSERT INTO bound VALUES ('acme', 'ci', 253402300799, 'ne')",
+    ),
+    (b"token-list acme", b"ci write 253402300799 ne\n"),
+    (b"org-limit acme 3", b"ok\n", "UPDATE org SET cap = 3"),
+    (b"org-list", b"acme 0 3\n"),
+    (b"token-revoke acme ci", b"ok\n", "DELETE FROM token", "DELETE FROM bound"),
+    (b"org-remove acme", b"ok\n", "DELETE FROM org"),
+    (b"org-remove acme", b"refused absent\n"),
 ]
 
 # No replay asks for memory so often once its last step is taken.
@@ -515,6 +533,26 @@ def refuse_logged(custody, library, story, folder):
     return refuse_service(custody, library, story, folder, "--log", rules=logged.Custody())
 
 
+def refuse_door(custody, library, story, folder):
+    """Each command at the operator's door in turn, over a new file. (The story tells only its name.)"""
+    counts, due, file = Counts(), Due(), File(folder)
+    words = [custody, "serve", "--db", "t.db", "--port", "8090", "--count", "1000000", "--idle", "3600", "--most", "3600", "--operator"]
+    with Program(library, "accept", words, folder, doors.SECRET + b"\n") as program:
+        service = Service(program, file, counts)
+        for command, text, *leaves in AT_DOOR:
+            before = due.rows()
+            for sql in leaves:
+                due.db.execute(sql)
+            reply = doors.done(command, text, None).due.replace(b"Date: DATE", b"Date: " + doors.DATE)
+            asked = Asked(doors.at_door(command), reply, before, due.rows())
+            try:
+                service.refuse_each(asked)
+                service.go(asked)
+            except Wrong as wrong:
+                raise Wrong("%s: %s" % (command.decode(), wrong))
+    return counts
+
+
 # ----------------------------------------------------------------------------------------------------
 # Runs of a program, refused at each of its requests
 # ----------------------------------------------------------------------------------------------------
@@ -759,6 +797,7 @@ def jobs_of(told, custody, program):
                 jobs.append(("requests of a service with its log", refuse_logged, custody, story))
             if not any(story is later.after for later in told.values()):
                 jobs.append(("requests of a service", refuse_service, custody, story))
+    jobs.append(("commands at the operator's door", refuse_door, custody, told["two organizations"]))
     return jobs
 
 
