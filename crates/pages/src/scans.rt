@@ -139,31 +139,40 @@ fn head_under(row: Unhashed, key: &[u8; 32]) -> PageHead
     }
 }
 
-/// The keys of the bytes of the first four rows, as far as there are rows. Three keys at once cost less than one by one, two do not.
+/// The keys of four pages. At once they cost what two of the longest cost one by one.
+fn four_keys<K: PageKey>(a: &[u8], b: &[u8], c: &[u8], d: &[u8]) -> [[u8; 32]; 4]
+    ensures { result ≡ K.key_of a.now ∷ K.key_of b.now ∷ K.key_of c.now ∷ K.key_of d.now ∷ [] }
+{
+    let longest = a.len().max(b.len()).max(c.len()).max(d.len());
+    let front = a.len().saturating_add(b.len());
+    let all = front.saturating_add(c.len()).saturating_add(d.len());
+    if all / 2 > longest {
+        K::keys([a, b, c, d])
+    } else {
+        [K::key(a), K::key(b), K::key(c), K::key(d)]
+    }
+}
+
+/// The keys of the bytes of the first four rows, as far as there are rows.
 fn keys_of<K: PageKey>(rows: &[Unhashed]) -> [[u8; 32]; 4]
     ensures { take (length rows.now) result ≡ take 4 (map (λ row. K.key_of row.page.bytes) rows.now) }
 {
     match rows {
         [] => [[0; 32]; 4],
-        [a] => [K::key(a.page.bytes.as_slice()), [0; 32], [0; 32], [0; 32]],
-        [a, b] => [
-            K::key(a.page.bytes.as_slice()),
-            K::key(b.page.bytes.as_slice()),
-            [0; 32],
-            [0; 32],
-        ],
-        [a, b, c] => K::keys([
+        [a] => four_keys::<K>(a.page.bytes.as_slice(), &[], &[], &[]),
+        [a, b] => { four_keys::<K>(a.page.bytes.as_slice(), b.page.bytes.as_slice(), &[], &[]) }
+        [a, b, c] => four_keys::<K>(
             a.page.bytes.as_slice(),
             b.page.bytes.as_slice(),
             c.page.bytes.as_slice(),
             &[],
-        ]),
-        [a, b, c, d, ..] => K::keys([
+        ),
+        [a, b, c, d, ..] => four_keys::<K>(
             a.page.bytes.as_slice(),
             b.page.bytes.as_slice(),
             c.page.bytes.as_slice(),
             d.page.bytes.as_slice(),
-        ]),
+        ),
     }
 }
 
