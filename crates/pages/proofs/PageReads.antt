@@ -14,6 +14,7 @@ use Rattle.statements.specs.Schema.{page_table}
 use Rattle.statements.specs.Rows.{Kept, PageRow, page_cells, number}
 use Rattle.statements.specs.Tables.{Tables, Holds, page_layout}
 use Rattle.statements.specs.Calls.{FirstRow, Pins, IsNumber, IsBody, IsFlagCell}
+use Rattle.pages.specs.declared.rows.TheConstants.{FIND_PAGE_BYTES, FIND_PAGE_USES, EQUAL_PAGE, FIRST_TWIN, FIRST_PAGE}
 use Rattle.statements.proofs.Held.{IsHeld, pages_held}
 use Rattle.statements.proofs.PointReads.{first_own}
 use Rattle.statements.proofs.ReadBack.{number_read, blob_read}
@@ -22,7 +23,7 @@ use Rattle.pages.specs.declared.rows.FirstPage.{FirstPage}
 use Rattle.pages.specs.declared.rows.PageUse.{PageUse}
 use Rattle.pages.specs.Rows.{is_page, is_equal_page, page_bytes, page_uses, page_use, equal_page, is_of_key, first_twin, compared, first_page}
 use Rattle.pages.specs.Inner.Calls.{IsPageUse, IsFirstPage}
-use Rattle.pages.proofs.PageTexts.{page_bytes_text, page_bytes_means, page_bytes_rest, page_uses_text, page_uses_means, page_uses_rest, equal_page_text, equal_page_means, equal_page_rest, first_twin_text, first_twin_means, first_twin_rest, first_page_text, first_page_means, first_page_rest, first_page_names}
+use Rattle.pages.proofs.PageTexts.{page_bytes_asks, page_bytes_rest, page_uses_asks, page_uses_rest, equal_page_asks, equal_page_rest, first_twin_asks, first_twin_rest, first_page_asks, first_page_rest, first_page_names}
 use Rattle.pages.proofs.PageWrites.{blob_number}
 
 two_blobs : (a b c d : List ℕ) → (is_true (binary (Compare Eq Binary) (Blob a) (Blob b)) && (is_true (binary (Compare Eq Binary) (Blob c) (Blob d)) && true)) ≡ (bytes_eq a b && bytes_eq c d)
@@ -47,27 +48,27 @@ module _ (old new : State) (t : Tables) (h : Holds old.now t) where
   abbrev held : IsHeld page_layout old.now t.pages
   held = pages_held old.now t h
 
-  pub page_bytes_shows : (key : List ℕ) (twin : ℕ) (row : Option Row) → FirstRow page_bytes_text (Blob key ∷ number twin ∷ []) old new row → Pins IsBody row (page_bytes key twin t)
+  pub page_bytes_shows : (key : List ℕ) (twin : ℕ) (row : Option Row) → FirstRow FIND_PAGE_BYTES.now (Blob key ∷ number twin ∷ []) old new row → Pins IsBody row (page_bytes key twin t)
   page_bytes_shows key twin row first =
-      first_own page_cells page_table old new held.own t.pages held.rows held.keyed page_bytes_text (Blob key ∷ number twin ∷ []) row first page_bytes_rest (codes "bytes" ∷ [])
-      (is_page key twin) (λ x. blob_number x.1.key key x.1.twin twin) IsBody (λ x. x.1.bytes) (λ x y told. blob_read x.1.bytes y told) (page_bytes_means old.now.schema _ _ held.own.place) (λ l. refl)
+      first_own page_cells page_table old new held.own t.pages held.rows held.keyed FIND_PAGE_BYTES.now (Blob key ∷ number twin ∷ []) row first page_bytes_rest (codes "bytes" ∷ [])
+      (is_page key twin) (λ x. blob_number x.1.key key x.1.twin twin) IsBody (λ x. x.1.bytes) (λ x y told. blob_read x.1.bytes y told) (page_bytes_asks.meaning old.now.schema _ _ held.own.place) (λ l. refl)
 
-  pub page_uses_shows : (key : List ℕ) (twin : ℕ) (row : Option Row) → FirstRow page_uses_text (Blob key ∷ number twin ∷ []) old new row → Pins IsNumber row (page_uses key twin t)
+  pub page_uses_shows : (key : List ℕ) (twin : ℕ) (row : Option Row) → FirstRow FIND_PAGE_USES.now (Blob key ∷ number twin ∷ []) old new row → Pins IsNumber row (page_uses key twin t)
   page_uses_shows key twin row first =
-      first_own page_cells page_table old new held.own t.pages held.rows held.keyed page_uses_text (Blob key ∷ number twin ∷ []) row first page_uses_rest (codes "uses" ∷ [])
-      (is_page key twin) (λ x. blob_number x.1.key key x.1.twin twin) IsNumber (λ x. x.1.uses) (λ x y told. number_read x.1.uses y told) (page_uses_means old.now.schema _ _ held.own.place) (λ l. refl)
+      first_own page_cells page_table old new held.own t.pages held.rows held.keyed FIND_PAGE_USES.now (Blob key ∷ number twin ∷ []) row first page_uses_rest (codes "uses" ∷ [])
+      (is_page key twin) (λ x. blob_number x.1.key key x.1.twin twin) IsNumber (λ x. x.1.uses) (λ x y told. number_read x.1.uses y told) (page_uses_asks.meaning old.now.schema _ _ held.own.place) (λ l. refl)
 
-  pub equal_page_shows : (key bytes : List ℕ) (row : Option Row) → FirstRow equal_page_text (Blob key ∷ Blob bytes ∷ []) old new row → Pins IsPageUse row (equal_page key bytes t)
+  pub equal_page_shows : (key bytes : List ℕ) (row : Option Row) → FirstRow EQUAL_PAGE.now (Blob key ∷ Blob bytes ∷ []) old new row → Pins IsPageUse row (equal_page key bytes t)
   equal_page_shows key bytes row first =
-      first_own page_cells page_table old new held.own t.pages held.rows held.keyed equal_page_text (Blob key ∷ Blob bytes ∷ []) row first equal_page_rest (codes "twin" ∷ codes "uses" ∷ [])
-      (is_equal_page key bytes) (λ x. two_blobs x.1.key key x.1.bytes bytes) IsPageUse page_use (λ x y told. page_use_read x.1.twin x.1.uses y told) (equal_page_means old.now.schema _ _ held.own.place) (λ l. refl)
+      first_own page_cells page_table old new held.own t.pages held.rows held.keyed EQUAL_PAGE.now (Blob key ∷ Blob bytes ∷ []) row first equal_page_rest (codes "twin" ∷ codes "uses" ∷ [])
+      (is_equal_page key bytes) (λ x. two_blobs x.1.key key x.1.bytes bytes) IsPageUse page_use (λ x y told. page_use_read x.1.twin x.1.uses y told) (equal_page_asks.meaning old.now.schema _ _ held.own.place) (λ l. refl)
 
-  pub first_twin_shows : (key : List ℕ) (row : Option Row) → FirstRow first_twin_text (Blob key ∷ []) old new row → Pins IsNumber row (first_twin key t)
+  pub first_twin_shows : (key : List ℕ) (row : Option Row) → FirstRow FIRST_TWIN.now (Blob key ∷ []) old new row → Pins IsNumber row (first_twin key t)
   first_twin_shows key row first =
-      first_own page_cells page_table old new held.own t.pages held.rows held.keyed first_twin_text (Blob key ∷ []) row first first_twin_rest (codes "twin" ∷ [])
-      (is_of_key key) (λ x. one_blob x.1.key key) IsNumber (λ x. x.1.twin) (λ x y told. number_read x.1.twin y told) (first_twin_means old.now.schema _ _ held.own.place) (λ l. refl)
+      first_own page_cells page_table old new held.own t.pages held.rows held.keyed FIRST_TWIN.now (Blob key ∷ []) row first first_twin_rest (codes "twin" ∷ [])
+      (is_of_key key) (λ x. one_blob x.1.key key) IsNumber (λ x. x.1.twin) (λ x y told. number_read x.1.twin y told) (first_twin_asks.meaning old.now.schema _ _ held.own.place) (λ l. refl)
 
-  pub first_page_shows : (key bytes : List ℕ) (row : Option Row) → FirstRow first_page_text (Blob key ∷ Blob bytes ∷ []) old new row → Pins IsFirstPage row (first_page key bytes t)
+  pub first_page_shows : (key bytes : List ℕ) (row : Option Row) → FirstRow FIRST_PAGE.now (Blob key ∷ Blob bytes ∷ []) old new row → Pins IsFirstPage row (first_page key bytes t)
   first_page_shows key bytes row first =
-      first_own page_cells page_table old new held.own t.pages held.rows held.keyed first_page_text (Blob key ∷ Blob bytes ∷ []) row first first_page_rest first_page_names
-      (is_of_key key) (λ x. one_blob x.1.key key) IsFirstPage (compared bytes) (λ x y told. first_page_read x bytes y told) (first_page_means old.now.schema _ _ held.own.place) (λ l. refl)
+      first_own page_cells page_table old new held.own t.pages held.rows held.keyed FIRST_PAGE.now (Blob key ∷ Blob bytes ∷ []) row first first_page_rest first_page_names
+      (is_of_key key) (λ x. one_blob x.1.key key) IsFirstPage (compared bytes) (λ x y told. first_page_read x bytes y told) (first_page_asks.meaning old.now.schema _ _ held.own.place) (λ l. refl)

@@ -12,13 +12,14 @@ use Rattle.sqlite.specs.State.{State, Executes}
 use Rattle.statements.specs.Rows.{number, page_cells}
 use Rattle.statements.specs.Tables.{Tables, Holds}
 use Rattle.statements.specs.Schema.{page_table}
+use Rattle.pages.specs.declared.rows.TheConstants.{ADD_PAGE, SET_PAGE_USES, REMOVE_PAGE, REMOVE_LAST_PAGE}
 use Rattle.statements.proofs.Held.{pages, pages_held}
 use Rattle.statements.proofs.Own.{count_deleted, first_if_any}
 use Rattle.statements.proofs.Casts.{page_casts}
 use Rattle.statements.proofs.Conditions.{same_blob, same_number, below_is}
 use Rattle.statements.proofs.Frames.{Turns, updated, deleted, inserted}
 use Rattle.pages.specs.Rows.{is_page, is_last, page_added, page_used, page_removed, has_last, last_removed}
-use Rattle.pages.proofs.PageTexts.{add_page_text, add_page_means, set_page_uses_text, set_page_uses_means, remove_page_text, remove_page_means, remove_last_page_text, remove_last_page_means}
+use Rattle.pages.proofs.PageTexts.{add_page_means, set_page_uses_means, remove_page_means, remove_last_page_means}
 
 pub blob_number : (a b : List ℕ) (m n : ℕ) → (is_true (binary (Compare Eq Binary) (Blob a) (Blob b)) && (is_true (binary (Compare Eq Binary) (Int (pos m)) (Int (pos n))) && true)) ≡ (bytes_eq a b && eqb m n)
 blob_number a b m n = then_term (same_blob a b) (last_term (same_number m n))
@@ -29,19 +30,19 @@ blob_number_below : (a b : List ℕ) (m n k l : ℕ)
 blob_number_below a b m n k l = then_term (same_blob a b) (then_term (same_number m n) (last_term (at_ints _ Lt (pos k) (pos l) ∙ below_is k l)))
 
 module _ (old new : State) (count : ℕ) (t : Tables) (h : Holds old.now t) where
-  pub add_page_does : (key : List ℕ) (twin : ℕ) (bytes : List ℕ) → Executes add_page_text (Blob key ∷ number twin ∷ Blob bytes ∷ []) old new (Ok count) → Turns old.now new.now (page_added key twin bytes t)
+  pub add_page_does : (key : List ℕ) (twin : ℕ) (bytes : List ℕ) → Executes ADD_PAGE.now (Blob key ∷ number twin ∷ Blob bytes ∷ []) old new (Ok count) → Turns old.now new.now (page_added key twin bytes t)
   add_page_does key twin bytes ran = inserted pages page_casts old new count t h _ _ ran (add_page_means old.now.schema) refl refl (record { key = key; twin = twin; bytes = bytes; uses = 1 }) refl
 
-  pub set_page_uses_does : (key : List ℕ) (twin uses : ℕ) → Executes set_page_uses_text (Blob key ∷ number twin ∷ number uses ∷ []) old new (Ok count) → Turns old.now new.now (page_used key twin uses t)
+  pub set_page_uses_does : (key : List ℕ) (twin uses : ℕ) → Executes SET_PAGE_USES.now (Blob key ∷ number twin ∷ number uses ∷ []) old new (Ok count) → Turns old.now new.now (page_used key twin uses t)
   set_page_uses_does key twin uses ran = updated pages page_casts old new count t h _ _ ran (set_page_uses_means old.now.schema) (is_page key twin) (λ x. blob_number x.1.key key x.1.twin twin) (λ r. record r { uses = uses }) (λ x. refl) tt
 
-  pub remove_page_does : (key : List ℕ) (twin : ℕ) → Executes remove_page_text (Blob key ∷ number twin ∷ []) old new (Ok count) → Turns old.now new.now (page_removed key twin t)
+  pub remove_page_does : (key : List ℕ) (twin : ℕ) → Executes REMOVE_PAGE.now (Blob key ∷ number twin ∷ []) old new (Ok count) → Turns old.now new.now (page_removed key twin t)
   remove_page_does key twin ran = deleted pages page_casts old new count t h _ _ ran (remove_page_means old.now.schema) (is_page key twin) (λ x. blob_number x.1.key key x.1.twin twin) tt
 
-  pub remove_last_page_does : (key : List ℕ) (twin : ℕ) → Executes remove_last_page_text (Blob key ∷ number twin ∷ []) old new (Ok count) → Turns old.now new.now (last_removed key twin t)
+  pub remove_last_page_does : (key : List ℕ) (twin : ℕ) → Executes REMOVE_LAST_PAGE.now (Blob key ∷ number twin ∷ []) old new (Ok count) → Turns old.now new.now (last_removed key twin t)
   remove_last_page_does key twin ran = deleted pages page_casts old new count t h _ _ ran (remove_last_page_means old.now.schema) (is_last key twin) (λ x. blob_number_below x.1.key key x.1.twin twin x.1.uses 2) tt
 
-  pub remove_last_page_finds : (key : List ℕ) (twin : ℕ) → Executes remove_last_page_text (Blob key ∷ number twin ∷ []) old new (Ok count) → not (count == 0) ≡ has_last key twin t
+  pub remove_last_page_finds : (key : List ℕ) (twin : ℕ) → Executes REMOVE_LAST_PAGE.now (Blob key ∷ number twin ∷ []) old new (Ok count) → not (count == 0) ≡ has_last key twin t
   remove_last_page_finds key twin ran =
       let held = pages_held old.now t h in
       let counted = count_deleted page_cells page_table page_casts old new held.own held.steady t.pages held.rows held.keyed _ _ count ran _ (remove_last_page_means old.now.schema _ _ held.own.place) refl refl refl (λ rows. refl)

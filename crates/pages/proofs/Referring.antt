@@ -21,6 +21,7 @@ use Rattle.statements.specs.Place.{at_of, tree_of, IsOwn}
 use Rattle.statements.specs.Schema.{page_table, vpage_table}
 use Rattle.statements.specs.Rows.{Kept, stored, PageRow, VpageRow, page_cells, vpage_cells}
 use Rattle.statements.specs.Tables.{Tables, Holds, page_layout, vpage_layout}
+use Rattle.pages.specs.declared.rows.TheConstants.{SET_PAGE_USES, REMOVE_PAGE, REMOVE_LAST_PAGE}
 use Rattle.statements.proofs.Held.{IsHeld, pages_held, vpages_held}
 use Rattle.statements.proofs.Follows.{named_first}
 use Rattle.statements.proofs.Writes.{plain_program}
@@ -29,7 +30,7 @@ use Rattle.statements.specs.Steps.{LeavesAsIs}
 use Rattle.pages.specs.Rows.{is_page}
 use Rattle.pages.specs.Pages.{Page, pages_in, NamedAreThere}
 use Rattle.pages.proofs.Looking.{still_holds}
-use Rattle.pages.proofs.PageTexts.{set_page_uses_text, set_page_uses_query, set_page_uses_means, remove_page_text, remove_page_query, remove_page_means, remove_last_page_text, remove_last_page_query, remove_last_page_means}
+use Rattle.pages.proofs.PageTexts.{set_page_uses_query, set_page_uses_means, remove_page_query, remove_page_means, remove_last_page_query, remove_last_page_means}
 use Rattle.pages.proofs.PageWrites.{blob_number}
 
 -- the reference of vpage
@@ -111,22 +112,22 @@ module _ (old new : State) (params : Row) (t : Tables) (h : Holds old.now t) (co
   abbrev own : IsOwn old.now.schema page_table
   own = (pages_held old.now t h).own
 
-  pub used_is_sound : Executes set_page_uses_text params old new (Ok count) → IsDatabase new.now
+  pub used_is_sound : Executes SET_PAGE_USES.now params old new (Ok count) → IsDatabase new.now
   used_is_sound ran =
       let means = set_page_uses_means old.now.schema _ _ own.place in
-      let w = runs_as set_page_uses_text params old new old.now.schema refl (Update (at_of old.now.schema page_table.name) (plain_program (set_page_uses_query (tree_of old.now.schema page_table.name)))) means.0 means.1 count ran in
+      let w = runs_as SET_PAGE_USES.now params old new old.now.schema refl (Update (at_of old.now.schema page_table.name) (plain_program (set_page_uses_query (tree_of old.now.schema page_table.name)))) means.0 means.1 count ran in
       w.sound
 
-  pub removed_is_sound : Executes remove_page_text params old new (Ok count) → IsDatabase new.now
+  pub removed_is_sound : Executes REMOVE_PAGE.now params old new (Ok count) → IsDatabase new.now
   removed_is_sound ran =
       let means = remove_page_means old.now.schema _ _ own.place in
-      let w = runs_as remove_page_text params old new old.now.schema refl (Delete (at_of old.now.schema page_table.name) (plain_program (remove_page_query (tree_of old.now.schema page_table.name)))) means.0 means.1 count ran in
+      let w = runs_as REMOVE_PAGE.now params old new old.now.schema refl (Delete (at_of old.now.schema page_table.name) (plain_program (remove_page_query (tree_of old.now.schema page_table.name)))) means.0 means.1 count ran in
       w.sound
 
-  pub last_is_sound : Executes remove_last_page_text params old new (Ok count) → IsDatabase new.now
+  pub last_is_sound : Executes REMOVE_LAST_PAGE.now params old new (Ok count) → IsDatabase new.now
   last_is_sound ran =
       let means = remove_last_page_means old.now.schema _ _ own.place in
-      let w = runs_as remove_last_page_text params old new old.now.schema refl (Delete (at_of old.now.schema page_table.name) (plain_program (remove_last_page_query (tree_of old.now.schema page_table.name)))) means.0 means.1 count ran in
+      let w = runs_as REMOVE_LAST_PAGE.now params old new old.now.schema refl (Delete (at_of old.now.schema page_table.name) (plain_program (remove_last_page_query (tree_of old.now.schema page_table.name)))) means.0 means.1 count ran in
       w.sound
 
 -- a text that was run, and leaves a database where it succeeds

@@ -10,12 +10,13 @@ use Rattle.statements.specs.Schema.{page_table}
 use Rattle.statements.specs.Rows.{Kept, PageRow, page_cells, number}
 use Rattle.statements.specs.Tables.{Tables, Holds, page_layout}
 use Rattle.statements.specs.Calls.{FirstRow, Pins}
+use Rattle.pages.specs.declared.scans.TheConstants.{FIRST_ROW, ROW_AFTER}
 use Rattle.statements.proofs.Held.{IsHeld, pages_held}
 use Rattle.statements.proofs.PointReads.{first_own}
 use Rattle.statements.proofs.ReadBack.{number_read, blob_read}
 use Rattle.pages.specs.declared.scans.PageRow.{PageRow as ReadRow}
 use Rattle.pages.specs.Inner.Scans.{IsPageRow, is_behind, page_row, page_row_behind}
-use Rattle.pages.proofs.RowTexts.{row_names, first_row_text, first_row_means, first_row_rest, row_after_text, row_after_means, row_after_rest}
+use Rattle.pages.proofs.RowTexts.{row_names, first_row_asks, first_row_rest, row_after_asks, row_after_rest}
 
 int_read : (m n : ℤ) → Int m ≡ Int n → n ≡ m
 int_read m n e = cc
@@ -33,12 +34,12 @@ module _ (old new : State) (t : Tables) (h : Holds old.now t) where
   abbrev held : IsHeld page_layout old.now t.pages
   held = pages_held old.now t h
 
-  pub first_row_shows : (row : Option Row) → FirstRow first_row_text [] old new row → Pins IsPageRow row (page_row_behind None t)
+  pub first_row_shows : (row : Option Row) → FirstRow FIRST_ROW.now [] old new row → Pins IsPageRow row (page_row_behind None t)
   first_row_shows row first =
-      first_own page_cells page_table old new held.own t.pages held.rows held.keyed first_row_text [] row first first_row_rest row_names
-      (is_behind None) (λ x. refl) IsPageRow page_row (λ x y told. page_row_read x y told) (first_row_means old.now.schema _ _ held.own.place) first_taken
+      first_own page_cells page_table old new held.own t.pages held.rows held.keyed FIRST_ROW.now [] row first first_row_rest row_names
+      (is_behind None) (λ x. refl) IsPageRow page_row (λ x y told. page_row_read x y told) (first_row_asks.meaning old.now.schema _ _ held.own.place) first_taken
 
-  pub row_after_shows : (id : ℤ) (row : Option Row) → FirstRow row_after_text (Int id ∷ []) old new row → Pins IsPageRow row (page_row_behind (Some id) t)
+  pub row_after_shows : (id : ℤ) (row : Option Row) → FirstRow ROW_AFTER.now (Int id ∷ []) old new row → Pins IsPageRow row (page_row_behind (Some id) t)
   row_after_shows id row first =
-      first_own page_cells page_table old new held.own t.pages held.rows held.keyed row_after_text (Int id ∷ []) row first row_after_rest row_names
-      (is_behind (Some id)) (λ x. last_term (at_ints _ Gt x.0 id)) IsPageRow page_row (λ x y told. page_row_read x y told) (row_after_means old.now.schema _ _ held.own.place) first_taken
+      first_own page_cells page_table old new held.own t.pages held.rows held.keyed ROW_AFTER.now (Int id ∷ []) row first row_after_rest row_names
+      (is_behind (Some id)) (λ x. last_term (at_ints _ Gt x.0 id)) IsPageRow page_row (λ x y told. page_row_read x y told) (row_after_asks.meaning old.now.schema _ _ held.own.place) first_taken

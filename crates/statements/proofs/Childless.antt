@@ -6,6 +6,7 @@ use Rattle.std.proofs.lemmas.Bool.{and_parts}
 use Rattle.std.proofs.lemmas.Cmp.{tied_itself, int_cmp_total}
 use Rattle.std.proofs.lemmas.List.Elements.{All-from_recursion, recursion_from_All}
 use Rattle.std.proofs.lemmas.List.Sorted.{All-permutation}
+use Rattle.std.proofs.Math.Bool.{and-false}
 use Rattle.sqlite_value.specs.declared.value.Value.TheVariants.{Text}
 use Rattle.sqlite_value.specs.declared.keys.Order.{Order}
 use Rattle.sqlite_value.specs.Keys.{plain}
@@ -35,6 +36,8 @@ use Rattle.statements.specs.Schema.{token_table, ws_table, bound_table, keeping_
 use Rattle.statements.specs.Rows.{Kept, id_of, stored, TokenRow, WsRow, BoundRow, KeepingRow, token_cells, ws_cells, bound_cells, keeping_cells}
 use Rattle.statements.specs.Tables.{Layout, Tables, Holds, our_tables, token_layout, ws_layout, bound_layout, keeping_layout}
 use Rattle.statements.specs.Changes.{is_token, is_bound, HasNoBound, is_ws, is_keeping, HasNoKeeping}
+use Rattle.statements.specs.declared.tokens.TheConstants.{REMOVE_TOKEN}
+use Rattle.statements.specs.declared.workspaces.TheConstants.{REMOVE_WS}
 use Rattle.statements.proofs.Lead.{GoesTo, IsIdle, HasNoChildren, follower_keeps}
 use Rattle.statements.proofs.Follows.{Follows, bound_follows, keeping_follows, there, named_first}
 use Rattle.statements.proofs.Held.{IsHeld, tokens_held, wss_held, bounds_held, keepings_held, trees_apart}
@@ -45,8 +48,8 @@ use Rattle.statements.proofs.Conditions.{two_texts}
 use Rattle.statements.proofs.NameLists.{same_text}
 use Rattle.statements.proofs.Commands.{is_at, delete_query}
 use Rattle.statements.proofs.Meaning.{Means}
-use Rattle.statements.proofs.TokenTexts.{remove_token_text, remove_token_means}
-use Rattle.statements.proofs.WsTexts.{remove_ws_text, remove_ws_means}
+use Rattle.statements.proofs.TokenTexts.{remove_token_means}
+use Rattle.statements.proofs.WsTexts.{remove_ws_means}
 
 -- ---- the rows that go are those that the statement names
 
@@ -93,10 +96,6 @@ none_left p (x ∷ xs) = go (p x) refl (none_left p xs)
     go false e more = (e, more)
 
 -- ---- a row and one that follows it agree by their names
-
-and_false : (a : Bool) → (a && false) ≡ false
-and_false true = refl
-and_false false = refl
 
 -- of two pairs of names the one is this one, and the other isn't
 apart_by : (org name o n a b : List ℕ) → (bytes_eq o org && bytes_eq n name) ≡ false → (bytes_eq a org && bytes_eq b name) ≡ true → (bytes_eq o a && bytes_eq n b) ≡ false
@@ -150,7 +149,7 @@ module _ {R C : Type 0} (parent : Layout R) (child : Layout C) (ref : Reference)
         (all_weaker (λ z. (row_at (map (stored parent.cells) xs) (id_of z) ≡ stored parent.cells z) × (is_parent z ≡ true)) (λ z. f (row_at (old.now.trees here) (id_of z), []) ≡ false)
         (λ z it.
         let row : row_at (old.now.trees here) (id_of z) ≡ stored parent.cells z = ap (λ l. row_at l (id_of z)) ours.rows ∙ it.0 in
-        ap (λ a. loses order (1 ∷ 2 ∷ []) (row_at (old.now.trees here) (id_of z), []) && a) (ap (λ l. agree order ref.columns r (1 ∷ 2 ∷ []) l) row ∙ stranger z it.1) ∙ and_false _) some.0 taken) in
+        ap (λ a. loses order (1 ∷ 2 ∷ []) (row_at (old.now.trees here) (id_of z), []) && a) (ap (λ l. agree order ref.columns r (1 ∷ 2 ∷ []) l) row ∙ stranger z it.1) ∙ and-false _) some.0 taken) in
         let idle : IsIdle s their_rows here true moves ref = inr (λ key told. inr (childless_at moves key (known key told) childless)) in
         follower_keeps s Enforced (tree_of s child.table.name) here their_rows child.table (at_of s child.table.name) theirs.own.place.found (there (GoesTo s here) s child.table theirs.own follows.goes)
         (there IsPassive s parent.table ours.own follows.passive) old.now.trees new.now.trees (edit_of old.now.trees (record parent.table { tree = here }) (ids_of made.0) Given 0 []) theirs.rows apart
@@ -172,7 +171,7 @@ bound_agrees : (b : Kept BoundRow) (z : Kept TokenRow) → agree token_order to_
 unfolding everything
 bound_agrees b z = two_texts b.1.org z.1.org b.1.name z.1.name
 
-pub token_goes : (org name : List ℕ) (old new : State) (t : Tables) → Holds old.now t → (count : ℕ) → HasNoBound org name t → Executes remove_token_text (Text org ∷ Text name ∷ []) old new (Ok count)
+pub token_goes : (org name : List ℕ) (old new : State) (t : Tables) → Holds old.now t → (count : ℕ) → HasNoBound org name t → Executes REMOVE_TOKEN.now (Text org ∷ Text name ∷ []) old new (Ok count)
     → new.now.trees (tree_of old.now.schema bound_table.name) ≡ old.now.trees (tree_of old.now.schema bound_table.name)
 token_goes org name old new t h count none ran =
     let tokens = tokens_held old.now t h in
@@ -180,7 +179,7 @@ token_goes org name old new t h count none ran =
     (λ b z other mine. bound_agrees b z ∙ apart_by org name b.1.org b.1.name z.1.org z.1.name other mine) (λ x. two_texts x.1.org org x.1.name name)
     old new t.tokens tokens t.bounds (bounds_held old.now t h) (bound_follows old.now.schema tokens.own) refl
     (λ same. trees_apart old.now.schema our_tables 2 8 token_table bound_table refl refl (omega arith) h.ours.apart (sym same)) (token_key old.now.schema tokens.own)
-    remove_token_text count none (remove_token_means old.now.schema _ _ tokens.own.place) ran
+    REMOVE_TOKEN.now count none (remove_token_means old.now.schema _ _ tokens.own.place) ran
 
 -- ---- a workspace and a row of keeping
 
@@ -198,7 +197,7 @@ keeping_agrees : (b : Kept KeepingRow) (z : Kept WsRow) → agree ws_order to_ws
 unfolding everything
 keeping_agrees b z = two_texts b.1.org z.1.org b.1.ws z.1.name
 
-pub ws_goes : (org name : List ℕ) (old new : State) (t : Tables) → Holds old.now t → (count : ℕ) → HasNoKeeping org name t → Executes remove_ws_text (Text org ∷ Text name ∷ []) old new (Ok count)
+pub ws_goes : (org name : List ℕ) (old new : State) (t : Tables) → Holds old.now t → (count : ℕ) → HasNoKeeping org name t → Executes REMOVE_WS.now (Text org ∷ Text name ∷ []) old new (Ok count)
     → new.now.trees (tree_of old.now.schema keeping_table.name) ≡ old.now.trees (tree_of old.now.schema keeping_table.name)
 ws_goes org name old new t h count none ran =
     let wss = wss_held old.now t h in
@@ -206,4 +205,4 @@ ws_goes org name old new t h count none ran =
     (λ b z other mine. keeping_agrees b z ∙ apart_by org name b.1.org b.1.ws z.1.org z.1.name other mine) (λ x. two_texts x.1.org org x.1.name name)
     old new t.wss wss t.keepings (keepings_held old.now t h) (keeping_follows old.now.schema wss.own) refl
     (λ same. trees_apart old.now.schema our_tables 3 10 ws_table keeping_table refl refl (omega arith) h.ours.apart (sym same)) (ws_key old.now.schema wss.own)
-    remove_ws_text count none (remove_ws_means old.now.schema _ _ wss.own.place) ran
+    REMOVE_WS.now count none (remove_ws_means old.now.schema _ _ wss.own.place) ran

@@ -2,6 +2,7 @@
 use Rattle.std.proofs.Common.{◌≡◌, ℕ, ℤ, pos, ◌+ℤ◌, Bool, false, None, List, [], ◌∷◌, ◌++◌, map, filter, fold, drop, refl, sym, ap, ap₂, ◌∙◌, subst, IsPermutation}
 use Rattle.std.specs.List.{list_all}
 use Rattle.std.proofs.lemmas.List.Sorted.{IsPermutation-refl, IsPermutation-trans, IsPermutation-cons, IsPermutation-middle}
+use Rattle.std.proofs.lemmas.List.Folds.{fold-map}
 use Rattle.sqlite_value.specs.declared.value.Value.TheVariants.{Null, Int}
 use Rattle.sqlite_value.specs.Order.{Row}
 use Rattle.sqlite_trees.specs.Tree.{Trees, rowid, put_row}
@@ -49,10 +50,6 @@ unmapped {X} {Y} f = along_permutation (λ ys zs. (xs : List X) → ys ≡ map f
         let second : z ≡ f w = cc in
         let later : ys ≡ map f xs = cc in
         (w ∷ x ∷ xs, IsPermutation-middle (x ∷ []) w xs, ap₂ ◌∷◌ second (ap₂ ◌∷◌ first later))
-
-fold-map : {A B C : Type 0} (g : C → B → C) (f : A → B) (start : C) (xs : List A) → fold g start (map f xs) ≡ fold (λ c x. g c (f x)) start xs
-fold-map g f start [] = refl
-fold-map g f start (x ∷ xs) = fold-map g f (g start (f x)) xs
 
 pub numbered_given : (rows news : List Row) → numbered Given rows news ≡ news
 numbered_given rows [] = refl

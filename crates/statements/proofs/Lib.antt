@@ -48,6 +48,7 @@ pub mod RunWrites
 pub mod ScanTexts
 pub mod SchemaTexts
 pub mod Schemas
+pub mod Selects
 pub mod Sorting
 pub mod SyntaxTrees
 pub mod Taking

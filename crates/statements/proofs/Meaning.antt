@@ -24,12 +24,19 @@ some_parsed (Err e) = no_parsed
 abbrev pub as_read : Parsed → Statement → Parsed
 as_read p st = record p { statement = st; formats = [] }
 
+-- the text is this statement, whatever its blanks
+abbrev pub IsText : List ℕ → Statement → Type 0
+IsText text st = first text ≡ Ok (as_read (some_parsed (first text)) st)
+
 module _ (s : Schema) (st : Statement) (c : Command) (timeless : timed s [] st ≡ []) (silent : (base : ℕ) → returning s base st ≡ Ok None) (is : (base : ℕ) → command s [] base st ≡ Ok c)
     (text : List ℕ) (p : Parsed) (reads : first text ≡ Ok (as_read p st)) where
   whole : compiled s text ≡ Ok (with_command (as_read p st) ([], (c, None)))
   unfolding compiled planned meaning
   whole = rw (reads, timeless, silent, is) refl
 
-  pub means : Means s c text
+  meant : Means s c text
   unfolding understood
-  means = rw whole (refl, (refl, refl), refl)
+  meant = rw whole (refl, (refl, refl), refl)
+
+pub means : {c : Command} (s : Schema) (text : List ℕ) (st : Statement) → IsText text st → timed s [] st ≡ [] → ((base : ℕ) → returning s base st ≡ Ok None) → ((base : ℕ) → command s [] base st ≡ Ok c) → Means s c text
+means {c} s text st reads timeless silent is = meant s st c timeless silent is text (some_parsed (first text)) reads

@@ -15,13 +15,14 @@ use Rattle.statements.specs.Tables.{Tables, Holds, token_layout, bound_layout}
 use Rattle.statements.specs.Changes.{is_digest_of, is_bound}
 use Rattle.statements.specs.Finds.{named_role, bound_in, bound_of, IsBoundedRoleOf}
 use Rattle.statements.specs.Calls.{IsBoundedRole}
+use Rattle.statements.specs.declared.tokens.TheConstants.{FIND_TOKEN}
 use Rattle.statements.proofs.Held.{IsHeld, tokens_held, bounds_held}
 use Rattle.statements.proofs.Own.{stored_tree}
 use Rattle.statements.proofs.Lefts.{row_or}
 use Rattle.statements.proofs.ReadBack.{named_role_read, bound_read}
 use Rattle.statements.proofs.Conditions.{two_texts, text_blob}
 use Rattle.statements.proofs.Joined.{matching, none_is, one_is}
-use Rattle.statements.proofs.TokenFoundTexts.{find_token_text, find_token_means, find_token_rest, of_token}
+use Rattle.statements.proofs.TokenFoundTexts.{find_token_means, find_token_rest, of_token}
 
 -- a row that shows a bound was found with one
 bounded_read : (name : List ℕ) (role : Role) (o : Option (Kept BoundRow)) (b : BoundedRole)
@@ -46,19 +47,19 @@ module _ (old new : State) (t : Tables) (h : Holds old.now t) where
   there = tree_of old.now.schema bound_table.name
 
   module _ (org digest : List ℕ) where
-    answer : (rows : List Row) → Shown find_token_text (Text org ∷ Blob digest ∷ []) old new rows → IsAnswer (matching find_token_rest here (left there of_token end)) (overlay old.now.trees []) (Text org ∷ Blob digest ∷ []) rows
+    answer : (rows : List Row) → Shown FIND_TOKEN.now (Text org ∷ Blob digest ∷ []) old new rows → IsAnswer (matching find_token_rest here (left there of_token end)) (overlay old.now.trees []) (Text org ∷ Blob digest ∷ []) rows
     answer rows shown =
         let m = find_token_means old.now.schema _ _ held.own.place _ _ reach.own.place in
-        (reads_as find_token_text (Text org ∷ Blob digest ∷ []) old new old.now.schema refl _ m.0 m.1 m.2 rows shown).answer Null
+        (reads_as FIND_TOKEN.now (Text org ∷ Blob digest ∷ []) old new old.now.schema refl _ m.0 m.1 m.2 rows shown).answer Null
 
-    pub find_token_none : Shown find_token_text (Text org ∷ Blob digest ∷ []) old new [] → IsBoundedRoleOf org digest None t
+    pub find_token_none : Shown FIND_TOKEN.now (Text org ∷ Blob digest ∷ []) old new [] → IsBoundedRoleOf org digest None t
     find_token_none shown =
         let none = none_is token_cells bound_cells (overlay old.now.trees []) here t.tokens (stored_tree old.now.trees here held.own.place.low ∙ held.rows) there t.bounds (stored_tree old.now.trees there reach.own.place.low ∙ reach.rows)
         find_token_rest (Text org ∷ Blob digest ∷ []) of_token (is_digest_of org digest) (λ x r. text_blob x.1.org org x.1.it.digest digest) (λ x. is_bound org x.1.name) (λ x y. two_texts y.1.org org y.1.name x.1.name)
         (λ l. refl) (answer [] shown) in
         (ap (option_map named_role) (sym none), tt)
 
-    pub find_token_one : (row : Row) (b : BoundedRole) → Shown find_token_text (Text org ∷ Blob digest ∷ []) old new (row ∷ []) → IsBoundedRole row b → IsBoundedRoleOf org digest (Some b) t
+    pub find_token_one : (row : Row) (b : BoundedRole) → Shown FIND_TOKEN.now (Text org ∷ Blob digest ∷ []) old new (row ∷ []) → IsBoundedRole row b → IsBoundedRoleOf org digest (Some b) t
     find_token_one row b shown is =
         let one = one_is token_cells bound_cells (overlay old.now.trees []) here t.tokens (stored_tree old.now.trees here held.own.place.low ∙ held.rows) there t.bounds (stored_tree old.now.trees there reach.own.place.low ∙ reach.rows)
         find_token_rest (Text org ∷ Blob digest ∷ []) of_token (is_digest_of org digest) (λ x r. text_blob x.1.org org x.1.it.digest digest) (λ x. is_bound org x.1.name) (λ x y. two_texts y.1.org org y.1.name x.1.name)

@@ -7,10 +7,7 @@ use Rattle.sqlite_sql.specs.Term.{Term, col, op2}
 use Rattle.sqlite_sql.specs.Query.{Query, Join, left, end}
 use Rattle.sqlite_schema.specs.declared.schema.Schema.{Schema}
 use Rattle.sqlite_schema.specs.declared.command.Command.TheVariants.{Select}
-use Rattle.sqlite_ast.specs.declared.Statement.TheVariants as written
-use Rattle.sqlite_ast.specs.declared.Select as ast
 use Rattle.sqlite_draft.specs.declared.join.Step.TheVariants.{Left}
-use Rattle.sqlite_resolve.specs.Compile.{first, command, timed, returning}
 use Rattle.sqlite_resolve.specs.declared.scope.Bound.{Bound}
 use Rattle.sqlite_resolve.specs.declared.scope.Level.{Level}
 use Rattle.sqlite_resolve.specs.declared.scope.Output.{Output}
@@ -20,32 +17,25 @@ use Rattle.sqlite_resolve.specs.Scope.{Context}
 use Rattle.sqlite_resolve.specs.Select.{outermost, inside, named}
 use Rattle.sqlite_resolve.specs.Expr.{lower}
 use Rattle.sqlite_resolve.specs.Body.{within, outputs, left_join, tests}
-use Rattle.sqlite_resolve.specs.Program.{program}
 use Rattle.sqlite_tied.specs.Compute.{everything}
 use Rattle.statements.specs.declared.tokens.TheConstants.{FIND_TOKEN}
 use Rattle.statements.specs.Place.{StandsAt}
 use Rattle.statements.specs.Schema.{token_table, bound_table}
 use Rattle.statements.specs.Calls.{IsQuery}
 use Rattle.statements.proofs.SyntaxTrees as st
-use Rattle.statements.proofs.Meaning.{Means, means, some_parsed, as_read}
-use Rattle.statements.proofs.Reading.{read_is}
+use Rattle.statements.proofs.Meaning.{Means}
+use Rattle.statements.proofs.Selects.{IsSelect, asks_query, select_means}
 use Rattle.statements.proofs.Writes.{plain_program}
 use Rattle.statements.proofs.JoinParts.{composed, by_bytes, shown_as, read_so_far, no_tests, no_sorts}
 use Rattle.statements.proofs.Joined.{matching}
 use Rattle.statements.proofs.Commands.{is_at, point_rest, matching_draft, no_page}
 
-abbrev pub find_token_text : List ℕ
-find_token_text = FIND_TOKEN.now
-
-abbrev pub find_token_select : ast.Select
-find_token_select = st.select st.find_token_core [] None
-
-find_token_reads : first find_token_text ≡ Ok (as_read (some_parsed (first find_token_text)) (written.Select find_token_select))
+find_token_reads : IsSelect FIND_TOKEN.now st.find_token_core [] None
 unfolding everything
 find_token_reads = refl
 
-pub find_token_is_query : IsQuery find_token_text
-find_token_is_query = (find_token_select, some_parsed (first find_token_text), find_token_reads)
+pub find_token_is_query : IsQuery FIND_TOKEN.now
+find_token_is_query = asks_query FIND_TOKEN.now st.find_token_core [] None find_token_reads
 
 abbrev pub find_token_rest : Query
 find_token_rest = point_rest (is_at 1 0 ∷ is_at 3 1 ∷ []) (col 1 2 ∷ col 1 4 ∷ col 2 3 ∷ col 2 4 ∷ []) no_page
@@ -91,15 +81,8 @@ module _ (s : Schema) (at tree : ℕ) (h : StandsAt s (codes "token") token_tabl
   find_token_named = rw (h.named, k.named, columns_are, h.found, no_tests found_inside (read_so_far 3 99_996 by_bytes))
       (rw (k.found, joins_bound _, those_of_digest) (rw (no_tests (inside s (level find_token_shown) false) (read_so_far 3 99_982 nothing), no_sorts (inside s (level find_token_shown) false) find_token_shown (read_so_far 3 99_982 nothing)) refl))
 
-  find_token_fits : program s [] (matching_draft find_token_rest tree with_bound) ≡ Ok (plain_program (matching find_token_rest tree with_bound))
+  pub find_token_means : Means s (Select (plain_program (matching find_token_rest tree with_bound)) find_token_names) FIND_TOKEN.now
   unfolding everything
-  find_token_fits = rw (h.low, k.low, h.treed, k.treed) refl
-
-  find_token_is : (base : ℕ) → command s [] base (written.Select find_token_select) ≡ Ok (Select (plain_program (matching find_token_rest tree with_bound)) find_token_names)
-  unfolding everything
-  find_token_is base =
-      read_is s find_token_select st.find_token_core [] no_page ((matching_draft find_token_rest tree with_bound), find_token_names, (Some Binary ∷ Some Binary ∷ Some Binary ∷ Some Binary ∷ [])) refl refl refl refl refl (λ again. refl) find_token_named (plain_program (matching find_token_rest tree with_bound)) find_token_fits base
-
-  pub find_token_means : Means s (Select (plain_program (matching find_token_rest tree with_bound)) find_token_names) find_token_text
-  unfolding timed returning
-  find_token_means = means s (written.Select find_token_select) _ refl (λ _. refl) find_token_is find_token_text (some_parsed (first find_token_text)) find_token_reads
+  find_token_means =
+      select_means FIND_TOKEN.now st.find_token_core [] None find_token_reads s no_page (matching_draft find_token_rest tree with_bound) (matching find_token_rest tree with_bound) find_token_names (Some Binary ∷ Some Binary ∷ Some Binary ∷ Some Binary ∷ []) refl refl (λ again. refl)
+      find_token_named (rw (h.low, k.low, h.treed, k.treed) refl)

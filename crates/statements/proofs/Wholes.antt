@@ -8,13 +8,12 @@ use Rattle.sqlite_sql.specs.Term.{Term, eval_all}
 use Rattle.sqlite_sql.specs.Query.{Query}
 use Rattle.sqlite_sql.specs.Program.{overlay}
 use Rattle.sqlite_draft.specs.declared.query.Draft.{Draft}
-use Rattle.sqlite_schema.specs.declared.schema.Schema.{Schema}
 use Rattle.sqlite_schema.specs.declared.command.Command.TheVariants.{Select}
 use Rattle.sqlite.specs.Held.{Held, state}
 use Rattle.sqlite.specs.State.{State, Shown}
 use Rattle.sqlite_keyed.proofs.ListLemmas.{filter_all, all_of}
 use Rattle.statements.specs.declared.making.TheConstants.{NEWEST}
-use Rattle.statements.specs.Place.{tree_of, StandsAt}
+use Rattle.statements.specs.Place.{tree_of}
 use Rattle.statements.specs.Rows.{Kept, stored}
 use Rattle.statements.specs.Tables.{Layout, count_in}
 use Rattle.statements.specs.Calls.{AreAllRead}
@@ -26,6 +25,7 @@ use Rattle.statements.proofs.Answered.{point, all_are}
 use Rattle.statements.proofs.Listed.{all_listed, read_as}
 use Rattle.statements.proofs.Held.{IsHeld, Ours, held_in, holds_all}
 use Rattle.statements.proofs.Commands.{point_rest, point_draft, no_page}
+use Rattle.statements.proofs.Selects.{Asks}
 
 -- a query that shows these columns of each row of a table
 abbrev pub whole : List Term → ℕ → Query
@@ -52,11 +52,10 @@ module _ {R : Type 0} (layout : Layout R) (old new : State) (xs : List (Kept R))
       read_as (λ row y. y ≡ read row) show (λ x. x) (λ x y told. told ∙ back x) xs rows ys listed are ∙ map-id xs
 
 -- of a table of ours: a scan whose text means such a query gives its rows
-pub scans : {S R E : Type 0} (g : Ghosts S) (x : Ours R) (old new : Held S) (result : Result (List (Kept R)) E) (text : List ℕ) (project : List Term) (names : List (List ℕ)) (read : Row → Kept R)
-    → ((y : Kept R) → read (eval_all project ([] ∷ stored x.layout.cells y ∷ [])) ≡ y)
-    → ((s : Schema) (at tree : ℕ) → StandsAt s x.layout.table.name x.layout.table at tree → Means s (Select (plain_program (whole project tree)) names) text)
+pub scans : {S R E : Type 0} {text : List ℕ} {project : List Term} {names : List (List ℕ)} (g : Ghosts S) (x : Ours R) (old new : Held S) (result : Result (List (Kept R)) E)
+    → Asks x.layout.table text (whole project) names → (read : Row → Kept R) → ((y : Kept R) → read (eval_all project ([] ∷ stored x.layout.cells y ∷ [])) ≡ y)
     → Queries g (λ ys _. AreAllRead (λ row y. y ≡ read row) text (state g old) (state g new) ys) old new result → Queries g (Equals x.rows) old new result
-scans g x old new result text project names read back means q = record {
+scans {text} {project} {names} g x old new result asks read back q = record {
   mode = q.mode;
   read = λ clean.
       let told = q.read clean in (
@@ -64,7 +63,7 @@ scans g x old new result text project names read back means q = record {
             (λ ys gives t h.
             let held = held_in x (count_in NEWEST) x.low (state g old).now t (holds_all (state g old).now t h) in
             let all = gives t h in
-            whole_are x.layout (state g old) (state g new) (x.rows t) held text project names read back (means (state g old).now.schema _ _ held.own.place) all.0 ys all.1 all.2)
+            whole_are x.layout (state g old) (state g new) (x.rows t) held text project names read back (asks.meaning (state g old).now.schema _ _ held.own.place) all.0 ys all.1 all.2)
             told.0,
         told.1,
       );

@@ -17,6 +17,7 @@ use Rattle.statements.specs.Rows.{Kept, WsRow, ws_cells, stored, run_settings_ce
 use Rattle.statements.specs.Tables.{Tables, Holds, ws_layout, our_tables}
 use Rattle.statements.specs.Changes.{is_ws, with_run_settings, held_by, released_from, with_next_version, with_next_run, workspace_made, ws_changed, ws_row_added, ws_row_removed, HasNoKeeping}
 use Rattle.statements.specs.Finds.{workspace_of}
+use Rattle.statements.specs.declared.workspaces.TheConstants.{ADD_WS, SET_RUN_SETTINGS, HOLD, RELEASE_LOCK, SET_NEXT_VERSION, SET_NEXT_RUN, REMOVE_WS}
 use Rattle.statements.proofs.Fresh.{insert_sound, none_alike, none_found}
 use Rattle.statements.proofs.Held.{IsHeld, wss, wss_held, keepings_held, trees_apart}
 use Rattle.statements.proofs.Follows.{keeping_follows}
@@ -28,7 +29,7 @@ use Rattle.statements.proofs.Own.{update_leaves, count_updated, insert_own, firs
 use Rattle.statements.proofs.Casts.{ws_casts}
 use Rattle.statements.proofs.Frames.{Turns, updated, deleted, inserted}
 use Rattle.statements.proofs.Conditions.{two_texts}
-use Rattle.statements.proofs.WsTexts.{add_ws_text, add_ws_means, add_ws_terms, add_ws_width, set_run_settings_text, set_run_settings_means, hold_text, hold_means, release_lock_text, release_lock_means, set_next_version_text, set_next_version_means, set_next_run_text, set_next_run_means, remove_ws_text, remove_ws_means}
+use Rattle.statements.proofs.WsTexts.{add_ws_means, add_ws_terms, add_ws_width, set_run_settings_means, hold_means, release_lock_means, set_next_version_means, set_next_run_means, remove_ws_means}
 
 module _ (old new : State) (count : ℕ) (t : Tables) (h : Holds old.now t) where
   abbrev held : IsHeld ws_layout old.now t.wss
@@ -46,17 +47,17 @@ module _ (old new : State) (count : ℕ) (t : Tables) (h : Holds old.now t) wher
   keeping_stays text params ran q means =
       update_leaves ws_cells ws_table ws_casts old new held.own held.steady t.wss held.rows held.keyed text params count ran q means keeping_table keeping_own (keeping_follows old.now.schema held.own) (refl, tt) keeping_apart
 
-  pub add_ws_does : (org name : List ℕ) (runs : RunSettings) → Executes add_ws_text (Text org ∷ Text name ∷ run_settings_cells runs) old new (Ok count) → Turns old.now new.now (ws_row_added org name runs t)
+  pub add_ws_does : (org name : List ℕ) (runs : RunSettings) → Executes ADD_WS.now (Text org ∷ Text name ∷ run_settings_cells runs) old new (Ok count) → Turns old.now new.now (ws_row_added org name runs t)
   add_ws_does org name runs ran = inserted wss ws_casts old new count t h _ _ ran (add_ws_means old.now.schema) refl refl (record { org = org; name = name; it = workspace_made runs }) refl
 
-  pub add_ws_finds : (org name : List ℕ) (runs : RunSettings) → Executes add_ws_text (Text org ∷ Text name ∷ run_settings_cells runs) old new (Ok count) → workspace_of org name t ≡ None
+  pub add_ws_finds : (org name : List ℕ) (runs : RunSettings) → Executes ADD_WS.now (Text org ∷ Text name ∷ run_settings_cells runs) old new (Ok count) → workspace_of org name t ≡ None
   unfolding first_key
   add_ws_finds org name runs ran =
       let row : WsRow = record { org = org; name = name; it = workspace_made runs } in
       let given : Row = Text org ∷ Text name ∷ run_settings_cells runs in
       let means = add_ws_means old.now.schema _ _ held.own.place in
-      let left = insert_own ws_cells ws_table ws_casts old new held.own held.steady t.wss held.rows held.keyed add_ws_text given count ran add_ws_terms add_ws_width means refl refl row refl in
-      let alike = none_alike ws_cells (1 ∷ 2 ∷ []) ws_table old new held.own t.wss held.keyed row left.1 left.0.rows (insert_sound old new add_ws_text given _ _ means count ran) refl refl in
+      let left = insert_own ws_cells ws_table ws_casts old new held.own held.steady t.wss held.rows held.keyed ADD_WS.now given count ran add_ws_terms add_ws_width means refl refl row refl in
+      let alike = none_alike ws_cells (1 ∷ 2 ∷ []) ws_table old new held.own t.wss held.keyed row left.1 left.0.rows (insert_sound old new ADD_WS.now given _ _ means count ran) refl refl in
       none_found (is_ws org name) (λ x. x.1.it) t.wss (all_weaker _ (λ x. is_ws org name x ≡ false) (λ x e. sym (two_texts x.1.org org x.1.name name) ∙ e) t.wss alike)
 
   -- the text writes these cells to the row of the workspace
@@ -73,26 +74,26 @@ module _ (old new : State) (count : ℕ) (t : Tables) (h : Holds old.now t) wher
       let counted = count_updated ws_cells ws_table ws_casts old new held.own held.steady t.wss held.rows held.keyed _ _ count ran _ (means _ _ held.own.place) refl refl refl (λ rows. refl) (is_ws org name) (λ x. two_texts x.1.org org x.1.name name) in
       ap (λ n. not (n == 0)) counted ∙ first_if_any (is_ws org name) (λ x. x.1.it) t.wss
 
-  pub set_run_settings_does : (org name : List ℕ) (runs : RunSettings) → Executes set_run_settings_text (Text org ∷ Text name ∷ run_settings_cells runs) old new (Ok count) → Turns old.now new.now (ws_changed (with_run_settings runs) org name t)
+  pub set_run_settings_does : (org name : List ℕ) (runs : RunSettings) → Executes SET_RUN_SETTINGS.now (Text org ∷ Text name ∷ run_settings_cells runs) old new (Ok count) → Turns old.now new.now (ws_changed (with_run_settings runs) org name t)
   set_run_settings_does org name runs ran = changes _ _ org name (with_run_settings runs) ran (set_run_settings_means old.now.schema) (λ x. refl)
 
-  pub hold_does : (org name : List ℕ) (holder : Holder) → Executes hold_text (Text org ∷ Text name ∷ kind_cell holder ∷ lock_id_cell holder ∷ lock_text_cell holder ∷ run_cell holder ∷ []) old new (Ok count) → Turns old.now new.now (ws_changed (held_by holder) org name t)
+  pub hold_does : (org name : List ℕ) (holder : Holder) → Executes HOLD.now (Text org ∷ Text name ∷ kind_cell holder ∷ lock_id_cell holder ∷ lock_text_cell holder ∷ run_cell holder ∷ []) old new (Ok count) → Turns old.now new.now (ws_changed (held_by holder) org name t)
   hold_does org name holder ran = changes _ _ org name (held_by holder) ran (hold_means old.now.schema) (λ x. refl)
 
-  pub release_lock_does : (org name id : List ℕ) → Executes release_lock_text (Text org ∷ Text name ∷ Text id ∷ []) old new (Ok count) → Turns old.now new.now (ws_changed (released_from id) org name t)
+  pub release_lock_does : (org name id : List ℕ) → Executes RELEASE_LOCK.now (Text org ∷ Text name ∷ Text id ∷ []) old new (Ok count) → Turns old.now new.now (ws_changed (released_from id) org name t)
   release_lock_does org name id ran = changes _ _ org name (released_from id) ran (release_lock_means old.now.schema) (λ x. refl)
 
-  pub set_next_version_does : (org name : List ℕ) (next : ℕ) → Executes set_next_version_text (Text org ∷ Text name ∷ number next ∷ []) old new (Ok count) → Turns old.now new.now (ws_changed (with_next_version next) org name t)
+  pub set_next_version_does : (org name : List ℕ) (next : ℕ) → Executes SET_NEXT_VERSION.now (Text org ∷ Text name ∷ number next ∷ []) old new (Ok count) → Turns old.now new.now (ws_changed (with_next_version next) org name t)
   set_next_version_does org name next ran = changes _ _ org name (with_next_version next) ran (set_next_version_means old.now.schema) (λ x. refl)
 
-  pub set_next_version_finds : (org name : List ℕ) (next : ℕ) → Executes set_next_version_text (Text org ∷ Text name ∷ number next ∷ []) old new (Ok count) → not (count == 0) ≡ is_some (workspace_of org name t)
+  pub set_next_version_finds : (org name : List ℕ) (next : ℕ) → Executes SET_NEXT_VERSION.now (Text org ∷ Text name ∷ number next ∷ []) old new (Ok count) → not (count == 0) ≡ is_some (workspace_of org name t)
   set_next_version_finds org name next ran = finds _ _ org name ran (set_next_version_means old.now.schema)
 
-  pub set_next_run_does : (org name : List ℕ) (next : ℕ) → Executes set_next_run_text (Text org ∷ Text name ∷ number next ∷ []) old new (Ok count) → Turns old.now new.now (ws_changed (with_next_run next) org name t)
+  pub set_next_run_does : (org name : List ℕ) (next : ℕ) → Executes SET_NEXT_RUN.now (Text org ∷ Text name ∷ number next ∷ []) old new (Ok count) → Turns old.now new.now (ws_changed (with_next_run next) org name t)
   set_next_run_does org name next ran = changes _ _ org name (with_next_run next) ran (set_next_run_means old.now.schema) (λ x. refl)
 
-  pub set_next_run_finds : (org name : List ℕ) (next : ℕ) → Executes set_next_run_text (Text org ∷ Text name ∷ number next ∷ []) old new (Ok count) → not (count == 0) ≡ is_some (workspace_of org name t)
+  pub set_next_run_finds : (org name : List ℕ) (next : ℕ) → Executes SET_NEXT_RUN.now (Text org ∷ Text name ∷ number next ∷ []) old new (Ok count) → not (count == 0) ≡ is_some (workspace_of org name t)
   set_next_run_finds org name next ran = finds _ _ org name ran (set_next_run_means old.now.schema)
 
-  pub remove_ws_does : (org name : List ℕ) → HasNoKeeping org name t → Executes remove_ws_text (Text org ∷ Text name ∷ []) old new (Ok count) → Turns old.now new.now (ws_row_removed org name t)
+  pub remove_ws_does : (org name : List ℕ) → HasNoKeeping org name t → Executes REMOVE_WS.now (Text org ∷ Text name ∷ []) old new (Ok count) → Turns old.now new.now (ws_row_removed org name t)
   remove_ws_does org name none ran = deleted wss ws_casts old new count t h _ _ ran (remove_ws_means old.now.schema) (is_ws org name) (λ x. two_texts x.1.org org x.1.name name) ((λ _. ws_goes org name old new t h count none ran), tt)

@@ -2,6 +2,7 @@
 use Rattle.std.proofs.Common.{◌≡◌, ◌<◌, ◌≤◌, ℕ, zero, suc, ◌+◌, ◌*◌, ◌/◌, nat_lt, Bool, true, false, cond, ◌&&◌, List, [], ◌++◌, is_some, Option, Some, None, IsSome, option_map, unwrap_or, inl, inr, refl, sym, ap, ap₂, ◌∙◌, subst, arith}
 use Rattle.std.proofs.lemmas.Bool.{cases_Bool, ltb-true, ltb-false, lt-ltb, le-ltb}
 use Rattle.std.specs.Str.{bytes_eq}
+use Rattle.std.proofs.Math.Bool.{and-false}
 use Rattle.statements.specs.Tables.{Tables}
 use Rattle.pages.specs.Pages.{IsKeyFor}
 use Rattle.pages.specs.Puts.{twin_limit, twin_for}
@@ -111,10 +112,6 @@ there_by org ws n t piece place (Some bytes) found there one = there_more org ws
 pub same_there : (org ws : List ℕ) (n : ℕ) (t : Tables) (text : List ℕ) (place : ℕ) → AreThere org ws n place t → is_piece_of org ws n place (piece_at text place) t ≡ Some true → AreThere org ws n (place + 1) t
 same_there org ws n t text place there one = there_by org ws n t (piece_at text place) place (piece_of org ws n place t) refl there one
 
-and_false : (b : Bool) → (b && false) ≡ false
-and_false true = refl
-and_false false = refl
-
 -- where one page differs, not all agree
 differ : (org ws : List ℕ) (n : ℕ) (t : Tables) (text : List ℕ) (place : ℕ) → is_piece_of org ws n place (piece_at text place) t ≡ Some false → (places : ℕ) → place < places
     → false ≡ are_pieces org ws n text places t
@@ -126,7 +123,7 @@ differ org ws n t text place one (suc places) low =
       | inr not_less ↦
           let from : places ≤ place = ltb-false place places not_less in
           let same : place ≡ places = omega (arith, from, low) in
-          sym (ap (λ d. are_pieces org ws n text places t && d) (subst (λ m. bytes_eq (unwrap_or (piece_of org ws n m t) []) (piece_at text m) ≡ false) same (compared (piece_at text place) (piece_of org ws n place t) false one)) ∙ and_false (are_pieces org ws n text places t))
+          sym (ap (λ d. are_pieces org ws n text places t && d) (subst (λ m. bytes_eq (unwrap_or (piece_of org ws n m t) []) (piece_at text m) ≡ false) same (compared (piece_at text place) (piece_of org ws n place t) false one)) ∙ and-false (are_pieces org ws n text places t))
     ]
 
 pub one_differs : (org ws : List ℕ) (n : ℕ) (t : Tables) (text : List ℕ) (place : ℕ) (piece : List ℕ) (same : Bool) → piece ≡ piece_at text place → same ≡ false → is_piece_of org ws n place piece t ≡ Some same

@@ -11,6 +11,7 @@ use Rattle.statements.specs.Schema.{vpage_table}
 use Rattle.statements.specs.Rows.{vpage_cells, number}
 use Rattle.statements.specs.Tables.{Tables, Holds, vpage_layout}
 use Rattle.statements.specs.Calls.{FirstRow, Pins}
+use Rattle.texts.specs.declared.places.TheConstants.{PAGE_AT, PLACES}
 use Rattle.statements.proofs.Held.{IsHeld, vpages_held}
 use Rattle.statements.proofs.Conditions.{two_texts_number}
 use Rattle.statements.proofs.Edits.{all_shown}
@@ -23,7 +24,7 @@ use Rattle.pages.specs.Rows.{IsPageName}
 use Rattle.pages.specs.declared.store.PageId.{PageId}
 use Rattle.texts.specs.Texts.{is_place_of, is_place, page_name, page_at}
 use Rattle.texts.specs.Inner.Calls.{AreRowsOf}
-use Rattle.texts.proofs.PlaceTexts.{page_at_text, page_at_means, page_at_rest, places_text, places_names, places_means, places_rest}
+use Rattle.texts.proofs.PlaceTexts.{page_at_asks, page_at_rest, places_names, places_asks, places_rest}
 use Rattle.texts.proofs.PlaceWrites.{two_texts_two_numbers}
 
 page_name_read : (key : List ℕ) (twin : ℕ) (id : PageId) → IsPageName (Blob key ∷ number twin ∷ []) id → id ≡ record { key = key; twin = twin }
@@ -33,16 +34,16 @@ module _ (old new : State) (t : Tables) (h : Holds old.now t) where
   abbrev held : IsHeld vpage_layout old.now t.vpages
   held = vpages_held old.now t h
 
-  pub page_at_shows : (org ws : List ℕ) (n place : ℕ) (row : Option Row) → FirstRow page_at_text (Text org ∷ Text ws ∷ number n ∷ number place ∷ []) old new row → Pins IsPageName row (page_at org ws n place t)
+  pub page_at_shows : (org ws : List ℕ) (n place : ℕ) (row : Option Row) → FirstRow PAGE_AT.now (Text org ∷ Text ws ∷ number n ∷ number place ∷ []) old new row → Pins IsPageName row (page_at org ws n place t)
   page_at_shows org ws n place row first =
-      first_own vpage_cells vpage_table old new held.own t.vpages held.rows held.keyed page_at_text (Text org ∷ Text ws ∷ number n ∷ number place ∷ []) row first page_at_rest (codes "pkey" ∷ codes "twin" ∷ [])
-      (is_place org ws n place) (λ x. two_texts_two_numbers x.1.org org x.1.ws ws x.1.number n x.1.place place) IsPageName page_name (λ x y told. page_name_read x.1.key x.1.twin y told) (page_at_means old.now.schema _ _ held.own.place) (λ l. refl)
+      first_own vpage_cells vpage_table old new held.own t.vpages held.rows held.keyed PAGE_AT.now (Text org ∷ Text ws ∷ number n ∷ number place ∷ []) row first page_at_rest (codes "pkey" ∷ codes "twin" ∷ [])
+      (is_place org ws n place) (λ x. two_texts_two_numbers x.1.org org x.1.ws ws x.1.number n x.1.place place) IsPageName page_name (λ x y told. page_name_read x.1.key x.1.twin y told) (page_at_asks.meaning old.now.schema _ _ held.own.place) (λ l. refl)
 
-  pub places_show : (org ws : List ℕ) (n : ℕ) (rows : List Row) → Shown places_text (Text org ∷ Text ws ∷ number n ∷ []) old new rows → AreRowsOf org ws n t rows
+  pub places_show : (org ws : List ℕ) (n : ℕ) (rows : List Row) → Shown PLACES.now (Text org ∷ Text ws ∷ number n ∷ []) old new rows → AreRowsOf org ws n t rows
   places_show org ws n rows shown =
       let params : Row = Text org ∷ Text ws ∷ number n ∷ [] in
       let tree = tree_of old.now.schema vpage_table.name in
-      let means = places_means old.now.schema _ _ held.own.place in
-      let a = (reads_as places_text params old new old.now.schema refl (Select (plain_program (listing places_rest tree 4)) places_names) means.0 means.1 means.2 rows shown).answer Null in
+      let means = places_asks.meaning old.now.schema _ _ held.own.place in
+      let a = (reads_as PLACES.now params old new old.now.schema refl (Select (plain_program (listing places_rest tree 4)) places_names) means.0 means.1 means.2 rows shown).answer Null in
       all_shown vpage_cells (overlay old.now.trees []) tree t.vpages (stored_tree old.now.trees tree held.own.place.low ∙ held.rows) held.keyed (listing places_rest tree 4) refl refl refl params
       (is_place_of org ws n) (λ x. two_texts_number x.1.org org x.1.ws ws x.1.number n) (λ l. refl) rows a

@@ -1,5 +1,5 @@
 -- The query that a text is read by: how it is written, and what it means in each schema that has the tables vpage and page.
-use Rattle.std.proofs.Common.{◌≡◌, ℕ, false, List, [], ◌∷◌, codes, Some, None, Ok, refl}
+use Rattle.std.proofs.Common.{ℕ, false, List, [], ◌∷◌, codes, Some, None, refl}
 use Rattle.sqlite_value.specs.declared.keys.Collation.TheVariants.{Binary}
 use Rattle.sqlite_sql.specs.declared.ops.CompareOp.TheVariants.{Eq}
 use Rattle.sqlite_sql.specs.declared.ops.BinaryOp.TheVariants.{Compare}
@@ -7,31 +7,23 @@ use Rattle.sqlite_sql.specs.Term.{Term, col, op2}
 use Rattle.sqlite_sql.specs.Query.{Query, Join, left, end}
 use Rattle.sqlite_schema.specs.declared.schema.Schema.{Schema}
 use Rattle.sqlite_schema.specs.declared.command.Command.TheVariants.{Select}
-use Rattle.sqlite_ast.specs.declared.Statement.TheVariants as written
 use Rattle.sqlite_ast.specs.declared.Expr.{Expr}
 use Rattle.sqlite_ast.specs.declared.Expr.TheVariants.{Binary as Two}
 use Rattle.sqlite_ast.specs.declared.Binary.TheVariants as sign
 use Rattle.sqlite_ast.specs.declared.Origin.TheVariants.{Table}
 use Rattle.sqlite_ast.specs.declared.Source.{roll-Source}
 use Rattle.sqlite_ast.specs.declared.Core.{Core, roll-Core}
-use Rattle.sqlite_ast.specs.declared.Select as ast
-use Rattle.sqlite_resolve.specs.Compile.{first, command, timed, returning}
-use Rattle.sqlite_resolve.specs.Select.{named}
-use Rattle.sqlite_resolve.specs.Program.{program}
 use Rattle.sqlite_tied.specs.Compute.{everything}
 use Rattle.statements.specs.Place.{StandsAt}
 use Rattle.statements.specs.Schema.{vpage_table, page_table}
 use Rattle.statements.specs.Calls.{IsQuery}
 use Rattle.statements.proofs.SyntaxTrees as st
-use Rattle.statements.proofs.Meaning.{Means, means, some_parsed, as_read}
-use Rattle.statements.proofs.Reading.{read_is}
+use Rattle.statements.proofs.Meaning.{Means}
+use Rattle.statements.proofs.Selects.{IsSelect, asks_query, select_means}
 use Rattle.statements.proofs.Writes.{plain_program}
 use Rattle.statements.proofs.Listed.{joined_listing}
 use Rattle.statements.proofs.Commands.{is_at, point_rest, joined_draft, no_page}
 use Rattle.texts.specs.declared.whole.TheConstants.{WHOLE_TEXT}
-
-abbrev pub whole_text : List ℕ
-whole_text = WHOLE_TEXT.now
 
 -- the row of page is the one that the row of vpage names
 abbrev same_column : List ℕ → Expr
@@ -44,15 +36,12 @@ whole_core =
     let test = st.also (st.at_key (codes "org") (codes "ws")) (st.is_given (codes "number") 3) in
     roll-Core (record { distinct = false; shown = st.shown_columns (codes "place" ∷ codes "bytes" ∷ []); from = vpage ∷ page ∷ []; filter = Some test; group = []; having = None })
 
-abbrev whole_select : ast.Select
-whole_select = st.select whole_core (st.by_column (codes "place")) None
-
-whole_reads : first whole_text ≡ Ok (as_read (some_parsed (first whole_text)) (written.Select whole_select))
+whole_reads : IsSelect WHOLE_TEXT.now whole_core (st.by_column (codes "place")) None
 unfolding everything
 whole_reads = refl
 
-pub whole_is_query : IsQuery whole_text
-whole_is_query = (whole_select, some_parsed (first whole_text), whole_reads)
+pub whole_is_query : IsQuery WHOLE_TEXT.now
+whole_is_query = asks_query WHOLE_TEXT.now whole_core (st.by_column (codes "place")) None whole_reads
 
 abbrev pub names_it : List Term
 names_it = op2 (Compare Eq Binary) (col 2 1) (col 1 5) ∷ op2 (Compare Eq Binary) (col 2 2) (col 1 6) ∷ []
@@ -67,19 +56,8 @@ abbrev pub whole_names : List (List ℕ)
 whole_names = codes "place" ∷ codes "bytes" ∷ []
 
 module _ (s : Schema) (at tree : ℕ) (h : StandsAt s (codes "vpage") vpage_table at tree) (page_at pages : ℕ) (k : StandsAt s (codes "page") page_table page_at pages) where
-  whole_named : named s whole_core (st.by_column (codes "place")) no_page ≡ Ok ((joined_draft whole_rest tree (with_page pages) 4), whole_names, (Some Binary ∷ Some Binary ∷ []))
+  pub whole_means : Means s (Select (plain_program (joined_listing whole_rest tree (with_page pages) 4)) whole_names) WHOLE_TEXT.now
   unfolding everything
-  whole_named = rw (h.named, k.named, h.found, k.found, h.found, k.found) (rw (h.found, k.found, h.found, k.found, h.found) refl)
-
-  whole_fits : program s [] (joined_draft whole_rest tree (with_page pages) 4) ≡ Ok (plain_program (joined_listing whole_rest tree (with_page pages) 4))
-  unfolding everything
-  whole_fits = rw (h.low, k.low, h.treed, k.treed) refl
-
-  whole_is : (base : ℕ) → command s [] base (written.Select whole_select) ≡ Ok (Select (plain_program (joined_listing whole_rest tree (with_page pages) 4)) whole_names)
-  unfolding everything
-  whole_is base =
-      read_is s whole_select whole_core (st.by_column (codes "place")) no_page ((joined_draft whole_rest tree (with_page pages) 4), whole_names, (Some Binary ∷ Some Binary ∷ [])) refl refl refl refl refl (λ again. refl) whole_named (plain_program (joined_listing whole_rest tree (with_page pages) 4)) whole_fits base
-
-  pub whole_means : Means s (Select (plain_program (joined_listing whole_rest tree (with_page pages) 4)) whole_names) whole_text
-  unfolding timed returning
-  whole_means = means s (written.Select whole_select) _ refl (λ _. refl) whole_is whole_text (some_parsed (first whole_text)) whole_reads
+  whole_means =
+      select_means WHOLE_TEXT.now whole_core (st.by_column (codes "place")) None whole_reads s no_page (joined_draft whole_rest tree (with_page pages) 4) (joined_listing whole_rest tree (with_page pages) 4) whole_names (Some Binary ∷ Some Binary ∷ []) refl refl (λ again. refl)
+      (rw (h.named, k.named, h.found, k.found, h.found, k.found) (rw (h.found, k.found, h.found, k.found, h.found) refl)) (rw (h.low, k.low, h.treed, k.treed) refl)

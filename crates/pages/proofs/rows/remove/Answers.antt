@@ -1,8 +1,8 @@
 use Rattle.std.proofs.Common.{pos, w64}
 use Rattle.std.proofs.lemmas.Int.{to_z-of_z}
 use Rattle.sqlite.specs.Held.{state}
+use Rattle.pages.specs.declared.rows.TheConstants.{REMOVE_PAGE}
 use Rattle.statements.proofs.Transactions.{writes_by}
-use Rattle.pages.proofs.PageTexts.{remove_page_text}
 use Rattle.pages.proofs.PageWrites.{remove_page_does}
 use Rattle.pages.proofs.Referring.{spared_by, removed_is_sound}
 use Rattle.pages.proofs.rows.remove.Goals as goal
@@ -16,4 +16,4 @@ pub returns-clause-spares : goal.returns-clause-spares
 returns-clause-spares g c clean inside =
     let old = state g.S.Store c.args.tx.now.conn.now in
     let new = state g.S.Store c.write.new.tx.conn.now in
-    spared_by old new remove_page_text _ c.write.result (c.write.ensures.runs clean inside) (λ t holds count ran. removed_is_sound old new _ t holds count ran)
+    spared_by old new REMOVE_PAGE.now _ c.write.result (c.write.ensures.runs clean inside) (λ t holds count ran. removed_is_sound old new _ t holds count ran)

@@ -1,8 +1,8 @@
 use Rattle.std.proofs.Common.{pos, w64}
 use Rattle.std.proofs.lemmas.Int.{to_z-of_z}
 use Rattle.sqlite.specs.Held.{state}
+use Rattle.pages.specs.declared.rows.TheConstants.{SET_PAGE_USES}
 use Rattle.statements.proofs.Transactions.{writes_by}
-use Rattle.pages.proofs.PageTexts.{set_page_uses_text}
 use Rattle.pages.proofs.PageWrites.{set_page_uses_does}
 use Rattle.pages.proofs.Referring.{spared_by, used_is_sound}
 use Rattle.pages.proofs.rows.set_uses.Goals as goal
@@ -16,4 +16,4 @@ pub returns-clause-spares : goal.returns-clause-spares
 returns-clause-spares g c clean inside =
     let old = state g.S.Store c.args.tx.now.conn.now in
     let new = state g.S.Store c.write.new.tx.conn.now in
-    spared_by old new set_page_uses_text _ c.write.result (c.write.ensures.runs clean inside) (λ t holds count ran. used_is_sound old new _ t holds count ran)
+    spared_by old new SET_PAGE_USES.now _ c.write.result (c.write.ensures.runs clean inside) (λ t holds count ran. used_is_sound old new _ t holds count ran)

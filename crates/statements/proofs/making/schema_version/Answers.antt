@@ -4,8 +4,9 @@ use Rattle.sqlite_schema.specs.declared.schema.Table.{Table}
 use Rattle.statements.specs.Making.{HasMeta, told_schema_version}
 use Rattle.statements.specs.Rows.{Kept}
 use Rattle.statements.specs.Calls.{IsNumber}
+use Rattle.statements.specs.declared.making.TheConstants.{VERSION}
 use Rattle.statements.proofs.Transactions.{queries_by, one_read}
-use Rattle.statements.proofs.MetaTexts.{version_text, version_is_query, version_told, version_shows}
+use Rattle.statements.proofs.MetaTexts.{version_is_query, version_told, version_shows}
 use Rattle.statements.proofs.making.schema_version.Goals as goal
 
 pub returns-clause-reads : goal.returns-clause-reads
@@ -17,6 +18,6 @@ pub returns-clause-told : goal.returns-clause-told
 returns-clause-told g c clean =
     let old = state g.S.Store c.args.conn.now in
     let new = state g.S.Store c.first_row-row.new.conn in
-    one_read IsNumber old new version_text [] c.first_row-row.result c.read_one.result (c.first_row-row.ensures.row version_is_query clean) c.read_one.ensures
+    one_read IsNumber old new VERSION.now [] c.first_row-row.result c.read_one.result (c.first_row-row.ensures.row version_is_query clean) c.read_one.ensures
     (λ (o : Option ℕ). (table : Table) (metas : List (Kept ℕ)) → HasMeta old.now table metas → o ≡ told_schema_version metas)
     (λ o same table metas has. same (told_schema_version metas) (version_told old new table metas has))

@@ -1,10 +1,10 @@
 use Rattle.statements.specs.Calls.{IsNumber}
 use Rattle.statements.proofs.Transactions.{queries_by}
-use Rattle.statements.proofs.RunTexts.{first_waiting_is_query}
+use Rattle.statements.proofs.RunTexts.{first_waiting_asks}
 use Rattle.statements.proofs.RunReads.{first_waiting_shows}
 use Rattle.statements.proofs.runs.first_waiting.Goals as goal
 
 pub returns : goal.returns
 returns g c =
-    queries_by IsNumber _ _ _ (c.first_row-row.ensures.mode, (λ clean. rw (c.params-to_sql.ensures, c.params-to_sql-2.ensures) at (c.first_row-row.ensures.row first_waiting_is_query clean)), c.first_row-row.ensures.calm first_waiting_is_query, c.first_row-row.ensures.survives first_waiting_is_query) c.read_one.ensures
+    queries_by IsNumber _ _ _ (c.first_row-row.ensures.mode, (λ clean. rw (c.params-to_sql.ensures, c.params-to_sql-2.ensures) at (c.first_row-row.ensures.row first_waiting_asks.is_query clean)), c.first_row-row.ensures.calm first_waiting_asks.is_query, c.first_row-row.ensures.survives first_waiting_asks.is_query) c.read_one.ensures
     (λ t holds row first. first_waiting_shows _ _ t holds c.args.org.now c.args.ws.now row first)

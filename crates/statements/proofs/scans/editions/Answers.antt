@@ -2,8 +2,8 @@ use Rattle.std.proofs.Common.{refl}
 use Rattle.statements.specs.Rows.{kept_by, number_at}
 use Rattle.statements.proofs.Held.{editions}
 use Rattle.statements.proofs.Wholes.{scans}
-use Rattle.statements.proofs.ScanTexts.{all_editions_text, all_editions_is_query, all_editions_names, all_editions_shown, all_editions_means}
+use Rattle.statements.proofs.ScanTexts.{all_editions_asks}
 use Rattle.statements.proofs.scans.editions.Goals as goal
 
 pub returns : goal.returns
-returns g c = scans g.S.Store editions c.args.conn.now c.scan.new.conn c.scan.result all_editions_text all_editions_shown all_editions_names (kept_by (λ r. number_at r 1)) (λ x. refl) all_editions_means (c.scan.ensures all_editions_is_query)
+returns g c = scans g.S.Store editions c.args.conn.now c.scan.new.conn c.scan.result all_editions_asks (kept_by (λ r. number_at r 1)) (λ x. refl) (c.scan.ensures all_editions_asks.is_query)

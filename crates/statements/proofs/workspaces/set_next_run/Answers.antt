@@ -1,7 +1,7 @@
 use Rattle.std.proofs.Common.{is_some}
 use Rattle.statements.specs.Finds.{workspace_of}
+use Rattle.statements.specs.declared.workspaces.TheConstants.{SET_NEXT_RUN}
 use Rattle.statements.proofs.Transactions.{writes_by, any_wrote, finds_by}
-use Rattle.statements.proofs.WsTexts.{set_next_run_text}
 use Rattle.statements.proofs.WsWrites.{set_next_run_does, set_next_run_finds}
 use Rattle.statements.proofs.workspaces.set_next_run.Goals as goal
 
@@ -12,6 +12,6 @@ returns-clause-writes g c =
 
 pub returns-clause-found : goal.returns-clause-found
 returns-clause-found g c clean inside =
-    finds_by (λ t. is_some (workspace_of c.args.org.now c.args.name.now t)) _ _ set_next_run_text _ c.update.result
+    finds_by (λ t. is_some (workspace_of c.args.org.now c.args.name.now t)) _ _ SET_NEXT_RUN.now _ c.update.result
     (rw (c.params-to_sql.ensures, c.params-to_sql-2.ensures, c.params-to_sql-3.ensures) at (c.update.ensures.runs clean inside))
     (λ count t holds. set_next_run_finds _ _ count t holds c.args.org.now c.args.name.now c.args.next)
