@@ -4,7 +4,7 @@ What stands under specs/Inner are contracts between functions of one crate: nobo
 they are tied to the definitions beside that folder. So no clause of a function, a method or a trait that a crate
 exports may name one, no ghost member of an exported type either (what its value is seen as), and no file of specs/
 outside the folder may import one. A clause reaches to the brace that closes it, on whatever line. A method of an
-`impl Trait for Type` is as public as the type.
+`impl Trait for Type` is as public as the type, and so is a `pub` method, whichever module the `impl` is in.
 
     python3 tools/inner.py [FOLDER]    prints each such place in the crates of FOLDER (crates); ends with status 1 where there
                                        is one, or where a place that is made for it isn't found
@@ -18,6 +18,7 @@ import tempfile
 IMPORT = re.compile(r"use Rattle\.\w+\.specs\.Inner\.(?:[\w+]+\.)*(?:\{([^}]*)\}|(\S+?));?$", re.M)
 CLAUSE = re.compile(r"^\s*(?:requires|ensures|ghost \w+\s*[:=])")
 ITEM = re.compile(r"^(pub )?(?:const )?(fn|trait|struct|enum) (\w+)")
+DECLARED = re.compile(r"^(?:pub(?:\([^)]*\))? )?(?:const )?(?:fn|trait|struct|enum) (\w+)", re.M)
 IMPL = re.compile(r"^impl\b")
 METHOD = re.compile(r"^    (pub |pub\([^)]*\) )?(?:const )?fn (\w+)")
 MEMBER = re.compile(r"^    ghost (\w+)\s*[:=]")
@@ -108,18 +109,27 @@ def public_clauses(lines, is_public):
                 yield item or owner, number, text
 
 
+def items_of(text):
+    """The items of a file, by name, and whether each is `pub`."""
+    return {name: bool(word) for word, _, name in (found.groups() for found in map(ITEM.match, text.splitlines()) if found)}
+
+
 def places(crates):
     """Each place in these crates."""
     found = []
     for crate in sorted(path for path in crates.iterdir() if (path / "src").is_dir()):
         root = crate / "src" / "lib.rt"
         modules, items = exports(root.read_text()) if root.exists() else (set(), set())
-        for source in sorted((crate / "src").rglob("*.rt")):
-            text = source.read_text()
+        sources = {source: source.read_text() for source in sorted((crate / "src").rglob("*.rt"))}
+        is_open = lambda module, item: module in modules or module == "lib" or (module, item) in items
+        declared = {name for text in sources.values() for name in DECLARED.findall(text)}
+        exported = {name for source, text in sources.items() for name, is_pub in items_of(text).items() if is_pub and is_open(source.stem, name)}
+        for source, text in sources.items():
             module = source.stem
             names = inner_names(text)
-            hidden = {name for word, _, name in (found.groups() for found in map(ITEM.match, text.splitlines()) if found) if not word}
-            known = lambda item: item not in hidden and (module in modules or module == "lib" or (module, item) in items)
+            hidden = {name for name, is_pub in items_of(text).items() if not is_pub}
+            # a type that the crate does not declare is another crate's
+            known = lambda item: item not in hidden and (is_open(module, item) or item in exported or item not in declared)
             for item, number, line in public_clauses(text.splitlines(), known):
                 for name in named(line, names):
                     found.append(f"{source}:{number}: a clause of {item} names {name}")
@@ -132,7 +142,7 @@ def places(crates):
     return found
 
 
-# a crate with one place of each kind, by the name that each names, and two that are none
+# a crate with a place of each kind, by the name that each names, and some that are none
 MADE = """\
 ghost use Rattle.made.specs.Inner.All.{one, two, three, four, five, six, seven};
 
@@ -193,7 +203,41 @@ pub fn all()
     ensures { six }
 {}
 """
-NAMES = ["eight", "five", "four", "one", "six", "three", "two"]
+# a module that is not exported, with more of the exported type
+APART = """\
+ghost use Rattle.made.specs.Inner.All.{seven, nine, ten, eleven};
+
+impl Seen {
+    pub fn more(&self) -> u64
+        ensures { result ≡ nine }
+    {
+        self.it
+    }
+
+    pub(crate) fn less(&self) -> u64
+        ensures { result ≡ seven }
+    {
+        self.it
+    }
+}
+
+impl Kept for Seen {
+    fn look(&self)
+        ensures { ten }
+    {}
+}
+
+impl Kept for u64 {
+    fn look(&self)
+        ensures { eleven }
+    {}
+}
+
+pub fn inside()
+    ensures { seven }
+{}
+"""
+NAMES = ["eight", "eleven", "five", "four", "nine", "one", "six", "ten", "three", "two"]
 
 
 def missed():
@@ -202,8 +246,9 @@ def missed():
         crate = pathlib.Path(room) / "made"
         for part in ("src", "specs"):
             (crate / part).mkdir(parents=True)
-        (crate / "src" / "lib.rt").write_text("pub mod made;\n")
+        (crate / "src" / "lib.rt").write_text("mod apart;\npub mod made;\n")
         (crate / "src" / "made.rt").write_text(MADE)
+        (crate / "src" / "apart.rt").write_text(APART)
         found = [place.split()[-1] for place in places(pathlib.Path(room))]
         return sorted(set(NAMES) ^ set(found))
 

@@ -4,13 +4,23 @@
 
 pub mod acts;
 pub mod decisions;
+mod edits;
 pub mod keeps;
 pub mod laws;
+mod lists;
+mod locks;
 pub mod maps;
+mod needs;
+mod organizations;
+mod outcomes;
 pub mod plain;
 pub mod records;
 pub mod run_steps;
+mod runs;
+mod states;
 pub mod texts;
+mod units;
+mod workspaces;
 
 pub use acts::{
     Act, Answer, Change, Decision, Edit, Needs, Newest, Shown, Staying, Unit, WorkspaceUnit,

@@ -5,7 +5,8 @@ ghost use Rattle.statements.specs.Inner.Making.{Moved};
 ghost use Rattle.statements.specs.Changes.{bound_row_added, bound_row_removed, bounds_filled};
 ghost use Rattle.statements.specs.Finds.{bound_of};
 
-use crate::calls::{first_row, optional_seconds, read_one, write};
+use crate::calls::{first_row, read_one, write};
+use crate::encoding::optional_seconds;
 use basis::Bounds;
 use sqlite::{Alter, Connection, Error, Transaction, params};
 

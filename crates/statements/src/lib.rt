@@ -3,8 +3,11 @@
 //! that has the tables.
 #![tactic(auto)]
 
+mod answers;
 pub mod bounds;
 pub mod calls;
+mod cells;
+mod encoding;
 pub mod keepings;
 pub mod making;
 pub mod organizations;

@@ -5,10 +5,8 @@ ghost use Rattle.statements.specs.Changes.{run_changed_to, run_acted, run_added,
 ghost use Rattle.statements.specs.Listings.{run_rows_after, RunsApart};
 ghost use Rattle.statements.specs.Finds.{first_waiting_of, status_at_number, run_at_number, keyed_run_of, open_runs_of};
 
-use crate::calls::{
-    action_number, count_of, first_row, first_rows, optional_action_number, read_all, read_one,
-    seconds, status_number, write,
-};
+use crate::calls::{count_of, first_row, first_rows, read_all, read_one, write};
+use crate::encoding::{action_number, optional_action_number, seconds, status_number};
 use basis::{Items, Moment, Number, RunAction, RunRow, RunStatus};
 use sqlite::{Alter, Connection, Error, Transaction, params};
 use std::alloc::Global;

@@ -7,9 +7,10 @@ ghost use Rattle.statements.specs.Calls.{IsNumberOrNull};
 ghost use Rattle.statements.specs.Steps.{Equals, Queries};
 ghost use Rattle.statements.specs.Rows.{kept_by, org_at, token_at, ws_at, version_at, run_at, vpage_at, bound_at, keeping_at, number_at, bytes_at, role_at, number, role_code};
 
-use crate::calls::{
-    Read, bytes_in, limit_of, optional_moment, retention_of, role_in, run_in, scan, text_in,
-    unsigned_in, version_in,
+use crate::calls::{Read, scan};
+use crate::cells::{
+    bytes_in, limit_of, optional_moment, retention_of, role_in, run_in, text_in, unsigned_in,
+    version_in,
 };
 use crate::rows::{
     BoundRow, KeepingRow, OrgRow, RunRow, Token, TokenRow, VersionRow, VpageRow, WsRow,

@@ -5,7 +5,8 @@ ghost use Rattle.statements.specs.Listings.{token_rows_of, whole_tokens_of, Toke
 ghost use Rattle.statements.specs.Finds.{IsBoundedRoleOf, role_of_digest, role_of_name};
 
 use crate::bounds;
-use crate::calls::{all_rows, first_row, read_all, read_one, read_only, role_number, write};
+use crate::calls::{all_rows, first_row, read_all, read_one, read_only, write};
+use crate::encoding::role_number;
 use crate::rows::{BoundedRole, NamedRole, NamedToken};
 use basis::{Bounds, Items, Role};
 use sqlite::{Alter, Connection, Error, Transaction, params};

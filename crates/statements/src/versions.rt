@@ -7,10 +7,8 @@ ghost use Rattle.statements.specs.Changes.{new_version, version_added, version_r
 ghost use Rattle.statements.specs.Listings.{version_rows_after, VersionsApart};
 ghost use Rattle.statements.specs.Finds.{newest_of, oldest_below, size_of};
 
-use crate::calls::{
-    first_row, first_row_inside, first_rows, read_all, read_one, seconds, signed, signed_serial,
-    write,
-};
+use crate::calls::{first_row, first_row_inside, first_rows, read_all, read_one, signed, write};
+use crate::encoding::{seconds, signed_serial};
 use basis::{Items, Moment, Number, Serial, VersionRow};
 use sqlite::{Alter, Connection, Error, Transaction, params};
 use std::alloc::Global;

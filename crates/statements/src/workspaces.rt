@@ -13,10 +13,13 @@ ghost use Rattle.statements.specs.Finds.{workspace_of, workspaces_of};
 ghost use Rattle.basis.specs.declared.rows.Holder.TheVariants.{Lock};
 
 use crate::calls::{
-    Read, all_rows, bytes_in, count_of, first_row, first_rows, flag_in, limit, lock_id_of, name_of,
-    number_in, optional_lock_id, optional_number, optional_retention, read_all, read_one,
-    unsigned_in, update, write,
+    Read, all_rows, count_of, first_row, first_rows, read_all, read_one, update, write,
 };
+use crate::cells::{
+    bytes_in, flag_in, lock_id_of, name_of, number_in, optional_lock_id, optional_number,
+    optional_retention, unsigned_in,
+};
+use crate::encoding::limit;
 use crate::keepings;
 use crate::rows::{NamedWorkspace, Workspace};
 use basis::{Holder, Items, KeepCount, LockId, Number, RunSettings, WsName, WsPrefix};

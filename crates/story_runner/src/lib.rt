@@ -12,6 +12,7 @@ pub mod lines;
 pub mod links;
 pub mod messages;
 pub mod modes;
+mod pieces;
 pub mod plays;
 pub mod recovering;
 pub mod refusals;

@@ -25,8 +25,8 @@ use Rattle.tables.specs.Inner.Looks.{sized_by, sized_in, size_asked, size_from, 
 use Rattle.tables.specs.Inner.Remembering.{size_kept, Notes, asker_kept, asker_noted}
 use Rattle.tables.specs.Inner.Units.{holder_status_in, newest_by, retention_in, has_version_in, outgoing_in, asked_run_in}
 use Rattle.tables.specs.declared.askers.Asked.{Asked}
-use Rattle.tables.specs.declared.looks.SizedNewest.{SizedNewest}
-use Rattle.tables.specs.declared.looks.VersionSize.{VersionSize}
+use Rattle.tables.specs.declared.versions.SizedNewest.{SizedNewest}
+use Rattle.tables.specs.declared.versions.VersionSize.{VersionSize}
 use Rattle.tables.specs.declared.sizes.SizedVersion.{SizedVersion}
 use Rattle.tables.proofs.Finding.{found_as, newest_numbered, seen_in_rows, text_found}
 use Rattle.tables.proofs.Names.{same_name, names_apart}

@@ -2,9 +2,11 @@
 #![tactic(auto)]
 
 mod askers;
+mod callers;
 mod copies;
 mod counts;
 mod imports;
+mod keep;
 pub mod laws;
 mod listings;
 mod loading;
@@ -13,11 +15,13 @@ mod memo;
 mod opening;
 mod operators;
 mod removals;
+mod runs;
 mod scans;
 mod sizes;
 mod steps;
 mod store;
 mod transactions;
+mod versions;
 
 pub use opening::has_any_of_ours;
 pub use store::{SqlKeep, Unopened};

@@ -8,8 +8,9 @@ ghost use Rattle.statements.specs.Listings.{OrgsApart, TokensApart, WorkspacesAp
 ghost use Rattle.tables.specs.Inner.Lists.{versions_listed_in, runs_listed_in, newest_number_in, newest_by, newest_shown_in, ws_row_in, workspaces_listed_in, token_row_in, tokens_listed_in, tokens_told_in, org_row_in, organizations_listed_in};
 ghost use Rattle.tables.specs.Inner.Steps.{EndsIdle, LooksAt};
 
-use crate::looks::{caller_as, kept};
+use crate::callers::caller_as;
 use crate::transactions::assert_committed;
+use crate::versions::kept;
 use basis::rows::MAX_ITEMS;
 use basis::{
     Holder, HolderId, Items, Listing, Number, RunRow, Settings, VersionRow, WsName, WsPrefix, WsRow,

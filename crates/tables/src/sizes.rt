@@ -3,7 +3,7 @@
 ghost use Rattle.std.specs.Prelude.{◌≡◌, IfSome};
 ghost use Rattle.tables.specs.Inner.Remembering.{size_kept, Notes};
 
-use crate::looks::VersionSize;
+use crate::versions::VersionSize;
 use basis::{Number, Text};
 use std::alloc::Global;
 

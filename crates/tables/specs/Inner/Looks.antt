@@ -14,10 +14,10 @@ use Rattle.tables.specs.Records.{settings_of_cells}
 use Rattle.texts.specs.Texts.{text_of}
 use Rattle.tables.specs.Inner.Units.{holder_status_in, newest_by, retention_in, outgoing_in, asked_run_in, text_in, unit_at}
 use Rattle.tables.specs.declared.looks.Looked.{Looked}
-use Rattle.tables.specs.declared.looks.RunsAround.{RunsAround}
-use Rattle.tables.specs.declared.looks.SizedNewest.{SizedNewest}
+use Rattle.tables.specs.declared.runs.RunsAround.{RunsAround}
+use Rattle.tables.specs.declared.versions.SizedNewest.{SizedNewest}
 use Rattle.tables.specs.declared.looks.Surroundings.{Surroundings}
-use Rattle.tables.specs.declared.looks.VersionSize.{VersionSize}
+use Rattle.tables.specs.declared.versions.VersionSize.{VersionSize}
 
 -- the number of an organization's workspaces and its limit, if the act creates a workspace; if the number is known, they are not counted
 abbrev pub absent_in : Needed → Option ℕ → List ℕ → Tables → Looked

@@ -5,7 +5,7 @@ use Rattle.machine.specs.declared.acts.Edit.{Edit}
 use Rattle.machine.specs.declared.keeps.TokenRow.{TokenRow}
 use Rattle.tables.specs.Inner.Counting.{changed_count}
 use Rattle.tables.specs.declared.askers.Asked.{Asked}
-use Rattle.tables.specs.declared.looks.VersionSize.{VersionSize}
+use Rattle.tables.specs.declared.versions.VersionSize.{VersionSize}
 use Rattle.tables.specs.declared.memo.Memo.{Memo}
 use Rattle.tables.specs.declared.sizes.SizedVersion.{SizedVersion}
 

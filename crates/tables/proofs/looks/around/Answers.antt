@@ -4,10 +4,10 @@ use Rattle.machine.specs.Needs.{needed_of}
 use Rattle.machine.specs.Units.{if_needed}
 use Rattle.tables.specs.Inner.Looks.{runs_in, sized_in, size_asked}
 use Rattle.tables.specs.Inner.Units.{outgoing_in}
-use Rattle.tables.specs.declared.looks.RunsAround.{RunsAround}
-use Rattle.tables.specs.declared.looks.SizedNewest.{SizedNewest}
+use Rattle.tables.specs.declared.runs.RunsAround.{RunsAround}
+use Rattle.tables.specs.declared.versions.SizedNewest.{SizedNewest}
 use Rattle.tables.specs.declared.looks.Surroundings.{Surroundings}
-use Rattle.tables.specs.declared.looks.VersionSize.{VersionSize}
+use Rattle.tables.specs.declared.versions.VersionSize.{VersionSize}
 use Rattle.tables.proofs.KeepFound.{seen_four}
 use Rattle.tables.proofs.looks.around.Goals as goal
 

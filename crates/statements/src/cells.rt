@@ -1,0 +1,275 @@
+//! Reads the cells of a row as values, and those of a version or a run as one value.
+ghost use Rattle.std.specs.Prelude.{◌≡◌, string_bytes, IfOk};
+ghost use Rattle.sqlite_value.specs.Order.{column};
+ghost use Rattle.sqlite_value.specs.declared.value.Value.TheVariants.{Text as TextCell, Blob as BlobCell};
+ghost use Rattle.statements.specs.Rows.{number, role_code, status_code, number_at, flag, flag_at, bytes_at, some_bytes_at, status_at, some_action_at, version_in_row, run_in_row};
+ghost use Rattle.statements.specs.Calls.{IsVersionIn, IsRunIn, IsFlagCell, IsTextOrNull, IsNumberOrNull, IsActionOrNull};
+
+use basis::{
+    Bytes, KeepCount, Limit, LockId, Moment, Number, Role, RunAction, RunRow, RunStatus, Serial,
+    Text, VersionRow, WsName, WsPrefix,
+};
+use sqlite::types::Type;
+use sqlite::{Error, Row};
+
+pub(crate) fn text_in(row: &Row, at: usize) -> Result<Text, Error>
+    ensures is { IfOk result (λ x. x ≡ bytes_at row.now at) }
+    ensures cell { IfOk result (λ x. column row.now at ≡ TextCell x) }
+{
+    Ok(Text::new(row.get(at)?))
+}
+
+pub(crate) fn bytes_in(row: &Row, at: usize) -> Result<Bytes, Error>
+    ensures is { IfOk result (λ x. x ≡ bytes_at row.now at) }
+    ensures cell { IfOk result (λ x. column row.now at ≡ BlobCell x) }
+{
+    Ok(Bytes::new(row.get(at)?))
+}
+
+pub(crate) fn unsigned_in(row: &Row, at: usize) -> Result<u64, Error>
+    ensures is { IfOk result (λ x. x ≡ number_at row.now at) }
+    ensures cell { IfOk result (λ x. column row.now at ≡ number x) }
+{
+    row.get(at)
+}
+
+pub(crate) fn number_in(row: &Row, at: usize) -> Result<Number, Error>
+    ensures is { IfOk result (λ x. x ≡ number_at row.now at) }
+    ensures cell { IfOk result (λ x. column row.now at ≡ number x) }
+{
+    number_of(row.get(at)?, at)
+}
+
+pub(crate) fn moment_in(row: &Row, at: usize) -> Result<Moment, Error>
+    ensures is { IfOk result (λ x. x ≡ number_at row.now at) }
+    ensures cell { IfOk result (λ x. column row.now at ≡ number x) }
+{
+    moment_of(row.get(at)?, at)
+}
+
+pub(crate) fn serial_in(row: &Row, at: usize) -> Result<Serial, Error>
+    ensures is { IfOk result (λ x. x ≡ number_at row.now at) }
+    ensures cell { IfOk result (λ x. column row.now at ≡ number x) }
+{
+    match Serial::new(row.get(at)?) {
+        Some(serial) => Ok(serial),
+        None => Err(Error::IntegralValueOutOfRange(at)),
+    }
+}
+
+pub(crate) fn optional_text(row: &Row, at: usize) -> Result<Option<Text>, Error>
+    ensures is { IfOk result (λ x. x ≡ some_bytes_at row.now at) }
+    ensures cell { IfOk result (IsTextOrNull (column row.now at)) }
+{
+    match row.get::<Option<String>>(at)? {
+        Some(text) => Ok(Some(Text::new(text))),
+        None => Ok(None),
+    }
+}
+
+/// The number of a version or of a run. Fails with `IntegralValueOutOfRange` if it is out of range.
+pub(crate) fn number_of(number: u64, at: usize) -> Result<Number, Error>
+    ensures { IfOk result (λ x. x ≡ number) }
+{
+    match Number::new(number) {
+        Some(number) => Ok(number),
+        None => Err(Error::IntegralValueOutOfRange(at)),
+    }
+}
+
+/// A time, from the seconds since 1970 (UTC). Fails with `IntegralValueOutOfRange` if it is out of range.
+pub(crate) fn moment_of(seconds: u64, at: usize) -> Result<Moment, Error>
+    ensures { IfOk result (λ x. x ≡ seconds) }
+{
+    match Moment::new(seconds) {
+        Some(moment) => Ok(moment),
+        None => Err(Error::IntegralValueOutOfRange(at)),
+    }
+}
+
+/// The number of versions that a workspace keeps. Fails with `IntegralValueOutOfRange` if it is out of range.
+pub(crate) fn retention_of(count: u64, at: usize) -> Result<KeepCount, Error>
+    ensures { IfOk result (λ x. x ≡ count) }
+{
+    match KeepCount::new(count) {
+        Some(count) => Ok(count),
+        None => Err(Error::IntegralValueOutOfRange(at)),
+    }
+}
+
+/// The greatest number of workspaces of an organization. Fails with `IntegralValueOutOfRange` if it is out of
+/// range.
+pub(crate) fn limit_of(cap: u32, at: usize) -> Result<Limit, Error>
+    ensures { IfOk result (λ x. x ≡ cap) }
+{
+    match Limit::new(cap) {
+        Some(limit) => Ok(limit),
+        None => Err(Error::IntegralValueOutOfRange(at)),
+    }
+}
+
+/// The ID of a lock. Fails with `InvalidColumnType` if the text is not a valid ID.
+pub(crate) fn lock_id_of(id: String, at: usize) -> Result<LockId, Error>
+    ensures { IfOk result (λ x. x ≡ string_bytes id) }
+{
+    match LockId::from_string(id) {
+        Some(id) => Ok(id),
+        None => Err(Error::InvalidColumnType(at, Type::Text)),
+    }
+}
+
+/// The prefix of a token's workspaces. Fails with `InvalidColumnType` if the text is not a valid prefix.
+pub(crate) fn prefix_of(prefix: String, at: usize) -> Result<WsPrefix, Error>
+    ensures { IfOk result (λ x. x ≡ string_bytes prefix) }
+{
+    match WsPrefix::from_string(prefix) {
+        Some(prefix) => Ok(prefix),
+        None => Err(Error::InvalidColumnType(at, Type::Text)),
+    }
+}
+
+/// A workspace's name. Fails with `InvalidColumnType` if the text is not a valid name.
+pub(crate) fn name_of(name: String, at: usize) -> Result<WsName, Error>
+    ensures { IfOk result (λ x. x ≡ string_bytes name) }
+{
+    match WsName::from_string(name) {
+        Some(name) => Ok(name),
+        None => Err(Error::InvalidColumnType(at, Type::Text)),
+    }
+}
+
+pub(crate) fn optional_number(row: &Row, at: usize) -> Result<Option<Number>, Error>
+    ensures { IfOk result (IsNumberOrNull (column row.now at)) }
+{
+    match row.get::<Option<u64>>(at)? {
+        Some(value) => Ok(Some(number_of(value, at)?)),
+        None => Ok(None),
+    }
+}
+
+pub(crate) fn optional_moment(row: &Row, at: usize) -> Result<Option<Moment>, Error>
+    ensures { IfOk result (IsNumberOrNull (column row.now at)) }
+{
+    match row.get::<Option<u64>>(at)? {
+        Some(value) => Ok(Some(moment_of(value, at)?)),
+        None => Ok(None),
+    }
+}
+
+pub(crate) fn optional_retention(row: &Row, at: usize) -> Result<Option<KeepCount>, Error>
+    ensures { IfOk result (IsNumberOrNull (column row.now at)) }
+{
+    match row.get::<Option<u64>>(at)? {
+        Some(value) => Ok(Some(retention_of(value, at)?)),
+        None => Ok(None),
+    }
+}
+
+pub(crate) fn optional_lock_id(row: &Row, at: usize) -> Result<Option<LockId>, Error>
+    ensures is { IfOk result (λ x. x ≡ some_bytes_at row.now at) }
+    ensures cell { IfOk result (IsTextOrNull (column row.now at)) }
+{
+    match row.get::<Option<String>>(at)? {
+        Some(value) => Ok(Some(lock_id_of(value, at)?)),
+        None => Ok(None),
+    }
+}
+
+/// The role with the number in this column.
+pub(crate) fn role_in(row: &Row, at: usize) -> Result<Role, Error>
+    ensures { IfOk result (λ role. column row.now at ≡ number (role_code role)) }
+{
+    match row.get::<u64>(at)? {
+        0 => Ok(Role::Read),
+        1 => Ok(Role::Write),
+        2 => Ok(Role::Admin),
+        _ => Err(Error::IntegralValueOutOfRange(at)),
+    }
+}
+
+/// Whether the number in this column is 1 and not 0. Our statements write no other number, so a row with
+/// another one was written by another program.
+pub(crate) fn flag_in(row: &Row, at: usize) -> Result<bool, Error>
+    ensures is { IfOk result (λ b. b ≡ flag_at row.now at) }
+    ensures cell { IfOk result (IsFlagCell (column row.now at)) }
+    ensures exact { IfOk result (λ b. column row.now at ≡ flag b) }
+{
+    match row.get::<u64>(at)? {
+        0 => Ok(false),
+        1 => Ok(true),
+        _ => Err(Error::IntegralValueOutOfRange(at)),
+    }
+}
+
+pub(crate) fn status_in(row: &Row, at: usize) -> Result<RunStatus, Error>
+    ensures { IfOk result (λ status. column row.now at ≡ number (status_code status)) }
+{
+    match row.get::<u64>(at)? {
+        0 => Ok(RunStatus::Pending),
+        1 => Ok(RunStatus::Planning),
+        2 => Ok(RunStatus::Planned),
+        3 => Ok(RunStatus::Applying),
+        4 => Ok(RunStatus::Applied),
+        5 => Ok(RunStatus::PlannedAndFinished),
+        6 => Ok(RunStatus::Errored),
+        7 => Ok(RunStatus::Discarded),
+        8 => Ok(RunStatus::Canceled),
+        _ => Err(Error::IntegralValueOutOfRange(at)),
+    }
+}
+
+pub(crate) fn action_in(row: &Row, at: usize) -> Result<Option<RunAction>, Error>
+    ensures is { IfOk result (λ x. x ≡ some_action_at row.now at) }
+    ensures cell { IfOk result (IsActionOrNull (column row.now at)) }
+{
+    match row.get::<Option<u64>>(at)? {
+        None => Ok(None),
+        Some(0) => Ok(Some(RunAction::ReportPlanned)),
+        Some(1) => Ok(Some(RunAction::ReportUnchanged)),
+        Some(2) => Ok(Some(RunAction::Fail)),
+        Some(3) => Ok(Some(RunAction::Confirm)),
+        Some(4) => Ok(Some(RunAction::ReportApplied)),
+        Some(5) => Ok(Some(RunAction::Discard)),
+        Some(6) => Ok(Some(RunAction::Cancel)),
+        Some(_) => Err(Error::IntegralValueOutOfRange(at)),
+    }
+}
+
+fn status_of_row(row: &Row, at: usize) -> Result<RunStatus, Error>
+    ensures is { IfOk result (λ x. x ≡ status_at (number_at row.now at)) }
+    ensures cell { IfOk result (λ x. column row.now at ≡ number (status_code x)) }
+{
+    status_in(row, at)
+}
+
+/// The version in a row, from this column on.
+pub(crate) fn version_in(row: &Row, at: u8) -> Result<VersionRow, Error>
+    ensures is { IfOk result (λ x. x ≡ version_in_row row.now at) }
+    ensures cells { IfOk result (IsVersionIn at row.now) }
+{
+    let at = usize::from(at);
+    Ok(VersionRow {
+        number: number_in(row, at)?,
+        serial: serial_in(row, at + 1)?,
+        created: moment_in(row, at + 3)?,
+        size: unsigned_in(row, at + 4)?,
+        lineage: text_in(row, at + 2)?,
+    })
+}
+
+/// The run in a row, from this column on.
+pub(crate) fn run_in(row: &Row, at: u8) -> Result<RunRow, Error>
+    ensures is { IfOk result (λ x. x ≡ run_in_row row.now at) }
+    ensures cells { IfOk result (IsRunIn at row.now) }
+{
+    let at = usize::from(at);
+    Ok(RunRow {
+        number: number_in(row, at)?,
+        plan_only: flag_in(row, at + 1)?,
+        created: moment_in(row, at + 4)?,
+        status: status_of_row(row, at + 5)?,
+        action: action_in(row, at + 6)?,
+        message: text_in(row, at + 3)?,
+        key: optional_text(row, at + 2)?,
+    })
+}
