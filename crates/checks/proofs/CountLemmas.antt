@@ -2,9 +2,9 @@
 use Rattle.std.proofs.Common.{◌≡◌, ℕ, ◌+◌, ◌≤◌, ◌==◌, Bool, true, false, not, cond, ◌&&◌, ◌<◌, nat_lt, List, [], ◌∷◌, ◌++◌, filter, length, IsTrue, refl, sym, ap, ◌∙◌, subst, arith, length-append, true≢false, ◌⊎◌, inl, inr}
 use Rattle.std.specs.Str.{bytes_eq}
 use Rattle.std.proofs.lemmas.Bool.{eqb-true, eq-eqb, ltb-true, ltb-false}
+use Rattle.basis.proofs.NameLemmas.{equal_bytes}
 use Rattle.statements.specs.Rows.{Kept, WsRow}
 use Rattle.statements.specs.Changes.{is_ws_of}
-use Rattle.tables.proofs.Names.{same_name}
 use Rattle.checks.specs.declared.found.Found.{Found}
 use Rattle.checks.specs.declared.found.Fault.{Fault}
 use Rattle.checks.specs.declared.found.FaultKind.TheVariants as kind
@@ -57,7 +57,7 @@ module _ (xs : List (Kept WsRow)) (x : Kept WsRow) where
       go true e =
           let one_more : count_in (xs ++ x ∷ []) org ≡ count_in xs org + 1 = counted_on xs x org ∙ ap (λ b. cond b (count_in xs org + 1) (count_in xs org)) e in
           let at_most : count_in xs org ≤ 100_000 = few org in
-          let apart : count_in (xs ++ x ∷ []) org ≡ 100_001 → ⊥ = subst (λ o. count_in (xs ++ x ∷ []) o ≡ 100_001 → ⊥) (same_name x.1.org org e) (not_that (count_in (xs ++ x ∷ []) x.1.org) 100_001 within) in
+          let apart : count_in (xs ++ x ∷ []) org ≡ 100_001 → ⊥ = subst (λ o. count_in (xs ++ x ∷ []) o ≡ 100_001 → ⊥) (equal_bytes x.1.org org e) (not_that (count_in (xs ++ x ∷ []) x.1.org) 100_001 within) in
           below (count_in (xs ++ x ∷ []) org) (omega (arith, one_more, at_most)) apart
         where
           below : (n : ℕ) → n ≤ 100_001 → (n ≡ 100_001 → ⊥) → n ≤ 100_000
@@ -116,7 +116,7 @@ module _ (xs : List (Kept WsRow)) (x : Kept WsRow) where
               at (nat_lt 100_000 (count_in xs s.0)) refl
             where
               own_count : count_in (xs ++ x ∷ []) x.1.org ≡ count_in xs s.0 + 1
-              own_count = ap (count_in (xs ++ x ∷ [])) (same_name x.1.org s.0 e) ∙ counted_on xs x s.0 ∙ ap (λ b. cond b (count_in xs s.0 + 1) (count_in xs s.0)) e
+              own_count = ap (count_in (xs ++ x ∷ [])) (equal_bytes x.1.org s.0 e) ∙ counted_on xs x s.0 ∙ ap (λ b. cond b (count_in xs s.0 + 1) (count_in xs s.0)) e
 
               at : (b : Bool) → nat_lt 100_000 (count_in xs s.0) ≡ b → Both f
               at true less = inl (s.0, ltb-true 100_000 (count_in xs s.0) less, s.2)
@@ -126,7 +126,7 @@ module _ (xs : List (Kept WsRow)) (x : Kept WsRow) where
                   let size = counted_on xs x s.0 ∙ ap (λ b. cond b (count_in xs s.0 + 1) (count_in xs s.0)) e in
                   let own = own_count in
                   let exactly : count_in (xs ++ x ∷ []) x.1.org ≡ 100_001 = omega (arith, most, many, size, own) in
-                  inr (λ t. not_that (count_in (xs ++ x ∷ []) x.1.org) 100_001 (sym is ∙ t) exactly, s.2 ∙ ap (org_fault kind.TooMany) (sym (same_name x.1.org s.0 e)))
+                  inr (λ t. not_that (count_in (xs ++ x ∷ []) x.1.org) 100_001 (sym is ∙ t) exactly, s.2 ∙ ap (org_fault kind.TooMany) (sym (equal_bytes x.1.org s.0 e)))
 
       too_many : (n : ℕ) → n ≡ 100_001 → n ≤ 100_000 → ⊥
       too_many n e h = omega (arith, e, h)

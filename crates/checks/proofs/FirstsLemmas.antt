@@ -11,6 +11,7 @@ use Rattle.std.specs.Map.{lookup}
 use Rattle.std.specs.Cmp.{unsigned_ties}
 use Rattle.std.proofs.lemmas.Map.Text.{is_eq-slice_cmp}
 use Rattle.std.proofs.lemmas.Slice.Eq.{bytes_eq-Decides}
+use Rattle.std.proofs.lemmas.Bool.{and_parts}
 use Rattle.checks.specs.declared.keys.RowKey.{RowKey}
 use Rattle.checks.specs.Inner.Keys.{is_key}
 use Rattle.checks.specs.Inner.Firsts.{key_cmp, key_of_parts, value_at, KeepsFirst, AddsOne, IsKeyOf}
@@ -19,10 +20,6 @@ both_equal : (a b : Ordering) (p q : Bool) → is_eq a ≡ p → is_eq b ≡ q �
 both_equal Less b p q is also = ap (λ (x : Bool). x && q) is
 both_equal Equal b p q is also = also ∙ ap (λ (x : Bool). x && q) is
 both_equal Greater b p q is also = ap (λ (x : Bool). x && q) is
-
-pub and_true : (p q : Bool) → (p && q) ≡ true → (p ≡ true) × (q ≡ true)
-and_true true q h = (refl, h)
-and_true false q h = cc
 
 -- keys that compare alike have the same parts
 pub is_at_parts : (f s : List ℕ) (n p : ℕ) (k : RowKey) → is_eq (key_cmp k (key_of_parts f s n p)) ≡ is_key f s n p k
@@ -33,9 +30,9 @@ module _ {V : Type 0} where
   -- where a key has these parts, the map has at them what it has at the key
   same_place : (f s : List ℕ) (n p : ℕ) (k : RowKey) (m : BTreeMap RowKey V) → is_key f s n p k ≡ true → value_at f s n p m ≡ get key_cmp m k
   same_place f s n p k m has =
-      let one = and_true (k.place == p) _ has in
-      let two = and_true (k.number == n) _ one.1 in
-      let three = and_true (bytes_eq k.first.now f) (bytes_eq k.second.now s) two.1 in
+      let one = and_parts (k.place == p) _ has in
+      let two = and_parts (k.number == n) _ one.1 in
+      let three = and_parts (bytes_eq k.first.now f) (bytes_eq k.second.now s) two.1 in
       let first : f ≡ k.first.now = sym ((bytes_eq-Decides k.first.now f).0 three.0) in
       let second : s ≡ k.second.now = sym ((bytes_eq-Decides k.second.now s).0 three.1) in
       let number : n ≡ k.number = sym (eqb-true k.number n two.0) in

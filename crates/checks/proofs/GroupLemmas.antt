@@ -3,7 +3,7 @@ use Rattle.std.proofs.Common.{◌≡◌, ℕ, ◌+◌, ◌<◌, Bool, true, fals
 use Rattle.std.specs.Option.{option_map_or}
 use Rattle.std.specs.Str.{bytes_eq}
 use Rattle.std.proofs.lemmas.Option.{slice_get-get_or}
-use Rattle.tables.proofs.Names.{same_name}
+use Rattle.basis.proofs.NameLemmas.{equal_bytes}
 use Rattle.checks.specs.Inner.Groups.{with_some, picked}
 
 module _ {X : Type 0} (rows : List X) where
@@ -51,7 +51,7 @@ put_in show none change old mid now key v is others changed q = go (bytes_eq key
   where
     go : (b : Bool) → bytes_eq key q ≡ b → option_map_or show (now q) none ≡ cond (bytes_eq key q) (change (option_map_or show (old q) none)) (option_map_or show (old q) none)
     go true e =
-        ap (λ o. option_map_or show o none) (is q ∙ ap (λ b. cond b (Some v) (mid q)) e) ∙ changed ∙ ap (λ k. change (option_map_or show (old k) none)) (same_name key q e)
+        ap (λ o. option_map_or show o none) (is q ∙ ap (λ b. cond b (Some v) (mid q)) e) ∙ changed ∙ ap (λ k. change (option_map_or show (old k) none)) (equal_bytes key q e)
         ∙ sym (ap (λ b. cond b (change (option_map_or show (old q) none)) (option_map_or show (old q) none)) e)
     go false e =
         ap (λ o. option_map_or show o none) (is q ∙ ap (λ b. cond b (Some v) (mid q)) e ∙ others q e)

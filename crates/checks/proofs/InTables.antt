@@ -5,13 +5,17 @@ use Rattle.std.specs.List.{AllByRecursion}
 use Rattle.std.specs.Str.{bytes_eq}
 use Rattle.std.proofs.lemmas.Cmp.{nat_list_eq_equiv}
 use Rattle.std.proofs.lemmas.Slice.Eq.{bytes_eq-Decides}
+use Rattle.std.proofs.lemmas.Bool.{and_parts, and_from, false_from_ne_true}
 use Rattle.sqlite_keyed.specs.Rules.{AreApart}
+use Rattle.sqlite_keyed.proofs.SliceLemmas.{is_some-map}
+use Rattle.sqlite_keyed.proofs.ListLemmas.{all_weaker, all_both, all_map, all_unmap}
 use Rattle.statements.specs.declared.rows.PageHead.{PageHead}
 use Rattle.statements.specs.Rows.{Kept, PageRow, VersionRow, VpageRow}
 use Rattle.statements.specs.Tables.{Tables}
 use Rattle.pages.specs.Rows.{is_page, is_equal_page, page_use, page_uses}
 use Rattle.pages.specs.Heads.{has_twin, head_in}
 use Rattle.texts.specs.Texts.{names_page, is_place, page_name, bytes_named, piece_of, piece_size}
+use Rattle.texts.proofs.WholeReads.{all_found}
 use Rattle.tables.specs.Sound.{HasText}
 use Rattle.checks.specs.declared.found.Found.{Found}
 use Rattle.checks.specs.Judging.{Judges}
@@ -19,41 +23,28 @@ use Rattle.checks.specs.Faults.{SamePages, SamePlaces, OfPages, OfTexts}
 use Rattle.checks.specs.Inner.Heads.{IsSoundHead}
 use Rattle.checks.proofs.JudgingLemmas.{judges_both, judges_as}
 use Rattle.checks.proofs.PageKeys.{heads_apart}
+use Rattle.checks.proofs.KeyLemmas.{bytes_turned}
 use Rattle.checks.specs.Pages.{is_head, page_size_in, NamesPage, count_in, IsCountedIn, named_size_in, HasTextIn}
 use Rattle.checks.specs.Inner.Places.{AreRowsSound, AreTextsSound}
 
 -- ---- tests
 
-both_true : (p q : Bool) → (p && q) ≡ true → (p ≡ true) × (q ≡ true)
-both_true true q h = (refl, h)
-both_true false q h = absurd (true≢false (sym h))
-
-true_both : (p q : Bool) → p ≡ true → q ≡ true → (p && q) ≡ true
-true_both p q is also = rw (is, also) refl
-
-bytes_back : (a b : List ℕ) → bytes_eq a b ≡ bytes_eq b a
-bytes_back a b = nat_list_eq_equiv.symm a b
-
 twin_back : (a b : ℕ) → a == b ≡ true → b == a ≡ true
 twin_back a b is = eq-eqb b a (sym (eqb-true a b is))
 
 equal_back : (a b : Kept PageRow) → is_equal_page a.1.key a.1.bytes b ≡ is_equal_page b.1.key b.1.bytes a
-equal_back a b = rw (bytes_back b.1.key a.1.key, bytes_back b.1.bytes a.1.bytes) refl
+equal_back a b = rw (bytes_turned b.1.key a.1.key, bytes_turned b.1.bytes a.1.bytes) refl
 
 page_back : (a b : Kept PageRow) → is_page b.1.key b.1.twin a ≡ true → is_page a.1.key a.1.twin b ≡ true
 page_back a b is =
-    let parts = both_true (bytes_eq a.1.key b.1.key) (a.1.twin == b.1.twin) is in
-    true_both (bytes_eq b.1.key a.1.key) (b.1.twin == a.1.twin) (bytes_back b.1.key a.1.key ∙ parts.0) (twin_back a.1.twin b.1.twin parts.1)
+    let parts = and_parts (bytes_eq a.1.key b.1.key) (a.1.twin == b.1.twin) is in
+    and_from (bytes_eq b.1.key a.1.key) (b.1.twin == a.1.twin) (bytes_turned b.1.key a.1.key ∙ parts.0) (twin_back a.1.twin b.1.twin parts.1)
 
 page_itself : (x : Kept PageRow) → is_page x.1.key x.1.twin x ≡ true
-page_itself x = true_both (bytes_eq x.1.key x.1.key) (x.1.twin == x.1.twin) (nat_list_eq_equiv.refl x.1.key) (eq-eqb x.1.twin x.1.twin refl)
+page_itself x = and_from (bytes_eq x.1.key x.1.key) (x.1.twin == x.1.twin) (nat_list_eq_equiv.refl x.1.key) (eq-eqb x.1.twin x.1.twin refl)
 
 equal_itself : (x : Kept PageRow) → is_equal_page x.1.key x.1.bytes x ≡ true
-equal_itself x = true_both (bytes_eq x.1.key x.1.key) (bytes_eq x.1.bytes x.1.bytes) (nat_list_eq_equiv.refl x.1.key) (nat_list_eq_equiv.refl x.1.bytes)
-
-not_true : (p : Bool) → (p ≡ true → ⊥) → p ≡ false
-not_true true h = absurd (h refl)
-not_true false h = refl
+equal_itself x = and_from (bytes_eq x.1.key x.1.key) (bytes_eq x.1.bytes x.1.bytes) (nat_list_eq_equiv.refl x.1.key) (nat_list_eq_equiv.refl x.1.bytes)
 
 -- ---- lists
 
@@ -65,41 +56,10 @@ module _ {X : Type 0} where
       let rest = all_two P Q R S step xs p.1 q.1 in
       ((here.0, rest.0), (here.1, rest.1))
 
-  all_by : (P Q R : X → Type 0) → ((x : X) → P x → Q x → R x) → (xs : List X) → AllByRecursion P xs → AllByRecursion Q xs → AllByRecursion R xs
-  all_by P Q R step [] p q = tt
-  all_by P Q R step (x ∷ xs) p q = (step x p.0 q.0, all_by P Q R step xs p.1 q.1)
-
   all_parts : (P Q : X → Type 0) (xs : List X) → AllByRecursion P xs → AllByRecursion Q xs → AllByRecursion (λ x. P x × Q x) xs
-  all_parts P Q xs p q = all_by P Q (λ x. P x × Q x) (λ x here also. (here, also)) xs p q
-
-  all_as : (P R : X → Type 0) → ((x : X) → P x → R x) → (xs : List X) → AllByRecursion P xs → AllByRecursion R xs
-  all_as P R step [] p = tt
-  all_as P R step (x ∷ xs) p = (step x p.0, all_as P R step xs p.1)
-
-  -- what is found passes, and is one of the items
-  found_one : (p : X → Bool) (P : X → Type 0) (xs : List X) (x : X) → AllByRecursion P xs → find p xs ≡ Some x → P x × (p x ≡ true)
-  found_one p P [] x all is = absurd (none_some x is)
-    where
-      none_some : (y : X) → None ≡ Some y → ⊥
-      none_some y h = cc
-  found_one p P (y ∷ ys) x all is = by (p y) refl (found_one p P ys x all.1)
-    where
-      same : Some y ≡ Some x → y ≡ x
-      same h = cc
-
-      by : (b : Bool) → p y ≡ b → (find p ys ≡ Some x → P x × (p x ≡ true)) → P x × (p x ≡ true)
-      by true passes rest = let e : y ≡ x = same (rw passes at is) in (subst P e all.0, subst (λ (z : X). p z ≡ true) e passes)
-      by false passes rest = rest (rw passes at is)
+  all_parts P Q xs p q = all_both P Q (λ x. P x × Q x) (λ x here also. (here, also)) xs p q
 
 module _ {X Y : Type 0} (f : X → Y) where
-  all_of_map : (P : Y → Type 0) (xs : List X) → AllByRecursion P (map f xs) → AllByRecursion (λ x. P (f x)) xs
-  all_of_map P [] h = tt
-  all_of_map P (x ∷ xs) h = (h.0, all_of_map P xs h.1)
-
-  all_on_map : (P : Y → Type 0) (xs : List X) → AllByRecursion (λ x. P (f x)) xs → AllByRecursion P (map f xs)
-  all_on_map P [] h = tt
-  all_on_map P (x ∷ xs) h = (h.0, all_on_map P xs h.1)
-
   find_mapped : (p : Y → Bool) (xs : List X) → find p (map f xs) ≡ option_map f (find (λ x. p (f x)) xs)
   find_mapped p [] = refl
   find_mapped p (x ∷ xs) = by (p (f x)) (find_mapped p xs)
@@ -123,8 +83,8 @@ first_before x b xs apart first = by (is_equal_page b.1.key b.1.bytes x) refl
     by : (e : Bool) → is_equal_page b.1.key b.1.bytes x ≡ e → (is_equal_page x.1.key x.1.bytes b ≡ false) × IsFirst xs b
     by true is =
         let twins : x.1.twin == b.1.twin ≡ true = rw is at first in
-        let keys = both_true (bytes_eq x.1.key b.1.key) (bytes_eq x.1.bytes b.1.bytes) is in
-        absurd (true≢false (sym (page_back x b (true_both (bytes_eq x.1.key b.1.key) (x.1.twin == b.1.twin) keys.0 twins)) ∙ apart))
+        let keys = and_parts (bytes_eq x.1.key b.1.key) (bytes_eq x.1.bytes b.1.bytes) is in
+        absurd (true≢false (sym (page_back x b (and_from (bytes_eq x.1.key b.1.key) (x.1.twin == b.1.twin) keys.0 twins)) ∙ apart))
     by false is = (equal_back x b ∙ is, rw is at first)
 
 -- where no two pages have one key and twin number, and each is the first of its key with its bytes, no two of one key have equal bytes
@@ -137,18 +97,18 @@ differ_to (x ∷ xs) apart firsts =
 differ_from : (xs : List (Kept PageRow)) → AreApart (λ a b. is_equal_page a.1.key a.1.bytes b) xs → AllByRecursion (IsFirst xs) xs
 differ_from [] differ = tt
 differ_from (x ∷ xs) differ =
-    (rw (equal_itself x) (eq-eqb x.1.twin x.1.twin refl), all_by (λ b. is_equal_page x.1.key x.1.bytes b ≡ false) (IsFirst xs) (IsFirst (x ∷ xs)) (λ b. first_behind x b xs) xs differ.0 (differ_from xs differ.1))
+    (rw (equal_itself x) (eq-eqb x.1.twin x.1.twin refl), all_both (λ b. is_equal_page x.1.key x.1.bytes b ≡ false) (IsFirst xs) (IsFirst (x ∷ xs)) (λ b. first_behind x b xs) xs differ.0 (differ_from xs differ.1))
 
 -- each page is the one that its key and twin number find
 finds_itself : (xs : List (Kept PageRow)) → AreApart (λ a b. is_page a.1.key a.1.twin b) xs → AllByRecursion (λ x. find (is_page x.1.key x.1.twin) xs ≡ Some x) xs
 finds_itself [] apart = tt
 finds_itself (x ∷ xs) apart =
-    (rw (page_itself x) refl, all_by (λ b. is_page x.1.key x.1.twin b ≡ false) (λ b. find (is_page b.1.key b.1.twin) xs ≡ Some b) (λ b. find (is_page b.1.key b.1.twin) (x ∷ xs) ≡ Some b) (λ b other found. rw (not_true (is_page b.1.key b.1.twin x) (λ is. true≢false (sym (page_back x b is) ∙ other))) found) xs apart.0 (finds_itself xs apart.1))
+    (rw (page_itself x) refl, all_both (λ b. is_page x.1.key x.1.twin b ≡ false) (λ b. find (is_page b.1.key b.1.twin) xs ≡ Some b) (λ b. find (is_page b.1.key b.1.twin) (x ∷ xs) ≡ Some b) (λ b other found. rw (false_from_ne_true (is_page b.1.key b.1.twin x) (λ is. true≢false (sym (page_back x b is) ∙ other))) found) xs apart.0 (finds_itself xs apart.1))
 
 -- ---- rows that name pages
 
 names_itself : (y : Kept VpageRow) → names_page y.1.key y.1.twin y ≡ true
-names_itself y = true_both (bytes_eq y.1.key y.1.key) (y.1.twin == y.1.twin) (nat_list_eq_equiv.refl y.1.key) (eq-eqb y.1.twin y.1.twin refl)
+names_itself y = and_from (bytes_eq y.1.key y.1.key) (y.1.twin == y.1.twin) (nat_list_eq_equiv.refl y.1.key) (eq-eqb y.1.twin y.1.twin refl)
 
 one_longer : (p : Kept VpageRow → Bool) (v : Kept VpageRow) (vs : List (Kept VpageRow)) → 1 ≤ length (filter p vs) → 1 ≤ length (filter p (v ∷ vs))
 one_longer p v vs some = by (p v)
@@ -162,7 +122,7 @@ each_named : (vs : List (Kept VpageRow)) → AllByRecursion (λ y. 1 ≤ count_i
 each_named [] = tt
 each_named (v ∷ vs) = (
   rw (names_itself v) (let n = length (filter (names_page v.1.key v.1.twin) vs) in omega arith),
-  all_as (λ y. 1 ≤ count_in y.1.key y.1.twin vs) (λ y. 1 ≤ count_in y.1.key y.1.twin (v ∷ vs)) (λ y some. one_longer (names_page y.1.key y.1.twin) v vs some) vs (each_named vs),
+  all_weaker (λ y. 1 ≤ count_in y.1.key y.1.twin vs) (λ y. 1 ≤ count_in y.1.key y.1.twin (v ∷ vs)) (λ y some. one_longer (names_page y.1.key y.1.twin) v vs some) vs (each_named vs),
 )
 
 -- a page that isn't there is named by no row
@@ -172,7 +132,7 @@ none_names key twin pages absent (v ∷ vs) all = by (names_page key twin v) ref
   where
     by : (b : Bool) → names_page key twin v ≡ b → count_in key twin vs ≡ 0 → length (cond b (v ∷ filter (names_page key twin) vs) (filter (names_page key twin) vs)) ≡ 0
     by true names rest =
-        let parts = both_true (bytes_eq v.1.key key) (v.1.twin == twin) names in
+        let parts = and_parts (bytes_eq v.1.key key) (v.1.twin == twin) names in
         let its_key : v.1.key ≡ key = (bytes_eq-Decides v.1.key key).0 parts.0 in
         let its_twin : v.1.twin ≡ twin = eqb-true v.1.twin twin parts.1 in
         let there : is_some (find (is_page key twin) pages) ≡ true = subst (λ (n : ℕ). IsSome (find (is_page key n) pages)) its_twin (subst (λ (k : List ℕ). IsSome (find (is_page k v.1.twin) pages)) its_key all.0) in
@@ -199,24 +159,20 @@ module _ (key_of : List ℕ → List ℕ) (t : Tables) where
       by None = refl
       by (Some x) = refl
 
-  some_as : {A B : Type 0} (f : A → B) (o : Option A) → is_some (option_map f o) ≡ is_some o
-  some_as f None = refl
-  some_as f (Some x) = refl
-
   is_some_page : (key : List ℕ) (twin : ℕ) → is_some (page_size_in key twin heads) ≡ is_some (find (is_page key twin) t.pages)
-  is_some_page key twin = ap is_some (page_size_at key twin) ∙ some_as (λ x. length x.1.bytes) (find (is_page key twin) t.pages)
+  is_some_page key twin = ap is_some (page_size_at key twin) ∙ is_some-map (λ x. length x.1.bytes) (find (is_page key twin) t.pages)
 
   -- the uses of each page are the rows that name it
   counts_of_pages : AreApart (λ a b. is_page a.1.key a.1.twin b) t.pages → Counted → AllByRecursion (IsCountedIn t.vpages) heads
   counts_of_pages apart counted =
-      all_on_map (head_in key_of t) (IsCountedIn t.vpages) t.pages
-      (all_as (λ x. find (is_page x.1.key x.1.twin) t.pages ≡ Some x) (λ x. x.1.uses ≡ count_in x.1.key x.1.twin t.vpages)
+      all_map (IsCountedIn t.vpages) (head_in key_of t) t.pages
+      (all_weaker (λ x. find (is_page x.1.key x.1.twin) t.pages ≡ Some x) (λ x. x.1.uses ≡ count_in x.1.key x.1.twin t.vpages)
       (λ x found. sym (ap (λ (o : Option (Kept PageRow)). unwrap_or (option_map (λ y. y.1.uses) o) 0) found) ∙ counted x.1.key x.1.twin) t.pages (finds_itself t.pages apart))
 
   -- each row names a page that is there
   names_of_rows : Counted → AllByRecursion (λ y. NamesPage heads y.1) t.vpages
   names_of_rows counted =
-      all_as (λ y. 1 ≤ count_in y.1.key y.1.twin t.vpages) (λ y. NamesPage heads y.1)
+      all_weaker (λ y. 1 ≤ count_in y.1.key y.1.twin t.vpages) (λ y. NamesPage heads y.1)
       (λ y some. is_some_page y.1.key y.1.twin ∙ some_used (find (is_page y.1.key y.1.twin) t.pages) _ (counted y.1.key y.1.twin) some) t.vpages (each_named t.vpages)
 
   counted_by : AllByRecursion (IsCountedIn t.vpages) heads → AllByRecursion (λ y. NamesPage heads y.1) t.vpages → Counted
@@ -224,10 +180,10 @@ module _ (key_of : List ℕ → List ℕ) (t : Tables) where
     where
       by : (o : Option (Kept PageRow)) → find (is_page key twin) t.pages ≡ o → unwrap_or (option_map (λ x. x.1.uses) o) 0 ≡ count_in key twin t.vpages
       by None absent =
-          sym (none_names key twin t.pages absent t.vpages (all_as (λ y. NamesPage heads y.1) (λ y. IsSome (find (is_page y.1.key y.1.twin) t.pages)) (λ y there. sym (is_some_page y.1.key y.1.twin) ∙ there) t.vpages names))
+          sym (none_names key twin t.pages absent t.vpages (all_weaker (λ y. NamesPage heads y.1) (λ y. IsSome (find (is_page y.1.key y.1.twin) t.pages)) (λ y there. sym (is_some_page y.1.key y.1.twin) ∙ there) t.vpages names))
       by (Some x) found =
-          let one = found_one (is_page key twin) (λ x. x.1.uses ≡ count_in x.1.key x.1.twin t.vpages) t.pages x (all_of_map (head_in key_of t) (IsCountedIn t.vpages) t.pages counts) found in
-          let parts = both_true (bytes_eq x.1.key key) (x.1.twin == twin) one.1 in
+          let one = all_found (λ x. x.1.uses ≡ count_in x.1.key x.1.twin t.vpages) (is_page key twin) t.pages x found (all_unmap (IsCountedIn t.vpages) (head_in key_of t) t.pages counts) in
+          let parts = and_parts (bytes_eq x.1.key key) (x.1.twin == twin) one.1 in
           let its_key : x.1.key ≡ key = (bytes_eq-Decides x.1.key key).0 parts.0 in
           let its_twin : x.1.twin ≡ twin = eqb-true x.1.twin twin parts.1 in
           one.0 ∙ ap (λ (k : List ℕ). count_in k x.1.twin t.vpages) its_key ∙ ap (λ (n : ℕ). count_in key n t.vpages) its_twin
@@ -292,20 +248,20 @@ module _ (key_of : List ℕ → List ℕ) (t : Tables) where
   sound_to laws =
       let sound = laws.2 in
       let apart = (heads_apart key_of t t.pages).0 laws.0 in
-      let each : AllByRecursion (λ x. IsSoundHead (head_in key_of t x)) t.pages = all_of_map (head_in key_of t) IsSoundHead t.pages sound.heads_sound in
+      let each : AllByRecursion (λ x. IsSoundHead (head_in key_of t x)) t.pages = all_unmap IsSoundHead (head_in key_of t) t.pages sound.heads_sound in
       record {
         places = record {
           pages = record {
             apart = apart;
-            differ = differ_to t.pages apart (all_as (λ x. IsSoundHead (head_in key_of t x)) (IsFirst t.pages) (λ x h. h.first) t.pages each);
-            used = all_as (λ x. IsSoundHead (head_in key_of t x)) (λ x. 1 ≤ x.1.uses) (λ x h. h.used) t.pages each;
+            differ = differ_to t.pages apart (all_weaker (λ x. IsSoundHead (head_in key_of t x)) (IsFirst t.pages) (λ x h. h.first) t.pages each);
+            used = all_weaker (λ x. IsSoundHead (head_in key_of t x)) (λ x. 1 ≤ x.1.uses) (λ x h. h.used) t.pages each;
           };
           counted = counted_by sound.counts sound.names;
           apart = laws.1;
         };
-        keyed = all_as (λ x. IsSoundHead (head_in key_of t x)) (λ x. key_of x.1.bytes ≡ x.1.key) (λ x h. (bytes_eq-Decides (key_of x.1.bytes) x.1.key).0 h.keyed) t.pages each;
+        keyed = all_weaker (λ x. IsSoundHead (head_in key_of t x)) (λ x. key_of x.1.bytes ≡ x.1.key) (λ x h. (bytes_eq-Decides (key_of x.1.bytes) x.1.key).0 h.keyed) t.pages each;
         placed = sound.places;
-        texts = all_as (λ x. HasTextIn heads t.vpages x.1) (HasText t) text_to t.versions sound.whole;
+        texts = all_weaker (λ x. HasTextIn heads t.vpages x.1) (HasText t) text_to t.versions sound.whole;
       }
 
   pub sound_from : AreTextsSound key_of t → RowLaws
@@ -315,13 +271,13 @@ module _ (key_of : List ℕ → List ℕ) (t : Tables) where
         (heads_apart key_of t t.pages).1 apart,
         places.apart,
         record {
-          heads_sound = all_on_map (head_in key_of t) IsSoundHead t.pages
-              (all_by (λ x. (1 ≤ x.1.uses) × (key_of x.1.bytes ≡ x.1.key)) (IsFirst t.pages) (λ x. IsSoundHead (head_in key_of t x)) (λ x h first. record { used = h.0; keyed = (bytes_eq-Decides (key_of x.1.bytes) x.1.key).1 h.1; first = first }) t.pages
+          heads_sound = all_map IsSoundHead (head_in key_of t) t.pages
+              (all_both (λ x. (1 ≤ x.1.uses) × (key_of x.1.bytes ≡ x.1.key)) (IsFirst t.pages) (λ x. IsSoundHead (head_in key_of t x)) (λ x h first. record { used = h.0; keyed = (bytes_eq-Decides (key_of x.1.bytes) x.1.key).1 h.1; first = first }) t.pages
               (all_parts (λ x. 1 ≤ x.1.uses) (λ x. key_of x.1.bytes ≡ x.1.key) t.pages places.pages.used sound.keyed) (differ_from t.pages places.pages.differ));
           counts = counts_of_pages apart places.counted;
           places = sound.placed;
           names = names_of_rows places.counted;
-          whole = all_as (HasText t) (λ x. HasTextIn heads t.vpages x.1) text_from t.versions sound.texts;
+          whole = all_weaker (HasText t) (λ x. HasTextIn heads t.vpages x.1) text_from t.versions sound.texts;
         },
       )
 

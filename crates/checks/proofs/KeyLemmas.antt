@@ -9,15 +9,16 @@ use Rattle.std.proofs.lemmas.Bool.{and_parts, eqb-true}
 use Rattle.std.proofs.lemmas.Bool.Decides.{nat_tests}
 use Rattle.std.proofs.lemmas.Cmp.{nat_eq_equiv, nat_list_eq_equiv}
 use Rattle.std.proofs.lemmas.Map.Text.{is_eq-slice_cmp}
-use Rattle.statements.proofs.NameLists.{same_text}
+use Rattle.std.proofs.Math.Bool.{or-false, and_comm}
+use Rattle.basis.proofs.NameLemmas.{equal_bytes}
 use Rattle.checks.specs.declared.keys.RowKey.{RowKey}
 use Rattle.checks.specs.Inner.Firsts.{key_cmp}
 use Rattle.checks.specs.Inner.Keys.{is_key}
-use Rattle.checks.proofs.RowLists.{any_same, or_none}
+use Rattle.checks.proofs.RowLists.{any_same}
 
 or_turned : (a b : Bool) → (a || b) ≡ (b || a)
 or_turned true b = elim b as (λ b. true ≡ (b || true)) [ true ↦ refl | false ↦ refl ]
-or_turned false b = sym (or_none b)
+or_turned false b = sym (or-false b)
 
 or_grouped : (a b c : Bool) → (a || (b || c)) ≡ ((a || b) || c)
 or_grouped true b c = refl
@@ -25,11 +26,11 @@ or_grouped false b c = refl
 
 or_again : (a b c : Bool) → a ≡ c → (a || b) ≡ ((a || b) || c)
 or_again true b c e = refl
-or_again false b c e = sym (or_none b) ∙ ap (λ x. b || x) e
+or_again false b c e = sym (or-false b) ∙ ap (λ x. b || x) e
 
 module _ {K : Type 0} (cmp : K → K → Ordering) (p : K → Bool) (k : K) (same : (x : K) → cmp k x ≡ Equal → p x ≡ p k) where
   pub any_inserted : (ks : List K) → list_any p (insert_key cmp ks k) ≡ (list_any p ks || p k)
-  any_inserted [] = or_none (p k)
+  any_inserted [] = or-false (p k)
   any_inserted (x ∷ xs) = go (cmp k x) refl (any_inserted xs)
     where
       go : (o : Ordering) → cmp k x ≡ o → list_any p (insert_key cmp xs k) ≡ (list_any p xs || p k)
@@ -37,9 +38,6 @@ module _ {K : Type 0} (cmp : K → K → Ordering) (p : K → Bool) (k : K) (sam
       go Less e more = or_turned (p k) (p x || list_any p xs)
       go Equal e more = or_again (p x) (list_any p xs) (p k) (same x e)
       go Greater e more = ap (λ b. p x || b) more ∙ or_grouped (p x) (list_any p xs) (p k)
-
-same_number : (x y : ℕ) → (x == y) ≡ true → x ≡ y
-same_number = eqb-true
 
 pub bytes_turned : (x y : List ℕ) → bytes_eq x y ≡ bytes_eq y x
 bytes_turned = nat_list_eq_equiv.symm
@@ -66,10 +64,10 @@ same_columns k x e first second number place =
     let all = and_parts _ _ (sym (key_found k x) ∙ ap is_eq e) in
     let rest = and_parts _ _ all.1 in
     let texts = and_parts _ _ rest.1 in
-    let of_place = same_number x.place k.place all.0 in
-    let of_number = same_number x.number k.number rest.0 in
-    let of_first = same_text x.first.now k.first.now texts.0 in
-    let of_second = same_text x.second.now k.second.now texts.1 in
+    let of_place = eqb-true x.place k.place all.0 in
+    let of_number = eqb-true x.number k.number rest.0 in
+    let of_first = equal_bytes x.first.now k.first.now texts.0 in
+    let of_second = equal_bytes x.second.now k.second.now texts.1 in
     λ i. of_place i == place && (of_number i == number && (bytes_eq (of_first i) first && bytes_eq (of_second i) second))
 
 pub key_added : (first second : List ℕ) (number place : ℕ) (k : RowKey) (ks : List RowKey)
@@ -82,16 +80,12 @@ key_among k ks = any_same _ _ (key_found k) ks
 pub number_turned : (x y : ℕ) → (x == y) ≡ (y == x)
 number_turned = nat_eq_equiv.symm
 
-pub both_turned : (a b : Bool) → (a && b) ≡ (b && a)
-both_turned true b = elim b as (λ b. b ≡ (b && true)) [ true ↦ refl | false ↦ refl ]
-both_turned false b = elim b as (λ b. false ≡ (b && false)) [ true ↦ refl | false ↦ refl ]
-
 all_fail : (a b : Bool) → false ≡ (a && (b && false))
 all_fail true b = elim b as (λ b. false ≡ (b && false)) [ true ↦ refl | false ↦ refl ]
 all_fail false b = refl
 
 pub regrouped : (place number first second : Bool) → (place && (number && (first && second))) ≡ (first && (second && (number && place)))
-regrouped true true first second = ap (λ b. first && b) (both_turned true second)
+regrouped true true first second = ap (λ b. first && b) (and_comm true second)
 regrouped true false first second = all_fail first second
 regrouped false true first second = all_fail first second
 regrouped false false first second = all_fail first second

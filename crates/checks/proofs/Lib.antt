@@ -5,7 +5,6 @@ pub mod HeadLemmas
 pub mod InTables
 pub mod JudgingLemmas
 pub mod KeyLemmas
-pub mod LookLemmas
 pub mod NumberLemmas
 pub mod PageKeys
 pub mod PlacesLemmas

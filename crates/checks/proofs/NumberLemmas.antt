@@ -1,5 +1,5 @@
 -- Numbers that are sorted.
-use Rattle.std.proofs.Common.{◌≡◌, ℕ, suc, false, List, [], ◌∷◌, refl, sym, ap, ◌∙◌, arith, Ordering, Less, Equal, Greater, is_gt, is_lt, is_eq, nat_cmp, IsPermutation, IsSorted, add-one}
+use Rattle.std.proofs.Common.{◌≡◌, ℕ, suc, List, [], ◌∷◌, refl, sym, ap, ◌∙◌, arith, Ordering, Less, Equal, Greater, is_gt, is_eq, nat_cmp, IsPermutation, IsSorted, add-one}
 use Rattle.std.specs.List.{AllByRecursion}
 use Rattle.std.specs.Cmp.{nat_cmp_total, unsigned_tied}
 use Rattle.std.proofs.lemmas.Bool.{eqb-true}
@@ -9,17 +9,13 @@ use Rattle.sqlite_trees.specs.Tree.{IsAscending}
 use Rattle.sqlite_keyed.specs.Lists.{sort_by, insert_sorted}
 use Rattle.sqlite_keyed.proofs.ListLemmas.{all_weaker, along_permutation}
 use Rattle.statements.proofs.Sorting.{AtMost, sorted_as_is}
+use Rattle.statements.proofs.Prefixes.{not_gt_back}
 use Rattle.tables.proofs.Sorted.{put_in_turn}
-
-turned : (o : Ordering) → is_lt o ≡ false → is_gt (ordering_reverse o) ≡ false
-turned Less h = h
-turned Equal h = refl
-turned Greater h = refl
 
 below_all : (x : ℕ) (ys : List ℕ) → IsSorted nat_cmp (x ∷ ys) → IsAscending (AtMost nat_cmp) ys → AllByRecursion (AtMost nat_cmp x) ys
 below_all x [] sorted up = tt
 below_all x (y ∷ ys) sorted up =
-    let first : AtMost nat_cmp x y = ap is_gt (nat_cmp_total.antisymm x y) ∙ turned _ (sorted 0 x (omega arith) (omega arith)) in
+    let first : AtMost nat_cmp x y = ap is_gt (nat_cmp_total.antisymm x y) ∙ not_gt_back _ (sorted 0 x (omega arith) (omega arith)) in
     (first, all_weaker _ (AtMost nat_cmp x) (λ z. upto nat_cmp_total x y z first) ys up.0)
 
 ascending : (xs : List ℕ) → IsSorted nat_cmp xs → IsAscending (AtMost nat_cmp) xs

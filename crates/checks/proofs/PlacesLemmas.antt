@@ -9,6 +9,7 @@ use Rattle.std.specs.BTreeMap.{BTreeMap, get}
 use Rattle.std.proofs.lemmas.List.{take_more, take_all, length-take-le}
 use Rattle.std.proofs.lemmas.List.Folds.{find-append}
 use Rattle.std.proofs.lemmas.List.Filters.{length-filter_more, length-filter_both}
+use Rattle.std.proofs.Math.Bool.{and-true}
 use Rattle.statements.specs.declared.rows.PageHead.{PageHead}
 use Rattle.statements.specs.Rows.{Kept, VersionRow, VpageRow}
 use Rattle.texts.specs.Texts.{pages_for, piece_size, names_page}
@@ -24,35 +25,19 @@ use Rattle.checks.specs.Inner.Keys.{is_key}
 use Rattle.checks.specs.Inner.Firsts.{key_cmp, IsKeyOf}
 use Rattle.checks.proofs.FirstsLemmas.{at_key, empty_at}
 use Rattle.checks.proofs.JudgingLemmas.{judges_both, judges_as}
-
-and_right : (p : Bool) → (p && true) ≡ p
-and_right true = refl
-and_right false = refl
-
-and_none : (p : Bool) → (p && false) ≡ false
-and_none true = refl
-and_none false = refl
-
-both_none : (p q : Bool) → (p && (q && false)) ≡ false
-both_none true q = and_none q
-both_none false q = refl
-
-turned : (a b c d : Bool) → (d && (c && (a && b))) ≡ (a && (b && (c && d)))
-turned a b true true = ap (λ (x : Bool). a && x) (sym (and_right b))
-turned a b true false = sym (both_none a b)
-turned a b false d = and_none d ∙ sym (both_none a b)
+use Rattle.checks.proofs.KeyLemmas.{regrouped}
 
 -- the key of a place
 pub place_parts : (k : RowKey) (f s f' s' : List ℕ) (n p n' p' : ℕ) → IsKeyOf k f s n p → is_key f' s' n' p' k ≡ (bytes_eq f f' && (bytes_eq s s' && (n == n' && p == p')))
-place_parts k f s f' s' n p n' p' h = rw (h.its_first, h.its_second, h.its_number, h.its_place) (turned (bytes_eq f f') (bytes_eq s s') (n == n') (p == p'))
+place_parts k f s f' s' n p n' p' h = rw (h.its_first, h.its_second, h.its_number, h.its_place) (regrouped (p == p') (n == n') (bytes_eq f f') (bytes_eq s s'))
 
 -- the key of a version
 pub version_parts : (k : RowKey) (f s f' s' : List ℕ) (n n' : ℕ) → IsKeyOf k f s n 0 → is_key f' s' n' 0 k ≡ (bytes_eq f f' && (bytes_eq s s' && n == n'))
-version_parts k f s f' s' n n' h = place_parts k f s f' s' n 0 n' 0 h ∙ ap (λ (b : Bool). bytes_eq f f' && (bytes_eq s s' && b)) (and_right (n == n'))
+version_parts k f s f' s' n n' h = place_parts k f s f' s' n 0 n' 0 h ∙ ap (λ (b : Bool). bytes_eq f f' && (bytes_eq s s' && b)) (and-true (n == n'))
 
 -- the key of a page
 pub page_parts : (k : RowKey) (f f' : List ℕ) (n n' : ℕ) → IsKeyOf k f [] n 0 → is_key f' [] n' 0 k ≡ (bytes_eq f f' && n == n')
-page_parts k f f' n n' h = place_parts k f [] f' [] n 0 n' 0 h ∙ ap (λ (b : Bool). bytes_eq f f' && b) (and_right (n == n'))
+page_parts k f f' n n' h = place_parts k f [] f' [] n 0 n' 0 h ∙ ap (λ (b : Bool). bytes_eq f f' && b) (and-true (n == n'))
 
 module _ {X V : Type 0} (p : X → Bool) (value : X → V) where
   first_behind : (xs : List X) (x : X) → option_map value (find p (xs ++ x ∷ [])) ≡ option_or (option_map value (find p xs)) (cond (p x) (Some (value x)) None)

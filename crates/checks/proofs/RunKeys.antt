@@ -1,5 +1,6 @@
 -- The keys of runs that a set has seen.
 use Rattle.std.proofs.Common.{◌≡◌, ℕ, Bool, true, false, not, cond, ◌&&◌, ◌||◌, List, [], ◌∷◌, refl, sym, ap, ◌∙◌, Option, Some, None, slice_get}
+use Rattle.std.proofs.Math.Bool.{or-false, and_assoc}
 use Rattle.std.specs.List.{list_all, list_any}
 use Rattle.std.specs.Str.{bytes_eq}
 use Rattle.statements.specs.Rows.{Kept, RunRow}
@@ -49,17 +50,9 @@ module _ (seen now : List ℕ → Bool) (key : List ℕ) (added : (q : List ℕ)
   still_unseen [] = refl
   still_unseen (x ∷ xs) = (λ i. still_new x.1.it.key i && still_unseen xs i) ∙ mixed (is_new seen x.1.it.key) (is_other key x.1.it.key) (list_all (is_unseen seen) xs) (have_others (Some key) xs)
 
-grouped : (a b c : Bool) → ((a && b) && c) ≡ (a && (b && c))
-grouped true b c = refl
-grouped false b c = refl
-
 is_first : (a : Bool) → (a && true) ≡ true → a ≡ true
 is_first true e = refl
 is_first false e = e
-
-with_none : (a : Bool) → (a || false) ≡ a
-with_none true = refl
-with_none false = refl
 
 -- one run more was looked at: the keys that are left are compared with one more
 pub one_more : (rows : List (Kept RunRow)) (place : ℕ) (places : List ℕ) (seen now : List ℕ → Bool) → ((q : List ℕ) → now q ≡ (list_any (has_key q) (picked rows (place ∷ [])) || seen q))
@@ -76,6 +69,6 @@ one_more rows place places seen now = go (slice_get rows place)
             → (list_all (is_unseen now) (picked rows places) && keys_differ (picked rows places)) ≡ ((is_new seen k && list_all (is_unseen seen) (picked rows places)) && (have_others k (picked rows places) && keys_differ (picked rows places)))
         by_key None more new = ap (λ b. b && keys_differ (picked rows places)) (same_unseen seen now more (picked rows places))
         by_key (Some key) more new =
-            ap (λ b. b && keys_differ (picked rows places)) (still_unseen seen now key (λ q. more q ∙ ap (λ b. b || seen q) (with_none (bytes_eq key q))) (picked rows places))
-            ∙ grouped (list_all (is_unseen seen) (picked rows places)) (have_others (Some key) (picked rows places)) (keys_differ (picked rows places))
+            ap (λ b. b && keys_differ (picked rows places)) (still_unseen seen now key (λ q. more q ∙ ap (λ b. b || seen q) (or-false (bytes_eq key q))) (picked rows places))
+            ∙ and_assoc (list_all (is_unseen seen) (picked rows places)) (have_others (Some key) (picked rows places)) (keys_differ (picked rows places))
             ∙ ap (λ b. (b && list_all (is_unseen seen) (picked rows places)) && (have_others (Some key) (picked rows places) && keys_differ (picked rows places))) (sym (is_first (not (seen key)) new))

@@ -4,7 +4,7 @@ use Rattle.std.specs.List.{AllByRecursion, list_all}
 use Rattle.std.specs.Option.{unwrap_or}
 use Rattle.std.specs.Str.{bytes_eq}
 use Rattle.std.specs.Cmp.{nat_cmp_total, tied_itself}
-use Rattle.std.proofs.lemmas.Bool.{and_from, leb-true, le-leb, eqb-true}
+use Rattle.std.proofs.lemmas.Bool.{and_from, leb-true, le-leb, eqb-true, not-true}
 use Rattle.std.proofs.lemmas.List.{length-map}
 use Rattle.std.proofs.lemmas.List.Sorted.{IsPermutation-sym}
 use Rattle.sqlite_trees.specs.Tree.{IsAscending}
@@ -27,7 +27,7 @@ use Rattle.statements.specs.Tables.{Tables}
 use Rattle.statements.specs.Changes.{is_run_of}
 use Rattle.statements.specs.Finds.{run_cmp}
 use Rattle.tables.specs.Records.{runs_at}
-use Rattle.tables.proofs.Names.{same_name, name_is}
+use Rattle.tables.proofs.Names.{turned_apart}
 use Rattle.tables.proofs.Ordered.{runs_total}
 use Rattle.tables.proofs.Sorted.{count_sorted, found_sorted}
 use Rattle.checks.specs.Versions.{rises, sorted}
@@ -156,23 +156,12 @@ is_apart : Option (List ℕ) → Option (List ℕ) → Bool
 is_apart None other = true
 is_apart (Some key) other = is_other key other
 
-not_same : (b : Bool) → not b ≡ true → b ≡ false
-not_same true e = sym e
-not_same false e = refl
-
-turned : (a b : List ℕ) → bytes_eq a b ≡ false → bytes_eq b a ≡ false
-turned a b apart = go (bytes_eq b a) refl
-  where
-    go : (same : Bool) → bytes_eq b a ≡ same → bytes_eq b a ≡ false
-    go false e = e
-    go true e = absurd (true≢false (sym (name_is a) ∙ subst (λ c. bytes_eq a c ≡ false) (same_name b a e) apart))
-
 apart_turned : (a b : Option (List ℕ)) → is_apart a b ≡ true → is_apart b a ≡ true
 unfolding is_apart
 apart_turned None None e = refl
 apart_turned None (Some b) e = refl
 apart_turned (Some a) None e = refl
-apart_turned (Some a) (Some b) e = ap not (turned a b (not_same (bytes_eq a b) e))
+apart_turned (Some a) (Some b) e = ap not (turned_apart a b (not-true (bytes_eq a b) e))
 
 abbrev Apart : Kept RunRow → Kept RunRow → Type 0
 Apart x y = is_apart x.1.it.key y.1.it.key ≡ true
@@ -205,7 +194,7 @@ other_by_law key (Some o) h = ap not h
 
 law_of_other : (key : List ℕ) (other : Option (List ℕ)) → is_other key other ≡ true → IfSome other (λ o. bytes_eq key o ≡ false)
 law_of_other key None h = tt
-law_of_other key (Some o) h = not_same (bytes_eq key o) h
+law_of_other key (Some o) h = not-true (bytes_eq key o) h
 
 abbrev Others : Option (List ℕ) → List (Kept RunRow) → Type 0
 Others key ys = IfSome key (λ k. AllByRecursion (λ (s : Run). IfSome s.key (λ other. bytes_eq k other ≡ false)) (map value ys))
@@ -271,7 +260,7 @@ tied n x y e f =
 
 queued_by_test : (o : Option (Kept RunRow)) → unwrap_or (option_map (λ (x : Kept RunRow). not x.1.it.plan_only) o) false ≡ true → IsSomeAnd (option_map value o) (λ r. r.plan_only ≡ false)
 queued_by_test None e = absurd (true≢false (sym e))
-queued_by_test (Some x) e = not_same x.1.it.plan_only e
+queued_by_test (Some x) e = not-true x.1.it.plan_only e
 
 test_of_queued : (o : Option (Kept RunRow)) → IsSomeAnd (option_map value o) (λ r. r.plan_only ≡ false) → unwrap_or (option_map (λ (x : Kept RunRow). not x.1.it.plan_only) o) false ≡ true
 test_of_queued None h = absurd h

@@ -12,6 +12,7 @@ use Rattle.tables.specs.Opening.{IsFresh, IsSoundKeep}
 use Rattle.tables.specs.Scans.{AreRowsOf, ArePagesKeyed}
 use Rattle.tables.specs.Sound.{IsSound}
 use Rattle.statements.specs.declared.rows.Rows.{Rows}
+use Rattle.statements.proofs.Joined.{map_none}
 use Rattle.checks.specs.declared.found.Fault.{Fault}
 use Rattle.checks.specs.declared.found.Found.{Found}
 use Rattle.checks.specs.declared.stores.Looked.{Looked}
@@ -57,11 +58,6 @@ told_more_names names i name old new low is noted_it told =
 pub none_told : (faults : List Fault) → faults ≡ [] → TellsNames [] faults
 none_told faults none = all_told faults faults none (adds_none faults (λ f says. says))
 
--- where nothing is listed nothing was
-none_mapped : {A B : Type 0} (f : A → B) (xs : List A) → map f xs ≡ [] → xs ≡ []
-none_mapped f [] none = refl
-none_mapped f (x ∷ xs) none = absurd (cc)
-
 none_listed : {A B : Type 0} (f : A → B) (xs : List A) → xs ≡ [] → map f xs ≡ []
 none_listed f [] none = refl
 none_listed f (x ∷ xs) none = absurd (cc)
@@ -70,7 +66,7 @@ none_listed f (x ∷ xs) none = absurd (cc)
 pub tables_told : (old new : State) (names lines : List (List ℕ)) (faults : List Fault) → NamesTables old new names → (faults ≡ [] → names ≡ []) → (names ≡ [] → faults ≡ []) → TellsNames names faults
     → lines ≡ map fault_line faults → TellsTables old.committed new.committed lines
 tables_told old new names lines faults named holds clean told are = record {
-  none = (λ none. named.none.0 (holds (none_mapped fault_line faults (sym are ∙ none))), λ ours. are ∙ none_listed fault_line faults (clean (named.none.1 ours)));
+  none = (λ none. named.none.0 (holds (map_none fault_line faults (sym are ∙ none))), λ ours. are ∙ none_listed fault_line faults (clean (named.none.1 ours)));
   others = record { names = names; others = named.named; each = record { faults = faults; told = told; lines_are = are } };
   same = named.same;
 }
@@ -80,7 +76,7 @@ pub rows_told : (rows : Rows) (found : Found) (lines : List (List ℕ)) → line
     → ((key_of : List ℕ → List ℕ) (t : Tables) → AreRowsOf key_of t rows → Decides (IsSound t × ArePagesKeyed key_of t) found) → AreTold (IsFaultOf rows) found.faults → TellsFaults rows lines
 rows_told rows found lines are decides told = record {
   each = record { faults = found.faults; told = told; lines_are = are };
-  holds = λ none key_of t rows_of. (decides key_of t rows_of).holds (none_mapped fault_line found.faults (sym are ∙ none));
+  holds = λ none key_of t rows_of. (decides key_of t rows_of).holds (map_none fault_line found.faults (sym are ∙ none));
   clean = λ key_of t rows_of sound keyed. are ∙ none_listed fault_line found.faults ((decides key_of t rows_of).clean (sound, keyed));
 }
 

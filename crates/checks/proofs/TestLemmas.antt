@@ -1,10 +1,12 @@
 -- Tests of lists, and laws of sorted lists.
-use Rattle.std.proofs.Common.{◌≡◌, ℕ, Bool, true, false, not, cond, ◌&&◌, slice_get, is_some, List, [], ◌∷◌, map, Option, Some, None, refl, sym, ap, ◌∙◌, Ordering, is_gt}
+use Rattle.std.proofs.Common.{◌≡◌, ℕ, Bool, true, false, not, cond, ◌&&◌, slice_get, is_some, List, [], ◌∷◌, map, Option, Some, None, refl, sym, ap, ◌∙◌, Ordering}
 use Rattle.std.specs.List.{AllByRecursion, list_all}
 use Rattle.std.proofs.lemmas.Bool.{and_from}
 use Rattle.sqlite_keyed.proofs.RuleLemmas.{first_of_both, second_of_both}
-use Rattle.sqlite_keyed.specs.Lists.{sort_by, insert_sorted}
+use Rattle.sqlite_keyed.proofs.ListLemmas.{all_map, all_unmap}
+use Rattle.sqlite_keyed.specs.Lists.{sort_by}
 use Rattle.statements.proofs.Sorting.{all_sorted}
+use Rattle.tables.proofs.Sorted.{all_unsorted}
 use Rattle.checks.specs.Versions.{first_unfit}
 use Rattle.checks.specs.Inner.Groups.{with_some, picked}
 
@@ -18,33 +20,13 @@ module _ {X : Type 0} (test : X → Bool) (P : X → Type 0) where
   tests_from_all passes (x ∷ xs) all = and_from (test x) (list_all test xs) (passes x all.0) (tests_from_all passes xs all.1)
 
 module _ {A : Type 0} (cmp : A → A → Ordering) where
-  all_taken : (P : A → Type 0) (x : A) (ys : List A) → AllByRecursion P (insert_sorted cmp x ys) → P x × AllByRecursion P ys
-  all_taken P x [] all = (all.0, tt)
-  all_taken P x (y ∷ ys) all = go (is_gt (cmp x y)) all (all_taken P x ys)
-    where
-      go : (b : Bool) → AllByRecursion P (cond b (y ∷ insert_sorted cmp x ys) (x ∷ y ∷ ys)) → (AllByRecursion P (insert_sorted cmp x ys) → P x × AllByRecursion P ys) → P x × AllByRecursion P (y ∷ ys)
-      go true every more = let rest = more every.1 in (rest.0, (every.0, rest.1))
-      go false every more = every
-
-  all_unsorted : (P : A → Type 0) (xs : List A) → AllByRecursion P (sort_by cmp xs) → AllByRecursion P xs
-  all_unsorted P [] all = tt
-  all_unsorted P (x ∷ xs) all = let taken = all_taken P x (sort_by cmp xs) all in (taken.0, all_unsorted P xs taken.1)
-
   module _ {B : Type 0} (P : B → Type 0) (f : A → B) where
-    mapped : (ys : List A) → AllByRecursion (λ x. P (f x)) ys → AllByRecursion P (map f ys)
-    mapped [] all = tt
-    mapped (y ∷ ys) all = (all.0, mapped ys all.1)
-
-    unmapped : (ys : List A) → AllByRecursion P (map f ys) → AllByRecursion (λ x. P (f x)) ys
-    unmapped [] all = tt
-    unmapped (y ∷ ys) all = (all.0, unmapped ys all.1)
-
     -- what holds of all rows holds of what they denote, in the order of the numbers
     pub all_in_order : (xs : List A) → AllByRecursion (λ x. P (f x)) xs → AllByRecursion P (map f (sort_by cmp xs))
-    all_in_order xs all = mapped (sort_by cmp xs) (all_sorted cmp (λ x. P (f x)) xs all)
+    all_in_order xs all = all_map P f (sort_by cmp xs) (all_sorted cmp (λ x. P (f x)) xs all)
 
     pub all_as_they_stand : (xs : List A) → AllByRecursion P (map f (sort_by cmp xs)) → AllByRecursion (λ x. P (f x)) xs
-    all_as_they_stand xs all = all_unsorted (λ x. P (f x)) xs (unmapped (sort_by cmp xs) all)
+    all_as_they_stand xs all = all_unsorted cmp (λ x. P (f x)) xs (all_unmap P f (sort_by cmp xs) all)
 
 -- all pass where there is no first one that doesn't
 not_back : (a b : Bool) → b ≡ not a → a ≡ not b

@@ -1,5 +1,6 @@
 -- What is judged of rows of workspaces is what is said of records, where each workspace has one row.
 use Rattle.std.proofs.Common.{◌≡◌, ℕ, ◌≤◌, Bool, true, false, cond, List, [], ◌∷◌, find, length, Option, Some, None, is_some, option_map, refl, sym, ap, ◌∙◌, subst, arith, true≢false}
+use Rattle.std.proofs.lemmas.Option.{same_Some}
 use Rattle.std.specs.List.{AllByRecursion, list_any}
 use Rattle.std.specs.Str.{bytes_eq}
 use Rattle.std.specs.FinMap.{entries, len-entries}
@@ -7,6 +8,7 @@ use Rattle.sqlite_keyed.specs.Rules.{AreApart}
 use Rattle.sqlite_keyed.proofs.ListLemmas.{all_weaker, filter_none}
 use Rattle.sqlite_keyed.proofs.SliceLemmas.{any_is_found}
 use Rattle.basis.specs.declared.numbers.TheConstants.{MAX_LIMIT}
+use Rattle.basis.proofs.NameLemmas.{equal_bytes}
 use Rattle.machine.specs.Records.{count_of}
 use Rattle.machine.specs.declared.records.Workspace.{Workspace}
 use Rattle.machine.specs.declared.records.Organization.{Organization}
@@ -17,9 +19,8 @@ use Rattle.statements.specs.Finds.{cap_of}
 use Rattle.statements.proofs.Found.{found_passes, found_holds}
 use Rattle.tables.specs.Records.{workspace_at, workspace_by, workspaces_at, organization_at, record_of}
 use Rattle.tables.specs.Sound.{IsSoundWorkspace}
-use Rattle.tables.proofs.Names.{same_name, pair_first, pair_second, pair_is, pair_apart}
+use Rattle.tables.proofs.Names.{pair_first, pair_second, pair_is, pair_apart}
 use Rattle.tables.proofs.Finding.{entries_counted}
-use Rattle.tables.proofs.Sets.{one_of}
 use Rattle.checks.specs.Inner.Workspaces.{AreLawfulWss}
 use Rattle.checks.specs.Workspaces.{count_in}
 use Rattle.checks.specs.Inner.Counts.{AreFew}
@@ -33,9 +34,6 @@ module _ (t : Tables) where
   abbrev AreNamed : Type 0
   AreNamed = (org name : List ℕ) (w : Workspace) → workspace_by t org name ≡ Some w → IsSoundWorkspace name w
 
-  some_is : (a b : Workspace) → Some a ≡ Some b → a ≡ b
-  some_is a b e = let same : a ≡ b = cc e in same
-
   -- what rows denote is lawful by each name
   pub named_by_rows : AreLawfulWss t → AreNamed
   named_by_rows all org name w = go (find (is_ws org name) t.wss) refl
@@ -46,7 +44,7 @@ module _ (t : Tables) where
           let passes : is_ws org name x ≡ true = found_passes (is_ws org name) t.wss x e in
           let lawful : IsSoundWorkspace x.1.name (workspace_at t x.1.org x.1.name x.1.it) =
           found_holds (λ (y : Kept WsRow). IsSoundWorkspace y.1.name (workspace_at t y.1.org y.1.name y.1.it)) (is_ws org name) t.wss x all e in
-          subst (IsSoundWorkspace name) (some_is (workspace_at t org name x.1.it) w is)
+          subst (IsSoundWorkspace name) (same_Some (workspace_at t org name x.1.it) w is)
           (subst (λ o. IsSoundWorkspace name (workspace_at t o name x.1.it)) (pair_first org name x.1.org x.1.name passes)
           (subst (λ n. IsSoundWorkspace n (workspace_at t x.1.org n x.1.it)) (pair_second org name x.1.org x.1.name passes) lawful))
 
@@ -85,7 +83,7 @@ module _ (t : Tables) where
     where
       go : (cap : Option ℕ) → option_map (organization_at t org) cap ≡ Some o → count_of o ≤ MAX_LIMIT
       go None is = absurd (let none : ⊥ = cc is in none)
-      go (Some cap) is = subst (λ p. count_of p ≤ MAX_LIMIT) (one_of (organization_at t org cap) o is) (subst (λ n. n ≤ MAX_LIMIT) (sym (counted apart org)) (few org))
+      go (Some cap) is = subst (λ p. count_of p ≤ MAX_LIMIT) (same_Some (organization_at t org cap) o is) (subst (λ n. n ≤ MAX_LIMIT) (sym (counted apart org)) (few org))
 
   pub rows_by_counts : AreSingle → AllByRecursion (λ x. list_any (is_org x.1.org) t.orgs ≡ true) t.wss → AreCounted → AreFew t.wss
   rows_by_counts apart owned counts org = go (find (is_org org) t.orgs) refl
@@ -96,7 +94,7 @@ module _ (t : Tables) where
           by_test : (b : Bool) → bytes_eq x.1.org org ≡ b → bytes_eq x.1.org org ≡ false
           by_test false e = e
           by_test true e =
-              absurd (true≢false (sym owner ∙ any_is_found (is_org x.1.org) t.orgs ∙ ap (λ o. is_some (find (is_org o) t.orgs)) (same_name x.1.org org e) ∙ ap is_some none))
+              absurd (true≢false (sym owner ∙ any_is_found (is_org x.1.org) t.orgs ∙ ap (λ o. is_some (find (is_org o) t.orgs)) (equal_bytes x.1.org org e) ∙ ap is_some none))
 
       go : (o : Option (Kept OrgRow)) → find (is_org org) t.orgs ≡ o → count_in t.wss org ≤ MAX_LIMIT
       go None e =

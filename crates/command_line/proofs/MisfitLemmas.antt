@@ -7,6 +7,7 @@ use Rattle.std.specs.Str.{bytes_eq}
 use Rattle.basis.specs.Names.{is_org_name, is_prefix}
 use Rattle.basis.specs.declared.roles.Role.{Role}
 use Rattle.std.proofs.lemmas.List.{get_or_default}
+use Rattle.std.proofs.lemmas.Bool.{and_from}
 use Rattle.clap.proofs.WalkLemmas.{find_here}
 use Rattle.command_line.specs.Arguments.{arguments_at, arguments_of, arguments_on, first_misfit, fits, is_one_of}
 use Rattle.serve.specs.Bounds.{moment_of}
@@ -72,9 +73,6 @@ choose : {X : Type 0} (P : X → Type 0) (b : Bool) (one other : X) → P one �
 choose P true one other p q = p
 choose P false one other p q = q
 
-both : (a b : Bool) → a ≡ true → b ≡ true → (a && b) ≡ true
-both a b p q = rw (p, q)
-
 -- ---- values
 
 seconds_fit : (usual : ℕ) (o : Option (List ℕ)) → option_map_or (λ word. is_some (seconds_of word)) o true ≡ true → is_some (seconds_or usual o) ≡ true
@@ -137,7 +135,7 @@ module _ (given : Given) where
       (λ org is_org. some_then given.name _ (is_there is_org_name given.name named)
       (λ name is_name. some_then given.role _ (is_there (λ word. is_some (role_of word)) given.role may)
       (λ role is_role. some_where (is_org_name org && is_org_name name) _
-      (both (is_org_name org) (is_org_name name) (passes is_org_name given.org org of_one is_org) (passes is_org_name given.name name named is_name))
+      (and_from (is_org_name org) (is_org_name name) (passes is_org_name given.org org of_one is_org) (passes is_org_name given.name name named is_name))
       (some_then (role_of role) _ (passes (λ word. is_some (role_of word)) given.role role may is_role)
       (λ r is. some_map (bounds_given given.until given.prefix) _ bounded)))))
 
@@ -168,7 +166,7 @@ module _ (given : Given) (org : List ℕ) (is : given.org ≡ Some org) where
       let named = all.1.1.0 in
       some_then given.name _ (is_there is_org_name given.name named)
       (λ name is_name. some_where (is_org_name org && is_org_name name) _
-      (both (is_org_name org) (is_org_name name) (fits_org all.1.0) (passes is_org_name given.name name named is_name)) refl)
+      (and_from (is_org_name org) (is_org_name name) (fits_org all.1.0) (passes is_org_name given.name name named is_name)) refl)
 
   on_leads : (command : List ℕ) → Leads given (arguments_on command) (command_on command org given)
   on_leads command =

@@ -1,3 +1,3 @@
 mod Apart
 mod Defining
-mod Naming
+pub mod Naming

@@ -2,6 +2,7 @@
 use Rattle.std.proofs.Common.{◌≡◌, ◌↔◌, inl, inr, ℕ, ◌+◌, ◌<◌, List, [], ◌∷◌, ◌++◌, take, length, get_or, refl, sym, ap, ◌∙◌, subst}
 use Rattle.std.specs.List.{AllByRecursion}
 use Rattle.std.proofs.lemmas.List.{take_more}
+use Rattle.std.proofs.SliceLists.{all_by_recursion_push}
 use Rattle.sqlite_schema.specs.declared.schema.Schema.{Schema}
 use Rattle.sqlite_schema.specs.declared.schema.Table.{Table}
 use Rattle.statements.specs.Place.{IsOwn}
@@ -9,11 +10,7 @@ use Rattle.definitions.specs.Others.{IsOther}
 use Rattle.definitions.specs.Inner.{NamesOther}
 
 module _ {X : Type 0} (P : X → Type 0) where
-  all_more : (xs : List X) (x : X) → AllByRecursion P xs → P x → AllByRecursion P (xs ++ x ∷ [])
-  all_more [] x h last = (last, tt)
-  all_more (a ∷ xs) x h last = (h.0, all_more xs x h.1 last)
-
-  all_less : (xs : List X) (x : X) → AllByRecursion P (xs ++ x ∷ []) → AllByRecursion P xs × P x
+  pub all_less : (xs : List X) (x : X) → AllByRecursion P (xs ++ x ∷ []) → AllByRecursion P xs × P x
   all_less [] x h = (tt, h.0)
   all_less (a ∷ xs) x h = let rest = all_less xs x h.1 in ((h.0, rest.0), rest.1)
 
@@ -35,7 +32,7 @@ module _ (s : Schema) (tables : List Table) where
       go : take i tables ++ table ∷ [] ≡ take (i + 1) tables → NamesOther s table old new → NamesSoFar (i + 1) new
       go longer (inl (own, same)) = record {
         none = (
-          λ none. subst (AllByRecursion (IsOwn s)) longer (all_more (IsOwn s) (take i tables) table (so_far.none.0 (sym same ∙ none)) own),
+          λ none. subst (AllByRecursion (IsOwn s)) longer (all_by_recursion_push (IsOwn s) (take i tables) table (so_far.none.0 (sym same ∙ none)) own),
           λ all. same ∙ so_far.none.1 (all_less (IsOwn s) (take i tables) table (subst (AllByRecursion (IsOwn s)) (sym longer) all)).0,
         );
         named = subst (AllByRecursion (IsOther s tables)) (sym same) so_far.named;
@@ -45,6 +42,6 @@ module _ (s : Schema) (tables : List Table) where
           λ none. absurd (not_none (IsOther s tables) old table.name (sym pushed ∙ none)),
           λ all. absurd (other (all_less (IsOwn s) (take i tables) table (subst (AllByRecursion (IsOwn s)) (sym longer) all)).1),
         );
-        named = subst (AllByRecursion (IsOther s tables)) (sym pushed) (all_more (IsOther s tables) old table.name so_far.named
+        named = subst (AllByRecursion (IsOther s tables)) (sym pushed) (all_by_recursion_push (IsOther s tables) old table.name so_far.named
             (record { table = table; listed = (i, low, sym is); named = refl; other = other }));
       }

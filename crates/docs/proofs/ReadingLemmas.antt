@@ -1,8 +1,8 @@
 -- The functions of Documents and the relations of Readings say the same.
-use Rattle.std.proofs.Common.{◌≡◌, ◌∙◌, sym, ap, refl, arith, ℕ, ◌<◌, ◌≤◌, List, [], ◌∷◌, length, Bool, true, false, ◌&&◌, not, cond, nat_le, Option, Some, None, option_and_then, codes}
+use Rattle.std.proofs.Common.{◌≡◌, ◌∙◌, sym, ap, refl, arith, ℕ, ◌<◌, ◌≤◌, List, [], ◌∷◌, length, Bool, true, false, ◌&&◌, cond, nat_le, Option, Some, None, option_and_then, codes}
 use Rattle.std.specs.Str.{is_utf8}
 use Rattle.std.proofs.lemmas.Str.{IsUtf8-from_is_utf8, is_utf8-from_IsUtf8}
-use Rattle.std.proofs.lemmas.Bool.{leb-true, le-leb}
+use Rattle.std.proofs.lemmas.Bool.{leb-true, le-leb, and_parts, not-true}
 use Rattle.std.proofs.lemmas.Option.{cond_some, option_and_then_some}
 use Rattle.serde_json.specs.Data.{Data, null, boolean, number, string, array, object, unsigned, negative, float, Members}
 use Rattle.serde_json.specs.Find.{get_member, as_number, as_object, as_str, as_u64}
@@ -24,11 +24,6 @@ use Rattle.docs.proofs.FlagLemmas.{option_map_some, flag_read, flag_said}
 use Rattle.docs.proofs.RunSettings.{run_settings_read, run_settings_said}
 
 -- ---- tests
-
-both : (a b : Bool) → (a && b) ≡ true → (a ≡ true) × (b ≡ true)
-both true true is = (refl, refl)
-both true false is = absurd (cc)
-both false b is = absurd (cc)
 
 -- ---- objects
 
@@ -60,7 +55,7 @@ object_said bytes ms is = rw (is_utf8-from_IsUtf8 bytes is.text, is.value) refl
 serial_read : (d : Data) (n : ℕ) → serial_of d ≡ Some n → (d ≡ number (unsigned n)) × (n < 9_223_372_036_854_775_808)
 serial_read (number (unsigned k)) n is =
     let found = cond_some (nat_le 0 k && nat_le k MAX_SERIAL) k n is in
-    let most : k ≤ 9_223_372_036_854_775_807 = leb-true k MAX_SERIAL (both (nat_le 0 k) (nat_le k MAX_SERIAL) found.0).1 in
+    let most : k ≤ 9_223_372_036_854_775_807 = leb-true k MAX_SERIAL (and_parts (nat_le 0 k) (nat_le k MAX_SERIAL) found.0).1 in
     (ap (λ x. number (unsigned x)) found.1, rw (← found.1) (omega arith))
 serial_read (number (negative z)) n is = absurd (cc)
 serial_read (number (float x)) n is = absurd (cc)
@@ -74,7 +69,7 @@ text_read : (most : ℕ) (found : Option Data) (text : List ℕ) → optional_te
 text_read most None text is = cc
 text_read most (Some (string s)) text is =
     let short = cond_some _ s text is in
-    (ap string short.1, rw (← short.1) (leb-true _ _ (both _ _ short.0).1))
+    (ap string short.1, rw (← short.1) (leb-true _ _ (and_parts _ _ short.0).1))
 text_read most (Some null) text is = absurd (cc)
 text_read most (Some (boolean b)) text is = absurd (cc)
 text_read most (Some (number n)) text is = absurd (cc)
@@ -120,24 +115,20 @@ string_as (number n) text is = absurd (cc)
 string_as (array ds) text is = absurd (cc)
 string_as (object ms) text is = absurd (cc)
 
-turned : (b : Bool) → not b ≡ true → b ≡ false
-turned true is = absurd (cc)
-turned false is = refl
-
 lock_read : (bytes : List ℕ) (ms : Members) (id : List ℕ) → IsObject bytes ms → lock_id_in ms ≡ Some id → IsLock bytes id
 lock_read bytes ms id document is =
     option_and_then_some free_id (option_and_then as_str (get_member (codes "ID") ms)) id is (λ text said free.
     option_and_then_some as_str (get_member (codes "ID") ms) text said (λ d found as_text.
     let fits = cond_some (is_free_id text) text id free in
-    let parts = both _ _ fits.0 in
-    let bounds = both _ _ parts.0 in
+    let parts = and_parts _ _ fits.0 in
+    let bounds = and_parts _ _ parts.0 in
     rw (← fits.1) (record {
       members = ms;
       document = document;
       id_text = found ∙ ap Some (string_as d text as_text);
       least = leb-true _ _ bounds.0;
       most = leb-true _ _ bounds.1;
-      free = turned _ parts.1;
+      free = not-true _ parts.1;
     })))
 
 -- lock information is what `lock_id_of` gives the ID of
@@ -165,7 +156,7 @@ small_said (b ∷ bytes) ms is = rw (le-leb _ _ is.1, object_said (b ∷ bytes) 
 retention_number_read : (d : Data) (keep : ℕ) → option_and_then (within 1 MAX_KEPT) (option_and_then as_u64 (as_number d)) ≡ Some keep → (d ≡ number (unsigned keep)) × (1 ≤ keep) × (keep ≤ MAX_KEPT)
 retention_number_read (number (unsigned k)) keep is =
     let found = cond_some (nat_le 1 k && nat_le k MAX_KEPT) k keep is in
-    let bounds = both (nat_le 1 k) (nat_le k MAX_KEPT) found.0 in
+    let bounds = and_parts (nat_le 1 k) (nat_le k MAX_KEPT) found.0 in
     (ap (λ x. number (unsigned x)) found.1, rw (← found.1) (leb-true 1 k bounds.0), rw (← found.1) (leb-true k MAX_KEPT bounds.1))
 retention_number_read (number (negative z)) keep is = absurd (cc)
 retention_number_read (number (float x)) keep is = absurd (cc)
@@ -215,7 +206,7 @@ key_read (Some value) (Some key) is =
     option_map_some Some (option_and_then (text_within 1 MAX_KEY) (as_str value)) (Some key) is (λ text said made.
     option_and_then_some (text_within 1 MAX_KEY) (as_str value) text said (λ s as_text fits.
     let parts = cond_some _ s text fits in
-    let bounds = both _ _ parts.0 in
+    let bounds = and_parts _ _ parts.0 in
     let same : s ≡ key = cc in
     (string_as value key (as_text ∙ ap Some same), rw (← same) (leb-true _ _ bounds.0), rw (← same) (leb-true _ _ bounds.1))))
 

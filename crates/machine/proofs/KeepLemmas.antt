@@ -7,6 +7,7 @@ use Rattle.std.specs.FinMap.{FinMap, entries, get, insert, remove, empty, get-em
 use Rattle.std.specs.FinMap.Entries.{find}
 use Rattle.std.specs.declared.cmp.Ordering.{Ordering}
 use Rattle.std.proofs.lemmas.Slice.Eq.{bytes_eq-Decides}
+use Rattle.std.proofs.lemmas.Option.{same_Some}
 use Rattle.basis.specs.Names.{is_ws_name}
 use Rattle.machine.specs.Order.{name_cmp}
 use Rattle.machine.specs.Effects.{effect}
@@ -26,7 +27,7 @@ use Rattle.machine.proofs.RuleLemmas.{rules_are_lawful}
 use Rattle.machine.proofs.MapLemmas.{get_own, get_other, removed_own, removed_other}
 
 -- names are the same or apart
-apart_from : (a b : List ℕ) → bytes_eq a b ≡ false → a ≢ b
+pub apart_from : (a b : List ℕ) → bytes_eq a b ≡ false → a ≢ b
 apart_from a b e same = let none : ⊥ = cc (sym e ∙ (bytes_eq-Decides a b).1 same) in none
 
 -- the workspace of a name, where one is put in place or taken away
@@ -90,9 +91,6 @@ kept_by old new org lawful others own = λ q o e. by_name q o e (bytes_eq q org)
     by_name q o e true t = own o (subst (λ (p : List ℕ). new p ≡ Some o) ((bytes_eq-Decides q org).0 t) e)
     by_name q o e false t = lawful q o (sym (others q (apart_from q org t)) ∙ e)
 
-one_of : (a b : Organization) → Some a ≡ Some b → a ≡ b
-one_of a b e = cc
-
 abbrev Rows : Type 0
 Rows = FinMap name_cmp Organization
 
@@ -104,7 +102,7 @@ apply_keeps (Ok done) old new org name change o named lawful there due own other
     let after : Organization = placed o name (changed_by change (get o.workspaces name)) in
     let is : get new org ≡ Some after = own ∙ ap (option_map (λ (p : Organization). placed p name (changed_by change (get p.workspaces name)))) there in
     kept_by (λ q. get old q) (λ q. get new q) org lawful others
-    (λ p e. subst IsLawfulOrganization (one_of after p (sym is ∙ e)) (changed_is_lawful o name change (lawful org o there) named due))
+    (λ p e. subst IsLawfulOrganization (same_Some after p (sym is ∙ e)) (changed_is_lawful o name change (lawful org o there) named due))
 apply_keeps (Err fault) old new org name change o named lawful there due own others err = subst (λ (m : Rows). AreLawful (λ q. get m q)) (sym err) lawful
 
 -- an organization at its creation is lawful
@@ -118,7 +116,7 @@ new_is_lawful limit most = record {
 
 added_is_lawful : (limit : ℕ) (r : Option Organization) → limit ≤ 100_000 → ((o : Organization) → r ≡ Some o → IsLawfulOrganization o)
     → (o : Organization) → (org_added limit r).left ≡ Some o → IsLawfulOrganization o
-added_is_lawful limit None most lawful o e = subst IsLawfulOrganization (one_of (new_organization limit) o e) (new_is_lawful limit most)
+added_is_lawful limit None most lawful o e = subst IsLawfulOrganization (same_Some (new_organization limit) o e) (new_is_lawful limit most)
 added_is_lawful limit (Some p) most lawful o e = lawful o e
 
 pub org_add_keeps : {E : Type 0} (r : Result AdminAnswer E) (old new : Rows) (org : List ℕ) (limit : ℕ) → limit ≤ 100_000 → AreLawful (λ q. get old q)
@@ -135,7 +133,7 @@ limited_is_lawful : (limit : ℕ) (r : Option Organization) → limit ≤ 100_00
 limited_is_lawful limit None most lawful o e = absurd (let none : ⊥ = cc in none)
 limited_is_lawful limit (Some p) most lawful o e =
     let was : IsLawfulOrganization p = lawful p refl in
-    subst IsLawfulOrganization (one_of (with_limit p limit) o e) (record { limit = most; tokens = was.tokens; digests = was.digests; workspaces = was.workspaces })
+    subst IsLawfulOrganization (same_Some (with_limit p limit) o e) (record { limit = most; tokens = was.tokens; digests = was.digests; workspaces = was.workspaces })
 
 pub org_limit_keeps : (answer : AdminAnswer) (old new : Rows) (org : List ℕ) (limit : ℕ) → limit ≤ 100_000 → AreLawful (λ q. get old q)
     → effect answer (get new org) ≡ org_limited limit (get old org) → ((q : List ℕ) → q ≢ org → get new q ≡ get old q) → AreLawful (λ q. get new q)
@@ -158,9 +156,6 @@ no_digest digest (x ∷ es) q t none e = passed (bytes_eq x.1.digest digest) (na
 digest_apart : (o : Organization) (digest : List ℕ) (q : List ℕ) (t : Token) → has_digest digest o ≡ false → get o.tokens q ≡ Some t → t.digest ≢ digest
 digest_apart o digest q t none e = apart_from t.digest digest (no_digest digest (entries o.tokens) q t none (sym (get-entries o.tokens q) ∙ e))
 
-one_token : (t u : Token) → Some t ≡ Some u → t ≡ u
-one_token t u e = cc
-
 -- a token more, whose name is one and whose digest is new
 token_is_lawful : (o : Organization) (name : List ℕ) (token : Token) → IsLawfulOrganization o → IsToken name token → has_digest token.digest o ≡ false
     → IsLawfulOrganization (with_token o name token)
@@ -172,7 +167,7 @@ token_is_lawful o name token lawful fits none = record {
 }
   where
     own : (q : List ℕ) (t : Token) → get (insert o.tokens name token) q ≡ Some t → bytes_eq q name ≡ true → token ≡ t
-    own q t e b = one_token token t (sym (get_own o.tokens name token) ∙ subst (λ (p : List ℕ). get (insert o.tokens name token) p ≡ Some t) ((bytes_eq-Decides q name).0 b) e)
+    own q t e b = same_Some token t (sym (get_own o.tokens name token) ∙ subst (λ (p : List ℕ). get (insert o.tokens name token) p ≡ Some t) ((bytes_eq-Decides q name).0 b) e)
 
     other : (q : List ℕ) (t : Token) → get (insert o.tokens name token) q ≡ Some t → bytes_eq q name ≡ false → get o.tokens q ≡ Some t
     other q t e b = sym (get_other o.tokens name token q (apart_from q name b)) ∙ e
@@ -198,7 +193,7 @@ with_token_is_lawful name token (Some p) fits lawful o e = chosen (is_some (get 
     chosen : (a b : Bool) → has_digest token.digest p ≡ b → (cond (a || b) (effect Exists (Some p)) (effect Done (Some (with_token p name token)))).left ≡ Some o → IsLawfulOrganization o
     chosen true b t e = lawful o e
     chosen false true t e = lawful o e
-    chosen false false t e = subst IsLawfulOrganization (one_of (with_token p name token) o e) (token_is_lawful p name token (lawful p refl) fits t)
+    chosen false false t e = subst IsLawfulOrganization (same_Some (with_token p name token) o e) (token_is_lawful p name token (lawful p refl) fits t)
 
 pub token_add_keeps : {E : Type 0} (r : Result AdminAnswer E) (old new : Rows) (org name : List ℕ) (token : Token) → IsToken name token → AreLawful (λ q. get old q)
     → IfOk r (λ answer. effect answer (get new org) ≡ token_added name token (get old org)) → ((q : List ℕ) → q ≢ org → get new q ≡ get old q)
@@ -232,7 +227,7 @@ without_token_is_lawful name None lawful o e = absurd (let none : ⊥ = cc in no
 without_token_is_lawful name (Some p) lawful o e = chosen (is_some (get p.tokens name)) e
   where
     chosen : (b : Bool) → (cond b (effect Done (Some (without_token p name))) (effect Absent (Some p))).left ≡ Some o → IsLawfulOrganization o
-    chosen true is = subst IsLawfulOrganization (one_of (without_token p name) o is) (less_is_lawful p name (lawful p refl))
+    chosen true is = subst IsLawfulOrganization (same_Some (without_token p name) o is) (less_is_lawful p name (lawful p refl))
     chosen false is = lawful o is
 
 pub token_revoke_keeps : (answer : AdminAnswer) (old new : Rows) (org name : List ℕ) → AreLawful (λ q. get old q)

@@ -34,7 +34,7 @@ shown_model w None e = rw e refl
 shown_model w (Some v) e = rw e refl
 
 -- the newest version is the last of its number
-version_of-newest : (vs : List Version) (v : Version) → newest vs ≡ Some v → version_of v.number vs ≡ Some v
+pub version_of-newest : (vs : List Version) (v : Version) → newest vs ≡ Some v → version_of v.number vs ≡ Some v
 version_of-newest [] v e = cc
 version_of-newest (u ∷ []) v e =
     let is : u ≡ v = cc in

@@ -122,7 +122,7 @@ less_is Less h = refl
 less_is Equal h = absurd (let none : ⊥ = cc in none)
 less_is Greater h = absurd (let none : ⊥ = cc in none)
 
-holds_true : (b : Bool) → T b → b ≡ true
+pub holds_true : (b : Bool) → T b → b ≡ true
 holds_true true h = refl
 holds_true false h = absurd h
 

@@ -7,6 +7,7 @@ use Rattle.std.specs.Ordering.{is_lt, eq_by_cmp}
 use Rattle.std.specs.Cmp.{tied_itself}
 use Rattle.std.proofs.lemmas.List.{take_more}
 use Rattle.std.proofs.lemmas.Slice.Eq.{bytes_eq-Decides}
+use Rattle.std.proofs.Math.Bool.{or-true}
 use Rattle.machine.specs.Workspaces.{newest}
 use Rattle.machine.specs.Units.{find_last, version_of}
 use Rattle.machine.specs.Records.{with_workspace, placed}
@@ -132,10 +133,6 @@ rows_told m [] found = tt
 rows_told m (f ∷ fs) found =
     (subst (λ (r : Option Organization). IsSomeAnd r (λ (o : Organization). (count_of f.1 ≡ count_of o) × (f.1.limit ≡ o.limit))) (sym (get-entries m f.0 ∙ found.0)) (refl, refl), rows_told m fs found.1)
 
-or_true : (b : Bool) → (b || true) ≡ true
-or_true true = refl
-or_true false = refl
-
 -- what is found has its row
 row_found : (org : List ℕ) (o : Organization) (es : Entries) → find name_cmp org es ≡ Some o → list_any (is_row_of org) (map row_at es) ≡ true
 row_found org o [] e = absurd (let none : ⊥ = cc in none)
@@ -144,7 +141,7 @@ row_found org o (x ∷ es) e = passed (eq_by_cmp name_cmp org x.0) refl e (row_f
     passed : (b : Bool) → eq_by_cmp name_cmp org x.0 ≡ b → cond b (Some x.1) (find name_cmp org es) ≡ Some o → (find name_cmp org es ≡ Some o → list_any (is_row_of org) (map row_at es) ≡ true)
         → (bytes_eq x.0 org || list_any (is_row_of org) (map row_at es)) ≡ true
     passed true tied is more = ap (λ b. b || list_any (is_row_of org) (map row_at es)) ((bytes_eq-Decides x.0 org).1 (sym (tied_names org x.0 tied)))
-    passed false tied is more = ap (λ b. bytes_eq x.0 org || b) (more is) ∙ or_true (bytes_eq x.0 org)
+    passed false tied is more = ap (λ b. bytes_eq x.0 org || b) (more is) ∙ or-true (bytes_eq x.0 org)
 
 -- rows of another type, each of which is an entry
 rows_through : {E : Type 0} (name : E → List ℕ) (value : E → Organization) (es : List E) → map (λ e. org_row (name e) (value e)) es ≡ map row_at (map (λ e. (name e, value e)) es)

@@ -4,6 +4,7 @@ use Rattle.std.specs.Prelude.{find}
 use Rattle.std.specs.List.{AllByRecursion}
 use Rattle.std.proofs.lemmas.Bool.{eqb-false, lt-ltb, le-ltb}
 use Rattle.std.proofs.lemmas.Slice.Eq.{bytes_eq-Decides}
+use Rattle.std.proofs.lemmas.Option.{same_Some}
 use Rattle.basis.specs.Runs.{is_open}
 use Rattle.basis.specs.declared.rows.RunAsk.{RunAsk}
 use Rattle.basis.specs.declared.refusals.Refusal.TheVariants.{OverLimit}
@@ -39,12 +40,6 @@ use Rattle.machine.proofs.SettlesLemmas.{found_passes}
 
 abbrev pub numbers : List Run → List ℕ
 numbers runs = map (λ (r : Run). r.number) runs
-
-one_left : (u v : Workspace) → Some u ≡ Some v → u ≡ v
-one_left u v e = cc
-
-one_run : (r s : Run) → Some r ≡ Some s → r ≡ s
-one_run r s e = cc
 
 -- where numbers rise, a run that is found by whatever test is found by its number
 found_numbered : (test : Run → Bool) (low : ℕ) (runs : List Run) (next : ℕ) (f : Run) → find test runs ≡ Some f → Rises low (numbers runs) next → (low < f.number) × (run_of f.number runs ≡ Some f)
@@ -222,7 +217,7 @@ reported_settling w n action u lawful is = subst (Settling w) (sym is.is) (recor
         ⊎ (((is_pending (cond b is.status r.status) && not r.plan_only) ≡ false) × StaysThere w.settings.runs.auto_apply r (record r { status = cond b is.status r.status; action = cond b (Some action) r.action }))
     by_number m r e true t =
         let here : run_of n w.runs ≡ Some r = ap (λ (k : ℕ). run_of k w.runs) (sym (eqb-true r.number n t) ∙ run_of-number m w.runs r e) ∙ e in
-        let one : is.run ≡ r = one_run is.run r (sym is.there ∙ here) in
+        let one : is.run ≡ r = same_Some is.run r (sym is.there ∙ here) in
         inr (
           idle_now r is.status idle,
           record {
@@ -238,7 +233,7 @@ reported_settling w n action u lawful is = subst (Settling w) (sym is.is) (recor
 
     waits_before : (m : ℕ) (g : Run) → is_waiting g ≡ true → (o : Option Run) → run_of m w.runs ≡ o → option_map f o ≡ Some g → WaitedOrIsNew m w
     waits_before m g waits None e made = absurd (let none : ⊥ = cc in none)
-    waits_before m g waits (Some r) e made = by_test (r.number == n) refl (one_run (f r) g made)
+    waits_before m g waits (Some r) e made = by_test (r.number == n) refl (same_Some (f r) g made)
       where
         by_test : (b : Bool) → (r.number == n) ≡ b → (record r { status = cond b is.status r.status; action = cond b (Some action) r.action }) ≡ g → WaitedOrIsNew m w
         by_test true t same_one = absurd (let none : ⊥ = cc (sym (idle_now r is.status idle) ∙ ap (λ (x : Run). is_waiting x) same_one ∙ waits) in none)
@@ -286,7 +281,7 @@ begun_or_not u s n (Some m) rise is found = chosen (s.number == m) refl
     waits : m ≡ n → is_waiting s ≡ true
     waits at =
         let f : (f : Run) × (run_of m u.runs ≡ Some f) × (is_waiting f ≡ true) = to_start_waits u m rise (starts_first u.holder (first_waiting u.runs) m is) in
-        ap (λ (x : Run). is_waiting x) (one_run s f.0 (sym found ∙ ap (λ (k : ℕ). run_of k u.runs) (sym at) ∙ f.1)) ∙ f.2
+        ap (λ (x : Run). is_waiting x) (same_Some s f.0 (sym found ∙ ap (λ (k : ℕ). run_of k u.runs) (sym at) ∙ f.1)) ∙ f.2
 
     chosen : (b : Bool) → (s.number == m) ≡ b → (cond b Planning s.status ≡ s.status) ⊎ ((is_waiting s ≡ true) × (cond b Planning s.status ≡ Planning))
     chosen true t = inr (waits (sym (eqb-true s.number m t) ∙ run_of-number n u.runs s found), refl)
@@ -336,7 +331,7 @@ waited_before act now w v n r lawful e found waits = by_after (after_act act now
 
     by_run : (u : Workspace) → Settling w u → (start : Option ℕ) → (o : Option Run) → run_of n u.runs ≡ o → option_map (begun_by start) o ≡ Some r → WaitedOrIsNew n w
     by_run u is start None at e = absurd (let none : ⊥ = cc in none)
-    by_run u is start (Some s) at e = is.waited n s at (unbegun start s (one_run (begun_by start s) r e))
+    by_run u is start (Some s) at e = is.waited n s at (unbegun start s (same_Some (begun_by start s) r e))
 
     by_after : After w v → WaitedOrIsNew n w
     by_after (inl quietly) = inl (r, ap (run_of n) (sym quietly.0) ∙ found, waits)
@@ -457,25 +452,22 @@ pending_past ReportApplied X e = absurd (let none : ⊥ = cc in none)
 pending_past Discard X e = absurd (let none : ⊥ = cc in none)
 pending_past Cancel X e = absurd (let none : ⊥ = cc in none)
 
-abbrev to_end : (to : RunStatus) → is_open to ≡ false → (a : RunAction) → is_past a to ≡ true
-to_end to e a = ended_is_past a to e
-
 still_past : (plan_only auto_apply : Bool) (from : RunStatus) (action : RunAction) (to : RunStatus) → next_status plan_only auto_apply from action ≡ Some to → KeepsPast from action to
 still_past true auto_apply from action to e =
     led KeepsPast plan_only_steps from action to
-    ((λ a _. to_end PlannedAndFinished refl a), ((λ a _. to_end PlannedAndFinished refl a), ((λ a _. to_end Errored refl a), ((λ a _. to_end Canceled refl a), tt)))) e
+    ((λ a _. ended_is_past a PlannedAndFinished refl), ((λ a _. ended_is_past a PlannedAndFinished refl), ((λ a _. ended_is_past a Errored refl), ((λ a _. ended_is_past a Canceled refl), tt)))) e
 still_past false true from action to e =
     led KeepsPast auto_apply_steps from action to (
-      (λ a _. to_end Discarded refl a),
+      (λ a _. ended_is_past a Discarded refl),
       (
         (λ a h. planning_past a _ h),
         (
-          (λ a _. to_end PlannedAndFinished refl a),
+          (λ a _. ended_is_past a PlannedAndFinished refl),
           (
-            (λ a _. to_end Errored refl a),
+            (λ a _. ended_is_past a Errored refl),
             (
-              (λ a _. to_end Canceled refl a),
-              ((λ a h. applying_past a h), ((λ a _. to_end Discarded refl a), ((λ a _. to_end Applied refl a), ((λ a _. to_end Errored refl a), ((λ a _. to_end Canceled refl a), tt))))),
+              (λ a _. ended_is_past a Canceled refl),
+              ((λ a h. applying_past a h), ((λ a _. ended_is_past a Discarded refl), ((λ a _. ended_is_past a Applied refl), ((λ a _. ended_is_past a Errored refl), ((λ a _. ended_is_past a Canceled refl), tt))))),
             ),
           ),
         ),
@@ -483,16 +475,16 @@ still_past false true from action to e =
     ) e
 still_past false false from action to e =
     led KeepsPast confirmed_steps from action to (
-      (λ a _. to_end Discarded refl a),
+      (λ a _. ended_is_past a Discarded refl),
       (
         (λ a h. planning_past a _ h),
         (
-          (λ a _. to_end PlannedAndFinished refl a),
+          (λ a _. ended_is_past a PlannedAndFinished refl),
           (
-            (λ a _. to_end Errored refl a),
+            (λ a _. ended_is_past a Errored refl),
             (
-              (λ a _. to_end Canceled refl a),
-              ((λ a h. applying_past a h), ((λ a _. to_end Discarded refl a), ((λ a _. to_end Applied refl a), ((λ a _. to_end Errored refl a), ((λ a _. to_end Canceled refl a), tt))))),
+              (λ a _. ended_is_past a Canceled refl),
+              ((λ a h. applying_past a h), ((λ a _. ended_is_past a Discarded refl), ((λ a _. ended_is_past a Applied refl), ((λ a _. ended_is_past a Errored refl), ((λ a _. ended_is_past a Canceled refl), tt))))),
             ),
           ),
         ),
@@ -547,7 +539,7 @@ accepted_last n action now w v accepted e = by_run (run_of n w.runs) refl accept
         let start : Option ℕ = to_start u.holder (first_waiting u.runs) in
         let f : Run → Run = reported n action status in (
           begun_by start (f r),
-          ap (λ (x : Workspace). run_of n x.runs) (sym (one_left (settled u) v e)) ∙ run_of-started start n u
+          ap (λ (x : Workspace). run_of n x.runs) (sym (same_Some (settled u) v e)) ∙ run_of-started start n u
               ∙ ap (option_map (begun_by start)) (run_of-map f (λ x. refl) n w.runs ∙ ap (option_map f) found),
           ap (λ (b : Bool). cond b (Some action) r.action) (eq-eqb r.number n (run_of-number n w.runs r found)),
         )
@@ -556,7 +548,7 @@ accepted_last n action now w v accepted e = by_run (run_of n w.runs) refl accept
         → (IsRefusal (cond b (told_already r w) (by_step (next_status r.plan_only w.settings.runs.auto_apply r.status action) n action w)).answer → ⊥)
         → (cond b (told_already r w) (by_step (next_status r.plan_only w.settings.runs.auto_apply r.status action) n action w)).left ≡ Some v
         → (s : Run) × (run_of n v.runs ≡ Some s) × (s.action ≡ Some action)
-    by_last r found true t accepted e = (r, ap (λ (x : Workspace). run_of n x.runs) (sym (one_left w v e)) ∙ found, last_is r.action t)
+    by_last r found true t accepted e = (r, ap (λ (x : Workspace). run_of n x.runs) (sym (same_Some w v e)) ∙ found, last_is r.action t)
     by_last r found false t accepted e = by_status r found (next_status r.plan_only w.settings.runs.auto_apply r.status action) accepted e
 
     by_run : (o : Option Run) → run_of n w.runs ≡ o → (IsRefusal (report o n action w).answer → ⊥) → (report o n action w).left ≡ Some v
@@ -602,7 +594,7 @@ found_keyed key n (x ∷ runs) s e k = chosen (has_key key x.key) refl (x.number
     chosen : (b : Bool) → has_key key x.key ≡ b → (c : Bool) → cond c (Some x) (run_of n runs) ≡ Some s → (run_of n runs ≡ Some s → is_some (keyed_run (Some key) runs) ≡ true)
         → is_some (cond b (Some x) (keyed_run (Some key) runs)) ≡ true
     chosen true t c e more = refl
-    chosen false t true e more = absurd (let none : ⊥ = cc (sym t ∙ own x (ap (λ (y : Run). y.key) (one_run x s e) ∙ k)) in none)
+    chosen false t true e more = absurd (let none : ⊥ = cc (sym t ∙ own x (ap (λ (y : Run). y.key) (same_Some x s e) ∙ k)) in none)
     chosen false t false e more = more e
 
 abbrev HasKey : List ℕ → Workspace → Type 0
@@ -620,7 +612,7 @@ key_stays key act now w v lawful e has = by_found (keyed_run (Some key) w.runs) 
     passes (x ∷ runs) r e = chosen (is_keyed key x) refl e (λ rest. passes runs r rest)
       where
         chosen : (b : Bool) → is_keyed key x ≡ b → cond b (Some x) (find (is_keyed key) runs) ≡ Some r → (find (is_keyed key) runs ≡ Some r → is_keyed key r ≡ true) → is_keyed key r ≡ true
-        chosen true t is more = ap (is_keyed key) (sym (one_run x r is)) ∙ t
+        chosen true t is more = ap (is_keyed key) (sym (same_Some x r is)) ∙ t
         chosen false t is more = more is
 
     by_found : (o : Option Run) → keyed_run (Some key) w.runs ≡ o → is_some o ≡ true → HasKey key v
@@ -641,7 +633,7 @@ accepted_keyed ask key now w v k accepted e = by_key (keyed_run ask.key w.runs) 
   where
     numbered : (m : Option ℕ) → (IsRefusal (numbered_run m w ask now).answer → ⊥) → (numbered_run m w ask now).left ≡ Some v → HasKey key v
     numbered None accepted e = absurd (accepted tt)
-    numbered (Some n) accepted e = subst (HasKey key) (one_left (settled (with_run (new_run n ask now) w)) v e) (key_is_there key w (new_run n ask now) k)
+    numbered (Some n) accepted e = subst (HasKey key) (same_Some (settled (with_run (new_run n ask now) w)) v e) (key_is_there key w (new_run n ask now) k)
 
     chosen : (b : Bool) → (IsRefusal (cond b (numbered_run (number_left w.next_run) w ask now) (effect (refused OverLimit) (Some w))).answer → ⊥)
         → (cond b (numbered_run (number_left w.next_run) w ask now) (effect (refused OverLimit) (Some w))).left ≡ Some v → HasKey key v
@@ -650,7 +642,7 @@ accepted_keyed ask key now w v k accepted e = by_key (keyed_run ask.key w.runs) 
 
     by_key : (o : Option Run) → keyed_run ask.key w.runs ≡ o → (IsRefusal (make_run o w ask now).answer → ⊥) → (make_run o w ask now).left ≡ Some v → HasKey key v
     by_key (Some r) found accepted e =
-        subst (HasKey key) (one_left w v e) (subst (λ (x : Option (List ℕ)). is_some (keyed_run x w.runs) ≡ true) k (ap (λ (o : Option Run). is_some o) found))
+        subst (HasKey key) (same_Some w v e) (subst (λ (x : Option (List ℕ)). is_some (keyed_run x w.runs) ≡ true) k (ap (λ (o : Option Run). is_some o) found))
     by_key None found accepted e = chosen (nat_lt (open_runs w.runs) max_open_runs) accepted e
 
 pub keyed_creations_come_again : KeyedCreationsComeAgain

@@ -4,6 +4,7 @@ use Rattle.std.proofs.Common.{Bool, IsSome, IsTrue, List, None, Option, Some, []
 use Rattle.std.specs.Str.{bytes_eq}
 use Rattle.std.proofs.lemmas.Bool.{ltb-true}
 use Rattle.std.proofs.lemmas.Slice.Eq.{bytes_eq-Decides}
+use Rattle.std.proofs.lemmas.Option.{same_Some}
 use Rattle.basis.specs.Names.{is_free_id, run_id}
 use Rattle.basis.specs.declared.refusals.Refusal.{Refusal}
 use Rattle.basis.specs.declared.refusals.Refusal.TheVariants.{HeldByRun, Locked, NotApplying, NotFound, NotHeld, OldSerial, OtherLineage, OverLimit}
@@ -453,7 +454,7 @@ none_stay w None = refl
 none_stay w (Some n) = refl
 
 -- the newest, behind others
-newest_push : (vs : List Version) (v : Version) → newest (vs ++ v ∷ []) ≡ Some v
+pub newest_push : (vs : List Version) (v : Version) → newest (vs ++ v ∷ []) ≡ Some v
 newest_push [] v = refl
 newest_push (u ∷ []) v = refl
 newest_push (u ∷ x ∷ vs) v = newest_push (x ∷ vs) v
@@ -621,12 +622,9 @@ refused_once : (ask : RunAsk) (now later : ℕ) (w : Workspace) (o : Option Run)
 refused_once ask now later w (Some r) e grows = refl
 refused_once ask now later w None e grows = chosen (nat_lt (open_runs w.runs) max_open_runs) e
   where
-    one_left : (u v : Workspace) → Some u ≡ Some v → u ≡ v
-    one_left u v e = cc
-
     numbered : (m : Option ℕ) → number_left w.next_run ≡ m → (numbered_run m w ask now).left ≡ Some w → (numbered_run m w ask later).left ≡ Some w
     numbered None left e = refl
-    numbered (Some n) left e = absurd (grows n left (ap (λ (x : Workspace). x.next_run) (one_left (settled (with_run (new_run n ask now) w)) w e)))
+    numbered (Some n) left e = absurd (grows n left (ap (λ (x : Workspace). x.next_run) (same_Some (settled (with_run (new_run n ask now) w)) w e)))
 
     chosen : (b : Bool) → (cond b (numbered_run (number_left w.next_run) w ask now) (effect (refused Refusal.OverLimit) (Some w))).left ≡ Some w
         → (cond b (numbered_run (number_left w.next_run) w ask later) (effect (refused Refusal.OverLimit) (Some w))).left ≡ Some w

@@ -1,6 +1,7 @@
 -- The rules on runs keep the laws of a workspace.
 use Rattle.std.proofs.Common.{◌≡◌, ℕ, ◌+◌, ◌<◌, ◌≤◌, ◌==◌, Bool, true, false, not, ◌&&◌, cond, List, [], ◌∷◌, ◌++◌, codes, map, Option, Some, None, option_map, IsSomeAnd, refl, sym, ap, subst, ◌∙◌, arith, eqb-true, ne_eqb}
 use Rattle.std.proofs.lemmas.Bool.{eqb-false}
+use Rattle.std.proofs.SliceLists.{all_by_recursion_push}
 use Rattle.std.specs.List.{AllByRecursion}
 use Rattle.basis.specs.Runs.{is_open}
 use Rattle.basis.specs.declared.rows.RunAsk.{RunAsk}
@@ -13,7 +14,7 @@ use Rattle.machine.specs.Workspaces.{max_open_runs, run_of, keyed_run, open_runs
 use Rattle.machine.specs.Settling.{settled}
 use Rattle.machine.specs.Rules.{new_run, with_run, number_left, reported, frees, with_report}
 use Rattle.machine.proofs.StepLemmas.{leads_where_it_ends, never_pending, from_open, stays_idle, open_is_active, ended_is_idle}
-use Rattle.machine.proofs.RunLemmas.{run_of-number, run_of-map, none_numbered, only_one_numbered, some_numbered-push, keys_differ-map, keys_differ-push, open_runs-push, open_runs-map, all-push, all-both, all-map, all_found, numbers-map, Rises-more}
+use Rattle.machine.proofs.RunLemmas.{run_of-number, run_of-map, none_numbered, only_one_numbered, some_numbered-push, keys_differ-map, keys_differ-push, open_runs-push, open_runs-map, all-both, all-map, all_found, numbers-map, Rises-more}
 use Rattle.machine.proofs.SettlingLemmas.{freed_is_lawful}
 use Rattle.machine.proofs.LawLemmas.{number_left-is, still_is_lawful, under_lock}
 use Rattle.basis.specs.declared.rows.Holder.{Holder}
@@ -64,7 +65,7 @@ more_runs : (h : Holder) (runs : List Run) (r : Run) → 0 < r.number → r.numb
 more_runs h runs r above most are is room unkeyed = record {
   next = (omega (arith, above), most);
   rise = Rises-more 0 runs r above are.rise;
-  each = all-push (IsRun h) runs r are.each is;
+  each = all_by_recursion_push (IsRun h) runs r are.each is;
   open_runs = omega (arith, open_runs-push runs r, room);
   keys = keys_differ-push runs r are.keys unkeyed;
   held = holder_more h runs r are.held;

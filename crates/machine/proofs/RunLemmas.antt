@@ -242,10 +242,6 @@ open_runs-map f (x ∷ runs) all = chosen (is_open (f x).status) (is_open x.stat
 
 -- ---- of all runs
 
-pub all-push : (P : Run → Type 0) (runs : List Run) (r : Run) → AllByRecursion P runs → P r → AllByRecursion P (runs ++ r ∷ [])
-all-push P [] r all h = (h, tt)
-all-push P (x ∷ runs) r all h = (all.0, all-push P runs r all.1 h)
-
 pub all-map : (P Q : Run → Type 0) (f : Run → Run) → ((x : Run) → P x → Q (f x)) → (runs : List Run) → AllByRecursion P runs → AllByRecursion Q (map f runs)
 all-map P Q f go [] all = tt
 all-map P Q f go (x ∷ runs) all = (go x all.0, all-map P Q f go runs all.1)

@@ -3,6 +3,7 @@ use Rattle.std.proofs.Common.{◌≡◌, ◌⊎◌, inl, inr, ℕ, zero, suc, �
 use Rattle.std.specs.Str.{bytes_eq}
 use Rattle.std.proofs.lemmas.List.{take-append-drop}
 use Rattle.std.proofs.lemmas.Slice.Eq.{bytes_eq-Decides}
+use Rattle.std.proofs.lemmas.Option.{same_Some}
 use Rattle.basis.specs.Names.{run_id}
 use Rattle.basis.specs.declared.refusals.Refusal.{Refusal}
 use Rattle.basis.specs.declared.refusals.Refusal.TheVariants.{NotApplying, Locked}
@@ -34,10 +35,7 @@ use Rattle.machine.proofs.PlainLemmas.{find_last_push}
 use Rattle.machine.proofs.PuttingLemmas.{IsSet, put_comes}
 use Rattle.machine.proofs.RefusedLemmas.{never_done}
 use Rattle.machine.proofs.RunRulings.{IsReported}
-use Rattle.machine.proofs.Rulings.{Way, version_comes, versions_go, settings_come, lock_comes, lock_goes, run_comes, run_goes_on, Leaves, leaves, settings_stay, bytes_same}
-
-one_left : (u v : Workspace) → Some u ≡ Some v → u ≡ v
-one_left u v e = cc
+use Rattle.machine.proofs.Rulings.{Way, version_comes, versions_go, settings_come, lock_comes, lock_goes, run_comes, run_goes_on, Leaves, leaves, settings_stay, bytes_same, newest_push}
 
 -- ---- each version follows the one before it
 
@@ -91,14 +89,6 @@ newest_among zero vs u e = e
 newest_among (suc k) [] u e = e
 newest_among (suc k) (v ∷ vs) u e = newest_more v vs u (newest_among k vs u e)
 
-newest_behind : (vs : List Version) (v : Version) → newest (vs ++ v ∷ []) ≡ Some v
-newest_behind [] v = refl
-newest_behind (u ∷ []) v = refl
-newest_behind (u ∷ w ∷ vs) v = newest_behind (w ∷ vs) v
-
-same_version : (u v : Version) → Some u ≡ Some v → u ≡ v
-same_version u v e = cc
-
 pub newest_versions_follow : NewestVersionsFollow
 newest_versions_follow act now w v older newer e was is = by_case (become act now w v e)
   where
@@ -106,10 +96,10 @@ newest_versions_follow act now w v older newer e was is = by_case (become act no
     one vs are = ap newest (sym are) ∙ is
 
     by_case : Become w.versions v.versions → (newer ≡ older) ⊎ Follows older newer
-    by_case (inl (k, are)) = inl (same_version newer older (sym (newest_among k w.versions newer (one (drop k w.versions) are)) ∙ was))
+    by_case (inl (k, are)) = inl (same_Some newer older (sym (newest_among k w.versions newer (one (drop k w.versions) are)) ∙ was))
     by_case (inr (inl none)) = absurd (let no_one : newest [] ≡ Some newer = one [] none in let none_is : ⊥ = cc in none_is)
     by_case (inr (inr (k, made, are, follows))) =
-        let same_one : made ≡ newer = same_version made newer (sym (newest_behind (drop k w.versions) made) ∙ one (drop k w.versions ++ made ∷ []) are) in
+        let same_one : made ≡ newer = same_Some made newer (sym (newest_push (drop k w.versions) made) ∙ one (drop k w.versions ++ made ∷ []) are) in
         inr (subst (Follows older) same_one (follows older was))
 
 rest_follows : (v : Version) (vs : List Version) → EachFollows (v ∷ vs) → EachFollows vs
@@ -173,7 +163,7 @@ number_stands head text now w v some (Some n) left is e = subst (TextComes head 
     own = (number_left-is w.next_version n left).0
 
     settles : settled u ≡ v
-    settles = one_left (settled u) v e
+    settles = same_Some (settled u) v e
 
     made : Version
     made = posted w.next_version head text now
@@ -215,7 +205,7 @@ Stands head text now w v = TextIsThere text w v ⊎ TextComes head text now w v
 succession_stands : (head : StateHead) (text : List ℕ) (now : ℕ) (w v : Workspace) → 1 ≤ w.settings.retention → (s : Succession) → succession w.versions text head ≡ s
     → (by_succession s w head text now).answer ≡ done → (by_succession s w head text now).left ≡ Some v → Stands head text now w v
 succession_stands head text now w v some first t is e = inr (number_stands head text now w v some (number_left w.next_version) refl is e)
-succession_stands head text now w v some same t is e = inl (subst (TextIsThere text w) (one_left w v e) (same_is_there head text w (newest w.versions) refl t))
+succession_stands head text now w v some same t is e = inl (subst (TextIsThere text w) (same_Some w v e) (same_is_there head text w (newest w.versions) refl t))
 succession_stands head text now w v some other_lineage t is e = absurd (let none : ⊥ = cc in none)
 succession_stands head text now w v some old_serial t is e = absurd (let none : ⊥ = cc in none)
 succession_stands head text now w v some next t is e = inr (number_stands head text now w v some (number_left w.next_version) refl is e)
@@ -288,11 +278,11 @@ puts_leave_what_they_ask ask now w v accepted e = by_case (put_comes settings w)
 
     by_case : IsKept (put settings w) w ⊎ IsSet (put settings w) settings w → LeavesAsked ask w v
     by_case (inl kept) = absurd (accepted kept.refusal)
-    by_case (inr set) = subst (LeavesAsked ask w) (one_left (settled u) v (sym (ap (λ (r : Ruling). r.left) set.is) ∙ e)) after
+    by_case (inr set) = subst (LeavesAsked ask w) (same_Some (settled u) v (sym (ap (λ (r : Ruling). r.left) set.is) ∙ e)) after
 
 pub puts_make_what_they_ask : PutsMakeWhatTheyAsk
 puts_make_what_they_ask ask now room v e = by_room room e
   where
     by_room : (room : Bool) → (rules_missing (PutWorkspace ask) room).left ≡ Some v → AreAsked ask 100 v.settings
-    by_room true e = subst (λ (x : Workspace). AreAsked ask 100 x.settings) (one_left (new_workspace (settings_for ask None)) v e) (asked_are ask None)
+    by_room true e = subst (λ (x : Workspace). AreAsked ask 100 x.settings) (same_Some (new_workspace (settings_for ask None)) v e) (asked_are ask None)
     by_room false e = absurd (let none : ⊥ = cc in none)

@@ -4,6 +4,7 @@ use Rattle.std.specs.Prelude.{find, codes}
 use Rattle.std.specs.List.{AllByRecursion}
 use Rattle.std.specs.Str.{bytes_eq}
 use Rattle.std.proofs.lemmas.Slice.Eq.{bytes_eq-Decides}
+use Rattle.std.proofs.lemmas.Bool.{and_parts}
 use Rattle.basis.specs.Runs.{is_open, status_word, action_word}
 use Rattle.basis.specs.declared.runs.RunStatus.{RunStatus}
 use Rattle.basis.specs.declared.runs.RunStatus.TheVariants.{Pending, Planning, Planned, Applying, Applied, PlannedAndFinished, Errored, Discarded, Canceled}
@@ -56,12 +57,6 @@ one_action a b e = sym (action_back a) ∙ ap action_named ((bytes_eq-Decides (a
 pub same_action : (a : RunAction) → is_action a a ≡ true
 same_action a = (bytes_eq-Decides (action_word a) (action_word a)).1 refl
 
--- both tests of a step
-both_true : (b c : Bool) → (b && c) ≡ true → (b ≡ true) × (c ≡ true)
-both_true true true e = (refl, refl)
-both_true true false e = absurd (let none : ⊥ = cc in none)
-both_true false c e = absurd (let none : ⊥ = cc in none)
-
 -- the step that leads on: what holds of all steps holds of it
 pub led : (P : RunStatus → RunAction → RunStatus → Type 0) (steps : List RunStep) (from : RunStatus) (action : RunAction) (to : RunStatus)
     → AllByRecursion (λ (s : RunStep). P s.from s.action s.to) steps → step_in steps from action ≡ Some to → P from action to
@@ -71,7 +66,7 @@ led P (s ∷ steps) from action to all e = passed (is_step from action s) refl e
     passed : (b : Bool) → is_step from action s ≡ b → option_map (λ (x : RunStep). x.to) (cond b (Some s) (find (is_step from action) steps)) ≡ Some to
         → (step_in steps from action ≡ Some to → P from action to) → P from action to
     passed true t is more =
-        let both : (is_status s.from from ≡ true) × (is_action s.action action ≡ true) = both_true (is_status s.from from) (is_action s.action action) t in
+        let both : (is_status s.from from ≡ true) × (is_action s.action action ≡ true) = and_parts (is_status s.from from) (is_action s.action action) t in
         let end : s.to ≡ to = cc in
         subst (λ (x : RunStatus). P x action to) (one_status s.from from both.0)
         (subst (λ (x : RunAction). P s.from x to) (one_action s.action action both.1)
@@ -86,7 +81,7 @@ leads_to_end (s ∷ steps) from action to e = passed (is_step from action s) ref
     passed : (b : Bool) → is_step from action s ≡ b → option_map (λ (x : RunStep). x.to) (cond b (Some s) (find (is_step from action) steps)) ≡ Some to
         → (step_in steps from action ≡ Some to → ends_in steps action to ≡ true) → ends_in (s ∷ steps) action to ≡ true
     passed true t is more =
-        let both : (is_status s.from from ≡ true) × (is_action s.action action ≡ true) = both_true (is_status s.from from) (is_action s.action action) t in
+        let both : (is_status s.from from ≡ true) × (is_action s.action action ≡ true) = and_parts (is_status s.from from) (is_action s.action action) t in
         let end : s.to ≡ to = cc in
         rw (both.1, ap (λ (x : RunStatus). is_status x to) end, same_status to) refl
     passed false t is more = later (is_action s.action action && is_status s.to to) (more is)

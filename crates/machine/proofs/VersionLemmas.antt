@@ -3,6 +3,7 @@ use Rattle.std.proofs.Common.{◌≡◌, ◌⊎◌, inl, inr, ℕ, zero, suc, �
 use Rattle.std.specs.Option.{option_or}
 use Rattle.std.specs.Str.{bytes_eq}
 use Rattle.std.proofs.lemmas.Slice.Eq.{bytes_eq-Decides}
+use Rattle.std.proofs.lemmas.Option.{same_Some}
 use Rattle.basis.specs.declared.refusals.Refusal.{Refusal}
 use Rattle.basis.specs.declared.rows.Settings.{Settings}
 use Rattle.basis.specs.declared.rows.StateHead.{StateHead}
@@ -22,15 +23,11 @@ use Rattle.machine.proofs.RefusedLemmas.{never_done}
 use Rattle.machine.specs.declared.records.Version.{Version}
 use Rattle.machine.specs.declared.records.Workspace.{Workspace}
 
--- what a ruling leaves is one workspace
-one_left : (u v : Workspace) → Some u ≡ Some v → u ≡ v
-one_left u v e = cc
-
 -- the newest text of a workspace to which a version was added
 added_is_read : (w v : Workspace) (n : ℕ) (head : StateHead) (text : List ℕ) (now : ℕ) → Some (settled (with_version w n head text now)) ≡ Some v → state_answer (newest v.versions) ≡ state text
 added_is_read w v n head text now e =
     let u : Workspace = with_version w n head text now in
-    ap (λ (x : Workspace). state_answer (newest x.versions)) (sym (one_left (settled u) v e))
+    ap (λ (x : Workspace). state_answer (newest x.versions)) (sym (same_Some (settled u) v e))
     ∙ ap (λ (vs : List Version). state_answer (newest vs)) (versions_stay u (to_start u.holder (first_waiting u.runs)))
     ∙ ap state_answer (newest_with w n head text now)
 
@@ -54,7 +51,7 @@ succession_is_read : (w v : Workspace) (head : StateHead) (text : List ℕ) (now
     → (by_succession s w head text now).answer ≡ done → (by_succession s w head text now).left ≡ Some v → state_answer (newest v.versions) ≡ state text
 succession_is_read w v head text now first t is e = number_is_read w v head text now (number_left w.next_version) is e
 succession_is_read w v head text now same t is e =
-    ap (λ (x : Workspace). state_answer (newest x.versions)) (sym (one_left w v e)) ∙ same_is_newest head text (newest w.versions) t
+    ap (λ (x : Workspace). state_answer (newest x.versions)) (sym (same_Some w v e)) ∙ same_is_newest head text (newest w.versions) t
 succession_is_read w v head text now other_lineage t is e = absurd (let none : ⊥ = cc in none)
 succession_is_read w v head text now old_serial t is e = absurd (let none : ⊥ = cc in none)
 succession_is_read w v head text now next t is e = number_is_read w v head text now (number_left w.next_version) is e
@@ -70,7 +67,7 @@ what_is_posted_is_read head text id now later w v is e = update_is_read w v head
 purge_is_read : (w v : Workspace) (m : Option Refusal) → (purge m w).answer ≡ done → (purge m w).left ≡ Some v → state_answer (newest v.versions) ≡ no_state
 purge_is_read w v (Some refusal) is e = absurd (never_done refusal w.holder is)
 purge_is_read w v None is e =
-    ap (λ (x : Workspace). state_answer (newest x.versions)) (sym (one_left (settled (purged w)) v e))
+    ap (λ (x : Workspace). state_answer (newest x.versions)) (sym (same_Some (settled (purged w)) v e))
     ∙ ap (λ (vs : List Version). state_answer (newest vs)) (versions_stay (purged w) (to_start w.holder (first_waiting w.runs)))
 
 pub nothing_is_read_of_a_purge : NothingIsReadOfAPurge

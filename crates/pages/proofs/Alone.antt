@@ -2,12 +2,14 @@
 use Rattle.std.proofs.Common.{◌≡◌, ◌==◌, ◌<◌, ℕ, ◌-◌, nat_lt, Bool, true, false, ◌&&◌, not, cond, List, [], ◌∷◌, find, is_some, IsTrue, IsSome, Option, Some, None, option_map, Result, Ok, Err, IfOk, OnOk, OnErr, refl, sym, ap, ◌∙◌, subst, arith}
 use Rattle.std.specs.Str.{bytes_eq}
 use Rattle.std.proofs.lemmas.Bool.{ltb-true, le-ltb}
+use Rattle.std.proofs.Math.Bool.{and_assoc}
 use Rattle.sqlite_keyed.specs.Lists.{delete_where}
 use Rattle.sqlite.specs.Effect.{Database}
 use Rattle.sqlite.specs.State.{State, KeepsCommit}
 use Rattle.statements.specs.Rows.{Kept, PageRow}
 use Rattle.statements.specs.Steps.{AnyRows, LeavesForeign, LeavesAsIs, Moves}
 use Rattle.statements.specs.Tables.{Tables, Holds}
+use Rattle.statements.proofs.Found.{none_passes, none_deleted}
 use Rattle.pages.specs.Rows.{is_page, is_last, has_last, last_removed, page_used, page_removed, page_uses}
 use Rattle.pages.specs.Puts.{released_found, page_released}
 use Rattle.pages.specs.Pages.{pages_in, HasSoundPages, ReleasesPage, NamedAreThere}
@@ -16,23 +18,10 @@ use Rattle.pages.proofs.Promises.{rows_are}
 
 -- ---- rows
 
-module _ {X : Type 0} (p : X → Bool) where
-  all_stay : (xs : List X) → find p xs ≡ None → delete_where p xs ≡ xs
-  all_stay [] e = refl
-  all_stay (x ∷ xs) e = go (p x) e (all_stay xs)
-    where
-      go : (b : Bool) → cond b (Some x) (find p xs) ≡ None → (find p xs ≡ None → delete_where p xs ≡ xs) → cond (not b) (x ∷ delete_where p xs) (delete_where p xs) ≡ x ∷ xs
-      go true e more = absurd (let none : ⊥ = cc in none)
-      go false e more = ap (λ l. x ∷ l) (more e)
-
 module _ (key : List ℕ) (twin : ℕ) where
   -- a page of the name is in one use at most, or stays
   last_is : (x : Kept PageRow) → is_last key twin x ≡ (is_page key twin x && nat_lt x.1.uses 2)
-  last_is x = go (bytes_eq x.1.key key) (x.1.twin == twin) (nat_lt x.1.uses 2)
-    where
-      go : (a b c : Bool) → (a && (b && c)) ≡ ((a && b) && c)
-      go true b c = refl
-      go false b c = refl
+  last_is x = sym (and_assoc (bytes_eq x.1.key key) (x.1.twin == twin) (nat_lt x.1.uses 2))
 
   abbrev few : Kept PageRow → Bool
   few x = nat_lt x.1.uses 2
@@ -74,7 +63,7 @@ module _ (key : List ℕ) (twin : ℕ) where
       go false c true told any more = absurd (let no_one : ⊥ = cc in no_one)
       go false c false told any more = more any
 
-none_if : {X : Type 0} (o : Option X) → is_some o ≡ false → o ≡ None
+pub none_if : {X : Type 0} (o : Option X) → is_some o ≡ false → o ≡ None
 none_if None e = refl
 none_if (Some x) e = absurd (let no_one : ⊥ = cc in no_one)
 
@@ -99,14 +88,14 @@ module _ (key : List ℕ) (twin : ℕ) (t : Tables) where
       same = ap with_pages left.0
 
       by_row : (o : Option (Kept PageRow)) → find (is_page key twin) t.pages ≡ o → last_removed key twin t ≡ released_found key twin (option_map (λ (x : Kept PageRow). x.1.uses) o) t
-      by_row None f = same ∙ ap with_pages (all_stay (is_page key twin) t.pages f)
+      by_row None f = same ∙ ap with_pages (none_deleted (is_page key twin) t.pages (none_passes (is_page key twin) t.pages f))
       by_row (Some x) f =
           let low : x.1.uses < 2 = ltb-true x.1.uses 2 (left.1 x f) in
           same ∙ sym (ap (λ b. cond b (page_used key twin (x.1.uses - 1) t) (page_removed key twin t)) (le-ltb 1 x.1.uses (omega (arith, low))))
 
   -- where none of the name was in one use at most, nothing was done
   pub untouched : has_last key twin t ≡ false → last_removed key twin t ≡ t
-  untouched none = ap with_pages (all_stay (is_last key twin) t.pages (none_if _ none))
+  untouched none = ap with_pages (none_deleted (is_last key twin) t.pages (none_passes (is_last key twin) t.pages (none_if _ none)))
 
   pub last_is_there : has_last key twin t ≡ true → IsSome (page_uses key twin t)
   last_is_there some = some_mapped (λ (x : Kept PageRow). x.1.uses) (find (is_page key twin) t.pages) (has_page key twin t.pages some)

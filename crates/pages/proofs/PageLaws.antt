@@ -2,15 +2,15 @@
 use Rattle.std.proofs.Common.{◌≡◌, ◌≢◌, ◌<◌, ◌≤◌, inl, inr, ℕ, ◌+◌, ◌-◌, nat_lt, Bool, true, false, cond, List, [], ◌∷◌, find, is_some, IsSome, Option, Some, None, option_map, refl, sym, ap, ◌∙◌, arith}
 use Rattle.std.specs.Prelude.{◌==◌}
 use Rattle.std.specs.Str.{bytes_eq}
-use Rattle.std.specs.List.{AllByRecursion}
 use Rattle.std.proofs.lemmas.Bool.{false_from_ne_true, and_from, eqb-true, eq-eqb, ltb-true}
 use Rattle.std.proofs.lemmas.Slice.Eq.{bytes_eq-Decides}
+use Rattle.std.proofs.lemmas.Option.{same_Some}
 use Rattle.sqlite_keyed.specs.Keyed.{next_key}
 use Rattle.sqlite_keyed.proofs.ListLemmas.{all_weaker, all-filter, all-append}
 use Rattle.sqlite_keyed.proofs.RuleLemmas.{first_of_both, second_of_both, apart_update, apart_delete}
 use Rattle.statements.specs.Rows.{Kept, id_of, PageRow}
 use Rattle.statements.specs.Tables.{Tables}
-use Rattle.statements.proofs.Found.{found_passes, find_changed, find_unchanged, find_deleted, find_left, find_pushed, find_pushed_other, found_holds, apart_one, all_updated, apart_pushed}
+use Rattle.statements.proofs.Found.{found_passes, find_changed, find_unchanged, find_deleted, find_left, find_pushed, find_pushed_other, found_holds, apart_one, all_updated, apart_pushed, none_passes}
 use Rattle.pages.specs.Rows.{is_page, is_equal_page, page_added, page_used, page_removed, page_uses, page_use}
 use Rattle.pages.specs.Puts.{twin_limit, free_twin, twin_found, twin_for, put_found, page_put, released_found, page_released}
 use Rattle.pages.specs.Pages.{Page, pages_in, HasSoundPages, KeepsOtherPages, IsNewPage, IsFreeTwin, PutsPage, ReleasesPage}
@@ -44,17 +44,6 @@ equal_bytes key bytes x e = (bytes_eq-Decides x.1.bytes bytes).0 (second_of_both
 
 equal_is : (key bytes : List ℕ) (x : Kept PageRow) → x.1.key ≡ key → x.1.bytes ≡ bytes → is_equal_page key bytes x ≡ true
 equal_is key bytes x e f = and_from (bytes_eq x.1.key key) (bytes_eq x.1.bytes bytes) ((bytes_eq-Decides x.1.key key).1 e) ((bytes_eq-Decides x.1.bytes bytes).1 f)
-
-none_passes : {X : Type 0} (p : X → Bool) (xs : List X) → find p xs ≡ None → AllByRecursion (λ x. p x ≡ false) xs
-none_passes p [] e = tt
-none_passes p (x ∷ xs) e = go (p x) refl e (none_passes p xs)
-  where
-    go : (b : Bool) → p x ≡ b → cond b (Some x) (find p xs) ≡ None → (find p xs ≡ None → AllByRecursion (λ y. p y ≡ false) xs) → (p x ≡ false) × AllByRecursion (λ y. p y ≡ false) xs
-    go true is none more = absurd (let no_one : ⊥ = cc in no_one)
-    go false is none more = (is, more none)
-
-some_one : {X : Type 0} {a b : X} → ◌≡◌ {A = Option X} (Some a) (Some b) → a ≡ b
-some_one e = cc
 
 -- ---- a page in other use, a page that went, a new one
 
@@ -110,7 +99,7 @@ module _ (key bytes : List ℕ) (t : Tables) where
       by_row : (o : Option (Kept PageRow)) → find (is_page key n) t.pages ≡ o → option_map seen o ≡ Some p → p.bytes ≢ bytes
       by_row None f e same = let no_one : ⊥ = cc in no_one
       by_row (Some x) f e same =
-          let shown : seen x ≡ p = some_one e in
+          let shown : seen x ≡ p = same_Some (seen x) p e in
           let other : is_equal_page key bytes x ≡ false = found_holds (λ y. is_equal_page key bytes y ≡ false) (is_page key n) t.pages x (none_passes (is_equal_page key bytes) t.pages none) f in
           let is = equal_is key bytes x (page_key key n x (found_passes (is_page key n) t.pages x f)) (ap (λ (q : Page). q.bytes) shown ∙ same) in
           let no_one : ⊥ = cc (sym is ∙ other) in no_one

@@ -1,8 +1,8 @@
 -- Lines on the error stream, one behind the other.
 use Rattle.std.proofs.Common.{◌≡◌, ◌<◌, ◌+◌, ◌++◌, ◌∷◌, [], ℕ, List, Result, Ok, Err, ◌∙◌, sym, subst, append_assoc, ap, refl, length, take, drop, take-append-drop, get_or, inl, inr}
 use Rattle.std.proofs.lemmas.List.{append-nil, at_drop_more}
+use Rattle.std.proofs.KnownBytes.{Appends-trans, Appends-kept}
 use Rattle.std.specs.Io.KnownBytes.{Appends, Keeps}
-use Rattle.wire.proofs.LinkLemmas.{Appends-then, Appends-kept}
 use Rattle.serve.specs.declared.exchanges.LinkFault.{LinkFault}
 use Rattle.program.specs.Errors.{connection_line, fault_line, fault_text}
 use Rattle.program.specs.Replies.{answer_line, fault_lines}
@@ -19,12 +19,12 @@ part_longer old new x y h = ((h.0.0, h.0.1 ++ y, ap (λ (text : List ℕ). text 
 -- the first text whole, and a front of the next
 part_behind : (old mid new : Told) (x y : List ℕ) → GetsWhole old mid x → GetsPart mid new y → GetsPart old new (x ++ y)
 part_behind old mid new x y first h = (
-  (x ++ h.0.0, h.0.1, ap (λ (text : List ℕ). x ++ text) h.0.2 ∙ sym (append_assoc x h.0.0 h.0.1), Appends-then old.bytes mid.bytes new.bytes x h.0.0 first.0 h.0.3),
+  (x ++ h.0.0, h.0.1, ap (λ (text : List ℕ). x ++ text) h.0.2 ∙ sym (append_assoc x h.0.0 h.0.1), Appends-trans old.bytes mid.bytes new.bytes x h.0.0 first.0 h.0.3),
   h.1 ∙ ap one_more first.1,
 )
 
 pub whole_behind : (old mid new : Told) (x y : List ℕ) → GetsWhole old mid x → GetsWhole mid new y → GetsWhole old new (x ++ y)
-whole_behind old mid new x y first h = (Appends-then old.bytes mid.bytes new.bytes x y first.0 h.0, h.1 ∙ first.1)
+whole_behind old mid new x y first h = (Appends-trans old.bytes mid.bytes new.bytes x y first.0 h.0, h.1 ∙ first.1)
 
 -- a call failed in the first piece, and the text goes on behind it
 pub wrote_first : (old new : Told) (piece x y : List ℕ) → piece ≡ x → GetsPart old new piece → GetsPart old new (x ++ y)

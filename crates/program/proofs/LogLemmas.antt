@@ -1,16 +1,15 @@
 -- What standard output gets of the log, and what its lines tell of the records.
 use Rattle.std.proofs.Common.{◌≡◌, ◌++◌, ◌∷◌, [], List, ℕ, suc, Option, Some, IfSome, Result, Ok, Err, Bool, true, false, length, refl, sym, subst, ap, inl, inr}
+use Rattle.std.proofs.KnownBytes.{Appends-nil, Appends-trans}
 use Rattle.std.specs.Io.KnownBytes.{Appends}
 use Rattle.docs.specs.Logs.{log_line}
 use Rattle.docs.specs.declared.logs.LogRow.{LogRow}
-use Rattle.machine.specs.declared.keeps.AdminAnswer.{AdminAnswer}
 use Rattle.machine.specs.declared.keeps.Keep as keep
 use Rattle.machine.specs.declared.records.Organization.{Organization}
 use Rattle.wire.specs.Replies.{Answer, refused_answer}
 use Rattle.wire.specs.declared.messages.Message.{Message}
 use Rattle.wire.specs.declared.devices.Inlet as inlet
 use Rattle.wire.specs.declared.devices.Outlet as outlet
-use Rattle.wire.proofs.LinkLemmas.{Appends-none, Appends-then}
 use Rattle.serve.specs.Asks.{Ask, silent, refused, requests, commands, owner_of}
 use Rattle.docs.specs.Bodies.{error_text}
 use Rattle.serve.specs.Doors.{told_row, turned_row, unserved_row, IsToldAtDoor, ExchangesWith}
@@ -19,11 +18,10 @@ use Rattle.serve.specs.declared.doors.Door.{Door}
 use Rattle.serve.specs.declared.doors.Door.TheVariants.{Closed, Open}
 use Rattle.serve.specs.Logs.{silent_row, with_answer, request_row, row_of_ask}
 use Rattle.serve.specs.Service.{record_for, is_head}
-use Rattle.serve.specs.Steps.{replies, refusing, command_said, step}
+use Rattle.serve.specs.Steps.{replies, refusing, step}
 use Rattle.serve.specs.declared.exchanges.LinkFault.{LinkFault}
 use Rattle.serve.specs.declared.exchanges.LinkFault.TheVariants.{Ended, Read, Continue, Write}
-use Rattle.serve.specs.declared.steps.Admin.{Admin}
-use Rattle.serve.specs.declared.steps.Admin.TheVariants.{OrgAdd, OrgLimit, OrgRemove, OrgList, TokenAdd, TokenList, TokenRevoke}
+use Rattle.serve.proofs.LawLemmas.{no_reply}
 use Rattle.program.specs.declared.serving.Terms.{Terms}
 use Rattle.program.specs.declared.environment.Clock as clock
 use Rattle.program.specs.declared.environment.Connections as connections
@@ -40,11 +38,11 @@ Grows true old new = (log : List ℕ) × Appends old new log
 Grows false old new = new ≡ old
 
 grows_none : (logs : Bool) (old new : Option (List ℕ)) → new ≡ old → Grows logs old new
-grows_none true old new same = ([], subst (λ (o : Option (List ℕ)). Appends old o []) (sym same) (Appends-none old))
+grows_none true old new same = ([], subst (λ (o : Option (List ℕ)). Appends old o []) (sym same) (Appends-nil old))
 grows_none false old new same = same
 
 pub grows_then : (logs : Bool) (a b c : Option (List ℕ)) → Grows logs a b → Grows logs b c → Grows logs a c
-grows_then true a b c first more = (first.0 ++ more.0, Appends-then a b c first.0 more.0 first.1 more.1)
+grows_then true a b c first more = (first.0 ++ more.0, Appends-trans a b c first.0 more.0 first.1 more.1)
 grows_then false a b c first more = subst (λ (o : Option (List ℕ)). o ≡ a) (sym more) first
 
 grows_one : (logs is_told : Bool) (text : List ℕ) (old new : Option (List ℕ)) → Logs logs is_told text old new → Grows logs old new
@@ -54,18 +52,8 @@ grows_one false is_told text old new h = h.0
 
 -- the log stands behind the line
 pub heard_log : (logs : Bool) (line : List ℕ) (old heard new : Option (List ℕ)) → Appends old heard line → Grows logs heard new → (log : List ℕ) × Appends old new (with_log logs line log)
-heard_log true line old heard new first log = (log.0, Appends-then old heard new line log.0 first log.1)
+heard_log true line old heard new first log = (log.0, Appends-trans old heard new line log.0 first log.1)
 heard_log false line old heard new first same = ([], subst (λ (o : Option (List ℕ)). Appends old o line) (sym same) first)
-
--- an operator's command has no reply
-unsaid : (command : Admin) (word : AdminAnswer) (awaited : Bool) (at : ℕ) (answer : Answer) → command_said command word ≡ replies awaited at answer → ⊥
-unsaid (OrgAdd org limit) word awaited at answer e = let none : ⊥ = cc in none
-unsaid (OrgLimit org limit) word awaited at answer e = let none : ⊥ = cc in none
-unsaid (OrgRemove org is_forced) word awaited at answer e = let none : ⊥ = cc in none
-unsaid OrgList word awaited at answer e = let none : ⊥ = cc in none
-unsaid (TokenAdd org name role secret bounds) word awaited at answer e = let none : ⊥ = cc in none
-unsaid (TokenList org) word awaited at answer e = let none : ⊥ = cc in none
-unsaid (TokenRevoke org name) word awaited at answer e = let none : ⊥ = cc in none
 
 -- of each exchange something is told
 served_row : (r : Option Organization) (ask : Ask) (awaited : Bool) (at : ℕ) (answer : Answer) (row : Option LogRow)
@@ -73,7 +61,7 @@ served_row : (r : Option Organization) (ask : Ask) (awaited : Bool) (at : ℕ) (
 served_row r silent awaited at answer row said is = absurd (let none : ⊥ = cc in none)
 served_row r (refused when due refusal is_head) awaited at answer row said is = (with_answer (refusing refusal r).answer (silent_row when), is)
 served_row r (requests when due asked content_md5 body) awaited at answer row said is = (request_row r when asked content_md5 body, is)
-served_row r (commands when command) awaited at answer row said is = absurd (unsaid command _ awaited at answer said)
+served_row r (commands when command) awaited at answer row said is = absurd (no_reply command _ awaited at answer said)
 
 answered_row : (now : ℕ) (received : List ℕ) (old new : List ℕ → Option Organization) (awaited : Bool) (text : List ℕ) (row : Option LogRow) (is_down : Bool)
     → IsAnswered now received old new awaited text row is_down → (told : LogRow) × (row ≡ Some told)
@@ -161,7 +149,7 @@ module _ {K F N C R W : Type 0} (k : keep.Ghosts K) (f : files.Ghosts F K) (n : 
   tells_changes terms logged place [] old new same clean sound = (
     [],
     refl,
-    subst (λ (s : State N C K). Appends old.output s.output []) (sym same) (Appends-none old.output),
+    subst (λ (s : State N C K). Appends old.output s.output []) (sym same) (Appends-nil old.output),
     λ org. ap (λ (s : State N C K). k.rows s.store org) same,
   )
   tells_changes terms logged place (at ∷ moments) old new all clean sound =
@@ -170,6 +158,6 @@ module _ {K F N C R W : Type 0} (k : keep.Ghosts K) (f : files.Ghosts F K) (n : 
       let more = tells_changes terms logged (suc place) moments all.0 new all.2 clean (sound_next terms place at false true old all.0 all.1 before sound) in (
         line.0 ∷ more.0,
         ap suc more.1,
-        Appends-then old.output all.0.output new.output (log_line place (end_word line.0.ended) line.0.row) (log_text (suc place) more.0) line.1 more.2,
+        Appends-trans old.output all.0.output new.output (log_line place (end_word line.0.ended) line.0.row) (log_text (suc place) more.0) line.1 more.2,
         (k.rows all.0.store, line.2, more.3),
       )

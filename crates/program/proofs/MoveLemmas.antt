@@ -1,11 +1,12 @@
 -- Organizations that are copied: what becomes of their records, and of runs over them.
-use Rattle.std.proofs.Common.{◌≡◌, ◌⊎◌, ◌∙◌, ◌++◌, ℕ, Bool, true, false, List, [], ◌∷◌, Option, Some, None, refl, sym, ap, subst, inl, inr}
+use Rattle.std.proofs.Common.{◌≡◌, ◌⊎◌, ◌∙◌, ◌++◌, Bool, true, false, List, [], ◌∷◌, Option, Some, None, refl, sym, ap, subst, inl, inr}
 use Rattle.machine.specs.Effects.{Effect}
 use Rattle.machine.specs.declared.keeps.AdminAnswer.{AdminAnswer}
 use Rattle.machine.specs.declared.records.Organization.{Organization}
 use Rattle.serve.specs.Asks.{Ask, Owner, organization}
-use Rattle.serve.specs.Steps.{Said, step, own_said, own_record}
+use Rattle.serve.specs.Steps.{Said, own_said, own_record}
 use Rattle.serve.specs.Service.{AreTexts, is_own, with_own, own_asks, replies_at}
+use Rattle.serve.proofs.RunLemmas.{own_record-append, own_said-append, AreTexts-append}
 use Rattle.program.specs.Moves.{org_copied, copied_into, DoneCopiesAreEqual, CopiesToNoneAreTheSame, StoppedCopiesGoOn, CopiedOrganizationsGoOn}
 
 -- what is copied twice is as copied once
@@ -52,20 +53,6 @@ own_asks-append owner (a ∷ first) second = ap (with_own (is_own owner a) a) (o
     one true rest = refl
     one false rest = refl
 
-own_record-append : (r : Option Organization) (first second : List Ask) → own_record r (first ++ second) ≡ own_record (own_record r first) second
-own_record-append r [] second = refl
-own_record-append r (a ∷ first) second = own_record-append (step r a).left first second
-
-own_said-append : (r : Option Organization) (first second : List Ask) → own_said r (first ++ second) ≡ own_said r first ++ own_said (own_record r first) second
-own_said-append r [] second = refl
-own_said-append r (a ∷ first) second = ap (λ (said : List Said). (step r a).answer ∷ said) (own_said-append (step r a).left first second)
-
-texts-append : (said later : List Said) (ts us : List (List ℕ)) → AreTexts said ts → AreTexts later us → AreTexts (said ++ later) (ts ++ us)
-texts-append [] later [] us first second = second
-texts-append [] later (t ∷ ts) us first second = absurd first
-texts-append (s ∷ said) later [] us first second = absurd first
-texts-append (s ∷ said) later (t ∷ ts) us first second = (first.0, texts-append said later ts us first.1 second)
-
 pub go_on : CopiedOrganizationsGoOn
 go_on org first second a b c d said later run copied further =
     let own = organization org in
@@ -75,7 +62,7 @@ go_on org first second a b c d said later run copied further =
     subst (λ (r : Option Organization). AreTexts (own_said r (own_asks own second)) (replies_at own second later)) begun further.own_replies in
     let texts : AreTexts (own_said (a org) (own_asks own first ++ own_asks own second)) (replies_at own first said ++ replies_at own second later) =
     subst (λ (s : List Said). AreTexts s (replies_at own first said ++ replies_at own second later)) (sym (own_said-append (a org) (own_asks own first) (own_asks own second)))
-    (texts-append _ _ _ _ run.own_replies spoken) in (
+    (AreTexts-append _ _ _ _ run.own_replies spoken) in (
       further.own_record ∙ ap (λ (r : Option Organization). own_record r (own_asks own second)) begun ∙ sym (own_record-append (a org) (own_asks own first) (own_asks own second)) ∙ ap (own_record (a org)) (sym both),
       subst (λ (asks : List Ask). AreTexts (own_said (a org) asks) (replies_at own first said ++ replies_at own second later)) (sym both) texts,
     )

@@ -1,8 +1,8 @@
 -- What stands on the streams, by how the program ends.
 use Rattle.std.proofs.Common.{◌≡◌, ◌⊎◌, ◌≢◌, ℕ, Bool, List, Option, Some, None, IfSome, refl, sym, subst, inl, inr}
+use Rattle.std.proofs.KnownBytes.{Appends-trans}
 use Rattle.serve.specs.declared.steps.Admin.{Admin}
 use Rattle.serve.specs.declared.steps.Admin.TheVariants.{OrgAdd, OrgLimit, OrgRemove, OrgList, TokenAdd, TokenList, TokenRevoke}
-use Rattle.wire.proofs.LinkLemmas.{Appends-then}
 use Rattle.std.specs.Io.KnownBytes.{Appends}
 use Rattle.program.specs.declared.exits.Exit.{Exit}
 use Rattle.program.specs.declared.exits.Exit.TheVariants.{Done, Exists, Absent, InUse, Faults, Usage, BadFrame, Schema, Down, Unprinted}
@@ -61,7 +61,7 @@ served logs Down result old mid new listens down other = go listens (down refl)
     go heard (inr h) = subst (λ (e : Exit). ServesAt logs e (stream old new)) (sym h) tt
     go (inl same) (inl h) = subst (λ (e : Exit). ServesAt logs e (stream old new)) (sym h.0) (inl (subst (λ (o : Option (List ℕ)). Appends o new (answer_line (ending_line Down))) same h.1))
     go (inr told) (inl h) = subst (λ (e : Exit). ServesAt logs e (stream old new)) (sym h.0)
-        (inr (told.0, told.1, Appends-then old mid new (with_log logs (listening_line told.0) told.1) (answer_line (ending_line Down)) told.2 h.1))
+        (inr (told.0, told.1, Appends-trans old mid new (with_log logs (listening_line told.0) told.1) (answer_line (ending_line Down)) told.2 h.1))
 
 -- `refused down` and `refused schema` answer each command
 pub command_refused : (command : Admin) (e result : Exit) (old new : Option (List ℕ)) → (e ≡ Down) ⊎ (e ≡ Schema) → IsSaid e result old new → AnswersCommand command result (stream old new)

@@ -1,5 +1,6 @@
 -- Connections one after the other.
 use Rattle.std.proofs.Common.{◌≡◌, ◌∙◌, ◌≤◌, ◌+◌, ◌++◌, ◌∷◌, [], List, ℕ, Option, Result, Ok, Err, Bool, true, false, suc, length, refl, sym, subst, arith, inl, inr, ap}
+use Rattle.std.proofs.lemmas.List.{length_push}
 use Rattle.std.specs.Prelude.{◌⊎◌, IsErrOf}
 use Rattle.docs.specs.declared.logs.LogRow.{LogRow}
 use Rattle.machine.specs.Keeping.{Lasts}
@@ -100,10 +101,6 @@ none_come : (door : Door) → ComeBy door []
 none_come Closed = tt
 none_come (Open digest) = tt
 
-length-push : {X : Type 0} (xs : List X) (x : X) → length (xs ++ x ∷ []) ≡ length xs + 1
-length-push [] x = refl
-length-push (y ∷ xs) x = let more = length-push xs x in omega arith
-
 pub serves_none : (door : Door) (rows : List ℕ → Option Organization) → ServesTo door 0 rows rows
 serves_none door rows = record { steps = []; replies = []; few = omega arith; come = none_come door; even = refl; run = runs_none rows }
 
@@ -111,9 +108,9 @@ pub serves_more : (door : Door) (count : ℕ) (old mid new : List ℕ → Option
 serves_more door count old mid new so_far (inl (one, text, comes, taken)) = record {
   steps = so_far.steps ++ one ∷ [];
   replies = so_far.replies ++ text ∷ [];
-  few = subst (λ n. n ≤ count + 1) (sym (length-push so_far.steps one)) (let few = so_far.few in omega arith);
+  few = subst (λ n. n ≤ count + 1) (sym (length_push so_far.steps one)) (let few = so_far.few in omega arith);
   come = come-push door so_far.steps one so_far.come comes;
-  even = length-push so_far.replies text ∙ ap (λ n. n + 1) so_far.even ∙ sym (length-push so_far.steps one);
+  even = length_push so_far.replies text ∙ ap (λ n. n + 1) so_far.even ∙ sym (length_push so_far.steps one);
   run = runs_more so_far.steps one old mid new so_far.replies text so_far.even so_far.run taken;
 }
 serves_more door count old mid new so_far (inr stays) = record {
@@ -164,4 +161,4 @@ module _ {K F N C R W : Type 0} (k : keep.Ghosts K) (f : files.Ghosts F K) (n : 
       (so_far.0, so_far.1, answers_more terms (suc from) place moments at so_far.0 mid new further so_far.2 one)
 
 pub one_more : (moments : List ℕ) (at count : ℕ) → length moments ≡ count → length (moments ++ at ∷ []) ≡ count + 1
-one_more moments at count is = length-push moments at ∙ ap (λ n. n + 1) is
+one_more moments at count is = length_push moments at ∙ ap (λ n. n + 1) is

@@ -2,11 +2,10 @@
 use Rattle.std.proofs.Common.{◌≡◌, ℕ, ◌+◌, ◌-◌, ◌==◌, ◌<◌, ◌≤◌, List, [], ◌∷◌, ◌++◌, length, drop, get_or, zip, Bool, true, false, cond, ◌&&◌, ltb, leb, refl, sym, ap, ◌∙◌, arith, IsUtf8, bytes_eq, length-append, append-nil, drop-drop, get_or-drop, take_at, ne_eqb}
 use Rattle.std.proofs.Math.Bool.{and-false}
 use Rattle.std.proofs.Math.Seq.{drop-append_seam}
-use Rattle.std.proofs.lemmas.Bool.{lt-ltb, le-ltb, le-leb}
+use Rattle.std.proofs.lemmas.Bool.{lt-ltb, le-ltb, le-leb, and_parts}
 use Rattle.matchit.specs.Params.{walk, wild_from, wild_stop, part_of, after_token, AllText}
 use Rattle.matchit.specs.Seek.{has_slash}
-use Rattle.route.proofs.AsciiLemmas.{both_true}
-use Rattle.route.proofs.TreeLemmas.{agrees}
+use Rattle.basis.proofs.NameLemmas.{equal_bytes}
 use Rattle.route.proofs.WalkLemmas.{Fits, fits_end, fits_byte, fits_last, fits_part, segment_cut}
 
 -- the places of a text have these names, as many as the pattern has parameters
@@ -74,7 +73,7 @@ module _ (pattern text path : List ℕ) (short : length pattern < 1000) where
       → walk pattern text path (place ∷ places) token at ≡ (name, p) ∷ walk pattern text path places (token + 1) (at + length p)
   walk_pair places token at place name p tail rest d e stop l m h =
       let on : after_token token ≡ token + 1 = omega arith in
-      rw (d, stop, on, part_between path p rest at e m, agrees (part_of text place.0 place.1) name h) refl
+      rw (d, stop, on, part_between path p rest at e m, equal_bytes (part_of text place.0 place.1) name h) refl
 
   pub walk_fits : (tail rest : List ℕ) (parts : List (List ℕ)) → Fits tail rest parts → (places : List (ℕ × ℕ)) (names : List (List ℕ)) (token at : ℕ)
       → drop token pattern ≡ tail → drop at path ≡ rest → token + length tail ≡ length pattern → at + length rest ≡ length path
@@ -87,13 +86,13 @@ module _ (pattern text path : List ℕ) (short : length pattern < 1000) where
   walk_fits _ _ _ (fits_last p u) [] names token at d e l m h = cc
   walk_fits _ _ _ (fits_last p u) (place ∷ places) [] token at d e l m h = cc
   walk_fits _ _ _ (fits_last p u) (place ∷ places) (name ∷ names) token at d e l m h =
-      let both = both_true (bytes_eq (part_of text place.0 place.1) name) (are_named text [] places names) h in
+      let both = and_parts (bytes_eq (part_of text place.0 place.1) name) (are_named text [] places names) h in
       walk_pair places token at place name p [] [] d (e ∙ sym (append-nil p)) (stop_last token at (omega arith) ∙ sym m) (omega arith) (omega arith) both.0
       ∙ rw (none_named text places names both.1, zip_none names) refl
   walk_fits _ _ _ (fits_part p tail rest parts u plain fits) [] names token at d e l m h = cc
   walk_fits _ _ _ (fits_part p tail rest parts u plain fits) (place ∷ places) [] token at d e l m h = cc
   walk_fits _ _ _ (fits_part p tail rest parts u plain fits) (place ∷ places) (name ∷ names) token at d e l m h =
-      let both = both_true (bytes_eq (part_of text place.0 place.1) name) (are_named text (47 ∷ tail) places names) h in
+      let both = and_parts (bytes_eq (part_of text place.0 place.1) name) (are_named text (47 ∷ tail) places names) h in
       let long : length (p ++ 47 ∷ rest) ≡ length p + length (47 ∷ rest) = length-append p (47 ∷ rest) in
       let after : drop (at + length p) path ≡ 47 ∷ rest = sym (drop-drop (length p) at path) ∙ ap (drop (length p)) e ∙ drop-append_seam p (47 ∷ rest) in
       walk_pair places token at place name p (47 ∷ tail) (47 ∷ rest) d e (stop_inner token at tail p rest d e plain (omega arith)) (omega arith) (omega arith) both.0

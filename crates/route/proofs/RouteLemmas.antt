@@ -4,7 +4,7 @@ use Rattle.std.specs.Prelude.{Result, Ok, Err, IfErr, IsErrAnd}
 use Rattle.std.specs.List.{list_all}
 use Rattle.std.specs.Str.{chars, is_utf8}
 use lib.Utf8.{encode}
-use Rattle.std.proofs.lemmas.Bool.{ltb-true}
+use Rattle.std.proofs.lemmas.Bool.{ltb-true, and_parts}
 use Rattle.std.proofs.lemmas.Str.{IsUtf8-from_is_utf8}
 use Rattle.matchit.specs.Params.{walk, AllText}
 use Rattle.matchit.specs.Rows.{RowsOf}
@@ -13,13 +13,13 @@ use Rattle.matchit.specs.Level.{IsText}
 use Rattle.matchit.specs.Router.{RouteOf, nearest, Refused}
 use Rattle.matchit.specs.declared.error.InsertError.{InsertError}
 use Rattle.matchit.specs.declared.error.InsertError.TheVariants.{Conflict, InvalidParam, InvalidParamSegment, InvalidCatchAll, OutOfMemory}
+use Rattle.basis.proofs.NameLemmas.{equal_bytes}
 use Rattle.route.specs.declared.routes.Kind.{Kind}
 use Rattle.route.specs.Paths.{path_parts, resource_of}
 use Rattle.route.specs.Inner.Kinds.{Pairs, org_resource_named}
 use Rattle.route.specs.Table.{table, param_names}
-use Rattle.route.proofs.AsciiLemmas.{both_true}
 use Rattle.route.proofs.WalkLemmas.{HasRow}
-use Rattle.route.proofs.TreeLemmas.{Taken, IsStr, Finds, finds, agrees}
+use Rattle.route.proofs.TreeLemmas.{Taken, IsStr, Finds, finds}
 use Rattle.route.proofs.ParamLemmas.{are_named, walk_fits, fits_text, AreText}
 use Rattle.route.proofs.TableLemmas.{tree, reads_table}
 use Rattle.route.proofs.KindLemmas.{names_of, path_names}
@@ -34,8 +34,8 @@ is_well tail route = bytes_eq tail route.pattern && are_named route.text tail ro
 
 row_well : (tail : List ℕ) (route : RouteOf Kind) (r : RowsOf (RouteOf Kind)) → list_all (λ row. is_well row.0 row.1) r ≡ true → HasRow tail route r → is_well tail route ≡ true
 row_well tail route [] well h = absurd h
-row_well tail route ((t, key) ∷ r) well (inl h) = rw (sym h.0, sym h.1) (both_true (is_well t key) (list_all (λ row. is_well row.0 row.1) r) well).0
-row_well tail route ((t, key) ∷ r) well (inr h) = row_well tail route r (both_true (is_well t key) (list_all (λ row. is_well row.0 row.1) r) well).1 h
+row_well tail route ((t, key) ∷ r) well (inl h) = rw (sym h.0, sym h.1) (and_parts (is_well t key) (list_all (λ row. is_well row.0 row.1) r) well).0
+row_well tail route ((t, key) ∷ r) well (inr h) = row_well tail route r (and_parts (is_well t key) (list_all (λ row. is_well row.0 row.1) r) well).1 h
 
 names_text : AreText param_names
 unfolding is_utf8 chars encode
@@ -60,9 +60,9 @@ leads path s found e = by (finds tree (path_parts path)) found e (reads_table pa
     by (Some taken) (Some found) e h n =
         let same : taken.0 ≡ found = ap (λ o. unwrap_or o found) (sym h.0 ∙ e) in
         let route = taken.0 in
-        let well = both_true (bytes_eq h.1.0 route.pattern && are_named route.text h.1.0 route.names param_names) (ltb (length h.1.0) 1000) (row_well h.1.0 route table refl h.1.1) in
-        let named = both_true (bytes_eq h.1.0 route.pattern) (are_named route.text h.1.0 route.names param_names) well.0 in
-        let there : h.1.0 ≡ route.pattern = agrees h.1.0 route.pattern named.0 in
+        let well = and_parts (bytes_eq h.1.0 route.pattern && are_named route.text h.1.0 route.names param_names) (ltb (length h.1.0) 1000) (row_well h.1.0 route table refl h.1.1) in
+        let named = and_parts (bytes_eq h.1.0 route.pattern) (are_named route.text h.1.0 route.names param_names) well.0 in
+        let there : h.1.0 ≡ route.pattern = equal_bytes h.1.0 route.pattern named.0 in
         let short : length route.pattern < 1000 = rw (sym there) (ltb-true (length h.1.0) 1000 well.1) in
         let walked : pairs path route ≡ zip param_names taken.1 =
         walk_fits route.pattern route.text path short h.1.0 path taken.1 h.1.2 route.names param_names 0 0 (sym there) refl (zero-add (length h.1.0) ∙ ap length there) (zero-add (length path)) named.1 in

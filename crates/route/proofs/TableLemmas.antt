@@ -2,11 +2,12 @@
 use Rattle.std.proofs.Common.{◌≡◌, ℕ, List, [], Some, None, Bool, true, false, refl, sym, subst, codes}
 use Rattle.std.specs.Str.{bytes_eq}
 use Rattle.matchit.specs.Router.{RouteOf}
+use Rattle.basis.proofs.NameLemmas.{equal_bytes}
 use Rattle.route.specs.declared.routes.Kind.{Kind}
 use Rattle.route.specs.declared.routes.Kind.TheVariants.{ListsWorkspaces, IsWorkspace, IsState, ListsVersions, IsVersion, ListsRuns, IsRun, IsAction}
 use Rattle.route.specs.Paths.{path_parts}
 use Rattle.route.specs.Table.{table, route_of}
-use Rattle.route.proofs.TreeLemmas.{Tree, nowhere, at_name, at_word, IsTree, Finds, finds, reads, IsStr, agrees}
+use Rattle.route.proofs.TreeLemmas.{Tree, nowhere, at_name, at_word, IsTree, Finds, finds, reads, IsStr}
 
 -- a parameter at the end
 abbrev pub last_name : Kind → Tree (RouteOf Kind)
@@ -37,8 +38,8 @@ by_word P ws st vs rs other p = by (bytes_eq p (codes "workspaces")) refl (bytes
   where
     by : (a : Bool) → bytes_eq p (codes "workspaces") ≡ a → (b : Bool) → bytes_eq p (codes "state") ≡ b
         → (c : Bool) → bytes_eq p (codes "versions") ≡ c → (d : Bool) → bytes_eq p (codes "runs") ≡ d → P p
-    by true e b f c g d h = subst P (sym (agrees p (codes "workspaces") e)) ws
-    by false e true f c g d h = subst P (sym (agrees p (codes "state") f)) st
-    by false e false f true g d h = subst P (sym (agrees p (codes "versions") g)) vs
-    by false e false f false g true h = subst P (sym (agrees p (codes "runs") h)) rs
+    by true e b f c g d h = subst P (sym (equal_bytes p (codes "workspaces") e)) ws
+    by false e true f c g d h = subst P (sym (equal_bytes p (codes "state") f)) st
+    by false e false f true g d h = subst P (sym (equal_bytes p (codes "versions") g)) vs
+    by false e false f false g true h = subst P (sym (equal_bytes p (codes "runs") h)) rs
     by false e false f false g false h = other p e f g h

@@ -7,6 +7,7 @@ use Rattle.std.proofs.lemmas.Slice.Eq.{bytes_eq-Decides}
 use Rattle.matchit.specs.Rows.{RowsOf}
 use Rattle.matchit.specs.Seek.{own, step, seek, has_slash}
 use Rattle.matchit.specs.Level.{IsText}
+use Rattle.basis.proofs.NameLemmas.{equal_bytes}
 use Rattle.route.specs.Paths.{path_parts, onto_first}
 use Rattle.route.proofs.WalkLemmas.{Fits, fits_end, fits_byte, fits_last, fits_part, HasRow, plain_head, row_step, row_word, row_more, row_right, Cut, cut_path, all_words, steps, word_end, word_more, after, onward, after_nil, step_hit, step_onward, own_onward, hit, miss, name_nothing, name_empty, name_last, name_more, seek_none}
 
@@ -44,9 +45,6 @@ parts_cut (b ∷ p) rest h =
 
 pub differs : (p w : List ℕ) → bytes_eq p w ≡ false → w ≢ p
 differs p w h = λ e. let t : bytes_eq p w ≡ true = (bytes_eq-Decides p w).1 (sym e) in cc
-
-pub agrees : (p w : List ℕ) → bytes_eq p w ≡ true → p ≡ w
-agrees p w h = (bytes_eq-Decides p w).0 h
 
 -- a word fits itself
 fits_word : (p : List ℕ) → IsText p → Fits p p []
@@ -181,7 +179,7 @@ module _ {K : Type 0} where
       where
         only : (v : Bool) → bytes_eq path w ≡ v → has_slash path ≡ false → Finds r path (cond v (taking end) (finds others (path ∷ [])))
         only true e plain =
-            let o : own (steps path r) ≡ end = rw (agrees path w e) (hit w (rows next) end (rows others) good.1 good.2).0 in
+            let o : own (steps path r) ≡ end = rw (equal_bytes path w e) (hit w (rows next) end (rows others) good.1 good.2).0 in
             word_here path end s.0 o (word_end path r good.3 plain ∙ o)
         only false e plain =
             finds_by r (rows others) path path (finds others (path ∷ []))
@@ -191,7 +189,7 @@ module _ {K : Type 0} where
         more : (p q : List ℕ) → (v : Bool) → bytes_eq p w ≡ v → has_slash p ≡ false → IsStr (p ++ 47 ∷ q) → Finds (rows others) (p ++ 47 ∷ q) (finds others (p ∷ path_parts q))
             → Finds r (p ++ 47 ∷ q) (cond v (finds next (path_parts q)) (finds others (p ∷ path_parts q)))
         more p q true e plain s left =
-            let o : step 47 (steps p r) ≡ rows next = rw (agrees p w e) (hit w (rows next) end (rows others) good.1 good.2).1 in
+            let o : step 47 (steps p r) ≡ rows next = rw (equal_bytes p w e) (hit w (rows next) end (rows others) good.1 good.2).1 in
             finds_by r (rows next) (p ++ 47 ∷ q) q (finds next (path_parts q)) (word_more p q r good.3 plain ∙ ap (λ z. seek 0 z q) o)
             (λ tail key parts h f. (p ++ 47 ∷ tail, row_more p tail key r (rw o h), fits_more p tail q parts s.0 f)) (ih q (str_cut p q s).1)
         more p q false e plain s left =

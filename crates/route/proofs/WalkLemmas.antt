@@ -3,11 +3,10 @@ use Rattle.std.proofs.Common.{◌≡◌, ◌≢◌, ℕ, zero, suc, ◌-◌, ◌
 use Rattle.std.proofs.Math.Bool.{and-false}
 use Rattle.std.proofs.Math.Seq.{drop-length, drop-append_seam}
 use Rattle.std.proofs.lemmas.Bool.Decides.{nat_tests}
-use Rattle.std.proofs.lemmas.Bool.{ltb-true, lt-ltb}
+use Rattle.std.proofs.lemmas.Bool.{ltb-true, lt-ltb, and_parts}
 use Rattle.std.specs.Cmp.Lexicographic.{pointwise}
 use Rattle.matchit.specs.Rows.{RowsOf, param_token, catch_all_token}
 use Rattle.matchit.specs.Seek.{own, step, or_else, seek, param_step, has_slash, segment, longest_from, with_suffix, cuts}
-use Rattle.route.proofs.AsciiLemmas.{both_true}
 
 -- a path fits a pattern whose parameters take these parts
 pub data Fits : List ℕ → List ℕ → List (List ℕ) → Type 0 where
@@ -72,12 +71,12 @@ word_byte x t h = by (x == 47) refl h
   where
     by : (v : Bool) → (x == 47) ≡ v → cond v true (ltb x 256 && is_word t) ≡ true → x < 256
     by true e h = let s : x ≡ 47 = eqb-true x 47 e in omega arith
-    by false e h = ltb-true x 256 (both_true (ltb x 256) (is_word t) h).0
+    by false e h = ltb-true x 256 (and_parts (ltb x 256) (is_word t) h).0
 
 word_on : (b : ℕ) (t : List ℕ) → b ≢ 47 → is_word (b ∷ t) ≡ true → is_word t ≡ true
 word_on b t n h =
     let e : (b == 47) ≡ false = ne_eqb b 47 n in
-    (both_true (ltb b 256) (is_word t) (rw e at h)).1
+    (and_parts (ltb b 256) (is_word t) (rw e at h)).1
 
 module _ {K : Type 0} where
   pub or_none : (a : Option K) → or_else a None ≡ a
@@ -114,7 +113,7 @@ module _ {K : Type 0} where
   words_step n [] l h = refl
   words_step n (([], key) ∷ r) l h = words_step n r l h
   words_step n ((x ∷ t, key) ∷ r) l h =
-      let parts = both_true (is_word (x ∷ t)) (all_words r) h in
+      let parts = and_parts (is_word (x ∷ t)) (all_words r) h in
       let small : x < 256 = word_byte x t parts.0 in
       let other : (x == n) ≡ false = ne_eqb x n (λ e. omega arith) in
       rw other (words_step n r l parts.1)
@@ -123,7 +122,7 @@ module _ {K : Type 0} where
   words_on b [] n h = refl
   words_on b (([], key) ∷ r) n h = words_on b r n h
   words_on b ((x ∷ t, key) ∷ r) n h =
-      let parts = both_true (is_word (x ∷ t)) (all_words r) h in
+      let parts = and_parts (is_word (x ∷ t)) (all_words r) h in
       by (x == b) refl parts.0 (words_on b r n parts.1)
     where
       by : (v : Bool) → (x == b) ≡ v → is_word (x ∷ t) ≡ true → all_words (step b r) ≡ true → all_words (cond v ((t, key) ∷ step b r) (step b r)) ≡ true

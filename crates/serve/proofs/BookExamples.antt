@@ -1,5 +1,6 @@
 -- Small histories of one workspace: how its periods are cut, and, for each law of the book, one that breaks it.
 use Rattle.std.proofs.Common.{◌≡◌, ◌⊎◌, inl, inr, ℕ, zero, suc, Bool, true, false, List, [], ◌∷◌, Option, Some, None, refl, sym, ap, subst, ◌∙◌, arith}
+use Rattle.std.proofs.lemmas.Option.{same_Some}
 use Rattle.std.specs.Prelude.{codes}
 use Rattle.std.specs.List.{Contains}
 use Rattle.std.specs.Fmt.{digits}
@@ -193,13 +194,10 @@ removal_by_force = (refl, refl, refl)
 abbrev posts_planned : Entry
 posts_planned = accepted (asks UpdateState (Some (run_id 1))) (held_by 1 Planned []) (record (held_by 1 Planned []) { next_version = 2 })
 
-one_run : (r s : Run) → Some r ≡ Some s → r ≡ s
-one_run r s e = cc
-
 update_of_a_planned_run : RunsKeepOthersOut net (posts_planned ∷ []) → ⊥
 update_of_a_planned_run law =
     let applying : IsApplying 1 (Some (held_by 1 Planned [])) = (not_by_force posts_planned (λ forced. forced) ((law 1).0.0 (inl (omega arith)))).2 in
-    let status : Planned ≡ Applying = ap (λ (r : Run). r.status) (one_run (run 1 Planned) applying.0 applying.1) ∙ applying.2 in
+    let status : Planned ≡ Applying = ap (λ (r : Run). r.status) (same_Some (run 1 Planned) applying.0 applying.1) ∙ applying.2 in
     let none : ⊥ = cc status in none
 
 -- nor without its ID

@@ -4,6 +4,7 @@ use Rattle.std.specs.List.{AllByRecursion, Contains, flat_map}
 use Rattle.std.specs.Str.{bytes_eq}
 use Rattle.std.proofs.lemmas.Bool.{eqb-true}
 use Rattle.std.proofs.lemmas.Slice.Eq.{bytes_eq-Decides}
+use Rattle.std.proofs.lemmas.Option.{same_Some}
 use Rattle.basis.specs.Names.{run_id}
 use Rattle.basis.specs.declared.refusals.Refusal.TheVariants.{BadState}
 use Rattle.basis.specs.declared.runs.RunStatus.TheVariants.{Applying}
@@ -31,6 +32,7 @@ use Rattle.machine.proofs.RuleLemmas.{rules_are_lawful}
 use Rattle.machine.proofs.QueueLemmas.{actions_come_again, keyed_creations_come_again}
 use Rattle.machine.proofs.Rulings.{IsWrite, all_writes}
 use Rattle.machine.proofs.BookLemmas.{IsAcceptedWrite, rises_by_write, held_stays, one_is_active, IsBelow, starts_below, stays_below, starts_above, Reaches, reaches_itself, reaches_more}
+use Rattle.machine.proofs.KeepLemmas.{apart_from}
 use Rattle.route.specs.declared.acts.Asked.{Asked}
 use Rattle.route.specs.declared.acts.AskedAct.{AskedAct}
 use Rattle.route.specs.declared.acts.AskedAct.TheVariants.{OfWorkspace}
@@ -51,7 +53,7 @@ use Rattle.serve.specs.Inner.Taking.{IsTimely, RunsTo}
 use Rattle.serve.proofs.ActLemmas.{IsKeyed, IsAction, act_is, once_is}
 use Rattle.serve.proofs.CheckLemmas.{Passes, order_passes, list_passes}
 use Rattle.serve.proofs.RecordLemmas.{standing_at, workspace_lawful}
-use Rattle.serve.proofs.CustodyLemmas.{apart_from, one_of, own_after, other_after, names_of, act_on, is_one, one_name, not_refused, some_is}
+use Rattle.serve.proofs.CustodyLemmas.{own_after, other_after, names_of, act_on, is_one, one_name, not_refused, some_is}
 use Rattle.serve.proofs.RunLemmas.{all_asked_one}
 use Rattle.serve.proofs.RemovalLemmas.{held_is_used, Comes, command_comes}
 
@@ -280,7 +282,7 @@ module _ (ws : List ℕ) (I : Workspace → Type 0) (P : Entry → Type 0)
 
 seen_is : (s : Seen) (w : Workspace) → standing s ≡ Some w → s ≡ there w
 seen_is (missing room) w e = absurd (let none : ⊥ = cc in none)
-seen_is (there v) w e = ap there (one_of v w e)
+seen_is (there v) w e = ap there (same_Some v w e)
 
 leaves_of : (ws : List ℕ) (e : Entry) (h : Ruled ws e) (w : Workspace) → e.before ≡ Some w → e.after ≡ (rules h.act h.now (there w)).left
 leaves_of ws e h w b = h.leaves ∙ ap (λ (s : Seen). (rules h.act h.now s).left) (seen_is h.seen w (h.stands ∙ b))
@@ -552,7 +554,7 @@ both_are true c e = absurd (let none : ⊥ = cc in none)
 both_are false c e = (refl, e)
 
 same_workspace : (o : Option Workspace) (u x : Workspace) → o ≡ Some u → o ≡ Some x → u ≡ x
-same_workspace o u x a b = one_of u x (sym a ∙ b)
+same_workspace o u x a b = same_Some u x (sym a ∙ b)
 
 start_of : (ws : List ℕ) (e : Entry) (n : ℕ) → IsLegal ws e → starts n e ≡ true → (h : Ruled ws e) × (w : Workspace) × (v : Workspace) × (e.before ≡ Some w) × (e.after ≡ Some v) × Starts n w v
 start_of ws e n legal is = by_goes legal.goes

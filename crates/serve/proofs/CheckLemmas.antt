@@ -136,7 +136,7 @@ checked_later r now later asked content_md5 body most = by_token (caller_of r (s
         by_end false c = inl (ap if_it_counts c)
         by_end true c = inr (ap if_it_counts (c ∙ sym (counted_before now later token.caller.until most c)))
 
-abbrev read_act : Act → Result Act Refusal
+abbrev pub read_act : Act → Result Act Refusal
 read_act act = Ok act
 
 -- what an order that passed the checks is: the organization is there, and this act is asked of the workspace

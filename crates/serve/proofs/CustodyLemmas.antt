@@ -22,7 +22,7 @@ use Rattle.machine.specs.declared.records.Organization.{Organization}
 use Rattle.machine.proofs.Rulings.{repeats}
 use Rattle.machine.proofs.CustodyLemmas.{versions_change_by_the_id, holds_until_released, locked_workspaces_stay, workspaces_go_by_delete, accepted_acts_come_again}
 use Rattle.machine.proofs.MapLemmas.{get_own, removed_own}
-use Rattle.machine.proofs.KeepLemmas.{own_workspace, other_workspace}
+use Rattle.machine.proofs.KeepLemmas.{own_workspace, other_workspace, apart_from}
 use Rattle.route.specs.declared.acts.Asked.{Asked}
 use Rattle.route.specs.declared.acts.AskedAct.{AskedAct}
 use Rattle.route.specs.declared.acts.AskedAct.TheVariants.{ListWorkspaces, OfWorkspace}
@@ -37,7 +37,7 @@ use Rattle.serve.specs.Checks.{spelt, act_of, checked}
 use Rattle.serve.specs.Steps.{answer_to, seen_at, ruled_in, carried, command_step}
 use Rattle.serve.specs.Custody.{NamesIn, IsRemoval, IsForcedRemoval, StepsChangeWhatTheyName, IsActOn, IsInCustody, LocksAreKept, IsInUseIn, OrganizationsGoByRemoval, RemovalsAreCarriedOut, OrganizationsBeginAnew, asked_again, StepsAreRepeatable, RepeatsLeaveTheWorkspace, SameBytesAskAgain, RequestsChangeTheirWorkspaceAlone}
 use Rattle.serve.proofs.ActLemmas.{act_is}
-use Rattle.serve.proofs.CheckLemmas.{Passes, order_passes, list_passes, checked_later}
+use Rattle.serve.proofs.CheckLemmas.{Passes, order_passes, list_passes, checked_later, read_act}
 use Rattle.serve.proofs.RecordLemmas.{placed_as_it_was, standing_at}
 use Rattle.serve.proofs.LawLemmas.{ruled_leaves}
 use Rattle.serve.proofs.RemovalLemmas.{lock_is_used, Comes, command_comes, removal_goes, removed_again}
@@ -48,12 +48,6 @@ use Rattle.wire.specs.declared.messages.Message.{Message}
 use Rattle.wire.specs.Messages.{Reading, unfinished, whole}
 use Rattle.wire.specs.Messages as wire
 use Rattle.wire.proofs.ReadingLemmas.{reads_one}
-
-pub apart_from : (a b : List ℕ) → bytes_eq a b ≡ false → a ≢ b
-apart_from a b e same = let none : ⊥ = cc (sym e ∙ (bytes_eq-Decides a b).1 same) in none
-
-pub one_of : (w v : Workspace) → Some w ≡ Some v → w ≡ v
-one_of w v e = cc
 
 -- the workspaces after the rules of one of them
 pub own_after : (r : Option Organization) (org ws : List ℕ) (act : Act) (now : ℕ) → IsSome r
@@ -96,9 +90,6 @@ steps_change_what_they_name r (commands at command) ws other stays = by_case (co
     by_case : Comes r command → workspace_in (command_step r command).left ws ≡ workspace_in r ws
     by_case (inl removed) = absurd (stays removed.removes)
     by_case (inr leaves) = leaves.keeps ws
-
-abbrev read_act : Act → Result Act Refusal
-read_act act = Ok act
 
 pub is_one : (a b : Act) → read_act a ≡ read_act b → b ≡ a
 is_one a b e = cc

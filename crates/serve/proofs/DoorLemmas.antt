@@ -3,6 +3,9 @@ use Rattle.std.proofs.Common.{◌≡◌, ◌≢◌, ◌⊎◌, inl, inr, ℕ, Bo
 use Rattle.std.specs.Prelude.{OnOk, is_none, codes}
 use Rattle.std.specs.Str.{bytes_eq}
 use Rattle.std.proofs.lemmas.Slice.Eq.{bytes_eq-Decides}
+use Rattle.std.proofs.lemmas.Bool.{both_ways}
+use Rattle.std.proofs.lemmas.Option.{same_Some}
+use Rattle.std.proofs.KnownBytes.{Appends-trans}
 use Rattle.sha2.specs.Sha256.{sha256}
 use Rattle.basis.specs.Checks.{and_then}
 use Rattle.basis.specs.declared.refusals.Allow.TheVariants.{Actions}
@@ -24,7 +27,6 @@ use Rattle.wire.specs.Replies.{Answer, IsReplyText, text_answer}
 use Rattle.wire.specs.declared.messages.Message.{Message}
 use Rattle.wire.specs.declared.messages.WireFault.{WireFault}
 use Rattle.wire.specs.declared.messages.WireFault.TheVariants.{Refused, Down, Ended, Read, Continue}
-use Rattle.wire.proofs.LinkLemmas.{Appends-then}
 use Rattle.wire.proofs.ReadingLemmas.{reads_one}
 use Rattle.serve.specs.Asks.{commands, organization}
 use Rattle.serve.specs.Doors.{commanded, act_commanded, org_commanded, subject_of, told_row, unserved_row, IsToldAtDoor, ComeNotToDoor, PassesDoor, ExchangesOpen, ExchangesWith, BringsSecret, OnlyTheSecretOpens}
@@ -43,7 +45,6 @@ use Rattle.serve.specs.declared.exchanges.LinkFault.{LinkFault}
 use Rattle.serve.specs.declared.exchanges.LinkFault.TheVariants.{Ended as LinkEnded, Read as LinkRead, Continue as LinkContinue, Write as LinkWrite}
 use Rattle.serve.specs.declared.steps.Admin.{Admin}
 use Rattle.serve.specs.declared.steps.Admin.TheVariants.{OrgAdd, OrgLimit, OrgRemove, OrgList, TokenAdd, TokenList, TokenRevoke}
-use Rattle.serve.proofs.CustodyLemmas.{one_of}
 use Rattle.serve.proofs.ExchangeLemmas.{MakesNothing, EndsBefore, exchanged_one, exchanged_told, carried_one, stayed_one, stayed_told}
 use Rattle.serve.proofs.LawLemmas.{command_leaves}
 use Rattle.serve.proofs.RemovalLemmas.{Comes, command_comes}
@@ -58,15 +59,12 @@ if_err (Err e) weaker h = weaker e h
 one_message : (m n : Message) (a b : Bool) → whole m a ≡ whole n b → m ≡ n
 one_message m n a b e = cc
 
-not_both : (b : Bool) → b ≡ false → b ≡ true → ⊥
-not_both b unset set = let none : ⊥ = cc in none
-
 -- what was read elsewhere doesn't come to the door
 elsewhere : (received : List ℕ) (left before between : Option (List ℕ)) (read : Result Message WireFault) → ReadsElsewhere read → (read ≡ Err Down → ⊥) → (read ≡ Err Continue → ⊥)
     → ReportsReceived received left before between read → ComeNotToDoor received
 elsewhere received left before between (Ok message) away down continued told other awaited comes =
     let same : message ≡ other = one_message message other told.0 awaited (reads_one received (whole message told.0) (whole other awaited) told.1 comes.reads) in
-    not_both (is_at_door other) (subst (λ (m : Message). is_at_door m ≡ false) same away) comes.at_door
+    both_ways (is_at_door other) (subst (λ (m : Message). is_at_door m ≡ false) same away) comes.at_door
 elsewhere received left before between (Err (Refused refusal head)) away down continued told other awaited comes =
     let none : refused refusal head ≡ whole other awaited = reads_one received (refused refusal head) (whole other awaited) told.0 comes.reads in let no : ⊥ = cc in no
 elsewhere received left before between (Err Ended) away down continued told other awaited comes =
@@ -94,7 +92,7 @@ pub passed : {T : Type 0} (digest : List ℕ) (now : ℕ) (read : Result Message
     → AnswersTo now read old new b c is_down row result → AnswersOpen digest now read old new b c is_down row result
 passed digest now read old new b c is_down row result away down continued answers received left before told = inl (
   passes received is_down result (λ up written. elsewhere received left before b read away
-      (λ e. not_both is_down up (down e))
+      (λ e. both_ways is_down up (down e))
       (λ e. written (continued e)) told),
   answers received left before told,
 )
@@ -104,14 +102,14 @@ pub at_door : {T : Type 0} (digest : List ℕ) (now : ℕ) (message : Message) (
     → is_at_door message ≡ true → IsToldAtDoor digest now message old new text row is_down → Writes b c text result → IfErr result (λ fault. fault ≡ LinkWrite)
     → AnswersOpen digest now (Ok message) old new b c is_down row result
 at_door digest now message old new b c is_down row text (Ok done) comes is writes fault received left before told =
-    inr (message, told.0, record { reads = told.1; at_door = comes }, (text, is, Appends-then before b c (continue_if told.0) text told.2 writes))
+    inr (message, told.0, record { reads = told.1; at_door = comes }, (text, is, Appends-trans before b c (continue_if told.0) text told.2 writes))
 at_door {T = T} digest now message old new b c is_down row text (Err e) comes is writes fault received left before told =
     subst (λ (f : LinkFault). ExchangesOpen digest now received left old new before c is_down row {T = T} (Err f)) (sym fault)
     (inr (
       message,
       told.0,
       record { reads = told.1; at_door = comes },
-      (writes.0, writes.1, writes.2, subst (λ (x : List ℕ). IsToldAtDoor digest now message old new x row is_down) writes.3 is, Appends-then before b c (continue_if told.0) writes.0 told.2 writes.4),
+      (writes.0, writes.1, writes.2, subst (λ (x : List ℕ). IsToldAtDoor digest now message old new x row is_down) writes.3 is, Appends-trans before b c (continue_if told.0) writes.0 told.2 writes.4),
     ))
 
 -- ---- what is told
@@ -173,11 +171,11 @@ goes_as_told row r after nothing stay = record {
 }
   where
     kept : (ws : List ℕ) (w v : Workspace) → workspace_in r ws ≡ Some w → workspace_in after ws ≡ Some v → (workspace_in after ws ≡ workspace_in r ws) ⊎ (workspace_in after ws ≡ None) → KeepsVersions w v
-    kept ws w v stood stands (inl same) = keeps_same w v (one_of w v (sym stood ∙ sym same ∙ stands))
+    kept ws w v stood stands (inl same) = keeps_same w v (same_Some w v (sym stood ∙ sym same ∙ stands))
     kept ws w v stood stands (inr none) = absurd (let no : ⊥ = cc (sym none ∙ stands) in no)
 
     started : (ws : List ℕ) (w v : Workspace) (n : ℕ) → workspace_in r ws ≡ Some w → workspace_in after ws ≡ Some v → Starts n w v → (workspace_in after ws ≡ workspace_in r ws) ⊎ (workspace_in after ws ≡ None) → ⊥
-    started ws w v n stood stands starts (inl same) = none_starts w v n (one_of w v (sym stood ∙ sym same ∙ stands)) starts
+    started ws w v n stood stands starts (inl same) = none_starts w v n (same_Some w v (sym stood ∙ sym same ∙ stands)) starts
     started ws w v n stood stands starts (inr none) = let no : ⊥ = cc (sym none ∙ stands) in no
 
     come : (ws : List ℕ) (v : Workspace) → workspace_in r ws ≡ None → workspace_in after ws ≡ Some v → (workspace_in after ws ≡ workspace_in r ws) ⊎ (workspace_in after ws ≡ None) → ⊥

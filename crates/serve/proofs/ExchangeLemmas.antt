@@ -3,6 +3,8 @@ use Rattle.std.proofs.Common.{◌≡◌, ◌≢◌, ℕ, Bool, true, false, List
 use Rattle.std.specs.Io.KnownBytes.{Appends, Consumes}
 use Rattle.std.specs.Str.{bytes_eq}
 use Rattle.std.proofs.lemmas.Slice.Eq.{bytes_eq-Decides}
+use Rattle.std.proofs.lemmas.Option.{same_Some}
+use Rattle.std.proofs.KnownBytes.{Appends-nil, Appends-trans, Consumes-nil}
 use Rattle.machine.specs.Laws.{AreLawful}
 use Rattle.machine.specs.declared.records.Organization.{Organization}
 use Rattle.route.specs.Asks.{Asking, asked_of, asks}
@@ -13,7 +15,6 @@ use Rattle.wire.specs.declared.messages.WireFault.TheVariants.{Refused, Down, En
 use Rattle.wire.specs.Messages.{Reading, refused, whole}
 use Rattle.wire.specs.Links.{ReportsReceived, ReportsInput, continue_if, Writes}
 use Rattle.wire.specs.Replies.{Answer, IsReplyText, unavailable_answer}
-use Rattle.wire.proofs.LinkLemmas.{Appends-none, Appends-then, Consumes-none}
 use Rattle.docs.specs.declared.logs.LogRow.{LogRow}
 use Rattle.serve.specs.Logs.{silent_row, with_answer, unavailable_row, IsUnavailableRow, request_row, row_of_ask, token_named, id_spelt, task_read}
 use Rattle.serve.specs.Asks.{Ask, Owner, owner_of, organization, unattributed, operator, silent, requests, commands}
@@ -75,12 +76,6 @@ answered_one : (now : ℕ) (received : List ℕ) (old new : List ℕ → Option 
 answered_one now received old new awaited text row false served = carried_one served.ask old new served.carries
 answered_one now received old new awaited text row true unavailable = stayed_one old new unavailable.1.stays
 
-pub bytes_of : (a b : List ℕ) → Some a ≡ Some b → a ≡ b
-bytes_of a b e = cc
-
-one_row : (a b : LogRow) → Some a ≡ Some b → a ≡ b
-one_row a b e = cc
-
 -- a row that tells of no version and of no run
 pub record MakesNothing (row : LogRow) : Type 0 where
   pub version : row.version ≡ None
@@ -115,14 +110,14 @@ stayed_told row old new nothing stays = record {
 asked_told : (a : Ask) (row : LogRow) (old new : List ℕ → Option Organization) → AreLawful old → Some row ≡ row_of_ask (record_for old (owner_of a)) a → Carries a old new → ChangesAsTold row old new
 asked_told silent row old new lawful is carries = absurd (let none : ⊥ = cc in none)
 asked_told (ask.refused at awaited refusal is_head) row old new lawful is carries =
-    subst (λ (x : LogRow). ChangesAsTold x old new) (sym (one_row row (with_answer (refusing refusal None).answer (silent_row at)) is))
+    subst (λ (x : LogRow). ChangesAsTold x old new) (sym (same_Some row (with_answer (refusing refusal None).answer (silent_row at)) is))
     (stayed_told (with_answer (refusing refusal None).answer (silent_row at)) old new (record { version = refl; run = refl }) carries)
 asked_told (requests at awaited asked content_md5 body) row old new lawful is carries =
-    let same : row ≡ request_row (old asked.caller) at asked content_md5 body = one_row row (request_row (old asked.caller) at asked content_md5 body) is in
+    let same : row ≡ request_row (old asked.caller) at asked content_md5 body = same_Some row (request_row (old asked.caller) at asked content_md5 body) is in
     subst (λ (x : LogRow). ChangesAsTold x old new) (sym same) (record {
       others = λ org apart. carries org ∙ other_stays org (bytes_eq org asked.caller) refl apart;
       refused = λ some org. carries org ∙ refused_stays (request_step (old asked.caller) at asked content_md5 body).answer.refusal refl some org (bytes_eq org asked.caller) refl;
-      own = λ org named. subst (λ (name : List ℕ). ComesAsTold (request_row (old asked.caller) at asked content_md5 body) (old name) (new name)) (bytes_of asked.caller org named)
+      own = λ org named. subst (λ (name : List ℕ). ComesAsTold (request_row (old asked.caller) at asked content_md5 body) (old name) (new name)) (same_Some asked.caller org named)
           (request_as_told (old asked.caller) (new asked.caller) at asked content_md5 body (λ ws. workspace_lawful old asked.caller ws lawful) own_step);
       nobody = λ none. absurd (let not_none : ⊥ = cc in not_none);
     })
@@ -147,7 +142,7 @@ asked_told (commands at command) row old new lawful is carries = absurd (let non
 answered_told : (now : ℕ) (received : List ℕ) (old new : List ℕ → Option Organization) (awaited : Bool) (text : List ℕ) (row : LogRow) (is_down : Bool) → AreLawful old → IsAnswered now received old new awaited text (Some row) is_down → ChangesAsTold row old new
 answered_told now received old new awaited text row false lawful served = asked_told served.ask row old new lawful served.logged served.carries
 answered_told now received old new awaited text row true lawful (reading, unavailable) =
-    stayed_told row old new (subst MakesNothing (sym (one_row row unavailable.told unavailable.tells)) (down_makes_nothing now old reading unavailable.told unavailable.logged)) unavailable.stays
+    stayed_told row old new (subst MakesNothing (sym (same_Some row unavailable.told unavailable.tells)) (down_makes_nothing now old reading unavailable.told unavailable.logged)) unavailable.stays
 
 -- what was read of what received is answered by this text
 abbrev pub AnswersRead : ℕ → Result Message WireFault → (List ℕ → Option Organization) → (List ℕ → Option Organization) → Bool → List ℕ → Option LogRow → Type 0
@@ -173,13 +168,13 @@ refused_read now (Err Continue) old new text row stays is_text logs received lef
 -- the row of a 503 in place of an answer: all of it had been read
 down_logged : (r : Option Organization) (a : Ask) (row : LogRow) → row_of_ask r a ≡ Some row → IsUnavailableRow r a (as_unavailable row)
 down_logged r silent row e = absurd (let none : ⊥ = cc in none)
-down_logged r (ask.refused at awaited refusal is_head) row e = ap as_unavailable (sym (one_row (with_answer (refusing refusal r).answer (silent_row at)) row e))
+down_logged r (ask.refused at awaited refusal is_head) row e = ap as_unavailable (sym (same_Some (with_answer (refusing refusal r).answer (silent_row at)) row e))
 down_logged r (requests at awaited asked content_md5 body) row e =
     inr (record {
       token = token_named r at asked;
       id = id_spelt (task_read r at asked content_md5 body);
       read = inr (refl, inr refl);
-      is = ap as_unavailable (sym (one_row (request_row r at asked content_md5 body) row e));
+      is = ap as_unavailable (sym (same_Some (request_row r at asked content_md5 body) row e));
     })
 down_logged r (commands at command) row e = absurd (let none : ⊥ = cc in none)
 
@@ -253,12 +248,12 @@ pub replied : {T : Type 0} (now : ℕ) (read : Result Message WireFault) (old ne
     → AnswersTo now read old new b c is_down row result
 replied now read old new is_down row b c text (Ok done) answers writes fault received left a told =
     let r = answers received left a b told in
-    (r.0, text, r.2, Appends-then a b c (continue_if r.0) text r.1 writes)
+    (r.0, text, r.2, Appends-trans a b c (continue_if r.0) text r.1 writes)
 replied {T = T} now read old new is_down row b c text (Err e) answers writes fault received left a told =
     let r = answers received left a b told in
     let is = subst (λ (x : List ℕ). IsAnswered now received old new r.0 x row is_down) writes.3 r.2 in
     subst (λ (f : LinkFault). Exchanges now received left old new a c is_down row {T = T} (Err f)) (sym fault)
-    (r.0, writes.0, writes.1, writes.2, is, Appends-then a b c (continue_if r.0) writes.0 r.1 writes.4)
+    (r.0, writes.0, writes.1, writes.2, is, Appends-trans a b c (continue_if r.0) writes.0 r.1 writes.4)
 
 -- nothing is read, and the refusal is written
 pub refused_unread : {T : Type 0} (left : Option (List ℕ)) (now : ℕ) (rows : List ℕ → Option Organization) (row : LogRow) (a c : Option (List ℕ)) (text : List ℕ) (result : Result T LinkFault)
@@ -266,8 +261,8 @@ pub refused_unread : {T : Type 0} (left : Option (List ℕ)) (now : ℕ) (rows :
     → Received left left (λ received. Exchanges now received left rows rows a c true (Some row) result)
 refused_unread left now rows row a c text result is is_text writes fault = (
   [],
-  Consumes-none left,
-  replied now (Err Down) rows rows true (Some row) a c text result (refused_read now (Err Down) rows rows text row (λ org. refl) is_text is) writes fault [] left a (Appends-none a),
+  Consumes-nil left,
+  replied now (Err Down) rows rows true (Some row) a c text result (refused_read now (Err Down) rows rows text row (λ org. refl) is_text is) writes fault [] left a (Appends-nil a),
 )
 
 -- no reply: what received is unfinished, or `100 Continue` wasn't taken
@@ -340,4 +335,4 @@ pub input_answered : (at : ℕ) (read : Result Message WireFault) (old mid new :
 input_answered at read old mid new p row bytes b text all stays prepared logs settled is_text told appends =
     let r = answered_read at read old mid new p row false text stays prepared logs settled is_text bytes None (Some []) b (of_input at old read p bytes (Some []) b prepared told) in
     let served : IsServed at bytes old new r.0 text (Some row) = r.2 in
-    (served.ask, served.asks, served.carries, subst (λ (s : Said). IsSaidText s all) (sym served.said) (text, served.is, Appends-then (Some []) b (Some all) (continue_if r.0) text r.1 appends))
+    (served.ask, served.asks, served.carries, subst (λ (s : Said). IsSaidText s all) (sym served.said) (text, served.is, Appends-trans (Some []) b (Some all) (continue_if r.0) text r.1 appends))

@@ -99,7 +99,7 @@ said_is (TokenAdd org name role secret bounds) a b e = cc
 said_is (TokenList org) a b e = absurd (let none : ⊥ = cc in none)
 said_is (TokenRevoke org name) a b e = cc
 
-no_reply : (command : Admin) (a : AdminAnswer) (awaited : Bool) (now : ℕ) (answer : Answer) → command_said command a ≡ replies awaited now answer → ⊥
+pub no_reply : (command : Admin) (a : AdminAnswer) (awaited : Bool) (now : ℕ) (answer : Answer) → command_said command a ≡ replies awaited now answer → ⊥
 no_reply (OrgAdd org limit) a awaited now answer e = let none : ⊥ = cc in none
 no_reply (OrgLimit org limit) a awaited now answer e = let none : ⊥ = cc in none
 no_reply (OrgRemove org is_forced) a awaited now answer e = let none : ⊥ = cc in none

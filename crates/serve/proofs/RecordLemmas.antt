@@ -1,5 +1,6 @@
 -- Records that stay as they are, and answers that are foreseen.
 use Rattle.std.proofs.Common.{◌≡◌, ◌≢◌, ℕ, Bool, false, ◌&&◌, cond, List, is_some, Option, Some, None, Result, Ok, Err, IsSome, IfOk, OnOk, nat_lt, refl, sym, ap, subst, ◌∙◌}
+use Rattle.std.proofs.lemmas.Option.{same_Some}
 use Rattle.std.specs.Prelude.{option_map}
 use Rattle.std.specs.Ordering.{is_eq}
 use Rattle.std.specs.declared.cmp.Ordering.{Ordering}
@@ -80,11 +81,6 @@ acceptance_foreseen r org ws answer None reply some is due = record { answer = i
 acceptance_foreseen None org ws answer (Some c) reply some is due = absurd (let none : ⊥ = cc in none)
 acceptance_foreseen (Some o) org ws answer (Some c) reply some is due = record { answer = is; changes = (o, refl, due o refl, refl) }
 
--- a weaker fact of what a call gave
-pub if_ok : {T E : Type 0} {P Q : T → Type 0} (r : Result T E) → ((x : T) → P x → Q x) → IfOk r P → IfOk r Q
-if_ok (Ok x) weaker h = weaker x h
-if_ok (Err e) weaker h = tt
-
 holder_seen : (o : Organization) (act : Act) (w : Option Workspace) → holder_in (unit_by o act w) ≡ holder_of w
 holder_seen o act None = refl
 holder_seen o act (Some w) = refl
@@ -103,12 +99,9 @@ rule_foreseen (Some o) seen org ws act now unit decision reply change same lawfu
     let held : holder_in unit ≡ holder_of (get o.workspaces ws) = ap holder_in (units o refl) ∙ holder_seen o act (get o.workspaces ws) in
     let Carried : Option Organization → Type 0 = λ x. IsSome x → holder_in unit ≡ holder_of (workspace_in x ws) → ((q : Organization) → x ≡ Some q → ChangeIsDue (seen_in q ws) decision)
     → Foresees x (Some ws) (ruled_in org ws x (meaning decision (workspace_in x ws))) reply change in
-    let due : (q : Organization) → Some o ≡ Some q → ChangeIsDue (seen_in q ws) decision = λ q e. subst (λ (x : Organization). ChangeIsDue (seen_in x ws) decision) (one_of o q e) (m.due range moment) in
+    let due : (q : Organization) → Some o ≡ Some q → ChangeIsDue (seen_in q ws) decision = λ q e. subst (λ (x : Organization). ChangeIsDue (seen_in x ws) decision) (same_Some o q e) (m.due range moment) in
     let f : Foresees (Some o) (Some ws) (ruled_in org ws (Some o) (meaning decision (get o.workspaces ws))) reply change = subst Carried same carried refl held due in
     subst (λ (x : Ruling). Foresees (Some o) (Some ws) (ruled_in org ws (Some o) x) reply change) (ap (meaning decision) (sym stands) ∙ m.model) f
-  where
-    one_of : (a b : Organization) → Some a ≡ Some b → a ≡ b
-    one_of a b e = cc
 
 -- a refusal is foreseen where it is what is wanted, with what else is given beside it
 pub refused_then : {E X : Type 0} (refusal : Refusal) (r : Option Organization) (named : Option (List ℕ)) (want : Answered) (res : Result (Reply × Option Change × X) E)

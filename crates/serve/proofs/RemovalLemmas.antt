@@ -1,5 +1,6 @@
 -- Removing an organization: whether one of its workspaces is in use, and what an operator's command leaves of them.
 use Rattle.std.proofs.Common.{◌≡◌, ◌≢◌, ◌⊎◌, inl, inr, ℕ, T, Bool, true, false, not, ◌&&◌, ◌||◌, cond, List, [], ◌∷◌, Option, Some, None, IsSome, is_some, nat_lt, refl, sym, ap, subst, ◌∙◌}
+use Rattle.std.proofs.Math.Bool.{or-true}
 use Rattle.std.specs.List.{list_any}
 use Rattle.std.specs.Ordering.{eq_by_cmp, is_eq}
 use Rattle.std.specs.Cmp.{tied_itself}
@@ -37,10 +38,6 @@ Entries = List (List ℕ × Workspace)
 abbrev is_used : List ℕ × Workspace → Bool
 is_used e = is_in_use e.1
 
-or_true : (b : Bool) → (b || true) ≡ true
-or_true true = refl
-or_true false = refl
-
 -- what is found and in use is among the entries
 used_if_found : (ws : List ℕ) (w : Workspace) (es : Entries) → find name_cmp ws es ≡ Some w → is_in_use w ≡ true → list_any is_used es ≡ true
 used_if_found ws w [] found is = absurd (let none : ⊥ = cc in none)
@@ -51,7 +48,7 @@ used_if_found ws w (e ∷ es) found is = by_name (eq_by_cmp name_cmp ws e.0) fou
 
     by_name : (b : Bool) → cond b (Some e.1) (find name_cmp ws es) ≡ Some w → (find name_cmp ws es ≡ Some w → list_any is_used es ≡ true) → (is_in_use e.1 || list_any is_used es) ≡ true
     by_name true here more = ap (λ b. b || list_any is_used es) (ap is_in_use (one here) ∙ is)
-    by_name false later more = ap (λ b. is_in_use e.1 || b) (more later) ∙ or_true (is_in_use e.1)
+    by_name false later more = ap (λ b. is_in_use e.1 || b) (more later) ∙ or-true (is_in_use e.1)
 
 -- what is found behind a name isn't of that name
 found_apart : (before ws : List ℕ) (w : Workspace) (es : Entries) → T (below_all name_cmp before es) → find name_cmp ws es ≡ Some w → ws ≢ before

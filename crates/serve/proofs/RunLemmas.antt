@@ -38,15 +38,15 @@ replies_at-push owner (b ∷ asked) a [] t e = absurd (omega arith)
 replies_at-push owner (b ∷ asked) a (u ∷ ts) t e =
     ap (with_own (is_own owner b) u) (replies_at-push owner asked a ts t (omega arith)) ∙ with_own-append (is_own owner b) u (replies_at owner asked ts) (with_own (is_own owner a) t [])
 
-own_record-append : (r : Option Organization) (xs ys : List Ask) → own_record r (xs ++ ys) ≡ own_record (own_record r xs) ys
+pub own_record-append : (r : Option Organization) (xs ys : List Ask) → own_record r (xs ++ ys) ≡ own_record (own_record r xs) ys
 own_record-append r [] ys = refl
 own_record-append r (a ∷ xs) ys = own_record-append (step r a).left xs ys
 
-own_said-append : (r : Option Organization) (xs ys : List Ask) → own_said r (xs ++ ys) ≡ own_said r xs ++ own_said (own_record r xs) ys
+pub own_said-append : (r : Option Organization) (xs ys : List Ask) → own_said r (xs ++ ys) ≡ own_said r xs ++ own_said (own_record r xs) ys
 own_said-append r [] ys = refl
 own_said-append r (a ∷ xs) ys = ap (λ (s : List Said). (step r a).answer ∷ s) (own_said-append (step r a).left xs ys)
 
-AreTexts-append : (s s' : List Said) (ts ts' : List (List ℕ)) → AreTexts s ts → AreTexts s' ts' → AreTexts (s ++ s') (ts ++ ts')
+pub AreTexts-append : (s s' : List Said) (ts ts' : List (List ℕ)) → AreTexts s ts → AreTexts s' ts' → AreTexts (s ++ s') (ts ++ ts')
 AreTexts-append [] s' [] ts' h h' = h'
 AreTexts-append [] s' (t ∷ ts) ts' h h' = absurd h
 AreTexts-append (x ∷ s) s' [] ts' h h' = absurd h

@@ -1,5 +1,6 @@
 -- One step taken: what it asks is carried out, and this is the text of what is said.
 use Rattle.std.proofs.Common.{◌≡◌, ℕ, Bool, true, false, not, ◌&&◌, ◌||◌, cond, List, Option, Some, None, is_some, Result, IfOk, refl, sym, ap, subst, ◌∙◌}
+use Rattle.std.proofs.lemmas.Result.{IfOk-weaker}
 use Rattle.std.specs.FinMap.{get}
 use Rattle.sha2.specs.Sha256.{sha256}
 use Rattle.machine.specs.declared.records.Organization.{Organization}
@@ -27,7 +28,6 @@ use Rattle.machine.specs.Removal.{has_use}
 use Rattle.machine.specs.Tokens.{has_digest, with_token, without_token, token_of, tokens_told, ListsOrganizations}
 use Rattle.machine.specs.declared.keeps.AdminAnswer.{AdminAnswer}
 use Rattle.machine.specs.declared.keeps.AdminAnswer.TheVariants.{Done, Exists, Absent, InUse, Organizations, Tokens}
-use Rattle.serve.proofs.RecordLemmas.{if_ok}
 use Rattle.machine.specs.Ranges.{IsMoment}
 
 -- what is prepared stays so over rows that stay
@@ -46,7 +46,7 @@ pub command_taken : {E : Type 0} (s : Step) (at : ℕ) (command : Admin) (old ne
     → IfOk res (λ text. (at : ℕ) → Carries (commands at command) old new × IsSaidText (said_to old (commands at command)) text × IsListedBy old command text)
     → IfOk res (λ text. IsTaken s text old new)
 command_taken s at command old new res is h =
-    if_ok res (λ text taken. record {
+    IfOk-weaker res _ _ (λ text taken. record {
       ask = commands at command;
       is = subst (λ (x : Step). IsAsked x (commands at command)) (sym is) refl;
       timely = tt;
@@ -91,7 +91,7 @@ pub request_taken : {E : Type 0} (s : Step) (at : ℕ) (bytes came : List ℕ) (
     → IfOk res (λ text. (ask : Ask) × Asks at came ask × Carries ask old new × IsSaidText (said_to old ask) text)
     → IfOk res (λ text. IsTaken s text old new)
 request_taken s at bytes came old new res is same moment h =
-    if_ok res (λ text taken. record {
+    IfOk-weaker res _ _ (λ text taken. record {
       ask = taken.0;
       is = subst (λ (x : Step). IsAsked x taken.0) (sym is) (subst (λ (b : List ℕ). Asks at b taken.0) same taken.1);
       timely = subst IsTimely (sym taken.1.is) (reading_timely at taken.1.reading moment);

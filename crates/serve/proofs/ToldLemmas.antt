@@ -4,6 +4,7 @@ use Rattle.std.specs.Prelude.{if◌then◌else◌}
 use Rattle.std.specs.Option.{option_or}
 use Rattle.std.specs.Str.{bytes_eq}
 use Rattle.std.proofs.lemmas.Slice.Eq.{bytes_eq-Decides}
+use Rattle.std.proofs.lemmas.Option.{same_Some}
 use Rattle.docs.specs.declared.logs.LogRow.{LogRow}
 use Rattle.basis.specs.declared.refusals.Refusal.{Refusal}
 use Rattle.basis.specs.declared.rows.Holder.{Holder}
@@ -20,6 +21,7 @@ use Rattle.machine.specs.declared.records.Workspace.{Workspace}
 use Rattle.machine.specs.declared.records.Organization.{Organization}
 use Rattle.machine.proofs.CustodyLemmas.{workspaces_begin_anew}
 use Rattle.machine.proofs.VersionLemmas.{numbers_rise}
+use Rattle.machine.proofs.KeepLemmas.{apart_from}
 use Rattle.route.specs.declared.acts.Asked.{Asked}
 use Rattle.serve.specs.Checks.{checked}
 use Rattle.serve.specs.Exchanges.{Makes, OfNamed, ComesAsTold}
@@ -28,7 +30,7 @@ use Rattle.serve.specs.Steps.{seen_at, carried, request_step}
 use Rattle.serve.specs.declared.prepared.Task.{Task}
 use Rattle.serve.specs.declared.prepared.Task.TheVariants.{ListAll, Carry}
 use Rattle.serve.proofs.CheckLemmas.{Passes, order_passes}
-use Rattle.serve.proofs.CustodyLemmas.{one_of, own_after, other_after, seen_there, apart_from}
+use Rattle.serve.proofs.CustodyLemmas.{own_after, other_after, seen_there}
 use Rattle.serve.proofs.LogLemmas.{given_same}
 use Rattle.serve.proofs.RecordLemmas.{standing_at}
 
@@ -87,9 +89,6 @@ started_there None q n e = absurd (let none : ⊥ = cc in none)
 started_there (Some w) None n e = absurd (let none : ⊥ = cc in none)
 started_there (Some w) (Some v) n e = (w, v, refl, refl)
 
-one_number : (a b : ℕ) → Some a ≡ Some b → a ≡ b
-one_number a b e = cc
-
 -- of a record before and after, and of the name, the version and the run that are told: the workspace of the name was ruled
 record IsRuled (r after : Option Organization) (named : Option (List ℕ)) (version run : Option ℕ) : Type 0 where
   ws : List ℕ
@@ -138,8 +137,8 @@ pub still_told : (row : LogRow) (r : Option Organization) → row.version ≡ No
 still_told row r made started = record {
   version = subst (λ (o : Option ℕ). IfSome o (λ n. OfNamed row.workspace r r (Makes n))) (sym made) tt;
   run = subst (λ (o : Option ℕ). IfSome o (λ n. OfNamed row.workspace r r (Starts n))) (sym started) tt;
-  versions = λ ws w v stood stands. inl (keeps_same w v (one_of w v (sym stood ∙ stands)));
-  runs = λ ws w v n stood stands starts. absurd (none_starts w v n (one_of w v (sym stood ∙ stands)) starts);
+  versions = λ ws w v stood stands. inl (keeps_same w v (same_Some w v (sym stood ∙ stands)));
+  runs = λ ws w v n stood stands starts. absurd (none_starts w v n (same_Some w v (sym stood ∙ stands)) starts);
   anew = λ ws v gone stands. absurd (let none : ⊥ = cc (sym gone ∙ stands) in none);
 }
 
@@ -149,7 +148,7 @@ module _ (row : LogRow) (r after : Option Organization) (lawful : (ws : List ℕ
   Ruled = IsRuled r after row.workspace row.version row.run
 
   same_workspace : (ws : List ℕ) (w v : Workspace) → workspace_in after ws ≡ workspace_in r ws → workspace_in r ws ≡ Some w → workspace_in after ws ≡ Some v → w ≡ v
-  same_workspace ws w v same stood stands = one_of w v (sym stood ∙ sym same ∙ stands)
+  same_workspace ws w v same stood stands = same_Some w v (sym stood ∙ sym same ∙ stands)
 
   -- of the workspace that was ruled
   version_comes : (h : Ruled) (w v : Workspace) → workspace_in r h.ws ≡ Some w → (rules h.act h.now (seen_at r h.ws)).left ≡ Some v
@@ -175,7 +174,7 @@ module _ (row : LogRow) (r after : Option Organization) (lawful : (ws : List ℕ
           → VersionTold row.version w v → OfNamed row.workspace r after (Makes n)
       by_case w v stood left (inl (keeps, untold)) = absurd (let none : ⊥ = cc (sym untold ∙ e) in none)
       by_case w v stood left (inr (makes, is)) =
-          let same : w.next_version ≡ n = one_number w.next_version n (sym is ∙ e) in
+          let same : w.next_version ≡ n = same_Some w.next_version n (sym is ∙ e) in
           record { ws = h.ws; is = h.is; before = w; after = v; stood = stood; stands = h.left ∙ left; so = subst (λ (m : ℕ). Makes m w v) same makes }
 
   told_run : (o : Option ℕ) → row.run ≡ o → Goes r after row.workspace row.version row.run → IfSome o (λ n. OfNamed row.workspace r after (Starts n))

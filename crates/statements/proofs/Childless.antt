@@ -1,5 +1,5 @@
 -- A token that goes takes no row of bound along, where none is of its name; nor does a workspace a row of keeping.
-use Rattle.std.proofs.Common.{◌≡◌, ◌≢◌, inr, ℕ, ◌<ℤ◌, Bool, true, false, not, cond, ◌&&◌, List, [], ◌∷◌, map, filter, Some, option_and_then, unwrap_or, Ok, refl, sym, ap, ◌∙◌, subst, arith, is_eq, IsPermutation}
+use Rattle.std.proofs.Common.{◌≡◌, ◌≢◌, inr, ℕ, ◌<ℤ◌, Bool, true, false, cond, ◌&&◌, List, [], ◌∷◌, map, filter, Some, option_and_then, unwrap_or, Ok, refl, sym, ap, ◌∙◌, subst, arith, is_eq, IsPermutation}
 use Rattle.std.specs.List.{AllByRecursion, list_all, list_any}
 use Rattle.std.specs.Str.{bytes_eq}
 use Rattle.std.proofs.lemmas.Bool.{and_parts}
@@ -28,9 +28,9 @@ use Rattle.sqlite_rules.proofs.ListLemmas.{all_has}
 use Rattle.sqlite_tied.specs.Compute.{everything}
 use Rattle.sqlite.specs.State.{State, Executes}
 use Rattle.sqlite_keyed.specs.Keyed.{IsKeyedBy}
-use Rattle.sqlite_keyed.specs.Lists.{delete_where}
 use Rattle.sqlite_keyed.proofs.KeyedLemmas.{Less-from_lt}
 use Rattle.sqlite_keyed.proofs.ListLemmas.{map-map, all_both, all_weaker}
+use Rattle.basis.proofs.NameLemmas.{equal_bytes}
 use Rattle.statements.specs.Place.{at_of, tree_of, IsPassive, IsOwn}
 use Rattle.statements.specs.Schema.{token_table, ws_table, bound_table, keeping_table, to_token, to_ws}
 use Rattle.statements.specs.Rows.{Kept, id_of, stored, TokenRow, WsRow, BoundRow, KeepingRow, token_cells, ws_cells, bound_cells, keeping_cells}
@@ -45,7 +45,6 @@ use Rattle.statements.proofs.Own.{stored_tree}
 use Rattle.statements.proofs.Writes.{deletes, plain_program}
 use Rattle.statements.proofs.Edits.{all_shown}
 use Rattle.statements.proofs.Conditions.{two_texts}
-use Rattle.statements.proofs.NameLists.{same_text}
 use Rattle.statements.proofs.Commands.{is_at, delete_query}
 use Rattle.statements.proofs.Meaning.{Means}
 use Rattle.statements.proofs.TokenTexts.{remove_token_means}
@@ -86,22 +85,13 @@ none_any : {A : Type 0} (f : Row × Row → Bool) (row : A → Row) (zs : List A
 none_any f row [] h = refl
 none_any f row (z ∷ zs) h = rw h.0 (none_any f row zs h.1)
 
--- what was taken out is there no more
-pub none_left : {A : Type 0} (p : A → Bool) (xs : List A) → AllByRecursion (λ x. p x ≡ false) (delete_where p xs)
-none_left p [] = tt
-none_left p (x ∷ xs) = go (p x) refl (none_left p xs)
-  where
-    go : (b : Bool) → p x ≡ b → AllByRecursion (λ y. p y ≡ false) (delete_where p xs) → AllByRecursion (λ y. p y ≡ false) (cond (not b) (x ∷ delete_where p xs) (delete_where p xs))
-    go true e more = more
-    go false e more = (e, more)
-
 -- ---- a row and one that follows it agree by their names
 
 -- of two pairs of names the one is this one, and the other isn't
 apart_by : (org name o n a b : List ℕ) → (bytes_eq o org && bytes_eq n name) ≡ false → (bytes_eq a org && bytes_eq b name) ≡ true → (bytes_eq o a && bytes_eq n b) ≡ false
 apart_by org name o n a b none mine =
     let parts = and_parts (bytes_eq a org) (bytes_eq b name) mine in
-    ap (λ x. bytes_eq o x && bytes_eq n b) (same_text a org parts.0) ∙ ap (λ x. bytes_eq o org && bytes_eq n x) (same_text b name parts.1) ∙ none
+    ap (λ x. bytes_eq o x && bytes_eq n b) (equal_bytes a org parts.0) ∙ ap (λ x. bytes_eq o org && bytes_eq n x) (equal_bytes b name parts.1) ∙ none
 
 module _ {R C : Type 0} (parent : Layout R) (child : Layout C) (ref : Reference) (order : Order) (org name : List ℕ) (is_parent : Kept R → Bool) (is_child : Kept C → Bool)
     (disagree : (b : Kept C) (z : Kept R) → is_child b ≡ false → is_parent z ≡ true → agree order ref.columns (stored child.cells b) (1 ∷ 2 ∷ []) (stored parent.cells z) ≡ false)

@@ -5,6 +5,7 @@ use Rattle.std.specs.Str.{bytes_eq}
 use Rattle.std.proofs.lemmas.Map.Text.{is_eq-slice_cmp}
 use Rattle.std.proofs.lemmas.Int.{ints}
 use Rattle.std.proofs.lemmas.Bool.Decides.{nat_tests}
+use Rattle.std.proofs.Math.Bool.{and_assoc}
 use Rattle.sqlite_value.specs.declared.keys.Collation.TheVariants.{Binary}
 use Rattle.sqlite_value.specs.declared.value.Value.TheVariants.{Null, Int, Real, Text, Blob}
 use Rattle.sqlite_value.specs.declared.value.Value.{Value}
@@ -91,15 +92,11 @@ pub two_texts_below : (a b c d : List ℕ) (m n : ℕ)
     ≡ (bytes_eq a b && (bytes_eq c d && nat_lt m n))
 two_texts_below a b c d m n = then_term (same_text a b) (then_term (same_text c d) (last_term (at_ints _ Lt (pos m) (pos n) ∙ below_is m n)))
 
-and_again : (a b c : Bool) → (a && (b && c)) ≡ ((a && b) && c)
-and_again true b c = refl
-and_again false b c = refl
-
 pub two_texts_above : (a b c d : List ℕ) (m n : ℕ)
     → (is_true (binary (Compare Eq Binary) (Text a) (Text b)) && (is_true (binary (Compare Eq Binary) (Text c) (Text d)) && (is_true (binary (Compare Gt Binary) (Int (pos m)) (Int (pos n))) && true)))
     ≡ ((bytes_eq a b && bytes_eq c d) && nat_lt n m)
 two_texts_above a b c d m n =
-    then_term (same_text a b) (then_term (same_text c d) (last_term (at_ints _ Gt (pos m) (pos n) ∙ below_is n m))) ∙ and_again (bytes_eq a b) (bytes_eq c d) (nat_lt n m)
+    then_term (same_text a b) (then_term (same_text c d) (last_term (at_ints _ Gt (pos m) (pos n) ∙ below_is n m))) ∙ sym (and_assoc (bytes_eq a b) (bytes_eq c d) (nat_lt n m))
 
 pub text_after : (a b c d : List ℕ) → (is_true (binary (Compare Eq Binary) (Text a) (Text b)) && (is_true (binary (Compare Gt Binary) (Text c) (Text d)) && true)) ≡ (bytes_eq a b && is_behind d c)
 text_after a b c d = then_term (same_text a b) (last_term (at_texts _ Gt c d))

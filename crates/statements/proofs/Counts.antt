@@ -20,13 +20,6 @@ module _ {X : Type 0} where
   rising R (x ∷ xs) (suc n) zero a b at_n at_m low up = absurd (omega arith)
   rising R (x ∷ xs) (suc n) (suc m) a b at_n at_m low up = rising R xs n m a b at_n at_m (omega arith) up.1
 
-  -- the first ones of a list
-  pub get_take : (k n : ℕ) (xs : List X) → n < k → slice_get (take k xs) n ≡ slice_get xs n
-  get_take zero n xs low = absurd (omega (arith, low))
-  get_take (suc k) n [] low = refl
-  get_take (suc k) zero (x ∷ xs) low = refl
-  get_take (suc k) (suc n) (x ∷ xs) low = get_take k n xs (omega arith)
-
   pub take_front : (n m : ℕ) (xs : List X) → n ≤ m → take n (take m xs) ≡ take n xs
   take_front zero m xs low = refl
   take_front (suc n) zero xs low = absurd (omega (arith, low))

@@ -14,6 +14,7 @@ use Rattle.sqlite_rules.specs.declared.error.Rowids.TheVariants.{Chosen, Given}
 use Rattle.sqlite_rules.specs.Cast.{cast_row}
 use Rattle.sqlite_rules.specs.Edit.{edit_of, edited, numbered, next_rowid, put_all, without_all}
 use Rattle.sqlite_rules.specs.Calls.{ids_of}
+use Rattle.sqlite_rules.proofs.PlaceLemmas.{given as numbered_given}
 use Rattle.sqlite_keyed.specs.Keyed.{IsKeyedBy, insert_by, next_key}
 use Rattle.sqlite_keyed.specs.Lists.{update_where, delete_where, without_key}
 use Rattle.sqlite_keyed.proofs.ListLemmas.{along_permutation, map-map, map_same}
@@ -51,9 +52,10 @@ unmapped {X} {Y} f = along_permutation (λ ys zs. (xs : List X) → ys ≡ map f
         let later : ys ≡ map f xs = cc in
         (w ∷ x ∷ xs, IsPermutation-middle (x ∷ []) w xs, ap₂ ◌∷◌ second (ap₂ ◌∷◌ first later))
 
-pub numbered_given : (rows news : List Row) → numbered Given rows news ≡ news
-numbered_given rows [] = refl
-numbered_given rows (r ∷ rs) = ap (λ l. r ∷ l) (numbered_given (put_row r rows) rs)
+module _ {R : Type 0} (cells : R → Row) where
+  next_is : (ys : List (Kept R)) (n : ℤ) → fold (λ _ r. Rattle.sqlite_rules.specs.Edit.id_in (rowid r) +ℤ pos 1) n (map (stored cells) ys) ≡ fold (λ _ y. id_of y +ℤ pos 1) n ys
+  next_is [] n = refl
+  next_is (y ∷ ys) n = next_is ys _
 
 module _ {R : Type 0} (cells : R → Row) (db : Trees) (tree : ℕ) (xs : List (Kept R)) (held : db tree ≡ map (stored cells) xs) (keyed : IsKeyedBy id_of xs) where
   -- the rows that a query over the table alone answers, in some order
@@ -97,15 +99,11 @@ module _ {R : Type 0} (cells : R → Row) (db : Trees) (tree : ℕ) (xs : List (
         ∙ ap (λ t. without_all (db t) (map id_of ys)) placed ∙ ap (λ l. without_all l (map id_of ys)) held ∙ deletes-map id_of (stored cells) (λ x. refl) (map id_of ys) xs
         ∙ ap (map (stored cells)) (deleted id_of p xs ys keyed same)
 
-    next_rowid_is : (ys : List (Kept R)) (n : ℤ) → fold (λ _ r. Rattle.sqlite_rules.specs.Edit.id_in (rowid r) +ℤ pos 1) n (map (stored cells) ys) ≡ fold (λ _ y. id_of y +ℤ pos 1) n ys
-    next_rowid_is [] n = refl
-    next_rowid_is (y ∷ ys) n = next_rowid_is ys _
-
     -- one new row gets the next rowid, and so stands behind the others
     pub inserted_rows : (source : Row) (new : R) → cast_row table source ≡ Null ∷ cells new
         → edited db (edit_of db table [] Chosen 0 (source ∷ [])) ≡ map (stored cells) (xs ++ (next_key id_of xs, new) ∷ [])
     inserted_rows source new casts =
-        let next : next_rowid (map (stored cells) xs) ≡ next_key id_of xs = next_rowid_is xs (pos 1) in
+        let next : next_rowid (map (stored cells) xs) ≡ next_key id_of xs = next_is cells xs (pos 1) in
         let made : numbered Chosen (map (stored cells) xs) (cast_row table source ∷ []) ≡ stored cells (next_key id_of xs, new) ∷ [] =
         ap (λ r. numbered Chosen (map (stored cells) xs) (r ∷ [])) casts ∙ ap (λ n. (Int n ∷ cells new) ∷ []) next in
         ap (λ l. put_all l (numbered Chosen l (cast_row table source ∷ []))) (ap db placed ∙ held)
@@ -122,10 +120,6 @@ module _ {R : Type 0} (cells : R → Row) (db : Trees) (tree : ℕ) (xs : List (
 
 -- several new rows get the next rowids in turn
 module _ {R : Type 0} (cells : R → Row) where
-  next_is : (ys : List (Kept R)) (n : ℤ) → fold (λ _ r. Rattle.sqlite_rules.specs.Edit.id_in (rowid r) +ℤ pos 1) n (map (stored cells) ys) ≡ fold (λ _ y. id_of y +ℤ pos 1) n ys
-  next_is [] n = refl
-  next_is (y ∷ ys) n = next_is ys _
-
   one_put : (new : R) (xs : List (Kept R)) → IsKeyedBy id_of xs → put_row (stored cells (next_key id_of xs, new)) (map (stored cells) xs) ≡ map (stored cells) (with_next new xs)
   one_put new xs keyed =
       puts-map id_of (stored cells) (λ x. refl) ((next_key id_of xs, new) ∷ []) xs ∙ ap (map (stored cells)) (insert_next id_of xs (next_key id_of xs, new) keyed refl)
@@ -141,7 +135,7 @@ module _ {R : Type 0} (cells : R → Row) where
       → put_all (map (stored cells) xs) (numbered Chosen (map (stored cells) xs) (map (λ r. Null ∷ cells r) news)) ≡ map (stored cells) (with_all news xs)
   all_put [] xs keyed = refl
   all_put (r ∷ rs) xs keyed =
-      let id : next_rowid (map (stored cells) xs) ≡ next_key id_of xs = next_is xs (pos 1) in
+      let id : next_rowid (map (stored cells) xs) ≡ next_key id_of xs = next_is cells xs (pos 1) in
       ap (λ n. put_all (put_row (Int n ∷ cells r) (map (stored cells) xs)) (numbered Chosen (put_row (Int n ∷ cells r) (map (stored cells) xs)) (map (λ r. Null ∷ cells r) rs))) id
       ∙ ap (λ l. put_all l (numbered Chosen l (map (λ r. Null ∷ cells r) rs))) (one_put r xs keyed)
       ∙ all_put rs (with_next r xs) (next_keyed r xs keyed)

@@ -3,7 +3,7 @@ use Rattle.std.proofs.Common.{◌≡◌, Bool, true, false, not, cond, List, [],
 use Rattle.std.specs.List.{AllByRecursion}
 use Rattle.sqlite_keyed.specs.Lists.{update_where, delete_where}
 use Rattle.sqlite_keyed.specs.Rules.{AreApart}
-use Rattle.sqlite_keyed.proofs.ListLemmas.{all_weaker, ascending-append}
+use Rattle.sqlite_keyed.proofs.ListLemmas.{all_weaker, ascending-append, filter_all}
 
 module _ {X : Type 0} where
   pub found_passes : (p : X → Bool) (xs : List X) (x : X) → find p xs ≡ Some x → p x ≡ true
@@ -23,6 +23,29 @@ module _ {X : Type 0} where
             → cond (p (cond b (g x) x)) (Some (cond b (g x) x)) (find p (update_where p g xs)) ≡ option_map g (cond b (Some x) (find p xs))
         go true e more = rw (stays x ∙ e) refl
         go false e more = rw e more
+
+    pub none_passes : (xs : List X) → find p xs ≡ None → AllByRecursion (λ x. p x ≡ false) xs
+    none_passes [] e = tt
+    none_passes (x ∷ xs) e = go (p x) refl e (none_passes xs)
+      where
+        go : (b : Bool) → p x ≡ b → cond b (Some x) (find p xs) ≡ None → (find p xs ≡ None → AllByRecursion (λ y. p y ≡ false) xs) → (p x ≡ false) × AllByRecursion (λ y. p y ≡ false) xs
+        go true is none more = absurd (let no_one : ⊥ = cc in no_one)
+        go false is none more = (is, more none)
+
+    pub none_found : (xs : List X) → AllByRecursion (λ x. p x ≡ false) xs → find p xs ≡ None
+    none_found [] all = refl
+    none_found (x ∷ xs) all = rw all.0 (none_found xs all.1)
+
+    pub none_deleted : (xs : List X) → AllByRecursion (λ x. p x ≡ false) xs → delete_where p xs ≡ xs
+    none_deleted xs all = filter_all (λ x. not (p x)) xs (all_weaker (λ x. p x ≡ false) (λ x. not (p x) ≡ true) (λ x e. ap not e) xs all)
+
+    pub all_deleted : (xs : List X) → AllByRecursion (λ x. p x ≡ false) (delete_where p xs)
+    all_deleted [] = tt
+    all_deleted (x ∷ xs) = go (p x) refl (all_deleted xs)
+      where
+        go : (b : Bool) → p x ≡ b → AllByRecursion (λ y. p y ≡ false) (delete_where p xs) → AllByRecursion (λ y. p y ≡ false) (cond (not b) (x ∷ delete_where p xs) (delete_where p xs))
+        go true e more = more
+        go false e more = (e, more)
 
     pub find_deleted : (xs : List X) → find p (delete_where p xs) ≡ None
     find_deleted [] = refl

@@ -19,13 +19,13 @@ use Rattle.sqlite_keyed.proofs.ListLemmas.{all_weaker, all-slice_get}
 use Rattle.sqlite.specs.Effect.{Database, value_rows}
 use Rattle.sqlite.specs.Rows.{stamped}
 use Rattle.sqlite.specs.State.{State, Executes}
+use Rattle.sqlite.proofs.MarkLemmas.{slice_get-take}
 use Rattle.statements.specs.Place.{tree_of, StandsAt, IsOwn, AreOwn}
 use Rattle.statements.specs.Rows.{Kept, id_of, stored}
 use Rattle.statements.specs.declared.making.TheConstants.{NEWEST}
 use Rattle.statements.specs.Tables.{count_in, Tables, Holds, HoldsAll, HoldsIn, HasRows, StoredTable, stored_tables, schema_tables, tables_in, our_tables, rowid_of}
 use Rattle.statements.specs.Steps.{LeavesBeside, LeavesForeign}
 use Rattle.statements.specs.Inner.Making.{Moved}
-use Rattle.statements.proofs.Counts.{get_take}
 use Rattle.statements.proofs.Held.{Ours, IsHeld, held, followed, our_follow, with_rows, rows_keyed, holds_all, tables_taken, own_in, apart_both}
 use Rattle.statements.proofs.Follows.{IsFollowing, AllFollow, follows_by}
 use Rattle.statements.proofs.Meaning.{Means}
@@ -162,7 +162,7 @@ module _ (old new : Database) (same : new.schema ≡ old.schema) where
         let risen = rows_keyed x.layout xs keyed in
         let ours = subst (AreOwn s) (tables_taken k t) h.own in
         let at : slice_get our_tables x.place ≡ Some table = slice_get-map (λ (y : StoredTable). y.table) (stored_tables t) x.place ∙ ap (option_map (λ (y : StoredTable). y.table)) (x.at t) in
-        let at_taken : slice_get (tables_in (take k (stored_tables t))) x.place ≡ Some table = ap (λ l. slice_get l x.place) (tables_taken k t) ∙ get_take k x.place our_tables low ∙ at in
+        let at_taken : slice_get (tables_in (take k (stored_tables t))) x.place ≡ Some table = ap (λ l. slice_get l x.place) (tables_taken k t) ∙ slice_get-take k our_tables x.place low ∙ at in
         let all = all_stay table rows w risen x.place k at low ours k 0 our_tables followed (omega arith) our_follow ours.own stay in
         let it = turned table rows w risen x.place (take k (stored_tables t)) (take k (stored_tables (x.put xs t))) at_taken (rows_taken x.place k rows (stored_tables t) ∙ ap (take k) (x.puts t xs)) h
         (subst (AllByRecursion (Keeps)) (sym (tables_taken k t)) all) in

@@ -1,10 +1,9 @@
 -- A schema that got one more table, and what stands in it.
-use Rattle.std.proofs.Common.{◌≡◌, ◌≢◌, ℕ, zero, suc, ◌+◌, ◌<◌, ◌≤◌, max, Bool, true, false, cond, List, [], ◌∷◌, ◌++◌, length, find, fold, map, slice_get, Some, None, option_map, unwrap_or, refl, sym, ap, ◌∙◌, subst, arith}
+use Rattle.std.proofs.Common.{◌≡◌, ◌≢◌, ℕ, zero, suc, ◌+◌, ◌<◌, ◌≤◌, max, Bool, true, false, cond, List, [], ◌∷◌, ◌++◌, length, find, fold, slice_get, Some, None, option_map, unwrap_or, refl, sym, ap, ◌∙◌, subst, arith}
 use Rattle.std.specs.Prelude.{◌==◌}
 use Rattle.std.specs.List.{AllByRecursion, position_from}
 use Rattle.std.proofs.lemmas.Bool.Decides.{nat_tests}
-use Rattle.std.proofs.lemmas.Cmp.{nat_list_cmp_total, tied_itself}
-use Rattle.std.specs.Ordering.{is_eq}
+use Rattle.std.proofs.lemmas.Bool.{eq-eqb}
 use Rattle.sqlite_trees.specs.Tree.{IsAscending}
 use Rattle.sqlite_schema.specs.declared.schema.Schema.{Schema}
 use Rattle.sqlite_schema.specs.declared.schema.Table.{Table}
@@ -12,6 +11,8 @@ use Rattle.sqlite_schema.specs.declared.schema.Reference.{Reference}
 use Rattle.sqlite_schema.specs.declared.schema.Index.{Index}
 use Rattle.sqlite_schema.specs.Names.{same_name, table_named}
 use Rattle.sqlite_catalog.specs.Change.{next_tree, past_views, KeepsRows}
+use Rattle.sqlite_catalog.proofs.StepLemmas.{same_itself}
+use Rattle.sqlite_catalog.proofs.ListFacts.{most_from}
 use Rattle.sqlite.specs.Effect.{Database}
 use Rattle.sqlite_keyed.proofs.ListLemmas.{all-append, all_weaker, all-slice_get}
 use Rattle.statements.specs.Place.{at_of, tree_of, StandsAt, IsOwn}
@@ -66,7 +67,7 @@ module _ {X : Type 0} where
   get_behind [] y ys = refl
   get_behind (x ∷ xs) y ys = get_behind xs y ys
 
-  find_front : (p : X → Bool) (xs ys : List X) (x : X) → find p xs ≡ Some x → find p (xs ++ ys) ≡ Some x
+  pub find_front : (p : X → Bool) (xs ys : List X) (x : X) → find p xs ≡ Some x → find p (xs ++ ys) ≡ Some x
   find_front p [] ys x h = absurd (cc)
   find_front p (y ∷ xs) ys x h = go (p y) h (find_front p xs ys x)
     where
@@ -78,30 +79,19 @@ module _ {X : Type 0} where
   find_behind p [] y ys none is = rw is refl
   find_behind p (x ∷ xs) y ys none is = rw none.0 (find_behind p xs y ys none.1 is)
 
-  top_grows : (f : X → ℕ) (n : ℕ) (xs : List X) → n ≤ fold (λ m x. max m (f x + 1)) n xs
-  top_grows f n [] = omega arith
-  top_grows f n (x ∷ xs) = let more = top_grows f (max n (f x + 1)) xs in omega arith
-
   all_below : (f : X → ℕ) (n : ℕ) (xs : List X) → AllByRecursion (λ x. f x < fold (λ m y. max m (f y + 1)) n xs) xs
   all_below f n [] = tt
-  all_below f n (x ∷ xs) = let more = top_grows f (max n (f x + 1)) xs in (omega arith, all_below f (max n (f x + 1)) xs)
+  all_below f n (x ∷ xs) = let more = most_from f (max n (f x + 1)) xs in (omega arith, all_below f (max n (f x + 1)) xs)
 
 plus_none : (n : ℕ) → 0 + n ≡ n
 plus_none n = omega arith
-
-eq_itself : (n : ℕ) → (n == n) ≡ true
-eq_itself n = grind (arith, nat_tests)
 
 -- the next tree is above each table's
 pub trees_below : (s : Schema) → AllByRecursion (λ (t : Table). t.tree < next_tree s) s.tables
 trees_below s =
     let top = fold (λ n (t : Table). max n (t.tree + 1)) (past_views s) s.tables in
-    let rest = top_grows (λ (i : Index). i.tree) top s.indexes in
+    let rest = most_from (λ (i : Index). i.tree) top s.indexes in
     all_weaker (λ (t : Table). t.tree < top) (λ (t : Table). t.tree < next_tree s) (λ t h. omega arith) s.tables (all_below (λ (t : Table). t.tree) (past_views s) s.tables)
-
-same_itself : (name : List ℕ) → same_name name name ≡ true
-unfolding same_name
-same_itself name = ap is_eq (tied_itself nat_list_cmp_total (map Rattle.std.specs.Char.to_ascii_lowercase name))
 
 module _ (s : Schema) (name : List ℕ) (table : Table) (at tree : ℕ) (h : StandsAt s name table at tree) where
   pub at_is : at_of s name ≡ at
@@ -168,7 +158,7 @@ module _ (table : Table) (old new : Database) (g : Grown table old new) where
     found = ap (λ l. slice_get l (length old.schema.tables)) g.tables ∙ get_behind old.schema.tables added g.more;
     treed = ap (find (λ (t : Table). t.tree == next_tree old.schema)) g.tables
         ∙ find_behind _ old.schema.tables added g.more (all_weaker (λ (t : Table). t.tree < next_tree old.schema) (λ (t : Table). (t.tree == next_tree old.schema) ≡ false) apart_from old.schema.tables (trees_below old.schema))
-        (eq_itself (next_tree old.schema));
+        (eq-eqb (next_tree old.schema) _ refl);
     low = let l = g.low in grind (arith, nat_tests);
     small = let l = g.low in grind (arith, nat_tests);
   }

@@ -11,12 +11,13 @@ use Rattle.sqlite_schema.specs.declared.schema.Table.{Table}
 use Rattle.sqlite_keyed.specs.Keyed.{IsKeyedBy}
 use Rattle.sqlite_keyed.proofs.ListLemmas.{all-slice_get, ascending-map, ascending_from_map}
 use Rattle.sqlite.specs.Effect.{Database}
+use Rattle.sqlite.proofs.MarkLemmas.{slice_get-take}
 use Rattle.statements.specs.Place.{tree_of, IsOwn, AreOwn}
 use Rattle.statements.specs.Rows.{Kept, id_of, OrgRow, TokenRow, WsRow, VersionRow, RunRow, PageRow, VpageRow, BoundRow, KeepingRow, stored}
 use Rattle.statements.specs.Schema.{token_table, ws_table}
 use Rattle.statements.specs.declared.making.TheConstants.{NEWEST}
 use Rattle.statements.specs.Tables.{count_in, Layout, Tables, Holds, HoldsAll, HasRows, StoredTable, stored_table, stored_tables, tables_in, our_tables, rowid_of, meta_layout, org_layout, token_layout, ws_layout, version_layout, run_layout, page_layout, vpage_layout, bound_layout, edition_layout, keeping_layout}
-use Rattle.statements.proofs.Counts.{rising, get_take}
+use Rattle.statements.proofs.Counts.{rising}
 use Rattle.statements.proofs.Follows.{IsSteady, IsFollowing, AllFollow, follow_at, follows_by}
 
 -- the table at a place with other rows
@@ -104,10 +105,10 @@ tables_taken k t = sym (take-map (λ (x : StoredTable). x.table) k (stored_table
 
 module _ (s : Schema) (k : ℕ) (own : AreOwn s (take k our_tables)) where
   pub own_in : (n : ℕ) (table : Table) → n < k → slice_get our_tables n ≡ Some table → IsOwn s table
-  own_in n table low at = all-slice_get (IsOwn s) (take k our_tables) n table (get_take k n our_tables low ∙ at) own.own
+  own_in n table low at = all-slice_get (IsOwn s) (take k our_tables) n table (slice_get-take k our_tables n low ∙ at) own.own
 
   pub apart_in : (n m : ℕ) (a b : Table) → slice_get our_tables n ≡ Some a → slice_get our_tables m ≡ Some b → n < m → m < k → tree_of s a.name ≢ tree_of s b.name
-  apart_in n m a b at_n at_m less low = trees_apart s (take k our_tables) n m a b (get_take k n our_tables (omega (arith, less, low)) ∙ at_n) (get_take k m our_tables low ∙ at_m) less own.apart
+  apart_in n m a b at_n at_m less low = trees_apart s (take k our_tables) n m a b (slice_get-take k our_tables n (omega (arith, less, low)) ∙ at_n) (slice_get-take k our_tables m low ∙ at_m) less own.apart
 
   -- in whichever order they stand
   pub apart_both : (n m : ℕ) (a b : Table) → slice_get our_tables n ≡ Some a → slice_get our_tables m ≡ Some b → n < k → m < k → (n == m) ≡ false → tree_of s a.name ≢ tree_of s b.name
@@ -134,7 +135,7 @@ own_taken s k t = subst (AreOwn s) (tables_taken k t)
 
 pub held_in : {R : Type 0} (x : Ours R) (k : ℕ) → x.place < k → (db : Database) (t : Tables) → HoldsAll db (take k (stored_tables t)) → IsHeld x.layout db (x.rows t)
 held_in x k low db t h =
-    let has = all-slice_get (HasRows db) (take k (stored_tables t)) x.place (stored_table x.layout (x.rows t)) (get_take k x.place (stored_tables t) low ∙ x.at t) h.rows in
+    let has = all-slice_get (HasRows db) (take k (stored_tables t)) x.place (stored_table x.layout (x.rows t)) (slice_get-take k (stored_tables t) x.place low ∙ x.at t) h.rows in
     let at : slice_get our_tables x.place ≡ Some x.layout.table = slice_get-map (λ (y : StoredTable). y.table) (stored_tables t) x.place ∙ ap (option_map (λ (y : StoredTable). y.table)) (x.at t) in
     let own = own_taken db.schema k t h.own in
     record {

@@ -2,6 +2,7 @@
 use Rattle.std.proofs.Common.{◌≡◌, ◌≢◌, ℕ, Bool, true, false, cond, List, [], ◌∷◌, ◌++◌, map, filter, flat_map, find, slice_get, Some, None, refl, sym, ap, ap₂, ◌∙◌, subst, IsPermutation}
 use Rattle.std.specs.List.{list_all}
 use Rattle.std.proofs.lemmas.List.Sorted.{length_permutation}
+use Rattle.std.proofs.lemmas.List.Concat.{flat_map_single}
 use Rattle.sqlite_value.specs.Order.{Row}
 use Rattle.sqlite_trees.specs.Tree.{Trees}
 use Rattle.sqlite_sql.specs.Term.{Term, Env, holds, eval_all}
@@ -49,7 +50,7 @@ module _ {A B : Type 0} (p : A → Bool) (f : A → List B) (some : (x : A) → 
       go false e more = more e
 
 module _ {A B : Type 0} (f : A → B) where
-  map_none : (xs : List A) → map f xs ≡ [] → xs ≡ []
+  pub map_none : (xs : List A) → map f xs ≡ [] → xs ≡ []
   map_none [] e = refl
   map_none (x ∷ xs) e = absurd (cc)
 
@@ -60,12 +61,8 @@ module _ {A B : Type 0} (f : A → B) where
       let later : map f xs ≡ [] = cc in
       (x, ap (λ l. x ∷ l) (map_none xs later), here)
 
-  each_alone : (xs : List A) → flat_map (λ x. f x ∷ []) xs ≡ map f xs
-  each_alone [] = refl
-  each_alone (x ∷ xs) = ap (λ l. f x ∷ l) (each_alone xs)
-
   all_or_none : (b : Bool) (xs : List A) → flat_map (λ x. cond b (f x ∷ []) []) xs ≡ cond b (map f xs) []
-  all_or_none true xs = each_alone xs
+  all_or_none true xs = flat_map_single f xs
   all_or_none false xs = flat_map_none (λ _. []) (λ x. refl) xs
 
 -- a list that stands in the place of one with one element or none, in another order

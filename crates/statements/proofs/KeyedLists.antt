@@ -11,16 +11,7 @@ use Rattle.sqlite_keyed.specs.Lists.{update_where, delete_where, without_key}
 use Rattle.sqlite_keyed.proofs.ListLemmas.{all-filter, all_map, all_weaker, along_permutation, ascending-filter, ascending-map, ascending_weaker}
 use Rattle.sqlite_keyed.proofs.KeyedLemmas.{Less-from_lt, int_eq_apart}
 use Rattle.sqlite_keyed.proofs.WriteLemmas.{removes_delete}
-
-filter_twice : {X : Type 0} (p q : X → Bool) (xs : List X) → filter p (filter q xs) ≡ filter q (filter p xs)
-filter_twice p q [] = refl
-filter_twice {X} p q (x ∷ xs) = go (p x) (q x) refl refl (filter_twice p q xs)
-  where
-    go : (a b : Bool) → p x ≡ a → q x ≡ b → filter p (filter q xs) ≡ filter q (filter p xs) → filter p (cond b (x ∷ filter q xs) (filter q xs)) ≡ filter q (cond a (x ∷ filter p xs) (filter p xs))
-    go true true e f more = simp (e, f) (ap (λ l. x ∷ l) more)
-    go true false e f more = simp f more
-    go false true e f more = simp e more
-    go false false e f more = more
+use Rattle.sqlite_catalog.proofs.ListFacts.{filter_swap}
 
 module _ {X : Type 0} (key : X → ℤ) where
   -- keys may be taken out in any order
@@ -28,7 +19,7 @@ module _ {X : Type 0} (key : X → ℤ) where
   removes_any = along_permutation (λ ys zs. (xs : List X) → fold (without_key key) xs (map key ys) ≡ fold (without_key key) xs (map key zs))
       (λ ys xs. refl)
       (λ y ys zs h xs. h (without_key key xs (key y)))
-      (λ y z ys xs. ap (λ l. fold (without_key key) l (map key ys)) (filter_twice (λ x. not (int_eq (key x) (key z))) (λ x. not (int_eq (key x) (key y))) xs))
+      (λ y z ys xs. ap (λ l. fold (without_key key) l (map key ys)) (filter_swap (λ x. not (int_eq (key x) (key z))) (λ x. not (int_eq (key x) (key y))) xs))
       (λ xs ys zs p q ws. p ws ∙ q ws)
 
   -- two rows of different keys may be put in in either order

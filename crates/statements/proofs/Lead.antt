@@ -18,8 +18,8 @@ use Rattle.sqlite_rules.specs.declared.action.Deed.{Deed}
 use Rattle.sqlite_rules.specs.declared.action.Deed.TheVariants.{Refuse}
 use Rattle.sqlite_rules.specs.Edit.{Edit, taken_by, Applies}
 use Rattle.sqlite_rules.specs.Lists.{Has}
-use Rattle.sqlite_rules.specs.Action.{works, Work, work_by, work_for, refuses, max_depth, action_edit, Acts, ActsOn, AreChildren, Goes, Leads, Writes, deed_for, deed_of, pairs, loses, is_child_of}
-use Rattle.sqlite_keyed.proofs.ListLemmas.{all-append, all-slice_get, all_weaker, flat_map_none}
+use Rattle.sqlite_rules.specs.Action.{Work, work_by, work_for, refuses, max_depth, action_edit, Acts, ActsOn, AreChildren, Goes, Leads, Writes, deed_for, deed_of, pairs, loses, is_child_of}
+use Rattle.sqlite_keyed.proofs.ListLemmas.{all-append, all-slice_get, all_weaker}
 use Rattle.statements.specs.Place.{is_passive, IsPassive, RefersPassively}
 
 deed_of_refuses : (keys : Keys) (deletes : Bool) (a : Action) (d : Deed) → is_passive a ≡ true → deed_of keys deletes a ≡ Some d → refuses d ≡ true
@@ -54,9 +54,6 @@ abbrev pub IsIdle : Schema → List Row → ℕ → Bool → List (Row × Row) �
 IsIdle schema rows on deletes moves ref =
     (is_passive (cond deletes ref.on_delete ref.on_update) ≡ true) ⊎ ((key : ParentKey) → parent_key schema.tables ref ≡ Some key → (key.0 ≢ on) ⊎ HasNoChildren rows moves ref key)
 
-same_number : (m n : ℕ) → (m == n) ≡ true → m ≡ n
-same_number m n e = eqb-true m n e
-
 -- a work, by what it was made of
 pub record MadeOf (depth on : ℕ) (moves : List (Row × Row)) (child : Table) (ref : Reference) (deed : Option Deed) (key : Option ParentKey) (w : Work) : Type 0 where
   pub doing : Deed
@@ -75,7 +72,7 @@ one_work depth on moves child ref (Some deed) (Some key) w e = go _ refl e
         → MadeOf depth on moves child ref (Some deed) (Some key) w
     go true holds same =
         let is : w ≡ record { depth = depth; child = child; ref = ref; places = key.1; order = key.2; deed = deed; moves = moves } = cc in
-        record { doing = deed; parent = key; deed_is = refl; key_is = refl; on_it = same_number key.0 on (and_parts (key.0 == on) (list_any (loses key.2 key.1) moves) holds).0; it_is = is }
+        record { doing = deed; parent = key; deed_is = refl; key_is = refl; on_it = eqb-true key.0 on (and_parts (key.0 == on) (list_any (loses key.2 key.1) moves) holds).0; it_is = is }
     go false holds same = absurd (cc)
 
 -- a step in another table leaves this one
@@ -213,24 +210,3 @@ write_keeps schema keys table at tree found bare db next edit =
   where
     weaker : (Q : Reference → Type 0) → ((ref : Reference) → IsPassive ref → Q ref) → AllByRecursion (λ (t : Table). t.tree ≡ tree → AllByRecursion Q t.references) schema.tables
     weaker Q f = all_weaker (λ (t : Table). t.tree ≡ tree → RefersPassively t) (λ (t : Table). t.tree ≡ tree → AllByRecursion Q t.references) (λ t h same. all_weaker IsPassive Q f t.references (h same)) schema.tables bare
-
-no_work : (depth tree : ℕ) (child : Table) (ref : Reference) (deed : Option Deed) (key : Option ParentKey) → work_by depth tree [] child ref deed key ≡ None
-no_work depth tree child ref None key = refl
-no_work depth tree child ref (Some deed) None = refl
-no_work depth tree child ref (Some deed) (Some key) = go (key.0 == tree)
-  where
-    some_work : ParentKey → Work
-    some_work key = record { depth = depth; child = child; ref = ref; places = key.1; order = key.2; deed = deed; moves = [] }
-
-    go : (b : Bool) → cond (b && false) (Some (some_work key)) None ≡ None
-    go true = refl
-    go false = refl
-
-none_mapped : {X Y : Type 0} (f : X → Option Y) → ((x : X) → f x ≡ None) → (xs : List X) → filter_map f xs ≡ []
-none_mapped f none [] = refl
-none_mapped f none (x ∷ xs) = rw (none x) (none_mapped f none xs)
-
--- where no row goes, nothing is set off
-pub no_works_if_none : (schema : Schema) (keys : Keys) (depth tree : ℕ) (news : List Row) → works schema keys depth tree [] news ≡ []
-no_works_if_none schema keys depth tree news =
-    flat_map_none _ (λ child. none_mapped (work_for schema keys depth tree [] news child) (λ ref. no_work depth tree child ref (deed_for keys (length news == 0) ref) (parent_key schema.tables ref)) child.references) schema.tables

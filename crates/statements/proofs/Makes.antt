@@ -15,7 +15,7 @@ use Rattle.sqlite_schema.specs.declared.schema.Index.{Index}
 use Rattle.sqlite_schema.specs.declared.command.Command.{Command}
 use Rattle.sqlite_schema.specs.declared.command.Command.TheVariants.{CreateTable, CreateIndex, Nothing}
 use Rattle.sqlite_schema.specs.declared.command.Returning.{Returning}
-use Rattle.sqlite_schema.specs.Names.{same_name, table_named, index_named, view_named}
+use Rattle.sqlite_schema.specs.Names.{same_name, table_named}
 use Rattle.sqlite_resolve.specs.Lowering.{Checked, and_then}
 use Rattle.sqlite_resolve.specs.declared.compiled.Compiled.{Compiled}
 use Rattle.sqlite_resolve.specs.declared.error.CompileError.{CompileError}
@@ -23,9 +23,11 @@ use Rattle.sqlite_resolve.specs.declared.error.CompileError.TheVariants.{Misuse,
 use Rattle.sqlite_resolve.specs.Body.{table_at}
 use Rattle.sqlite_resolve.specs.Define as define
 use Rattle.sqlite_resolve.specs.Compile.{first, command, create_table, create_index, creates, returning, timed, small, meaning, planned, compiled, with_command, table_defined_by}
-use Rattle.sqlite_catalog.specs.Change.{next_tree, is_used, KeepsRows}
+use Rattle.sqlite_catalog.specs.Change.{next_tree, KeepsRows}
 use Rattle.sqlite_catalog.specs.Calls.{CreatesTable}
 use Rattle.sqlite_catalog.specs.Listing.{IsTableRow}
+use Rattle.sqlite_catalog.proofs.StepLemmas.{no_table}
+use Rattle.sqlite_catalog.proofs.AlterLemmas.{rows_trans}
 use Rattle.sqlite.specs.Clock as clock
 use Rattle.sqlite.specs.Effect.{Database, IsDatabase, is_query}
 use Rattle.sqlite.specs.Does.{Tally, AtPlace, Defines, MakesIndex, MakesSequence, lacks_sequence, sequence_text}
@@ -39,6 +41,7 @@ use Rattle.statements.specs.Tables.{StoredTable, HasRows, HoldsAll, tables_in}
 use Rattle.statements.specs.Place.{IsOwn, at_of, tree_of}
 use Rattle.statements.proofs.Meaning.{as_read}
 use Rattle.statements.proofs.Grown.{Grown, made_grown, own_kept, added_apart, names_added, trees_below}
+use Rattle.statements.proofs.Writes.{went, same_value}
 
 -- ---- what such a text compiles to, if it does
 
@@ -128,14 +131,6 @@ no_selecting k is = ap is_select is
 no_showing : (k : Command) → IsTableMaking k → is_query k || is_pragma k ≡ false
 no_showing k is = ap (λ m. is_query m || is_pragma m) is
 
--- a part that gave a value did not stop on the way
-went : {B E R : Type 0} {b : B} {Stops : E → Type 0} → ((stop : E) × Stops stop × (Ok b ≡ Err stop)) ⊎ R → R
-went (inl stopped) = absurd (let e = stopped.2 in cc)
-went (inr on) = on
-
-same_value : {B E : Type 0} {a b : B} → ◌≡◌ {A = Result B E} (Ok a) (Ok b) → a ≡ b
-same_value e = cc
-
 -- every table of a database has a tree below 65,536
 low_trees : (rows : List Row) (tables : List Table) → AllZip IsTableRow rows tables → AllByRecursion (λ (t : Table). t.tree < 65536) tables
 low_trees [] [] h = tt
@@ -147,10 +142,6 @@ pub front : {X : Type 0} (P : X → Type 0) (xs ys : List X) → AllByRecursion 
 front P [] ys h = (tt, h)
 front P (x ∷ xs) ys h = let more = front P xs ys h.1 in ((h.0, more.0), more.1)
 
-pub kept_then : (ts : List Table) (a b c : Trees) → KeepsRows ts a b → KeepsRows ts b c → KeepsRows ts a c
-kept_then [] a b c h k = tt
-kept_then (t ∷ ts) a b c h k = (k.0 ∙ h.0, kept_then ts a b c h.1 k.1)
-
 abbrev name_in : Checked Table → List ℕ
 name_in (Ok t) = t.name
 name_in (Err e) = []
@@ -158,13 +149,6 @@ name_in (Err e) = []
 engine_named : name_in (table_defined_by sequence_text) ≡ sequence_name
 unfolding everything
 engine_named = refl
-
-unused_name : (s : Schema) (name : List ℕ) → is_used s name ≡ false → table_named s name ≡ None
-unused_name s name h = go (table_named s name) (or_parts (is_some (table_named s name)) (is_some (index_named s name)) (or_parts (is_some (table_named s name) || is_some (index_named s name)) (is_some (view_named s name)) h).0).0
-  where
-    go : (o : Option ℕ) → is_some o ≡ false → o ≡ None
-    go None e = refl
-    go (Some n) e = absurd (cc)
 
 module _ (table : Table) (text : List ℕ) (defines : table_defined_by text ≡ Ok table) (old new made : Database) (one : CreatesTable old.schema text old.trees made.schema made.trees)
     (sound : IsDatabase new) where
@@ -183,7 +167,7 @@ module _ (table : Table) (text : List ℕ) (defines : table_defined_by text ≡ 
       (front (λ (t : Table). t.tree < 65536) old.schema.tables (added ∷ more) all).1.0
 
   free_is : table_named old.schema table.name ≡ None
-  free_is = ap (λ (t : Table). table_named old.schema t.name) (sym same_table) ∙ unused_name old.schema one.table.name one.free
+  free_is = ap (λ (t : Table). table_named old.schema t.name) (sym same_table) ∙ no_table old.schema one.table.name one.free
 
   -- the next table after this one has a later tree
   added_below : next_tree old.schema < next_tree made.schema
@@ -202,7 +186,7 @@ module _ (table : Table) (text : List ℕ) (defines : table_defined_by text ≡ 
           tables = is;
           above = (added_below, tt);
           empty = kept.1.0 ∙ one.empty;
-          others = kept_then old.schema.tables old.trees made.trees new.trees one.others kept.0;
+          others = rows_trans old.schema.tables old.trees made.trees new.trees one.others kept.0;
           free = free_is;
           low = low_in (last ∷ []) is;
           engine = (ap name_in (sym two.defined) ∙ engine_named, tt);
@@ -390,5 +374,5 @@ pub tables_kept_then : (a b c : Database) → KeepsTables a b → KeepsTables b 
 tables_kept_then a b c h k = record {
   more = h.more ++ k.more;
   tables = k.tables ∙ ap (λ l. l ++ k.more) h.tables ∙ append_assoc a.schema.tables h.more k.more;
-  rows = kept_then a.schema.tables a.trees b.trees c.trees h.rows (front (λ (t : Table). c.trees t.tree ≡ b.trees t.tree) a.schema.tables h.more (subst (λ l. KeepsRows l b.trees c.trees) h.tables k.rows)).0;
+  rows = rows_trans a.schema.tables a.trees b.trees c.trees h.rows (front (λ (t : Table). c.trees t.tree ≡ b.trees t.tree) a.schema.tables h.more (subst (λ l. KeepsRows l b.trees c.trees) h.tables k.rows)).0;
 }

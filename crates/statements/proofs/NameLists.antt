@@ -21,7 +21,8 @@ use Rattle.sqlite_sql.specs.Program.{overlay}
 use Rattle.sqlite_keyed.specs.Lists.{sort_by}
 use Rattle.sqlite_keyed.specs.Rules.{AreApart}
 use Rattle.sqlite_keyed.proofs.ListLemmas.{map-map, filter-map, filter_all, all_of, ascending_weaker, ascending-filter}
-use Rattle.sqlite_typed.proofs.TestLemmas.{same_bytes, turn_eq}
+use Rattle.sqlite_typed.proofs.TestLemmas.{turn_eq}
+use Rattle.basis.proofs.NameLemmas.{equal_bytes}
 use Rattle.statements.specs.Place.{tree_of, IsOwn}
 use Rattle.statements.specs.Rows.{Kept, OrgRow, TokenRow, WsRow, stored}
 use Rattle.statements.specs.Changes.{is_org, is_token, is_ws_of, is_ws}
@@ -41,9 +42,6 @@ names_differ a b h = turn_eq text_cmp nat_list_cmp_total a b ∙ is_eq-slice_cmp
 pub orgs_apart : (xs : List (Kept OrgRow)) → AreApart (λ a b. is_org a.1.name b) xs → IsAscending (λ x y. is_eq (text_cmp x.1.name y.1.name) ≡ false) xs
 orgs_apart xs apart = ascending_weaker (λ a b. is_org a.1.name b ≡ false) (λ x y. is_eq (text_cmp x.1.name y.1.name) ≡ false) (λ x y h. names_differ x.1.name y.1.name h) xs apart
 
-pub same_text : (a b : List ℕ) → bytes_eq a b ≡ true → a ≡ b
-same_text a b h = same_bytes a b (is_eq-slice_cmp a b ∙ h)
-
 -- rows of one owner that are apart by owner and name have different names
 module _ {R : Type 0} (owner name : R → List ℕ) where
   abbrev is_of : List ℕ → Kept R → Bool
@@ -54,7 +52,7 @@ module _ {R : Type 0} (owner name : R → List ℕ) where
 
   differ : (org : List ℕ) (x y : Kept R) → is_of org x ≡ true → is_of org y ≡ true → is_named (owner x.1) (name x.1) y ≡ false → is_eq (text_cmp (name x.1) (name y.1)) ≡ false
   differ org x y mine yours apart =
-      let one : bytes_eq (owner y.1) (owner x.1) ≡ true = ap (bytes_eq (owner y.1)) (same_text (owner x.1) org mine) ∙ yours in
+      let one : bytes_eq (owner y.1) (owner x.1) ≡ true = ap (bytes_eq (owner y.1)) (equal_bytes (owner x.1) org mine) ∙ yours in
       names_differ (name x.1) (name y.1) (sym (ap (λ b. b && bytes_eq (name y.1) (name x.1)) one) ∙ apart)
 
   pub apart_of : (org : List ℕ) (xs : List (Kept R)) → AreApart (λ a b. is_named (owner a.1) (name a.1) b) xs → IsAscending (λ x y. is_eq (text_cmp (name x.1) (name y.1)) ≡ false) (filter (is_of org) xs)

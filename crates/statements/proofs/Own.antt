@@ -29,6 +29,7 @@ use Rattle.sqlite_rules.specs.declared.error.Rowids.TheVariants.{Chosen, Given}
 use Rattle.sqlite_rules.specs.Calls.{ids_of}
 use Rattle.sqlite_rules.specs.Edit.{Edit, Applies, edited, edit_of, taken_by}
 use Rattle.sqlite_rules.specs.Action.{Writes, pairs}
+use Rattle.sqlite_rules.proofs.ActionLemmas.{no_works}
 use Rattle.sqlite.specs.Effect.{value_rows}
 use Rattle.sqlite.specs.Rows.{stamped}
 use Rattle.sqlite.proofs.Callers.{one_step}
@@ -41,7 +42,7 @@ use Rattle.sqlite_keyed.proofs.KeyedLemmas.{IsKeyedBy-insert_by}
 use Rattle.statements.specs.Place.{at_of, tree_of, is_passive, RefersPassively, IsPassive, IsOwn}
 use Rattle.statements.specs.Rows.{Kept, id_of, stored}
 use Rattle.statements.proofs.Meaning.{Means}
-use Rattle.statements.proofs.Lead.{GoesTo, IsIdle, write_keeps, step_keeps, elsewhere_idle, applied_there, follower_keeps, no_works_if_none}
+use Rattle.statements.proofs.Lead.{GoesTo, IsIdle, write_keeps, step_keeps, elsewhere_idle, applied_there, follower_keeps}
 use Rattle.statements.proofs.Follows.{Follows, IsSteady, there}
 use Rattle.statements.proofs.Writes.{plain_program, updates, deletes, inserts}
 use Rattle.statements.proofs.Edits.{all_shown, updated_rows, deleted_rows, inserted_rows, inserted_all, put_rows}
@@ -237,7 +238,7 @@ pub insert_others : (table : Table) (old new : State) → IsOwn old.now.schema t
 insert_others table old new own text params count ran from means uncounted unstamped =
     let here = tree_of old.now.schema table.name in
     let made = inserts old new text params (at_of old.now.schema table.name) (record table { tree = here }) own.place.found from uncounted unstamped means count ran in
-    (made.3, (one_step old.now.schema Enforced old.now.trees new.now.trees _ (no_works_if_none old.now.schema Enforced 0 here _) made.2).tables)
+    (made.3, (one_step old.now.schema Enforced old.now.trees new.now.trees _ (no_works old.now.schema Enforced 0 here _) made.2).tables)
 
 -- so does each other one of ours
 pub other_keeps : (s : Schema) (tree : ℕ) (old new : Trees) (other : Table) → IsOwn s other → AllByRecursion (λ (t : Table). t.tree ≢ tree → new t.tree ≡ old t.tree) s.tables → tree_of s other.name ≢ tree

@@ -80,7 +80,7 @@ not_gt Less h = refl
 not_gt Equal h = refl
 not_gt Greater h = absurd (true≢false (sym h))
 
-not_gt_back : (o : Ordering) → is_lt o ≡ false → is_gt (ordering_reverse o) ≡ false
+pub not_gt_back : (o : Ordering) → is_lt o ≡ false → is_gt (ordering_reverse o) ≡ false
 not_gt_back Less h = absurd (true≢false h)
 not_gt_back Equal h = refl
 not_gt_back Greater h = refl

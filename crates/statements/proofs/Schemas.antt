@@ -14,6 +14,7 @@ use Rattle.sqlite.specs.declared.transaction.Transaction.{Transaction}
 use Rattle.sqlite_trees.specs.declared.store.Store.{Ghosts}
 use Rattle.sqlite_trees.specs.View.{doubt}
 use Rattle.sqlite.proofs.InsideLemmas.{keeps_then}
+use Rattle.sqlite_catalog.proofs.AlterLemmas.{rows_trans}
 use Rattle.statements.specs.Place.{IsOwn, RefersPassively, at_of, tree_of}
 use Rattle.statements.specs.Schema.{edition_table}
 use Rattle.statements.specs.Steps.{LeavesBeside}
@@ -26,7 +27,7 @@ use Rattle.statements.proofs.Counts.{version_grows}
 use Rattle.statements.proofs.Held.{tables_taken}
 use Rattle.statements.proofs.Grown.{tree_stays, at_stays}
 use Rattle.statements.proofs.Frames.{left_then}
-use Rattle.statements.proofs.Makes.{tables_kept_then, kept_then, front}
+use Rattle.statements.proofs.Makes.{tables_kept_then, front}
 
 moved_apart : (a b c : Database) (k : KeepsTables b c) (ts : List Table) → AllByRecursion (IsOwn b.schema) ts
     → AllByRecursion (λ (x : Table). AllByRecursion (λ (t : Table). t.tree ≢ tree_of b.schema x.name) a.schema.tables) ts
@@ -73,7 +74,7 @@ schema_set a b c g told =
       kept = record {
         more = g.kept.more;
         tables = ap (λ (s : _). s.tables) left.0 ∙ g.kept.tables;
-        rows = kept_then a.schema.tables a.trees b.trees c.trees g.kept.rows (all_both _ _ (λ (t : Table). c.trees t.tree ≡ b.trees t.tree) (λ t keeps apart. keeps apart) a.schema.tables rows apart);
+        rows = rows_trans a.schema.tables a.trees b.trees c.trees g.kept.rows (all_both _ _ (λ (t : Table). c.trees t.tree ≡ b.trees t.tree) (λ t keeps apart. keeps apart) a.schema.tables rows apart);
       };
     }
 

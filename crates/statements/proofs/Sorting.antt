@@ -1,13 +1,14 @@
 -- Lists in the order of a key, and finite maps of them.
-use Rattle.std.proofs.Common.{◌≡◌, ◌<◌, ◌<ℤ◌, ◌+◌, ℕ, ℤ, Bool, true, false, ◌&&◌, cond, List, [], ◌∷◌, ◌++◌, map, filter, length, reverse, take, get_or, refl, sym, ap, ◌∙◌, subst, arith, Ordering, Less, Equal, Greater, int_cmp, is_eq, is_gt, true≢false}
+use Rattle.std.proofs.Common.{◌≡◌, ◌<◌, ◌<ℤ◌, ◌+◌, ℕ, ℤ, Bool, true, false, ◌&&◌, cond, List, [], ◌∷◌, ◌++◌, map, filter, length, reverse, take, get_or, refl, sym, ap, ◌∙◌, subst, Ordering, Less, Equal, Greater, int_cmp, is_eq, is_gt, true≢false}
 use Rattle.std.specs.List.{AllByRecursion, AllZip}
-use Rattle.std.proofs.lemmas.List.{take_more}
+use Rattle.std.proofs.lemmas.List.{take_more, nil_from_length}
 use Rattle.std.proofs.lemmas.Grind.{reverse_onto}
 use Rattle.std.specs.Cmp.{IsTotalOrder}
 use Rattle.std.specs.Ordering.{ordering_reverse, ordering_then}
 use Rattle.std.proofs.lemmas.Cmp.{upto}
 use Rattle.std.specs.FinMap.{from_entries, entries, empty, entries-insert, len-entries, len-empty}
 use Rattle.std.specs.FinMap.Entries.{put, by_order}
+use Rattle.sqlite_rules.proofs.PlaceLemmas.{zip_more}
 use Rattle.sqlite_trees.specs.Tree.{IsAscending}
 use Rattle.sqlite_keyed.specs.Keyed.{IsKeyedBy}
 use Rattle.sqlite_keyed.specs.Lists.{sort_by, insert_sorted}
@@ -142,23 +143,13 @@ module _ {A : Type 0} (key : A → ℤ) (cmp : A → A → Ordering) where
       ap (insert_sorted and_key x) (sorted_same xs up.1)
       ∙ put_same x (sort_by cmp xs) (all_sorted cmp (λ y. int_cmp (key x) (key y) ≡ Less) xs (all_weaker (λ y. key x <ℤ key y) (λ y. int_cmp (key x) (key y) ≡ Less) (λ y. Less-from_lt (key x) (key y)) xs up.0))
 
-zip_push : {A B : Type 0} (R : A → B → Type 0) (xs : List A) (ys : List B) (x : A) (y : B) → AllZip R xs ys → R x y → AllZip R (xs ++ x ∷ []) (ys ++ y ∷ [])
-zip_push R [] [] x y all here = (here, tt)
-zip_push R [] (b ∷ ys) x y all here = absurd all
-zip_push R (a ∷ xs) [] x y all here = absurd all
-zip_push R (a ∷ xs) (b ∷ ys) x y all here = (all.0, zip_push R xs ys x y all.1 here)
-
 -- one more item is read
 pub read_more : {A B : Type 0} (R : A → B → Type 0) (xs : List A) (ys : List B) (i : ℕ) (x : A) (y : B) → i < length xs → x ≡ get_or xs i x → AllZip R (take i xs) ys → R x y → AllZip R (take (i + 1) xs) (ys ++ y ∷ [])
 read_more R xs ys i x y within is all here =
     let longer : take (i + 1) xs ≡ take i xs ++ x ∷ [] = take_more xs i x within ∙ ap (λ z. take i xs ++ z ∷ []) (sym is) in
-    subst (λ l. AllZip R l (ys ++ y ∷ [])) (sym longer) (zip_push R (take i xs) ys x y all here)
+    subst (λ l. AllZip R l (ys ++ y ∷ [])) (sym longer) (zip_more R (take i xs) ys x y all here)
 
 -- ---- finite maps
-
-no_length : {A : Type 0} (xs : List A) → length xs ≡ 0 → xs ≡ []
-no_length [] e = refl
-no_length (x ∷ xs) e = absurd (omega arith)
 
 module _ {A K V : Type 0} (R : K → K → Ordering) (total : IsTotalOrder R) (key : A → K) (val : A → V) where
   abbrev by_key : A → A → Ordering
@@ -189,6 +180,6 @@ module _ {A K V : Type 0} (R : K → K → Ordering) (total : IsTotalOrder R) (k
 
   -- the entries of a map of rows with different keys are the rows in the order of the keys
   pub entries_sorted_by : (xs : List A) → IsAscending (λ a b. is_eq (by_key a b) ≡ false) xs → entries (from_entries {R = R} (map entry xs)) ≡ map entry (sort_by by_key xs)
-  entries_sorted_by [] apart = no_length (entries (empty {X = V} {R = R})) (sym (len-entries (empty {X = V} {R = R})) ∙ len-empty R V)
+  entries_sorted_by [] apart = nil_from_length (entries (empty {X = V} {R = R})) (sym (len-entries (empty {X = V} {R = R})) ∙ len-empty R V)
   entries_sorted_by (x ∷ xs) apart =
       entries-insert total (from_entries (map entry xs)) (key x) (val x) ∙ ap (put R (key x) (val x)) (entries_sorted_by xs apart.1) ∙ put_is x (sort_by by_key xs) (apart_sorted x xs apart.0)

@@ -13,6 +13,7 @@ use Rattle.sqlite_rules.specs.declared.error.Rowids.TheVariants.{Above, Chosen, 
 use Rattle.sqlite_rules.specs.Edit.{edit_of, taken_by}
 use Rattle.sqlite_rules.specs.Calls.{ids_of}
 use Rattle.sqlite_rules.specs.Action.{Writes}
+use Rattle.sqlite_rules.proofs.PlaceLemmas.{given as numbered_given}
 use Rattle.sqlite.specs.Effect.{Database, IsSource}
 use Rattle.sqlite.specs.Rows.{Task, Written, stamped}
 use Rattle.sqlite.specs.Does.{Tally, Concludes}
@@ -20,14 +21,13 @@ use Rattle.sqlite.specs.State.{State, mode_of, Executes}
 use Rattle.sqlite.proofs.Callers.{runs_as}
 use Rattle.std.proofs.lemmas.List.{length-map}
 use Rattle.statements.proofs.Meaning.{Means}
-use Rattle.statements.proofs.Edits.{numbered_given}
 
 -- a part that gave a value did not stop on the way
-went : {B E R : Type 0} {b : B} {Stops : E → Type 0} → ((stop : E) × Stops stop × (Ok b ≡ Err stop)) ⊎ R → R
+pub went : {B E R : Type 0} {b : B} {Stops : E → Type 0} → ((stop : E) × Stops stop × (Ok b ≡ Err stop)) ⊎ R → R
 went (inl stopped) = absurd (let e = stopped.2 in cc)
 went (inr on) = on
 
-same_value : {B E : Type 0} {a b : B} → ◌≡◌ {A = Result B E} (Ok a) (Ok b) → a ≡ b
+pub same_value : {B E : Type 0} {a b : B} → ◌≡◌ {A = Result B E} (Ok a) (Ok b) → a ≡ b
 same_value e = cc
 
 uncounted_part : (b c : Bool) (P Q : Type 0) → b ≡ false → MatchBool (cond b c false) P Q → Q

@@ -20,7 +20,7 @@ use Rattle.statements.specs.declared.rows.NamedWorkspace.{NamedWorkspace}
 use Rattle.statements.specs.Listings.{named_row, is_behind, workspace_rows_after, workspace_names_of, later_of, end_of, WorkspacesApart, NamesApart}
 use Rattle.statements.specs.declared.workspaces.TheConstants.{LIST_WS, LIST_WS_WITHIN, FIND_WS, COUNT_WS, LIST_NAMES}
 use Rattle.statements.proofs.Held.{IsHeld, wss_held, versions_held, keepings_held}
-use Rattle.statements.proofs.NameLists.{by_text, same_text as alike, wss_apart, names_within, own_names}
+use Rattle.statements.proofs.NameLists.{by_text, wss_apart, names_within, own_names}
 use Rattle.statements.proofs.Listed.{Ends, limit_enough}
 use Rattle.statements.proofs.Lefts.{row_or, left_is}
 use Rattle.statements.proofs.Own.{stored_tree}
@@ -28,6 +28,7 @@ use Rattle.statements.proofs.Prefixes.{within, all_admitted}
 use Rattle.sqlite_typed.proofs.TestLemmas.{at_texts, then_term, last_term}
 use Rattle.sqlite_sql.specs.declared.ops.CompareOp.TheVariants.{Lt, Gt, Ge}
 use Rattle.basis.specs.Names.{admits}
+use Rattle.basis.proofs.NameLemmas.{equal_bytes}
 use Rattle.std.specs.Str.{bytes_eq}
 use Rattle.std.proofs.lemmas.Bool.{and_parts}
 use Rattle.statements.proofs.PointReads.{first_own, count_own}
@@ -41,8 +42,8 @@ use Rattle.statements.proofs.WsTexts.{find_ws_names, find_ws_asks, find_ws_rest,
 one_keeping : (org ws : List ℕ) (a b : Kept KeepingRow) → is_keeping a.1.org a.1.ws b ≡ false → is_keeping org ws a ≡ true → is_keeping org ws b ≡ false
 one_keeping org ws a b apart mine =
     let same = and_parts (bytes_eq a.1.org org) (bytes_eq a.1.ws ws) mine in
-    let one = alike a.1.org org same.0 in
-    let two = alike a.1.ws ws same.1 in
+    let one = equal_bytes a.1.org org same.0 in
+    let two = equal_bytes a.1.ws ws same.1 in
     sym (λ i. is_keeping (one i) (two i) b) ∙ apart
 
 three_true : (a b c : Bool) → (a && (b && c)) ≡ true → (a ≡ true) × (b ≡ true) × (c ≡ true)
@@ -68,8 +69,8 @@ one_version org ws next a b apart mine = go (is_one_less b.1.it.number next) ref
     go : (c : Bool) → is_one_less b.1.it.number next ≡ c → is_version_before org ws next b ≡ false
     go true yours =
         let number_is : a.1.it.number ≡ b.1.it.number = one_number _ a.1.it.number b.1.it.number there.2 yours in
-        let one = alike a.1.org org there.0 in
-        let two = alike a.1.ws ws there.1 in
+        let one = equal_bytes a.1.org org there.0 in
+        let two = equal_bytes a.1.ws ws there.1 in
         ap (λ (e : Bool). bytes_eq b.1.org org && (bytes_eq b.1.ws ws && e)) yours ∙ sym (same b.1.it.number number_is) ∙ sym (λ i. is_version (one i) (two i) a.1.it.number b) ∙ apart
     go false yours = ap (λ (e : Bool). bytes_eq b.1.org org && (bytes_eq b.1.ws ws && e)) yours ∙ none (bytes_eq b.1.org org) (bytes_eq b.1.ws ws)
 

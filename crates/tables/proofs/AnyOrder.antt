@@ -7,9 +7,9 @@ use Rattle.std.specs.Cmp.{IsTotalOrder, tied_itself, nat_cmp_total, unsigned_tie
 use Rattle.std.specs.Ordering.{ordering_reverse}
 use Rattle.std.specs.FinMap.{from_entries}
 use Rattle.std.proofs.lemmas.Bool.{eqb-true}
-use Rattle.std.proofs.lemmas.List.Elements.{All-from_recursion, recursion_from_All}
-use Rattle.std.proofs.lemmas.List.Sorted.{All-permutation}
+use Rattle.std.proofs.Math.Bool.{and_assoc}
 use Rattle.sqlite_trees.specs.Tree.{IsAscending}
+use Rattle.sqlite_trees.proofs.ListLemmas.{all-permutation}
 use Rattle.sqlite_keyed.specs.Lists.{sort_by, insert_sorted}
 use Rattle.sqlite_keyed.proofs.ListLemmas.{all_weaker, ascending_weaker, along_permutation, IsPermutation-filter}
 use Rattle.machine.specs.Order.{name_cmp}
@@ -23,7 +23,7 @@ use Rattle.texts.proofs.TextLaws.{carried_whole, carried_text, carried_sound}
 use Rattle.tables.specs.Laws.{RowsStandInAnyOrder}
 use Rattle.tables.specs.Records.{version_of_cells, workspace_of_cells, retention_at, versions_at, runs_at, workspace_by, tokens_at, record_of}
 use Rattle.tables.specs.Sound.{IsPlaced, HasText, IsSound}
-use Rattle.tables.proofs.Finding.{find_same, three}
+use Rattle.tables.proofs.Finding.{find_same}
 use Rattle.tables.proofs.Listed.{versions_apart, runs_apart}
 use Rattle.tables.proofs.Ordered.{versions_total, runs_total}
 use Rattle.tables.proofs.Sorted.{put_in_turn, found_sorted}
@@ -75,9 +75,6 @@ module _ {A : Type 0} (cmp : A → A → Ordering) (total : IsTotalOrder cmp) wh
   pub sorted_the_same : (xs ys : List A) → IsPermutation xs ys → IsAscending Untied xs → sort_by cmp ys ≡ sort_by cmp xs
   sorted_the_same xs ys same up = sym (permuted xs ys same up).sorted
 
-all_permuted : {A : Type 0} (P : A → Type 0) (xs ys : List A) → IsPermutation xs ys → AllByRecursion P xs → AllByRecursion P ys
-all_permuted P xs ys same all = recursion_from_All P ys (All-permutation P xs ys same (All-from_recursion P xs all))
-
 -- ---- tables in another order
 
 module _ (t : Tables) (versions : List (Kept VersionRow)) (runs : List (Kept RunRow)) (sound : IsSound t) (same_versions : IsPermutation t.versions versions) (same_runs : IsPermutation t.runs runs) where
@@ -114,7 +111,7 @@ module _ (t : Tables) (versions : List (Kept VersionRow)) (runs : List (Kept Run
   found_in_order : (o w : List ℕ) (n : ℕ) (xs : List (Kept VersionRow)) → option_map (λ (x : Kept VersionRow). x.1.it.size) (find (is_version o w n) xs)
       ≡ option_map (λ (x : Kept VersionRow). x.1.it.size) (find (λ x. x.1.it.number == n) (sort_by version_cmp (filter (is_version_of o w) xs)))
   found_in_order o w n xs =
-      ap (option_map (λ (x : Kept VersionRow). x.1.it.size)) (find_same (is_version o w n) (λ x. is_version_of o w x && x.1.it.number == n) (λ x. three (bytes_eq x.1.org o) (bytes_eq x.1.ws w) (x.1.it.number == n)) xs ∙ found_within xs
+      ap (option_map (λ (x : Kept VersionRow). x.1.it.size)) (find_same (is_version o w n) (λ x. is_version_of o w x && x.1.it.number == n) (λ x. sym (and_assoc (bytes_eq x.1.org o) (bytes_eq x.1.ws w) (x.1.it.number == n))) xs ∙ found_within xs
       ∙ sym (found_sorted version_cmp versions_total (λ x. x.1.it.number == n) tied (filter (is_version_of o w) xs)))
     where
       tied : (x y : Kept VersionRow) → (x.1.it.number == n) ≡ true → (y.1.it.number == n) ≡ true → version_cmp x y ≡ Equal
@@ -149,15 +146,15 @@ module _ (t : Tables) (versions : List (Kept VersionRow)) (runs : List (Kept Run
     bounds_owned = sound.bounds_owned;
     wss_owned = sound.wss_owned;
     keepings_owned = sound.keepings_owned;
-    versions_owned = all_permuted (λ (x : Kept VersionRow). list_any (is_ws x.1.org x.1.ws) t.wss ≡ true) t.versions versions same_versions sound.versions_owned;
-    runs_owned = all_permuted (λ (x : Kept RunRow). list_any (is_ws x.1.org x.1.ws) t.wss ≡ true) t.runs runs same_runs sound.runs_owned;
+    versions_owned = all-permutation (λ (x : Kept VersionRow). list_any (is_ws x.1.org x.1.ws) t.wss ≡ true) t.versions versions same_versions sound.versions_owned;
+    runs_owned = all-permutation (λ (x : Kept RunRow). list_any (is_ws x.1.org x.1.ws) t.wss ≡ true) t.runs runs same_runs sound.runs_owned;
     org_rows = sound.org_rows;
     token_rows = sound.token_rows;
     bound_rows = sound.bound_rows;
     counts = λ org o e. sound.counts org o (sym (record_same org) ∙ e);
     places = carried_sound t u refl refl sound.places;
     placed = all_weaker (IsPlaced t) (IsPlaced u) (λ (z : Kept VpageRow). subst (λ (s : Option ℕ). IsSomeAnd s (λ size. z.1.place < pages_for size)) (sym (size_same z.1.org z.1.ws z.1.number))) t.vpages sound.placed;
-    texts = all_weaker (HasText t) (HasText u) (λ (x : Kept VersionRow). carried_whole t u refl refl x.1.org x.1.ws x.1.it.number x.1.it.size) versions (all_permuted (HasText t) t.versions versions same_versions sound.texts);
+    texts = all_weaker (HasText t) (HasText u) (λ (x : Kept VersionRow). carried_whole t u refl refl x.1.org x.1.ws x.1.it.number x.1.it.size) versions (all-permutation (HasText t) t.versions versions same_versions sound.texts);
     workspaces = λ org name w e. sound.workspaces org name w (sym (workspace_same org name) ∙ e);
   }
 

@@ -3,6 +3,7 @@ use Rattle.std.specs.Bool.{⊤}
 use Rattle.std.proofs.Common.{◌≡◌, ℕ, ◌+◌, ◌<◌, List, [], ◌∷◌, ◌++◌, map, take, length, get_or, Option, Some, Result, Ok, Err, OnOk, OnErr, refl, sym, ap, subst, ◌∙◌}
 use Rattle.std.specs.Option.{unwrap_or}
 use Rattle.std.proofs.lemmas.List.{take_more, map_more}
+use Rattle.std.proofs.lemmas.Option.{same_Some}
 use Rattle.sqlite_trees.specs.declared.store.Store.{Ghosts}
 use Rattle.sqlite.specs.Held.{Held, state}
 use Rattle.sqlite.specs.State.{State, HasCleanDisk, KeepsCommit}
@@ -50,9 +51,6 @@ workspaces_more org names i ws f t u z within is one last =
 
 -- ---- steps
 
-one_workspace : (v w : Workspace) → Some v ≡ Some w → v ≡ w
-one_workspace v w e = cc
-
 related_rows : {X E : Type 0} (R Q : Tables → Tables → Type 0) (a b : State) (result : Result X E) → ((t u : Tables) → R t u → Q t u) → OnOk result (Relates R a b) × OnErr result (KeepsCommit a b) → OnOk result (Relates Q a b) × OnErr result (KeepsCommit a b)
 related_rows R Q a b (Ok x) means one =
     (record { rows = λ t holds. let u = one.0.rows t holds in (u.0, u.1, means t u.0 u.2); was_open = one.0.was_open; committed = one.0.committed; inside = one.0.inside }, tt)
@@ -97,7 +95,7 @@ module _ {S T : Type 0} (g : Ghosts S) (h : Ghosts T) where
       → (HasCleanDisk (state h e) → OnOk result ((f : Tables) → Holds (state h d).now f → IsSound f → workspace_by f org ws ≡ Some w)) → RelatedSteps g (TakesFrom h (WorkspaceComes org ws) d e) a b result
   workspace_taken org ws w a b d e (Ok x) one told =
       related_as (Begins org ws w) (TakesFrom h (WorkspaceComes org ws) d e) a b (Ok x)
-      (λ t u begins clean f holds sound v is. subst (λ (x : Workspace). Begins org ws x t u) (one_workspace w v (sym (told clean f holds sound) ∙ is)) begins) one
+      (λ t u begins clean f holds sound v is. subst (λ (x : Workspace). Begins org ws x t u) (same_Some w v (sym (told clean f holds sound) ∙ is)) begins) one
   workspace_taken org ws w a b d e (Err f) one told = record {
     same_reference = one.same_reference;
     changed = λ clean inside. (tt, (one.changed clean inside).1);

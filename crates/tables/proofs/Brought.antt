@@ -1,6 +1,7 @@
 -- An organization that comes row by row into sound tables: they stay sound, and its record is in the end the one that it came from.
 use Rattle.std.specs.Bool.{⊤}
 use Rattle.std.proofs.Common.{◌≡◌, ◌≢◌, ℕ, ◌+◌, ◌≤◌, T, Bool, true, false, cond, List, [], ◌∷◌, map, filter, find, length, is_some, Option, Some, None, option_map, IsTrue, Result, Ok, refl, sym, ap, ap₂, subst, ◌∙◌, arith}
+use Rattle.std.proofs.lemmas.Option.{same_Some}
 use Rattle.std.specs.Str.{bytes_eq}
 use Rattle.std.specs.List.{AllByRecursion}
 use Rattle.std.specs.Ordering.{eq_by_cmp}
@@ -13,6 +14,7 @@ use Rattle.sqlite.specs.Held.{Held}
 use Rattle.sqlite.specs.declared.transaction.Transaction.{Transaction}
 use Rattle.basis.specs.Names.{is_org_name}
 use Rattle.basis.specs.declared.roles.Bounds.{Bounds}
+use Rattle.basis.proofs.NameLemmas.{equal_bytes}
 use Rattle.machine.specs.Laws.{IsToken, IsLawfulOrganization}
 use Rattle.machine.specs.Order.{name_cmp}
 use Rattle.machine.specs.Records.{count_of, placed}
@@ -20,7 +22,8 @@ use Rattle.machine.specs.Tokens.{new_organization, with_token}
 use Rattle.machine.specs.declared.records.Token.{Token}
 use Rattle.machine.specs.declared.records.Workspace.{Workspace}
 use Rattle.machine.specs.declared.records.Organization.{Organization}
-use Rattle.machine.proofs.MapLemmas.{names_total, names_same, get_own, get_other, not_tied, below_apart}
+use Rattle.machine.proofs.MapLemmas.{names_total, names_same, get_own, get_other, not_tied, below_apart, both_first, both_second}
+use Rattle.machine.proofs.KeepLemmas.{apart_from}
 use Rattle.statements.specs.Rows.{Kept, OrgRow, TokenRow, Token as TokenCells}
 use Rattle.statements.specs.declared.rows.Workspace.{Workspace as WorkspaceCells}
 use Rattle.statements.specs.declared.rows.NamedToken.{NamedToken}
@@ -37,10 +40,10 @@ use Rattle.tables.specs.Inner.Standing.{StandsSoFar}
 use Rattle.tables.specs.Inner.Copies.{RelatedSteps, Begins}
 use Rattle.tables.proofs.Copying.{seen_none}
 use Rattle.tables.proofs.Arriving.{takes_by, takes_then, takes_behind}
-use Rattle.tables.proofs.Names.{same_name, names_apart, pair_is, pair_first, pair_second, tied}
+use Rattle.tables.proofs.Names.{pair_is, pair_first, pair_second, tied}
 use Rattle.tables.proofs.Parts.{none_mapped}
-use Rattle.tables.proofs.Sets.{one_of, got_workspace}
-use Rattle.tables.proofs.Ranks.{both_first, both_second, all_found, entries_shown}
+use Rattle.tables.proofs.Sets.{got_workspace}
+use Rattle.tables.proofs.Ranks.{all_found, entries_shown}
 use Rattle.tables.proofs.Managed.{record_there, record_missing, org_own, org_other, token_own, token_other}
 use Rattle.tables.proofs.Kept.{org_there, org_added_keeps, token_added_keeps}
 use Rattle.tables.proofs.Lawful.{limit_there, limit_is, token_there, sound_is_lawful}
@@ -71,12 +74,12 @@ module _ {X : Type 0} where
     where
       go : (b : Bool) → bytes_eq e.0 q ≡ b → either (find_entry name_cmp q es) (get (insert m e.0 e.1) q) ≡ either (cond (eq_by_cmp name_cmp q e.0) (Some e.1) (find_entry name_cmp q es)) (get m q)
       go true is =
-          let same : e.0 ≡ q = same_name e.0 q is in
+          let same : e.0 ≡ q = equal_bytes e.0 q is in
           ap (λ (o : Option X). either o (get (insert m e.0 e.1) q)) (subst (λ (n : List ℕ). find_entry name_cmp n es ≡ None) same (none_below e.0 es (both_first _ _ sorted)))
           ∙ subst (λ (n : List ℕ). get (insert m e.0 e.1) n ≡ Some e.1) same (get_own m e.0 e.1)
           ∙ sym (ap (λ (c : Bool). either (cond c (Some e.1) (find_entry name_cmp q es)) (get m q)) (tied q e.0 ∙ is))
       go false is =
-          ap (either (find_entry name_cmp q es)) (get_other m e.0 e.1 q (λ same. names_apart e.0 q is (sym same)))
+          ap (either (find_entry name_cmp q es)) (get_other m e.0 e.1 q (λ same. apart_from e.0 q is (sym same)))
           ∙ sym (ap (λ (c : Bool). either (cond c (Some e.1) (find_entry name_cmp q es)) (get m q)) (tied q e.0 ∙ is))
 
   nothing_else : (o : Option X) → either o None ≡ o
@@ -106,7 +109,7 @@ module _ (org : List ℕ) (first : Tables) where
     there = limit_there t org o so.own
 
     same_record : organization_at t org o.limit ≡ o
-    same_record = one_of (organization_at t org o.limit) o (sym (record_there t org o.limit there) ∙ so.own)
+    same_record = same_Some (organization_at t org o.limit) o (sym (record_there t org o.limit there) ∙ so.own)
 
     module _ (e : List ℕ × Token) where
       -- no token has the name
@@ -159,8 +162,8 @@ module _ (org : List ℕ) (first : Tables) where
     among tokens e is some n v put = go (bytes_eq n e.0) refl
       where
         go : (b : Bool) → bytes_eq n e.0 ≡ b → get all n ≡ Some v
-        go true same = subst (λ (m : List ℕ). get all m ≡ Some v) (sym (same_name n e.0 same)) (is ∙ sym (get_own tokens e.0 e.1) ∙ subst (λ (m : List ℕ). get (insert tokens e.0 e.1) m ≡ Some v) (same_name n e.0 same) put)
-        go false other = some n v (sym (get_other tokens e.0 e.1 n (names_apart n e.0 other)) ∙ put)
+        go true same = subst (λ (m : List ℕ). get all m ≡ Some v) (sym (equal_bytes n e.0 same)) (is ∙ sym (get_own tokens e.0 e.1) ∙ subst (λ (m : List ℕ). get (insert tokens e.0 e.1) m ≡ Some v) (equal_bytes n e.0 same) put)
+        go false other = some n v (sym (get_other tokens e.0 e.1 n (apart_from n e.0 other)) ∙ put)
 
     -- those behind a name are still to come
     still_absent : (tokens : FinMap name_cmp Token) (e : List ℕ × Token) (es : List (List ℕ × Token)) → T (below_all name_cmp e.0 es) → AllByRecursion (λ (d : List ℕ × Token). get tokens d.0 ≡ None) es
@@ -227,7 +230,7 @@ module _ (f : Tables) (org : List ℕ) where
     where
       go : (b : Bool) → is_token_of org x ≡ b → map by_itself (filter (is_token_of org) xs) ≡ map by_name (filter (is_token_of org) xs)
           → map by_itself (cond b (x ∷ filter (is_token_of org) xs) (filter (is_token_of org) xs)) ≡ map by_name (cond b (x ∷ filter (is_token_of org) xs) (filter (is_token_of org) xs))
-      go true e more = ap₂ (λ (a : List ℕ) (rest : List (List ℕ × Token)). (x.1.name, token_of_cells (bounds_at f a x.1.name) x.1.it) ∷ rest) (same_name x.1.org org e) more
+      go true e more = ap₂ (λ (a : List ℕ) (rest : List (List ℕ × Token)). (x.1.name, token_of_cells (bounds_at f a x.1.name) x.1.it) ∷ rest) (equal_bytes x.1.org org e) more
       go false e more = more
 
   -- the entries of the record's tokens, by the list of rows
@@ -264,7 +267,7 @@ module _ (f : Tables) (org : List ℕ) where
       where
         by_row : (r : Option (Kept OrgRow)) → find (is_org org) f.orgs ≡ r → option_map (λ (x : Kept OrgRow). x.1.cap) r ≡ Some cap → IsTrue (is_org_name org)
         by_row None e is = absurd (let no_one : ⊥ = cc in no_one)
-        by_row (Some x) e is = subst (λ (n : List ℕ). IsTrue (is_org_name n)) (same_name x.1.name org (found_passes (is_org org) f.orgs x e)) (found_holds IsOrgRow (is_org org) f.orgs x sound.org_rows e).named
+        by_row (Some x) e is = subst (λ (n : List ℕ). IsTrue (is_org_name n)) (equal_bytes x.1.name org (found_passes (is_org org) f.orgs x e)) (found_holds IsOrgRow (is_org org) f.orgs x sound.org_rows e).named
 
     tokens_are : AllByRecursion (λ (e : List ℕ × Token). get (tokens_at f org) e.0 ≡ Some e.1) (entries (tokens_at f org))
     tokens_are = all_weaker (λ (e : List ℕ × Token). find_entry name_cmp e.0 (entries (tokens_at f org)) ≡ Some e.1) (λ (e : List ℕ × Token). get (tokens_at f org) e.0 ≡ Some e.1) (λ e is. get-entries (tokens_at f org) e.0 ∙ is)

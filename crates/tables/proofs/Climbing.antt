@@ -1,8 +1,9 @@
 -- From the version that a database has to the newest one, step by step.
 use Rattle.std.proofs.Common.{◌≡◌, ◌≢◌, ◌≤◌, inl, inr, ℕ, zero, suc, Bool, true, false, true≢false, List, Option, Some, None, IsTrue, refl, sym, ap, ◌∙◌, subst, arith}
 use Rattle.std.specs.Prelude.{if◌then◌else◌, ◌==◌}
-use Rattle.std.proofs.lemmas.Bool.{eqb-true}
+use Rattle.std.proofs.lemmas.Bool.{eqb-true, eq-eqb}
 use Rattle.std.proofs.lemmas.Bool.Decides.{nat_tests}
+use Rattle.std.proofs.lemmas.Option.{same_Some}
 use Rattle.sqlite_schema.specs.declared.schema.Table.{Table}
 use Rattle.sqlite.specs.Effect.{Database}
 use Rattle.sqlite.specs.State.{State, HasCleanDisk, IsUnchanged, KeepsCommit}
@@ -22,6 +23,7 @@ use Rattle.tables.specs.Inner.Steps.{IsSettled}
 use Rattle.tables.specs.Opening.{any_there, all_there, told_in, TellsIn, ToldBy, IsOther, GivesBack}
 use Rattle.tables.specs.Versions.{HoldsSchema, schema_records, Becomes, KeepsBeside}
 use Rattle.tables.proofs.There.{version_is_there, known_there, one_there}
+use Rattle.tables.proofs.Shut.{unchanged_keeps}
 
 -- the steps so far
 pub record ClimbsSoFar (from at : ℕ) (old new : State) : Type 0 where
@@ -83,15 +85,6 @@ module _ (m : ℕ) (old mid new : State) (told : IsTold m old mid) (climbed : Is
 
 -- ---- what is found
 
-unchanged_kept : (old new : State) → IsUnchanged old new → KeepsCommit old new
-unchanged_kept old new same = record { was_open = λ _. same.0.was_open; committed = λ _. same.0.committed_is }
-
-number_is : (a b : ℕ) → Some a ≡ Some b → a ≡ b
-number_is a b e = cc
-
-eq_itself : (n : ℕ) → (n == n) ≡ true
-eq_itself n = grind (arith, nat_tests)
-
 -- the version of the tables that are there is told, or it is another
 module _ (n : ℕ) (told : Option ℕ) (old new : State) (there : all_there n old.now.schema ≡ true) (settled : IsSettled old) (same : IsUnchanged old new) (reads : (t : Tables) → HoldsIn n old.now t → told ≡ told_in n t)
     (tells : told ≡ Some n → ToldBy n old.now) where
@@ -102,7 +95,7 @@ module _ (n : ℕ) (told : Option ℕ) (old new : State) (there : all_there n ol
       apart : told ≢ Some n → IsOther old × KeepsCommit old new
       apart is = (
         λ m there_m t. subst (λ (k : ℕ). HoldsIn k old.now t → told_in k t ≢ Some k) (one_there n m old.now.schema there there_m) (λ h one. is (reads t h ∙ one)),
-        unchanged_kept old new same,
+        unchanged_keeps old new same,
       )
 
       by_number : (k : ℕ) → told ≡ Some k → (b : Bool) → (k == n) ≡ b → TellsFound (if b then Version n else Other) old new
@@ -115,9 +108,9 @@ module _ (n : ℕ) (told : Option ℕ) (old new : State) (there : all_there n ol
             was_open = same.0.was_open;
             is_open = same.0.is_open;
             same = same.0.committed_is ∙ sym (settled same.0.was_open);
-            kept = unchanged_kept old new same;
+            kept = unchanged_keeps old new same;
           }
-      by_number k e false is = apart (λ one. true≢false (sym (eq_itself n) ∙ ap (λ (m : ℕ). m == n) (sym (number_is k n (sym e ∙ one))) ∙ is))
+      by_number k e false is = apart (λ one. true≢false (sym (eq-eqb n n refl) ∙ ap (λ (m : ℕ). m == n) (sym (same_Some k n (sym e ∙ one))) ∙ is))
 
       by_told : (o : Option ℕ) → told ≡ o → TellsFound (found_in n o) old new
       by_told None e = apart (λ one. absurd (let no_one : None ≡ Some n = sym e ∙ one in cc))

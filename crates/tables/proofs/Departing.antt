@@ -1,5 +1,6 @@
 -- An organization goes with all that it has: tables stay sound, it isn't there in the end, and every other one is as before.
 use Rattle.std.proofs.Common.{◌≡◌, ◌≢◌, ℕ, ◌≤◌, nat_lt, T, Bool, true, false, not, ◌&&◌, ◌||◌, cond, List, [], ◌∷◌, map, find, is_some, Option, Some, None, option_map, IsTrue, refl, sym, ap, subst, ◌∙◌}
+use Rattle.std.proofs.lemmas.Option.{same_Some}
 use Rattle.std.specs.Str.{bytes_eq}
 use Rattle.std.specs.List.{AllByRecursion, list_any}
 use Rattle.std.specs.FinMap.{FinMap, entries, entries_sorted, get, remove, get-entries, len-entries}
@@ -8,6 +9,7 @@ use Rattle.sqlite_keyed.proofs.ListLemmas.{all_weaker, all_both, all-filter}
 use Rattle.sqlite_keyed.proofs.RuleLemmas.{apart_delete}
 use Rattle.sqlite_keyed.proofs.SliceLemmas.{any_is_found}
 use Rattle.basis.specs.Names.{is_ws_name}
+use Rattle.basis.proofs.NameLemmas.{equal_bytes}
 use Rattle.machine.specs.Effects.{effect}
 use Rattle.machine.specs.Laws.{IsLawful}
 use Rattle.machine.specs.Order.{name_cmp}
@@ -21,7 +23,8 @@ use Rattle.machine.specs.declared.keeps.AdminAnswer.TheVariants.{Done, Absent, I
 use Rattle.machine.specs.declared.records.Token.{Token}
 use Rattle.machine.specs.declared.records.Workspace.{Workspace}
 use Rattle.machine.specs.declared.records.Organization.{Organization}
-use Rattle.machine.proofs.MapLemmas.{removed_own, removed_other}
+use Rattle.machine.proofs.MapLemmas.{removed_own, removed_other, both_first, both_second}
+use Rattle.machine.proofs.KeepLemmas.{apart_from}
 use Rattle.statements.specs.Rows.{Kept, OrgRow, TokenRow, WsRow}
 use Rattle.statements.specs.declared.rows.NamedToken.{NamedToken}
 use Rattle.statements.specs.declared.rows.Workspace.{Workspace as WorkspaceCells}
@@ -34,9 +37,8 @@ use Rattle.tables.specs.Sound.{IsOrgRow, IsSoundWorkspace, IsSound}
 use Rattle.tables.specs.Inner.Imports.{token_entry}
 use Rattle.tables.specs.Inner.Removals.{is_used_by, is_used_in, is_kept_back, workspaces_gone, tokens_gone, all_gone_of, AreAllOf, Departs}
 use Rattle.tables.specs.Inner.Edits.{removed_rows}
-use Rattle.tables.proofs.Names.{same_name, name_is, apart_name, names_apart, tied}
+use Rattle.tables.proofs.Names.{name_is, apart_name, tied}
 use Rattle.tables.proofs.Parts.{none_mapped}
-use Rattle.tables.proofs.Ranks.{both_first, both_second}
 use Rattle.tables.proofs.Sets.{Puts, workspace_there, put_own, put_other}
 use Rattle.tables.proofs.Counting.{len_with}
 use Rattle.tables.proofs.Edits.{changed_puts}
@@ -59,8 +61,8 @@ less_one : {X : Type 0} (m : FinMap name_cmp X) (e : List ℕ × X) (es : List (
 less_one {X} m e es sorted is q = go (bytes_eq e.0 q) refl
   where
     go : (b : Bool) → bytes_eq e.0 q ≡ b → get (remove m e.0) q ≡ find_entry name_cmp q es
-    go true same = subst (λ (n : List ℕ). get (remove m e.0) n ≡ find_entry name_cmp n es) (same_name e.0 q same) (removed_own m e.0 ∙ sym (none_below e.0 es (both_first _ _ sorted)))
-    go false other = removed_other m e.0 q (λ same. names_apart e.0 q other (sym same)) ∙ is q ∙ ap (λ (c : Bool). cond c (Some e.1) (find_entry name_cmp q es)) (tied q e.0 ∙ other)
+    go true same = subst (λ (n : List ℕ). get (remove m e.0) n ≡ find_entry name_cmp n es) (equal_bytes e.0 q same) (removed_own m e.0 ∙ sym (none_below e.0 es (both_first _ _ sorted)))
+    go false other = removed_other m e.0 q (λ same. apart_from e.0 q other (sym same)) ∙ is q ∙ ap (λ (c : Bool). cond c (Some e.1) (find_entry name_cmp q es)) (tied q e.0 ∙ other)
 
 -- no row is mine where none is found by any name
 none_mine : {X : Type 0} (mine : X → Bool) (key : X → List ℕ) (xs : List X) → ((q : List ℕ) → find (λ x. mine x && bytes_eq (key x) q) xs ≡ None) → AllByRecursion (λ x. mine x ≡ false) xs
@@ -152,10 +154,10 @@ module _ (org : List ℕ) (t : Tables) where
   same_rows = record { wss = refl; versions = refl; runs = refl; pages = refl; vpages = refl; kept = λ o w. refl }
 
   other_row : (q : List ℕ) → q ≢ org → find (is_org q) left.orgs ≡ find (is_org q) t.orgs
-  other_row q apart = find_left (is_org q) (is_org org) (λ x is. subst (λ (n : List ℕ). bytes_eq n q ≡ false) (sym (same_name x.1.name org is)) (apart_name org q (λ same. apart (sym same)))) t.orgs
+  other_row q apart = find_left (is_org q) (is_org org) (λ x is. subst (λ (n : List ℕ). bytes_eq n q ≡ false) (sym (equal_bytes x.1.name org is)) (apart_name org q (λ same. apart (sym same)))) t.orgs
 
   still_there : (q : List ℕ) → bytes_eq q org ≡ false → list_any (is_org q) t.orgs ≡ true → list_any (is_org q) left.orgs ≡ true
-  still_there q other is = any_is_found (is_org q) left.orgs ∙ ap is_some (other_row q (names_apart q org other)) ∙ sym (any_is_found (is_org q) t.orgs) ∙ is
+  still_there q other is = any_is_found (is_org q) left.orgs ∙ ap is_some (other_row q (apart_from q org other)) ∙ sym (any_is_found (is_org q) t.orgs) ∙ is
 
   row_other : (q : List ℕ) → q ≢ org → record_of left q ≡ record_of t q
   row_other q apart = ap (λ (o : Option (Kept OrgRow)). option_map (organization_at left q) (option_map (λ (x : Kept OrgRow). x.1.cap) o)) (other_row q apart) ∙ organization_carried t left same_rows refl refl q (cap_of q t)
@@ -174,8 +176,8 @@ module _ (org : List ℕ) (t : Tables) where
     texts = texts_carried t left refl refl refl (sound_texts t sound)
 
     within : (q : List ℕ) (p : Organization) → record_of left q ≡ Some p → (c : Bool) → bytes_eq q org ≡ c → count_of p ≤ 100_000
-    within q p e true same = absurd (let no_one : ⊥ = cc (sym (subst (λ (n : List ℕ). record_of left n ≡ Some p) (same_name q org same) e) ∙ row_own) in no_one)
-    within q p e false other = sound.counts q p (sym (row_other q (names_apart q org other)) ∙ e)
+    within q p e true same = absurd (let no_one : ⊥ = cc (sym (subst (λ (n : List ℕ). record_of left n ≡ Some p) (equal_bytes q org same) e) ∙ row_own) in no_one)
+    within q p e false other = sound.counts q p (sym (row_other q (apart_from q org other)) ∙ e)
 
     row_keeps : IsSound left
     row_keeps = record {
@@ -231,16 +233,13 @@ module _ (org : List ℕ) (is_forced : Bool) (t : Tables) where
 
     -- ---- what is in use
 
-    one_workspace : (v w : Workspace) → Some v ≡ Some w → v ≡ w
-    one_workspace v w e = cc
-
     used_is : (ws : List ℕ) (w : Workspace) → workspace_by t org ws ≡ Some w → IsLawful w → is_used_in org ws t ≡ is_in_use w
     used_is ws w is lawful = by_row (workspace_of org ws t) refl is
       where
         by_row : (r : Option WorkspaceCells) → workspace_of org ws t ≡ r → option_map (workspace_at t org ws) r ≡ Some w → is_used_in org ws t ≡ is_in_use w
         by_row None f e = absurd (let no_one : ⊥ = cc in no_one)
         by_row (Some c) f e =
-            let same : workspace_at t org ws c ≡ w = one_workspace (workspace_at t org ws c) w e in
+            let same : workspace_at t org ws c ≡ w = same_Some (workspace_at t org ws c) w e in
             ap (λ (r : Option WorkspaceCells). is_used_by r (open_runs_of org ws t)) f
             ∙ ap (λ (n : ℕ). is_locked c.holder || nat_lt 0 n) (open_runs_found t org ws (subst (λ (v : Workspace). open_runs v.runs ≤ 100) (sym same) lawful.runs.open_runs))
             ∙ ap is_in_use same

@@ -4,6 +4,7 @@ use Rattle.std.specs.Prelude.{◌==◌, codes}
 use Rattle.std.specs.Option.{unwrap_or}
 use Rattle.std.specs.Str.{bytes_eq}
 use Rattle.std.proofs.lemmas.Bool.{and_parts}
+use Rattle.std.proofs.lemmas.Option.{same_Some}
 use Rattle.std.specs.List.{AllByRecursion, list_any}
 use Rattle.std.specs.FinMap.{from_entries, empty, len-entries}
 use Rattle.basis.specs.declared.roles.Role.TheVariants.{Write}
@@ -18,6 +19,7 @@ use Rattle.machine.specs.declared.acts.Edit.TheVariants.{Make, Configure, Remove
 use Rattle.basis.specs.declared.rows.Holder.TheVariants.{Nobody, Lock, Run as HoldingRun}
 use Rattle.machine.specs.declared.records.Version.{Version}
 use Rattle.basis.specs.declared.rows.RunRow.{RunRow as Run}
+use Rattle.basis.proofs.NameLemmas.{equal_bytes}
 use Rattle.machine.specs.declared.records.Token.{Token}
 use Rattle.machine.specs.declared.keeps.AdminAnswer.TheVariants.{Absent}
 use Rattle.machine.specs.declared.records.Workspace.{Workspace}
@@ -28,16 +30,12 @@ use Rattle.statements.specs.Rows.{Kept, OrgRow, WsRow, VersionRow, PageRow, Vpag
 use Rattle.statements.specs.Schema.{column, version_table}
 use Rattle.statements.specs.Tables.{Tables}
 use Rattle.statements.specs.Making.{raised}
-use Rattle.statements.proofs.NameLists.{same_text}
 use Rattle.tables.proofs.Finding.{entries_counted}
 use Rattle.tables.specs.Records.{record_of, organization_at, workspace_at, workspace_by}
 use Rattle.tables.specs.Opening.{has_versions_in}
 use Rattle.tables.specs.Sound.{IsPlaced, HasText, HasNoGap, IsSoundWorkspace, IsSound}
 use Rattle.tables.specs.Inner.Edits.{so_many_gone, gone_below, edited_rows, changed_rows}
 use Rattle.tables.specs.Inner.Lists.{versions_listed_in, runs_listed_in, tokens_told_in}
-
-some_same : {A : Type 0} {a b : A} → ◌≡◌ {A = Option A} (Some a) (Some b) → a ≡ b
-some_same e = cc
 
 abbrev acme : List ℕ
 acme = codes "acme"
@@ -393,9 +391,9 @@ one_counts org o is = go (bytes_eq acme org) refl
   where
     go : (b : Bool) → bytes_eq acme org ≡ b → count_of o ≤ MAX_LIMIT
     go true e =
-        let told : Some one_has ≡ Some o = subst (λ (n : List ℕ). record_of one n ≡ Some o) (sym (same_text acme org e)) is in
+        let told : Some one_has ≡ Some o = subst (λ (n : List ℕ). record_of one n ≡ Some o) (sym (equal_bytes acme org e)) is in
         let counted : count_of one_has ≡ 1 = sym (len-entries one_has.workspaces) ∙ entries_counted acme (λ (x : Kept WsRow). workspace_at one acme x.1.name x.1.it) one.wss (tt, tt) in
-        subst (λ (x : Organization). count_of x ≤ MAX_LIMIT) (some_same told) (omega (arith, counted))
+        subst (λ (x : Organization). count_of x ≤ MAX_LIMIT) (same_Some _ _ told) (omega (arith, counted))
     go false e = let none : None ≡ Some o = subst (λ (b : Bool). record_if b org ≡ Some o) e is in absurd (cc)
 
 one_workspaces : (org name : List ℕ) (w : Workspace) → workspace_by one org name ≡ Some w → IsSoundWorkspace name w
@@ -404,9 +402,9 @@ one_workspaces org name w is = go (bytes_eq acme org && bytes_eq prod name) refl
     go : (b : Bool) → (bytes_eq acme org && bytes_eq prod name) ≡ b → IsSoundWorkspace name w
     go true e =
         let parts = and_parts (bytes_eq acme org) (bytes_eq prod name) e in
-        let there : workspace_by one org prod ≡ Some w = subst (λ (n : List ℕ). workspace_by one org n ≡ Some w) (sym (same_text prod name parts.1)) is in
-        let told : Some of_one ≡ Some w = subst (λ (o : List ℕ). workspace_by one o prod ≡ Some w) (sym (same_text acme org parts.0)) there in
-        subst (λ (n : List ℕ). IsSoundWorkspace n w) (same_text prod name parts.1) (subst (IsSoundWorkspace prod) (some_same told) of_one_is_lawful)
+        let there : workspace_by one org prod ≡ Some w = subst (λ (n : List ℕ). workspace_by one org n ≡ Some w) (sym (equal_bytes prod name parts.1)) is in
+        let told : Some of_one ≡ Some w = subst (λ (o : List ℕ). workspace_by one o prod ≡ Some w) (sym (equal_bytes acme org parts.0)) there in
+        subst (λ (n : List ℕ). IsSoundWorkspace n w) (equal_bytes prod name parts.1) (subst (IsSoundWorkspace prod) (same_Some _ _ told) of_one_is_lawful)
     go false e = let none : None ≡ Some w = subst (λ (b : Bool). workspace_if b org name ≡ Some w) e is in absurd (cc)
 
 one_use : (b : Bool) → unwrap_or (option_map (λ (x : Kept PageRow). x.1.uses) (find (λ (x : Kept PageRow). b) one.pages)) 0 ≡ length (filter (λ (x : Kept VpageRow). b) one.vpages)
@@ -495,9 +493,9 @@ module _ (rows : List (Kept VersionRow)) where
     where
       go : (b : Bool) → bytes_eq acme org ≡ b → count_of o ≤ MAX_LIMIT
       go true e =
-          let told : Some of_org ≡ Some o = subst (λ (n : List ℕ). record_of (of_rows rows) n ≡ Some o) (sym (same_text acme org e)) is in
+          let told : Some of_org ≡ Some o = subst (λ (n : List ℕ). record_of (of_rows rows) n ≡ Some o) (sym (equal_bytes acme org e)) is in
           let counted : count_of of_org ≡ 1 = sym (len-entries of_org.workspaces) ∙ entries_counted acme (λ (x : Kept WsRow). workspace_at (of_rows rows) acme x.1.name x.1.it) (of_rows rows).wss (tt, tt) in
-          subst (λ (x : Organization). count_of x ≤ MAX_LIMIT) (some_same told) (omega (arith, counted))
+          subst (λ (x : Organization). count_of x ≤ MAX_LIMIT) (same_Some _ _ told) (omega (arith, counted))
       go false e = let none : None ≡ Some o = subst (λ (b : Bool). organization_if b org ≡ Some o) e is in absurd (cc)
 
   both_workspaces : workspace_by (of_rows rows) acme prod ≡ Some of_both → (org name : List ℕ) (w : Workspace) → workspace_by (of_rows rows) org name ≡ Some w → IsSoundWorkspace name w
@@ -506,9 +504,9 @@ module _ (rows : List (Kept VersionRow)) where
       go : (b : Bool) → (bytes_eq acme org && bytes_eq prod name) ≡ b → IsSoundWorkspace name w
       go true e =
           let parts = and_parts (bytes_eq acme org) (bytes_eq prod name) e in
-          let there : workspace_by (of_rows rows) org prod ≡ Some w = subst (λ (n : List ℕ). workspace_by (of_rows rows) org n ≡ Some w) (sym (same_text prod name parts.1)) is in
-          let told : Some of_both ≡ Some w = sym denoted ∙ subst (λ (o : List ℕ). workspace_by (of_rows rows) o prod ≡ Some w) (sym (same_text acme org parts.0)) there in
-          subst (λ (n : List ℕ). IsSoundWorkspace n w) (same_text prod name parts.1) (subst (IsSoundWorkspace prod) (some_same told) of_both_is_lawful)
+          let there : workspace_by (of_rows rows) org prod ≡ Some w = subst (λ (n : List ℕ). workspace_by (of_rows rows) org n ≡ Some w) (sym (equal_bytes prod name parts.1)) is in
+          let told : Some of_both ≡ Some w = sym denoted ∙ subst (λ (o : List ℕ). workspace_by (of_rows rows) o prod ≡ Some w) (sym (equal_bytes acme org parts.0)) there in
+          subst (λ (n : List ℕ). IsSoundWorkspace n w) (equal_bytes prod name parts.1) (subst (IsSoundWorkspace prod) (same_Some _ _ told) of_both_is_lawful)
       go false e = let none : None ≡ Some w = subst (λ (b : Bool). own_if b org name ≡ Some w) e is in absurd (cc)
 
   both_uses : (b : Bool) → unwrap_or (option_map (λ (x : Kept PageRow). x.1.uses) (find (λ (x : Kept PageRow). b) (of_rows rows).pages)) 0 ≡ length (filter (λ (x : Kept VpageRow). b) (of_rows rows).vpages)

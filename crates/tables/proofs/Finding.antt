@@ -12,11 +12,12 @@ use Rattle.std.proofs.lemmas.Int.{ints}
 use Rattle.sqlite_trees.specs.Tree.{IsAscending}
 use Rattle.sqlite_keyed.specs.Lists.{sort_by}
 use Rattle.statements.proofs.Sorting.{filter_both, filter-sort_by, all_sorted, turned_round}
-use Rattle.std.proofs.lemmas.Option.{slice_get-map, slice_get-get_or}
+use Rattle.std.proofs.lemmas.Option.{slice_get-map, slice_get-get_or, same_Some}
+use Rattle.std.proofs.Math.Bool.{and_assoc}
 use Rattle.machine.proofs.CutLemmas.{last_taken, none_up_to}
 use Rattle.sqlite_keyed.specs.Rules.{AreApart}
 use Rattle.sqlite_keyed.proofs.ListLemmas.{filter_same, filter_none, all_weaker, all_both, all-filter, slice_get-filter}
-use Rattle.sqlite_keyed.proofs.SliceLemmas.{find-slice, filter-slice, any_is_found}
+use Rattle.sqlite_keyed.proofs.SliceLemmas.{find-slice, filter-slice, any_is_found, is_some-map}
 use Rattle.basis.specs.Runs.{is_open}
 use Rattle.basis.specs.declared.runs.RunStatus.{RunStatus}
 use Rattle.basis.specs.declared.runs.RunStatus.TheVariants.{Pending, Planning, Planned, Applying, Applied, PlannedAndFinished, Errored, Discarded, Canceled}
@@ -36,16 +37,19 @@ use Rattle.basis.specs.declared.rows.RunRow.{RunRow as Run}
 use Rattle.machine.specs.declared.records.Workspace.{Workspace}
 use Rattle.machine.specs.declared.records.Organization.{Organization}
 use Rattle.machine.proofs.MapLemmas.{names_total}
+use Rattle.machine.proofs.LookLemmas.{version_of-newest}
+use Rattle.machine.proofs.KeepLemmas.{apart_from}
 use Rattle.basis.specs.declared.rows.VersionRow.{VersionRow as Head}
 use Rattle.basis.specs.declared.rows.Holder.{Holder}
 use Rattle.basis.specs.declared.rows.Holder.TheVariants.{Nobody, Lock, Run as HoldingRun}
+use Rattle.basis.proofs.NameLemmas.{equal_bytes}
 use Rattle.statements.specs.declared.rows.Workspace.{Workspace as WorkspaceCells}
 use Rattle.statements.specs.Rows.{Kept, id_of, OrgRow, WsRow, VersionRow, RunRow}
 use Rattle.statements.specs.Tables.{Tables}
 use Rattle.statements.specs.Changes.{is_org, is_version_of, is_version, is_run_of, is_run_row, is_ws, is_ws_of}
 use Rattle.statements.specs.Finds.{version_cmp, run_cmp, back_by_number, newest_of, size_of, first_waiting_of, status_at_number, workspace_of, workspaces_of, cap_of}
 use Rattle.statements.specs.Finds as finds
-use Rattle.statements.proofs.Found.{found_passes, found_holds}
+use Rattle.statements.proofs.Found.{found_passes, found_holds, none_found}
 use Rattle.tables.specs.Records.{version_at, settings_of_cells, versions_at, runs_at, workspace_at, workspace_by, workspaces_at, organization_at, record_of}
 use Rattle.tables.specs.Sound.{HasNoGap, HasText, IsSound}
 use Rattle.texts.specs.Texts.{pages_for, text_of, are_pieces, IsWhole}
@@ -55,9 +59,9 @@ use Rattle.tables.proofs.Sorted.{greater_is, sorted_anew, put_in_turn, found_sor
 use Rattle.tables.proofs.Ordered.{by_version, by_run, by_version_total, by_run_total, runs_total, versions_in, runs_in, versions_sorted, runs_sorted}
 use Rattle.tables.proofs.TextRows.{AreTexts, sound_texts, version_row_parts}
 use Rattle.tables.proofs.NoGaps.{outgoing_by_number}
-use Rattle.tables.proofs.Names.{same_name, apart_name, names_apart, pair_first, pair_second}
+use Rattle.tables.proofs.Names.{apart_name, pair_first, pair_second}
 use Rattle.tables.proofs.Parts.{none_mapped}
-use Rattle.tables.proofs.Sets.{entry_found, got_workspace, workspace_there, one_of}
+use Rattle.tables.proofs.Sets.{entry_found, got_workspace, workspace_there}
 use Rattle.tables.proofs.Lawful.{limit_there}
 use Rattle.tables.specs.Inner.Units.{holder_status_in, text_in, has_text, newest_by, newest_in, retention_in, has_version_in, number_before, number_behind, outgoing_in, keyed_run_in, asked_run_in, unit_at, unit_in}
 
@@ -70,18 +74,6 @@ find_same p q same (x ∷ xs) = λ i. cond (same x i) (Some x) (find_same p q sa
 mapped : {A B C : Type 0} (f : A → B) (g : B → C) (o : Option A) → option_map (λ a. g (f a)) o ≡ option_map g (option_map f o)
 mapped f g None = refl
 mapped f g (Some a) = refl
-
-pub found_as : {A B : Type 0} (f : A → B) (o : Option A) → is_some (option_map f o) ≡ is_some o
-found_as f None = refl
-found_as f (Some a) = refl
-
-pub three : (a b c : Bool) → (a && (b && c)) ≡ ((a && b) && c)
-three true b c = refl
-three false b c = refl
-
-pub none_found : {X : Type 0} (p : X → Bool) (xs : List X) → AllByRecursion (λ x. p x ≡ false) xs → find p xs ≡ None
-none_found p [] all = refl
-none_found p (x ∷ xs) all = rw all.0 (none_found p xs all.1)
 
 either_none : {X : Type 0} (o : Option X) → option_or o None ≡ o
 either_none None = refl
@@ -134,14 +126,6 @@ first_is_last low next n (v ∷ vs) rise = go (v.number == n) refl (first_is_las
     go true e more = sym (ap (λ (o : Option Version). option_or o (Some v)) (none_up_to v.number next n vs rise.2 (omega (arith, eqb-true v.number n e))))
     go false e more = more ∙ sym (either_none (find_last (numbered n) vs))
 
--- the newest version is the last of its number
-newest_is_last : (vs : List Version) (v : Version) → newest vs ≡ Some v → version_of v.number vs ≡ Some v
-newest_is_last [] v e = absurd (let none : ⊥ = cc in none)
-newest_is_last (u ∷ []) v e =
-    let same : u ≡ v = cc in
-    subst (λ (w : Version). option_or None (cond (u.number == w.number) (Some u) None) ≡ Some w) same (ap (λ (b : Bool). cond b (Some u) None) (eq-eqb u.number u.number refl))
-newest_is_last (u ∷ w ∷ vs) v e = ap (λ (o : Option Version). option_or o (cond (u.number == v.number) (Some u) None)) (newest_is_last (w ∷ vs) v e)
-
 pending_same : (s : RunStatus) → finds.is_pending_of s ≡ is_pending s
 pending_same Pending = refl
 pending_same Planning = refl
@@ -188,7 +172,7 @@ other_keyed key (Some own) rs e differ = all_weaker (λ (s : Run). IfSome s.key 
   where
     apart : (k : Option (List ℕ)) → IfSome k (λ other. bytes_eq own other ≡ false) → has_key key k ≡ false
     apart None h = refl
-    apart (Some other) h = apart_name other key (λ same. names_apart own other h (same_name own key e ∙ sym same))
+    apart (Some other) h = apart_name other key (λ same. apart_from own other h (equal_bytes own key e ∙ sym same))
 
 one_keyed : (key : List ℕ) (rs : List Run) → KeysDiffer rs → length (filter (is_keyed key) rs) ≤ 1
 one_keyed key [] differ = omega arith
@@ -221,7 +205,7 @@ module _ (t : Tables) (org ws : List ℕ) where
   body_found n =
       by_row (find (is_version org ws n) t.versions) refl
       ∙ ap (λ (o : Option (Kept VersionRow)). option_map (λ (v : Version). v.text) (option_map (λ (x : Kept VersionRow). version_at t org ws x.1.it) o))
-      (find_same (is_version org ws n) (λ x. is_version_of org ws x && numbered n (version_at t org ws x.1.it)) (λ x. three (bytes_eq x.1.org org) (bytes_eq x.1.ws ws) (x.1.it.number == n)) t.versions)
+      (find_same (is_version org ws n) (λ x. is_version_of org ws x && numbered n (version_at t org ws x.1.it)) (λ x. sym (and_assoc (bytes_eq x.1.org org) (bytes_eq x.1.ws ws) (x.1.it.number == n))) t.versions)
       ∙ ap (option_map (λ (v : Version). v.text)) (find-slice (is_version_of org ws) (λ (x : Kept VersionRow). version_at t org ws x.1.it) (numbered n) t.versions ∙ sym (version_stays t org ws n))
     where
       by_row : (r : Option (Kept VersionRow)) → find (is_version org ws n) t.versions ≡ r
@@ -238,7 +222,7 @@ module _ (t : Tables) (org ws : List ℕ) where
   waiting_rows : filter (finds.is_waiting_of org ws) t.runs ≡ filter waits (filter (is_run_of org ws) t.runs)
   waiting_rows =
       filter_same (finds.is_waiting_of org ws) (λ x. is_run_of org ws x && waits x)
-      (λ x. three (bytes_eq x.1.org org) (bytes_eq x.1.ws ws) (finds.is_pending_of x.1.it.status && not x.1.it.plan_only)
+      (λ x. sym (and_assoc (bytes_eq x.1.org org) (bytes_eq x.1.ws ws) (finds.is_pending_of x.1.it.status && not x.1.it.plan_only))
       ∙ ap (λ (b : Bool). (bytes_eq x.1.org org && bytes_eq x.1.ws ws) && (b && not x.1.it.plan_only)) (pending_same x.1.it.status)) t.runs
       ∙ filter_both (is_run_of org ws) waits t.runs
 
@@ -251,7 +235,7 @@ module _ (t : Tables) (org ws : List ℕ) where
 
   pub status_found : (n : ℕ) → status_at_number org ws n t ≡ option_map (λ (r : Run). r.status) (run_of n (runs_at t org ws))
   status_found n =
-      ap (option_map (λ (x : Kept RunRow). x.1.it.status)) (find_same (is_run_row org ws n) (λ x. is_run_of org ws x && x.1.it.number == n) (λ x. three (bytes_eq x.1.org org) (bytes_eq x.1.ws ws) (x.1.it.number == n)) t.runs)
+      ap (option_map (λ (x : Kept RunRow). x.1.it.status)) (find_same (is_run_row org ws n) (λ x. is_run_of org ws x && x.1.it.number == n) (λ x. sym (and_assoc (bytes_eq x.1.org org) (bytes_eq x.1.ws ws) (x.1.it.number == n))) t.runs)
       ∙ mapped (λ (x : Kept RunRow). x.1.it) (λ (r : Run). r.status) (find (λ x. is_run_of org ws x && x.1.it.number == n) t.runs)
       ∙ ap (option_map (λ (r : Run). r.status)) (find-slice (is_run_of org ws) (λ (x : Kept RunRow). x.1.it) (λ (r : Run). r.number == n) t.runs ∙ sym (run_stays t org ws n))
 
@@ -262,12 +246,12 @@ module _ (t : Tables) (org ws : List ℕ) where
       ∙ find-slice (is_run_of org ws) (λ (x : Kept RunRow). x.1.it) q t.runs
 
   numbered_found : (n : ℕ) → finds.run_at_number org ws n t ≡ run_of n (runs_at t org ws)
-  numbered_found n = run_found (is_run_row org ws n) (is_numbered n) (λ x. three (bytes_eq x.1.org org) (bytes_eq x.1.ws ws) (x.1.it.number == n)) ∙ sym (run_stays t org ws n)
+  numbered_found n = run_found (is_run_row org ws n) (is_numbered n) (λ x. sym (and_assoc (bytes_eq x.1.org org) (bytes_eq x.1.ws ws) (x.1.it.number == n))) ∙ sym (run_stays t org ws n)
 
   keyed_found : KeysDiffer (runs_at t org ws) → (key : Option (List ℕ)) → keyed_run_in key org ws t ≡ keyed_run key (runs_at t org ws)
   keyed_found differ None = refl
   keyed_found differ (Some key) = run_found (finds.is_run_with_key org ws key) (is_keyed key) (λ x.
-      three (bytes_eq x.1.org org) (bytes_eq x.1.ws ws) (finds.is_key_of key x.1.it.key) ∙ ap (λ (b : Bool). (bytes_eq x.1.org org && bytes_eq x.1.ws ws) && b) (key_same key x.1.it.key))
+      sym (and_assoc (bytes_eq x.1.org org) (bytes_eq x.1.ws ws) (finds.is_key_of key x.1.it.key)) ∙ ap (λ (b : Bool). (bytes_eq x.1.org org && bytes_eq x.1.ws ws) && b) (key_same key x.1.it.key))
       ∙ sym (keyed_stays t org ws key differ)
 
   pub asked_run_found : KeysDiffer (runs_at t org ws) → (number : Option ℕ) (key : Option (List ℕ)) → asked_run_in number key org ws t ≡ asked_run number key (runs_at t org ws)
@@ -283,7 +267,7 @@ module _ (t : Tables) (org ws : List ℕ) where
           ap open_runs (runs_sorted t org ws) ∙ count_sorted by_run by_run_total (λ (r : Run). is_open r.status) (runs_in t org ws)
           ∙ ap length (sym (filter-slice (is_run_of org ws) (λ (x : Kept RunRow). x.1.it) (λ (r : Run). is_open r.status) t.runs))
           ∙ length-map (filter (λ (x : Kept RunRow). is_run_of org ws x && is_open x.1.it.status) t.runs) (λ (x : Kept RunRow). x.1.it)
-          ∙ ap length (sym (filter_same (finds.is_open_run_of org ws) (λ (x : Kept RunRow). is_run_of org ws x && is_open x.1.it.status) (λ x. three (bytes_eq x.1.org org) (bytes_eq x.1.ws ws) (is_open x.1.it.status)) t.runs))
+          ∙ ap length (sym (filter_same (finds.is_open_run_of org ws) (λ (x : Kept RunRow). is_run_of org ws x && is_open x.1.it.status) (λ x. sym (and_assoc (bytes_eq x.1.org org) (bytes_eq x.1.ws ws) (is_open x.1.it.status))) t.runs))
 
       least : (n m : ℕ) → m ≡ n → m ≤ 100 → min n 9_223_372_036_854_775_807 ≡ m
       least n m e h = omega arith
@@ -297,9 +281,9 @@ module _ (t : Tables) (org ws : List ℕ) where
   module _ (next : ℕ) (rise : Rises 0 (numbers (versions_at t org ws)) next) where
     kept_found : (n : ℕ) → is_some (size_of org ws n t) ≡ is_some (version_of n (versions_at t org ws))
     kept_found n =
-        found_as (λ (x : Kept VersionRow). x.1.it.size) (find (is_version org ws n) t.versions)
-        ∙ ap is_some (find_same (is_version org ws n) (λ x. is_version_of org ws x && numbered n (version_at t org ws x.1.it)) (λ x. three (bytes_eq x.1.org org) (bytes_eq x.1.ws ws) (x.1.it.number == n)) t.versions)
-        ∙ sym (found_as (λ (x : Kept VersionRow). version_at t org ws x.1.it) (find (λ x. is_version_of org ws x && numbered n (version_at t org ws x.1.it)) t.versions))
+        is_some-map (λ (x : Kept VersionRow). x.1.it.size) (find (is_version org ws n) t.versions)
+        ∙ ap is_some (find_same (is_version org ws n) (λ x. is_version_of org ws x && numbered n (version_at t org ws x.1.it)) (λ x. sym (and_assoc (bytes_eq x.1.org org) (bytes_eq x.1.ws ws) (x.1.it.number == n))) t.versions)
+        ∙ sym (is_some-map (λ (x : Kept VersionRow). version_at t org ws x.1.it) (find (λ x. is_version_of org ws x && numbered n (version_at t org ws x.1.it)) t.versions))
         ∙ ap is_some (find-slice (is_version_of org ws) (λ (x : Kept VersionRow). version_at t org ws x.1.it) (numbered n) t.versions ∙ sym (version_stays t org ws n))
         ∙ ap is_some (first_is_last 0 next n (versions_at t org ws) rise)
 
@@ -359,7 +343,7 @@ module _ (t : Tables) (org ws : List ℕ) where
         by_row (Some x) f is =
             let same : x.1.it ≡ h = cc in
             let last : newest (versions_at t org ws) ≡ Some (version_at t org ws x.1.it) = sym newest_row ∙ ap (option_map (λ (y : Kept VersionRow). version_at t org ws y.1.it)) f in
-            subst (λ (k : Head). version_of k.number (versions_at t org ws) ≡ Some (version_at t org ws k)) same (newest_is_last (versions_at t org ws) (version_at t org ws x.1.it) last)
+            subst (λ (k : Head). version_of k.number (versions_at t org ws) ≡ Some (version_at t org ws k)) same (version_of-newest (versions_at t org ws) (version_at t org ws x.1.it) last)
 
     -- the text of the newest version is compared page by page, and one of another size isn't the asked one
     pub newest_unit_found : AreTexts t → (text : Option (List ℕ)) → newest_in text org ws t ≡ option_map (newest_unit text) (newest (versions_at t org ws))
@@ -420,7 +404,7 @@ module _ (org : List ℕ) (value : Kept WsRow → Workspace) where
       go true e more =
           let rest = from_entries {R = name_cmp} (map (λ (y : Kept WsRow). (y.1.name, value y)) (filter (is_ws_of org) xs)) in
           let none : find (λ y. is_ws_of org y && bytes_eq y.1.name x.1.name) xs ≡ None =
-          none_found (λ y. is_ws_of org y && bytes_eq y.1.name x.1.name) xs (subst (λ (n : List ℕ). AllByRecursion (λ y. is_ws n x.1.name y ≡ false) xs) (same_name x.1.org org e) apart.0) in
+          none_found (λ y. is_ws_of org y && bytes_eq y.1.name x.1.name) xs (subst (λ (n : List ℕ). AllByRecursion (λ y. is_ws n x.1.name y ≡ false) xs) (equal_bytes x.1.org org e) apart.0) in
           let missing : get rest x.1.name ≡ None = get-from_entries names_total (map (λ (y : Kept WsRow). (y.1.name, value y)) (filter (is_ws_of org) xs)) x.1.name ∙ entry_found (is_ws_of org) (λ (y : Kept WsRow). y.1.name) value x.1.name xs ∙ ap (option_map value) none in
           len-insert names_total rest x.1.name (value x) ∙ one_longer (len rest) (get rest x.1.name) missing ∙ ap suc more
 
@@ -430,7 +414,7 @@ workspaces_there t org o e = by_limit (cap_of org t) e
   where
     by_limit : (cap : Option ℕ) → option_map (organization_at t org) cap ≡ Some o → o.workspaces ≡ workspaces_at t org
     by_limit None e = absurd (let none : ⊥ = cc in none)
-    by_limit (Some cap) e = sym (ap (λ (p : Organization). p.workspaces) (one_of (organization_at t org cap) o e))
+    by_limit (Some cap) e = sym (ap (λ (p : Organization). p.workspaces) (same_Some (organization_at t org cap) o e))
 
 module _ (t : Tables) (sound : IsSound t) (org : List ℕ) where
   -- as many rows as workspaces

@@ -1,5 +1,5 @@
 -- From what was looked at on two connections, and one transaction, to the copy of an organization.
-use Rattle.std.proofs.Common.{◌≡◌, ◌≢◌, ℕ, true, false, List, is_some, Option, Some, None, refl, sym, ap, subst, ◌∙◌}
+use Rattle.std.proofs.Common.{◌≡◌, ◌≢◌, ℕ, true, List, is_some, Option, Some, None, refl, sym, ap, subst, ◌∙◌}
 use Rattle.sqlite_trees.specs.declared.store.Store.{Ghosts}
 use Rattle.sqlite.specs.Effect.{Database}
 use Rattle.sqlite.specs.Held.{Held, state}
@@ -22,10 +22,6 @@ use Rattle.tables.proofs.Databases.{store_by, records_by}
 use Rattle.tables.proofs.Managed.{record_there, record_missing}
 
 -- ---- the answer where nothing is copied
-
-pub none_of : (o : Option ℕ) → is_some o ≡ false → o ≡ None
-none_of None e = refl
-none_of (Some x) e = absurd (cc)
 
 pub is_absent : (org : List ℕ) (found there : Option ℕ) → found ≡ None → (f t : Tables) → found ≡ cap_of org f → there ≡ cap_of org t → IsCopied Absent (record_of f org) (record_of t org) (record_of t org)
 is_absent org found there none f t read told = (record_missing f org (sym read ∙ none), refl)

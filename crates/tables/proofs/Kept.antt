@@ -1,15 +1,17 @@
 -- Sound tables stay sound.
 use Rattle.std.proofs.Common.{◌≡◌, ℕ, ◌≤◌, Bool, true, false, List, [], ◌∷◌, ◌++◌, find, length, is_some, Option, Some, None, IfSome, IsTrue, option_map, refl, sym, ap, subst, ◌∙◌, arith}
+use Rattle.std.proofs.lemmas.Option.{same_Some}
 use Rattle.std.specs.Str.{bytes_eq}
 use Rattle.std.specs.List.{AllByRecursion, list_any}
 use Rattle.std.specs.FinMap.{get, empty, len-entries, len-empty}
 use Rattle.sqlite_keyed.specs.Keyed.{next_key}
 use Rattle.sqlite_keyed.specs.Rules.{AreApart}
 use Rattle.sqlite_keyed.proofs.ListLemmas.{all_weaker, all-append, none_from_any}
-use Rattle.sqlite_keyed.proofs.SliceLemmas.{any_is_found}
+use Rattle.sqlite_keyed.proofs.SliceLemmas.{any_is_found, is_some-map}
 use Rattle.basis.specs.Names.{is_org_name, is_ws_name, is_prefix}
 use Rattle.basis.specs.declared.roles.Role.{Role}
 use Rattle.basis.specs.declared.roles.Bounds.{Bounds}
+use Rattle.basis.proofs.NameLemmas.{equal_bytes}
 use Rattle.machine.specs.Ranges.{IsMoment}
 use Rattle.machine.specs.Order.{name_cmp}
 use Rattle.machine.specs.Laws.{IsLawful, IsLawfulIfThere}
@@ -19,6 +21,7 @@ use Rattle.machine.specs.Tokens.{new_organization}
 use Rattle.machine.specs.declared.acts.Change.{Change}
 use Rattle.machine.specs.declared.records.Workspace.{Workspace}
 use Rattle.machine.specs.declared.records.Organization.{Organization}
+use Rattle.machine.proofs.KeepLemmas.{apart_from}
 use Rattle.statements.specs.Rows.{Kept, id_of, OrgRow, TokenRow, BoundRow}
 use Rattle.statements.specs.declared.making.TheConstants.{NEWEST}
 use Rattle.statements.specs.Tables.{Tables, no_rows}
@@ -31,10 +34,10 @@ use Rattle.tables.specs.Inner.Edits.{changed_rows, TakesEdit}
 use Rattle.texts.proofs.TextLaws.{carried_sound, no_rows_sound}
 use Rattle.tables.proofs.TextRows.{AreTexts, sound_texts, texts_carried, KeepsWorkspaces, workspace_carried, workspaces_carried}
 use Rattle.tables.proofs.KeptTexts.{changed_texts}
-use Rattle.tables.proofs.Names.{same_name, apart_name, names_apart, is_pair, pair_is, pair_first, pair_second}
+use Rattle.tables.proofs.Names.{is_pair, pair_is, pair_first, pair_second, turned_apart}
 use Rattle.tables.proofs.Telling.{told_changed}
 use Rattle.tables.proofs.Parts.{none_mapped}
-use Rattle.tables.proofs.Sets.{Puts, workspace_there, one_of, put_own, put_other}
+use Rattle.tables.proofs.Sets.{Puts, workspace_there, put_own, put_other}
 use Rattle.tables.proofs.Edits.{changed_puts}
 use Rattle.tables.proofs.Changes.{lawful_after, gapless_after}
 use Rattle.tables.proofs.Lawful.{limit_there, limit_is}
@@ -69,19 +72,12 @@ sound_in_order t sound = record {
   bound_rows = sound.bound_rows;
 }
 
-one_workspace : (a b : Workspace) → Some a ≡ Some b → a ≡ b
-one_workspace a b e = cc
-
 if_there : (P : Workspace → Type 0) (o : Option Workspace) (w : Workspace) → IfSome o P → o ≡ Some w → P w
 if_there P None w h e = absurd (let none : ⊥ = cc in none)
-if_there P (Some v) w h e = subst P (one_workspace v w e) h
+if_there P (Some v) w h e = subst P (same_Some v w e) h
 
 pub org_there : (t : Tables) (org : List ℕ) (cap : ℕ) → cap_of org t ≡ Some cap → list_any (is_org org) t.orgs ≡ true
-org_there t org cap e = any_is_found (is_org org) t.orgs ∙ sym (some_mapped (find (is_org org) t.orgs)) ∙ ap is_some e
-  where
-    some_mapped : (o : Option (Kept OrgRow)) → is_some (option_map (λ (x : Kept OrgRow). x.1.cap) o) ≡ is_some o
-    some_mapped None = refl
-    some_mapped (Some x) = refl
+org_there t org cap e = any_is_found (is_org org) t.orgs ∙ sym (is_some-map (λ (x : Kept OrgRow). x.1.cap) (find (is_org org) t.orgs)) ∙ ap is_some e
 
 -- ---- a change of a workspace
 
@@ -104,9 +100,9 @@ module _ (org ws : List ℕ) (after : Option Workspace) (t u : Tables) (sound : 
 
   put_within : (q : List ℕ) (p : Organization) → record_of u q ≡ Some p → (c : Bool) → bytes_eq q org ≡ c → count_of p ≤ 100_000
   put_within q p e true same =
-      let here : record_of u org ≡ Some p = subst (λ (x : List ℕ). record_of u x ≡ Some p) (same_name q org same) e in
-      subst (λ (r : Organization). count_of r ≤ 100_000) (one_of (placed o ws after) p (sym (put_own org ws after t u puts o there) ∙ here)) few
-  put_within q p e false other = sound.counts q p (sym (put_other org ws after t u puts q (names_apart q org other)) ∙ e)
+      let here : record_of u org ≡ Some p = subst (λ (x : List ℕ). record_of u x ≡ Some p) (equal_bytes q org same) e in
+      subst (λ (r : Organization). count_of r ≤ 100_000) (same_Some (placed o ws after) p (sym (put_own org ws after t u puts o there) ∙ here)) few
+  put_within q p e false other = sound.counts q p (sym (put_other org ws after t u puts q (apart_from q org other)) ∙ e)
 
   pub placed_keeps : IsSound u
   placed_keeps = record {
@@ -150,14 +146,11 @@ changed_keeps keys org ws t sound change takes o named there due =
 no_row : (t : Tables) (org : List ℕ) → cap_of org t ≡ None → AllByRecursion (λ x. is_org org x ≡ false) t.orgs
 no_row t org e = none_from_any (is_org org) t.orgs (any_is_found (is_org org) t.orgs ∙ ap is_some (none_mapped (λ (x : Kept OrgRow). x.1.cap) (find (is_org org) t.orgs) e))
 
-turned : (a b : List ℕ) → bytes_eq a b ≡ false → bytes_eq b a ≡ false
-turned a b e = apart_name b a (λ same. names_apart a b e (sym same))
-
 -- an organization more leaves sound tables sound
 pub org_added_keeps : (org : List ℕ) (limit : ℕ) (t : Tables) → IsSound t → IsTrue (is_org_name org) → limit ≤ 100_000 → cap_of org t ≡ None → IsSound (org_row_added org limit t)
 org_added_keeps org limit t sound named most none = record {
   told = sound.told;
-  orgs_apart = apart_pushed (λ a b. is_org a.1.name b) t.orgs new sound.orgs_apart (all_weaker (λ x. is_org org x ≡ false) (λ x. is_org x.1.name new ≡ false) (λ x e. turned x.1.name org e) t.orgs (no_row t org none));
+  orgs_apart = apart_pushed (λ a b. is_org a.1.name b) t.orgs new sound.orgs_apart (all_weaker (λ x. is_org org x ≡ false) (λ x. is_org x.1.name new ≡ false) (λ x e. turned_apart x.1.name org e) t.orgs (no_row t org none));
   tokens_apart = sound.tokens_apart;
   digests_apart = sound.digests_apart;
   wss_apart = sound.wss_apart;
@@ -192,9 +185,9 @@ org_added_keeps org limit t sound named most none = record {
 
     within : (q : List ℕ) (o : Organization) → record_of (org_row_added org limit t) q ≡ Some o → (c : Bool) → bytes_eq q org ≡ c → count_of o ≤ 100_000
     within q o e true same =
-        let here : record_of (org_row_added org limit t) org ≡ Some o = subst (λ (x : List ℕ). record_of (org_row_added org limit t) x ≡ Some o) (same_name q org same) e in
-        subst (λ (r : Organization). count_of r ≤ 100_000) (one_of (new_organization limit) o (sym (org_own t sound org limit none) ∙ here)) (subst (λ (n : ℕ). n ≤ 100_000) (sym none_yet) (omega arith))
-    within q o e false other = sound.counts q o (sym (org_other t sound org limit q (names_apart q org other)) ∙ e)
+        let here : record_of (org_row_added org limit t) org ≡ Some o = subst (λ (x : List ℕ). record_of (org_row_added org limit t) x ≡ Some o) (equal_bytes q org same) e in
+        subst (λ (r : Organization). count_of r ≤ 100_000) (same_Some (new_organization limit) o (sym (org_own t sound org limit none) ∙ here)) (subst (λ (n : ℕ). n ≤ 100_000) (sym none_yet) (omega arith))
+    within q o e false other = sound.counts q o (sym (org_other t sound org limit q (apart_from q org other)) ∙ e)
 
 -- a token more leaves sound tables sound
 pub token_added_keeps : (org name digest : List ℕ) (role : Role) (bounds : Bounds) (t : Tables) → IsSound t → IsTrue (is_org_name name) → length digest ≡ 32 → IfSome bounds.until IsMoment → IsTrue (is_prefix bounds.prefix) → (cap : ℕ) → cap_of org t ≡ Some cap
@@ -253,7 +246,7 @@ token_added_keeps org name digest role bounds t sound named long ends begins cap
     within : (q : List ℕ) (o : Organization) (c : Option ℕ) → cap_of q t ≡ c → option_map (organization_at (token_added org name digest role bounds.until bounds.prefix t) q) c ≡ Some o → count_of o ≤ 100_000
     within q o None f e = absurd (let none : ⊥ = cc in none)
     within q o (Some c) f e =
-        subst (λ (r : Organization). count_of r ≤ 100_000) (one_of (organization_at (token_added org name digest role bounds.until bounds.prefix t) q c) o e)
+        subst (λ (r : Organization). count_of r ≤ 100_000) (same_Some (organization_at (token_added org name digest role bounds.until bounds.prefix t) q c) o e)
         (subst (λ ws. count_of (record { limit = c; tokens = tokens_at (token_added org name digest role bounds.until bounds.prefix t) q; workspaces = ws }) ≤ 100_000) (sym (workspaces_carried t (token_added org name digest role bounds.until bounds.prefix t) same_rows q)) (sound.counts q (organization_at t q c) (ap (option_map (organization_at t q)) f)))
 
 -- ---- tables with no row

@@ -3,7 +3,10 @@ use Rattle.std.proofs.Common.{◌≡◌, ◌≢◌, ℕ, ◌==◌, ◌&&◌, Boo
 use Rattle.std.specs.Str.{bytes_eq}
 use Rattle.std.specs.FinMap.{get}
 use Rattle.std.proofs.lemmas.Bool.{eqb-true}
+use Rattle.std.proofs.lemmas.Option.{same_Some}
+use Rattle.sqlite_keyed.proofs.SliceLemmas.{is_some-map}
 use Rattle.basis.specs.declared.rows.VersionRow.{VersionRow as Head}
+use Rattle.basis.proofs.NameLemmas.{equal_bytes}
 use Rattle.machine.specs.Changes.{changed_by}
 use Rattle.machine.specs.Needs.{Needed}
 use Rattle.machine.specs.Records.{workspace_in, placed}
@@ -14,6 +17,7 @@ use Rattle.machine.specs.declared.acts.Unit.TheVariants.{Present}
 use Rattle.machine.specs.declared.keeps.TokenRow.{TokenRow}
 use Rattle.machine.specs.declared.records.Organization.{Organization}
 use Rattle.machine.specs.declared.records.Version.{Version}
+use Rattle.machine.proofs.KeepLemmas.{apart_from}
 use Rattle.statements.specs.Finds.{newest_of, size_of, workspace_of, first_waiting_of, open_runs_of}
 use Rattle.statements.specs.Tables.{Tables}
 use Rattle.statements.specs.declared.rows.Workspace.{Workspace as WorkspaceCells}
@@ -28,8 +32,7 @@ use Rattle.tables.specs.declared.askers.Asked.{Asked}
 use Rattle.tables.specs.declared.versions.SizedNewest.{SizedNewest}
 use Rattle.tables.specs.declared.versions.VersionSize.{VersionSize}
 use Rattle.tables.specs.declared.sizes.SizedVersion.{SizedVersion}
-use Rattle.tables.proofs.Finding.{found_as, newest_numbered, seen_in_rows, text_found}
-use Rattle.tables.proofs.Names.{same_name, names_apart}
+use Rattle.tables.proofs.Finding.{newest_numbered, seen_in_rows, text_found}
 
 -- where nothing is kept
 pub nothing_is : (t : Tables) → IsRemembered t nothing_kept
@@ -45,7 +48,7 @@ module _ (need : Needed) (known : Option ℕ) (org ws : List ℕ) (t : Tables) (
 
   asked_there : (n : Option ℕ) → is_some (size_asked n org ws t) ≡ has_version_in n org ws t
   asked_there None = refl
-  asked_there (Some n) = found_as (λ (size : ℕ). record { number = n; size = size }) (size_of org ws n t)
+  asked_there (Some n) = is_some-map (λ (size : ℕ). record { number = n; size = size }) (size_of org ws n t)
 
   -- of a workspace that is there
   pub present_looked : present_in need org ws w t ≡ looked_at need known org ws t (Some w)
@@ -69,9 +72,6 @@ module _ (need : Needed) (known : Option ℕ) (org ws : List ℕ) (t : Tables) (
 
 -- ---- the size of a text
 
-some_is : {X : Type 0} {x y : X} → ◌≡◌ {A = Option X} (Some x) (Some y) → x ≡ y
-some_is e = cc
-
 -- the text of a version is what stands in its pages, up to this size
 abbrev IsTextOf : Tables → List ℕ → List ℕ → ℕ → ℕ → Type 0
 IsTextOf t org ws n size = version_text n (workspace_in (record_of t org) ws) ≡ Some (text_of org ws n size t)
@@ -91,7 +91,7 @@ module _ (t : Tables) (sound : IsSound t) (org ws : List ℕ) where
           by_size : (s : Option ℕ) → size_of org ws n t ≡ s → option_map (λ (size : ℕ). record { number = n; size = size }) s ≡ Some v → IsText v.number v.size
           by_size None f is = absurd (let none : ⊥ = cc in none)
           by_size (Some s) f is =
-              subst (λ (x : VersionSize). IsText x.number x.size) (some_is is) (sym (text_found t sound org ws n) ∙ ap (option_map (λ (size : ℕ). text_of org ws n size t)) f)
+              subst (λ (x : VersionSize). IsText x.number x.size) (same_Some _ _ is) (sym (text_found t sound org ws n) ∙ ap (option_map (λ (size : ℕ). text_of org ws n size t)) f)
 
       by_row : (r : Option WorkspaceCells) → workspace_of org ws t ≡ r → size_seen need org ws t r ≡ Some v → IsText v.number v.size
       by_row None f is = absurd (let none : ⊥ = cc in none)
@@ -104,7 +104,7 @@ module _ (t : Tables) (sound : IsSound t) (org ws : List ℕ) where
           by_newest false o found is = asked need.version is
           by_newest true None found is = asked need.version is
           by_newest true (Some h) found is =
-              subst (λ (x : VersionSize). IsText x.number x.size) (some_is is)
+              subst (λ (x : VersionSize). IsText x.number x.size) (same_Some _ _ is)
               (ap (version_text h.number) (seen_in_rows t sound org ws ∙ stands)
               ∙ ap (option_map (λ (u : Version). u.text)) (newest_numbered t org ws w.next_version (sound.workspaces org ws _ stands).lawful.versions.rise h found))
 
@@ -122,7 +122,7 @@ module _ (t : Tables) (sound : IsSound t) (org ws : List ℕ) where
       by_name : (a b c : Bool) → bytes_eq s.org org ≡ a → bytes_eq s.ws ws ≡ b → (s.number == n) ≡ c → text_by (cond ((a && b) && c) (Some s.size) None) org ws n t ≡ version_text n (workspace_in (record_of t org) ws)
       by_name true true true e f g =
           sym (subst (λ (m : ℕ). IsTextOf t org ws m s.size) (eqb-true s.number n g)
-          (subst (λ (w : List ℕ). IsTextOf t org w s.number s.size) (same_name s.ws ws f) (subst (λ (o : List ℕ). IsTextOf t o s.ws s.number s.size) (same_name s.org org e) is)))
+          (subst (λ (w : List ℕ). IsTextOf t org w s.number s.size) (equal_bytes s.ws ws f) (subst (λ (o : List ℕ). IsTextOf t o s.ws s.number s.size) (equal_bytes s.org org e) is)))
       by_name true true false e f g = text_found t sound org ws n
       by_name true false c e f g = text_found t sound org ws n
       by_name false b c e f g = text_found t sound org ws n
@@ -135,7 +135,7 @@ kept_asker t None org digest row is kept = absurd (let none : ⊥ = cc in none)
 kept_asker t (Some a) org digest row is kept = by_name (bytes_eq a.org org) (bytes_eq a.digest digest) refl refl kept
   where
     by_name : (b c : Bool) → bytes_eq a.org org ≡ b → bytes_eq a.digest digest ≡ c → cond (b && c) (Some a.row) None ≡ Some row → Some row ≡ asker_of (record_of t org) digest
-    by_name true true e f own = sym own ∙ sym is ∙ (λ i. asker_of (record_of t (same_name a.org org e i)) (same_name a.digest digest f i))
+    by_name true true e f own = sym own ∙ sym is ∙ (λ i. asker_of (record_of t (equal_bytes a.org org e i)) (equal_bytes a.digest digest f i))
     by_name true false e f own = absurd (let none : ⊥ = cc in none)
     by_name false c e f own = absurd (let none : ⊥ = cc in none)
 
@@ -144,7 +144,7 @@ pub noted_asker : (t : Tables) (before after : Option Asked) (org digest : List 
     → IfSome after (λ kept. asker_noted before org digest found ≡ Some kept) → IfSome after (IsAsker t)
 noted_asker t before None org digest found is told noted = tt
 noted_asker t before (Some a) org digest None is told noted = subst (λ (o : Option Asked). IfSome o (IsAsker t)) noted is
-noted_asker t before (Some a) org digest (Some row) is told noted = subst (IsAsker t) (some_is noted) (sym told)
+noted_asker t before (Some a) org digest (Some row) is told noted = subst (IsAsker t) (same_Some _ _ noted) (sym told)
 
 -- a workspace that changes changes no token
 module _ (t u : Tables) (org ws : List ℕ) (change : Change) (others : (q : List ℕ) → q ≢ org → record_of u q ≡ record_of t q) (o : Organization) (there : record_of t org ≡ Some o)
@@ -154,8 +154,8 @@ module _ (t u : Tables) (org ws : List ℕ) (change : Change) (others : (q : Lis
   same_asker (Some a) is = by_name (bytes_eq a.org org) refl
     where
       by_name : (b : Bool) → bytes_eq a.org org ≡ b → IsAsker u a
-      by_name false e = ap (λ (r : Option Organization). asker_of r a.digest) (others a.org (names_apart a.org org e)) ∙ is
+      by_name false e = ap (λ (r : Option Organization). asker_of r a.digest) (others a.org (apart_from a.org org e)) ∙ is
       by_name true e =
-          let name : a.org ≡ org = same_name a.org org e in
+          let name : a.org ≡ org = equal_bytes a.org org e in
           let before : asker_of (Some o) a.digest ≡ Some a.row = ap (λ (r : Option Organization). asker_of r a.digest) (sym there ∙ ap (record_of t) (sym name)) ∙ is in
           ap (λ (r : Option Organization). asker_of r a.digest) (ap (record_of u) name ∙ own) ∙ before

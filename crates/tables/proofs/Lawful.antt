@@ -3,6 +3,7 @@ use Rattle.std.proofs.Common.{◌≡◌, ℕ, ◌≤◌, true, List, find, lengt
 use Rattle.std.specs.Str.{bytes_eq}
 use Rattle.std.specs.FinMap.{get}
 use Rattle.std.proofs.lemmas.Bool.{and_from}
+use Rattle.std.proofs.lemmas.Option.{same_Some}
 use Rattle.std.specs.Option.{unwrap_or}
 use Rattle.basis.specs.Names.{is_org_name, is_prefix}
 use Rattle.basis.specs.declared.roles.Bounds.{Bounds}
@@ -18,7 +19,7 @@ use Rattle.tables.specs.Records.{no_bounds, bounds_at, token_at, organization_at
 use Rattle.tables.specs.Sound.{IsOrgRow, IsTokenRow, IsBoundRow, IsSound}
 use Rattle.tables.specs.Laws.{SoundTablesAreLawful}
 use Rattle.tables.proofs.Names.{name_is, pair_first, pair_second}
-use Rattle.tables.proofs.Sets.{got_token, workspace_there, one_of}
+use Rattle.tables.proofs.Sets.{got_token, workspace_there}
 
 -- the limit of a record is in the organization's row
 pub limit_there : (t : Tables) (org : List ℕ) (o : Organization) → record_of t org ≡ Some o → cap_of org t ≡ Some o.limit
@@ -26,7 +27,7 @@ limit_there t org o e = by_limit (cap_of org t) e
   where
     by_limit : (cap : Option ℕ) → option_map (organization_at t org) cap ≡ Some o → cap ≡ Some o.limit
     by_limit None e = absurd (let none : ⊥ = cc in none)
-    by_limit (Some cap) e = ap (λ (p : Organization). Some p.limit) (one_of (organization_at t org cap) o e)
+    by_limit (Some cap) e = ap (λ (p : Organization). Some p.limit) (same_Some (organization_at t org cap) o e)
 
 pub limit_is : (t : Tables) → IsSound t → (org : List ℕ) (o : Organization) → record_of t org ≡ Some o → o.limit ≤ 100_000
 limit_is t sound org o e = by_row (find (is_org org) t.orgs) refl (limit_there t org o e)
@@ -42,7 +43,7 @@ token_there t org name o e = by_limit (cap_of org t) e
   where
     by_limit : (cap : Option ℕ) → option_map (organization_at t org) cap ≡ Some o → get o.tokens name ≡ option_map (λ (x : Kept TokenRow). token_at t x.1) (find (is_token org name) t.tokens)
     by_limit None e = absurd (let none : ⊥ = cc in none)
-    by_limit (Some cap) e = subst (λ (p : Organization). get p.tokens name ≡ option_map (λ (x : Kept TokenRow). token_at t x.1) (find (is_token org name) t.tokens)) (one_of (organization_at t org cap) o e) (got_token t org name)
+    by_limit (Some cap) e = subst (λ (p : Organization). get p.tokens name ≡ option_map (λ (x : Kept TokenRow). token_at t x.1) (find (is_token org name) t.tokens)) (same_Some (organization_at t org cap) o e) (got_token t org name)
 
 -- a token of a record has a row
 record Found (t : Tables) (org name : List ℕ) (token : Token) : Type 0 where

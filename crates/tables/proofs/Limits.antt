@@ -1,15 +1,18 @@
 -- An organization with another limit.
 use Rattle.std.proofs.Common.{◌≡◌, ◌≢◌, ℕ, ◌≤◌, Bool, true, false, List, find, Option, Some, None, option_map, refl, sym, ap, subst, ◌∙◌}
+use Rattle.std.proofs.lemmas.Option.{same_Some}
 use Rattle.std.specs.Str.{bytes_eq}
 use Rattle.std.specs.List.{list_any}
 use Rattle.sqlite_keyed.specs.Lists.{update_where}
 use Rattle.sqlite_keyed.proofs.ListLemmas.{all_weaker}
 use Rattle.sqlite_keyed.proofs.RuleLemmas.{apart_update}
+use Rattle.basis.proofs.NameLemmas.{equal_bytes}
 use Rattle.machine.specs.Effects.{effect}
 use Rattle.machine.specs.Records.{count_of}
 use Rattle.machine.specs.Tokens.{with_limit, org_limited}
 use Rattle.machine.specs.declared.keeps.AdminAnswer.TheVariants.{Done, Absent}
 use Rattle.machine.specs.declared.records.Organization.{Organization}
+use Rattle.machine.proofs.KeepLemmas.{apart_from}
 use Rattle.statements.specs.Rows.{Kept, OrgRow}
 use Rattle.statements.specs.Tables.{Tables}
 use Rattle.statements.specs.Changes.{is_org, org_capped}
@@ -18,8 +21,7 @@ use Rattle.statements.proofs.Found.{find_changed, find_unchanged, all_updated}
 use Rattle.tables.specs.Records.{organization_at, record_of}
 use Rattle.tables.specs.Sound.{IsOrgRow, IsSound}
 use Rattle.tables.proofs.TextRows.{AreTexts, sound_texts, texts_carried, KeepsWorkspaces, workspace_carried, organization_carried}
-use Rattle.tables.proofs.Names.{same_name, apart_name, names_apart}
-use Rattle.tables.proofs.Sets.{one_of}
+use Rattle.tables.proofs.Names.{apart_name}
 use Rattle.tables.proofs.Lists.{any_updated}
 use Rattle.tables.proofs.Managed.{record_there, record_missing}
 
@@ -37,7 +39,7 @@ module _ (org : List ℕ) (limit : ℕ) where
 
     cap_stays : (q : List ℕ) → q ≢ org → cap_of q (org_capped org limit t) ≡ cap_of q t
     cap_stays q apart = ap (option_map (λ (x : Kept OrgRow). x.1.cap))
-        (find_unchanged (is_org q) (is_org org) (λ x e. apart_name x.1.name q (λ same. apart (sym same ∙ same_name x.1.name org e))) recapped (λ x. refl) t.orgs)
+        (find_unchanged (is_org q) (is_org org) (λ x e. apart_name x.1.name q (λ same. apart (sym same ∙ equal_bytes x.1.name org e))) recapped (λ x. refl) t.orgs)
 
     same_rows : KeepsWorkspaces t (org_capped org limit t)
     same_rows = record { wss = refl; versions = refl; runs = refl; pages = refl; vpages = refl; kept = λ o w. refl }
@@ -92,6 +94,6 @@ module _ (org : List ℕ) (limit : ℕ) where
 
           within : (q : List ℕ) (o : Organization) → record_of (org_capped org limit t) q ≡ Some o → (c : Bool) → bytes_eq q org ≡ c → count_of o ≤ 100_000
           within q o e true same =
-              let here : record_of (org_capped org limit t) org ≡ Some o = subst (λ (x : List ℕ). record_of (org_capped org limit t) x ≡ Some o) (same_name q org same) e in
-              subst (λ (r : Organization). count_of r ≤ 100_000) (one_of (with_limit (organization_at t org cap) limit) o (sym limit_own ∙ here)) (sound.counts org (organization_at t org cap) (record_there t org cap there))
-          within q o e false other = sound.counts q o (sym (limit_other q (names_apart q org other)) ∙ e)
+              let here : record_of (org_capped org limit t) org ≡ Some o = subst (λ (x : List ℕ). record_of (org_capped org limit t) x ≡ Some o) (equal_bytes q org same) e in
+              subst (λ (r : Organization). count_of r ≤ 100_000) (same_Some (with_limit (organization_at t org cap) limit) o (sym limit_own ∙ here)) (sound.counts org (organization_at t org cap) (record_there t org cap there))
+          within q o e false other = sound.counts q o (sym (limit_other q (apart_from q org other)) ∙ e)

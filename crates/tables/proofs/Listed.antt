@@ -7,6 +7,7 @@ use Rattle.std.specs.FinMap.{from_entries, entries, get, entries_sorted, get-ent
 use Rattle.std.specs.FinMap.Entries.{find as find_entry}
 use Rattle.std.proofs.lemmas.List.{take-map}
 use Rattle.std.proofs.lemmas.Bool.{ne_eqb, eqb-true, eq-eqb}
+use Rattle.std.proofs.Math.Bool.{and_assoc, and_comm}
 use Rattle.std.specs.Cmp.{nat_cmp_total, tied_itself, unsigned_tied}
 use Rattle.sqlite_keyed.specs.Rules.{AreApart}
 use Rattle.sqlite_keyed.specs.Lists.{sort_by}
@@ -44,7 +45,7 @@ use Rattle.tables.proofs.Names.{pair_is}
 use Rattle.tables.proofs.Sorted.{found_sorted, rise_apart}
 use Rattle.tables.proofs.Ordered.{rise_below}
 use Rattle.tables.proofs.Managed.{no_workspaces}
-use Rattle.tables.proofs.Finding.{find_same, three, newest_number_found, own_whole, no_version_rows, no_versions, no_run_rows, no_runs, seen_in_rows}
+use Rattle.tables.proofs.Finding.{find_same, newest_number_found, own_whole, no_version_rows, no_versions, no_run_rows, no_runs, seen_in_rows}
 use Rattle.tables.proofs.Ranks.{last_in, newest_told, none_after, first_rows_tell, shown_rows, same_names, no_entries, all_found, entries_shown}
 
 -- the list of the first rows is the list of all
@@ -87,7 +88,7 @@ module _ (t : Tables) (org ws : List ℕ) where
     before_found : version_before org ws next t ≡ find (λ (n : ℕ). n + 1 == next) (map (λ (x : Kept VersionRow). x.1.it.number) rows)
     before_found =
         ap (option_map (λ (x : Kept VersionRow). x.1.it.number)) (find_same (is_version_before org ws next) (λ x. is_version_of org ws x && (x.1.it.number + 1 == next))
-        (λ x. ap (λ (b : Bool). bytes_eq x.1.org org && (bytes_eq x.1.ws ws && b)) (one_less_is x.1.it.number next most) ∙ three (bytes_eq x.1.org org) (bytes_eq x.1.ws ws) (x.1.it.number + 1 == next)) t.versions)
+        (λ x. ap (λ (b : Bool). bytes_eq x.1.org org && (bytes_eq x.1.ws ws && b)) (one_less_is x.1.it.number next most) ∙ sym (and_assoc (bytes_eq x.1.org org) (bytes_eq x.1.ws ws) (x.1.it.number + 1 == next))) t.versions)
         ∙ find-slice (is_version_of org ws) (λ (x : Kept VersionRow). x.1.it.number) (λ (n : ℕ). n + 1 == next) t.versions
         ∙ sym (found_sorted nat_cmp nat_cmp_total (λ (n : ℕ). n + 1 == next) one_before (map (λ (x : Kept VersionRow). x.1.it.number) (filter (is_version_of org ws) t.versions)))
         ∙ ap (find (λ (n : ℕ). n + 1 == next)) (sort_by-map nat_cmp (λ (x : Kept VersionRow). x.1.it.number) (filter (is_version_of org ws) t.versions))
@@ -193,7 +194,7 @@ numbered_apart x (y ∷ ys) all = go (is_version_of x.1.org x.1.ws y) refl (numb
       ap (λ (c : Bool). bytes_eq y.1.org x.1.org && (bytes_eq y.1.ws x.1.ws && c)) (turned x.1.it.number y.1.it.number apart.0) ∙ none_of (bytes_eq y.1.org x.1.org) (bytes_eq y.1.ws x.1.ws),
       later apart.1,
     )
-    go false e later apart = (three (bytes_eq y.1.org x.1.org) (bytes_eq y.1.ws x.1.ws) (y.1.it.number == x.1.it.number) ∙ ap (λ (c : Bool). c && y.1.it.number == x.1.it.number) e, later apart)
+    go false e later apart = (sym (and_assoc (bytes_eq y.1.org x.1.org) (bytes_eq y.1.ws x.1.ws) (y.1.it.number == x.1.it.number)) ∙ ap (λ (c : Bool). c && y.1.it.number == x.1.it.number) e, later apart)
 
 -- rows of versions are apart where in each workspace their numbers are
 rows_apart : (xs : List (Kept VersionRow)) → ((org ws : List ℕ) → AreApart (λ (a b : Kept VersionRow). a.1.it.number == b.1.it.number) (filter (is_version_of org ws) xs)) → AreApart (λ a b. is_version a.1.org a.1.ws a.1.it.number b) xs
@@ -239,15 +240,9 @@ module _ (t : Tables) (org : List ℕ) where
         ap (λ (version : Option ℕ). record { settings = settings_of_cells (retention_at t org e.0) e.1; holder = showing.holder_id e.1.holder; name = e.0; version = version })
         (newest_is_shown t org e.0 e.1.next_version named.lawful.versions.next.1 named.lawful.versions.rise ∙ newest_number_found t org e.0 e.1.next_version named.lawful.versions.rise)
 
-    and_turned : (a b : Bool) → (a && b) ≡ (b && a)
-    and_turned true true = refl
-    and_turned true false = refl
-    and_turned false true = refl
-    and_turned false false = refl
-
     passes : (after : Option (List ℕ)) (prefix : List ℕ) (e : List ℕ × WorkspaceCells) → IsTrue (is_ws_name e.0) → (is_behind (unwrap_or after []) e.0 && admits prefix e.0) ≡ showing.is_listed after prefix e.0
-    passes None prefix e named = ap (λ (b : Bool). b && admits prefix e.0) (comes_after_all e.0 named) ∙ and_turned true (admits prefix e.0)
-    passes (Some a) prefix e named = and_turned (is_behind a e.0) (admits prefix e.0)
+    passes None prefix e named = ap (λ (b : Bool). b && admits prefix e.0) (comes_after_all e.0 named) ∙ and_comm true (admits prefix e.0)
+    passes (Some a) prefix e named = and_comm (is_behind a e.0) (admits prefix e.0)
 
     workspaces_rows : (after : Option (List ℕ)) (prefix : List ℕ) → workspaces_listed_in (unwrap_or after []) prefix org t ≡ showing.workspaces_listed after prefix (entries (workspaces_at t org))
     workspaces_rows after prefix =

@@ -2,7 +2,6 @@
 use Rattle.std.proofs.Common.{◌≡◌, ◌≢◌, ℕ, Bool, true, false, ◌&&◌, ◌||◌, cond, List, [], ◌∷◌, map, filter, find, is_some, Option, Some, None, option_map, refl, sym, ap, ap₂, subst, ◌∙◌, arith, length}
 use Rattle.std.specs.Option.{unwrap_or}
 use Rattle.std.specs.Str.{bytes_eq}
-use Rattle.std.proofs.lemmas.Bool.{false_from_ne_true}
 use Rattle.std.specs.List.{AllByRecursion, list_any}
 use Rattle.std.specs.Ordering.{is_eq}
 use Rattle.std.specs.declared.cmp.Ordering.{Ordering}
@@ -11,9 +10,10 @@ use Rattle.std.specs.FinMap.{FinMap, from_entries, entries, get, insert, empty, 
 use Rattle.std.specs.FinMap.Entries.{find as find_entry, put, by_order}
 use Rattle.sqlite_keyed.specs.Keyed.{next_key}
 use Rattle.sqlite_keyed.specs.Rules.{AreApart}
-use Rattle.sqlite_keyed.proofs.SliceLemmas.{any_is_found}
+use Rattle.sqlite_keyed.proofs.SliceLemmas.{any_is_found, is_some-map}
 use Rattle.basis.specs.declared.roles.Role.{Role}
 use Rattle.basis.specs.declared.roles.Bounds.{Bounds}
+use Rattle.basis.proofs.NameLemmas.{equal_bytes}
 use Rattle.machine.specs.Order.{name_cmp}
 use Rattle.machine.specs.Effects.{effect}
 use Rattle.machine.specs.Tokens.{token_with, token_row, row_with, asker_of, new_organization, org_added, token_of, with_token, token_added}
@@ -22,21 +22,23 @@ use Rattle.machine.specs.declared.keeps.TokenRow.{TokenRow as AnyRow}
 use Rattle.machine.specs.declared.records.Token.{Token}
 use Rattle.machine.specs.declared.records.Organization.{Organization}
 use Rattle.machine.proofs.MapLemmas.{names_total, names_same, get_own, get_other}
+use Rattle.machine.proofs.KeepLemmas.{apart_from}
 use Rattle.statements.specs.Rows.{Kept, id_of, OrgRow, TokenRow, BoundRow, WsRow}
 use Rattle.statements.specs.Tables.{Tables}
 use Rattle.statements.specs.Changes.{is_org, is_token, is_digest_of, is_bound, is_ws_of}
 use Rattle.statements.specs.Changes as rows
 use Rattle.statements.specs.Finds.{cap_of, role_of_digest, role_of_name, named_role, bound_in}
-use Rattle.statements.proofs.Found.{found_passes, find_pushed, find_pushed_other, found_holds}
+use Rattle.statements.proofs.Found.{found_passes, find_pushed, find_pushed_other, found_holds, none_found}
 use Rattle.tables.specs.Records.{no_bounds, bounds_at, token_of_cells, token_at, is_token_of, tokens_at, workspace_at, organization_at, record_of}
 use Rattle.tables.specs.Inner.Lists.{token_row_in, asker_in}
 use Rattle.tables.specs.Sound.{IsSound}
 use Rattle.tables.proofs.TextRows.{KeepsWorkspaces, workspaces_carried, organization_carried}
-use Rattle.tables.proofs.Names.{same_name, name_is, apart_name, names_apart, is_pair, pair_first, pair_second, pair_is}
+use Rattle.tables.proofs.Names.{name_is, apart_name, pair_first, pair_second, pair_is}
 use Rattle.tables.proofs.Parts.{none_mapped}
 use Rattle.tables.proofs.Sets.{entry_found, got_token, other_ws}
 use Rattle.tables.proofs.TokenRows.{ChangesToken, other_token, other_tokens}
-use Rattle.tables.proofs.Finding.{none_found, no_orphans, none_there}
+use Rattle.tables.proofs.Finding.{no_orphans, none_there}
+use Rattle.tables.proofs.Owned.{pair_turned}
 
 -- ---- the first entry with a digest, of a map
 
@@ -117,12 +119,12 @@ module _ (digest : List ℕ) where
                 sym (get-entries (made xs) x.1.name)
                 ∙ get-from_entries names_total (map entry_at (filter (is_token_of org) xs)) x.1.name
                 ∙ entry_found (is_token_of org) (λ (y : Kept TokenRow). y.1.name) (λ (y : Kept TokenRow). token_at t y.1) x.1.name xs
-                ∙ ap (option_map (λ (y : Kept TokenRow). token_at t y.1)) (none_found (is_token org x.1.name) xs (subst (λ (n : List ℕ). AllByRecursion (λ y. is_token n x.1.name y ≡ false) xs) (same_name x.1.org org d) names.0))
+                ∙ ap (option_map (λ (y : Kept TokenRow). token_at t y.1)) (none_found (is_token org x.1.name) xs (subst (λ (n : List ℕ). AllByRecursion (λ y. is_token n x.1.name y ≡ false) xs) (equal_bytes x.1.org org d) names.0))
 
             inside : (c : Bool) → bytes_eq x.1.it.digest digest ≡ c → with_it (entries (insert (made xs) x.1.name (token_at t x.1))) ≡ option_map entry_at (cond c (Some x) (find (is_digest_of org digest) xs))
             inside true f =
                 let alone : find (is_digest_of org digest) xs ≡ None =
-                none_found (is_digest_of org digest) xs (subst (λ (n : List ℕ). AllByRecursion (λ y. is_digest_of org n y ≡ false) xs) (same_name x.1.it.digest digest f) (subst (λ (n : List ℕ). AllByRecursion (λ y. is_digest_of n x.1.it.digest y ≡ false) xs) (same_name x.1.org org d) digests.0)) in
+                none_found (is_digest_of org digest) xs (subst (λ (n : List ℕ). AllByRecursion (λ y. is_digest_of org n y ≡ false) xs) (equal_bytes x.1.it.digest digest f) (subst (λ (n : List ℕ). AllByRecursion (λ y. is_digest_of n x.1.it.digest y ≡ false) xs) (equal_bytes x.1.org org d) digests.0)) in
                 ap with_it (entries-insert names_total (made xs) x.1.name (token_at t x.1))
                 ∙ put_there x.1.name (token_at t x.1) f (entries (made xs)) name_free (more ∙ ap (option_map entry_at) alone)
             inside false f =
@@ -134,11 +136,11 @@ module _ (digest : List ℕ) where
 module _ (t : Tables) (sound : IsSound t) (org : List ℕ) where
   no_tokens : cap_of org t ≡ None → filter (is_token_of org) t.tokens ≡ []
   no_tokens e = no_orphans (is_token_of org) (λ x. is_org x.1.org) t.orgs
-      (λ x f. ap (λ (n : List ℕ). list_any (is_org n) t.orgs) (same_name x.1.org org f) ∙ none_there t sound org e) t.tokens sound.tokens_owned
+      (λ x f. ap (λ (n : List ℕ). list_any (is_org n) t.orgs) (equal_bytes x.1.org org f) ∙ none_there t sound org e) t.tokens sound.tokens_owned
 
   pub no_workspaces : cap_of org t ≡ None → filter (is_ws_of org) t.wss ≡ []
   no_workspaces e = no_orphans (is_ws_of org) (λ x. is_org x.1.org) t.orgs
-      (λ x f. ap (λ (n : List ℕ). list_any (is_org n) t.orgs) (same_name x.1.org org f) ∙ none_there t sound org e) t.wss sound.wss_owned
+      (λ x f. ap (λ (n : List ℕ). list_any (is_org n) t.orgs) (equal_bytes x.1.org org f) ∙ none_there t sound org e) t.wss sound.wss_owned
 
   abbrev asker_at : Kept TokenRow → AnyRow
   asker_at x = token_row x.1.name (token_at t x.1)
@@ -221,17 +223,9 @@ none_bound t sound org name none = by_row (find (is_bound org name) t.bounds) re
         subst (λ (a : List ℕ). list_any (is_token a name) t.tokens ≡ true) (pair_first org name x.1.org x.1.name p) (subst (λ (q : List ℕ). list_any (is_token x.1.org q) t.tokens ≡ true) (pair_second org name x.1.org x.1.name p) owned) in
         absurd (let no_one : ⊥ = cc (sym there ∙ any_is_found (is_token org name) t.tokens ∙ ap is_some none) in no_one)
 
-turned_pair : (org name a q : List ℕ) → is_pair org name a q ≡ false → is_pair a q org name ≡ false
-turned_pair org name a q other = false_from_ne_true (is_pair a q org name) (λ e.
-    let no_one : ⊥ = cc (sym (subst (λ (x : List ℕ). is_pair org name x q ≡ true) (pair_first a q org name e) (subst (λ (y : List ℕ). is_pair org name org y ≡ true) (pair_second a q org name e) (pair_is org name))) ∙ other) in no_one)
-
-found_same : {A B : Type 0} (f : A → B) (o : Option A) → is_some (option_map f o) ≡ is_some o
-found_same f None = refl
-found_same f (Some a) = refl
-
 -- a name is one of a token's where it has a row
 pub named_in_rows : (t : Tables) (org name : List ℕ) → is_some (get (tokens_at t org) name) ≡ is_some (role_of_name org name t)
-named_in_rows t org name = ap is_some (got_token t org name) ∙ found_same (λ (x : Kept TokenRow). token_at t x.1) (find (is_token org name) t.tokens) ∙ sym (found_same (λ (x : Kept TokenRow). x.1.it.role) (find (is_token org name) t.tokens))
+named_in_rows t org name = ap is_some (got_token t org name) ∙ is_some-map (λ (x : Kept TokenRow). token_at t x.1) (find (is_token org name) t.tokens) ∙ sym (is_some-map (λ (x : Kept TokenRow). x.1.it.role) (find (is_token org name) t.tokens))
 
 module _ (t : Tables) (sound : IsSound t) (org name digest : List ℕ) (role : Role) (bounds : Bounds) where
   abbrev new_token : Token
@@ -251,8 +245,8 @@ module _ (t : Tables) (sound : IsSound t) (org name digest : List ℕ) (role : R
 
   changes : ChangesToken org name t added
   changes = record {
-    rows = λ a q other. find_pushed_other (is_token a q) t.tokens new_row (turned_pair org name a q other);
-    bounds = λ a q other. ap (option_map bound_in) (find_pushed_other (is_bound a q) t.bounds new_bound (turned_pair org name a q other));
+    rows = λ a q other. find_pushed_other (is_token a q) t.tokens new_row (pair_turned org name a q other);
+    bounds = λ a q other. ap (option_map bound_in) (find_pushed_other (is_bound a q) t.bounds new_bound (pair_turned org name a q other));
   }
 
   pub token_absent : cap_of org t ≡ None → effect Absent (record_of t org) ≡ token_added name new_token (record_of t org)
@@ -265,9 +259,9 @@ module _ (t : Tables) (sound : IsSound t) (org name digest : List ℕ) (role : R
     digest_is : is_some (token_with digest (entries (tokens_at t org))) ≡ is_some (role_of_digest org digest t)
     digest_is =
         ap is_some (its_token digest (entries (tokens_at t org)))
-        ∙ found_same (λ (e : List ℕ × Token). e.1) (with_it digest (entries (tokens_at t org)))
+        ∙ is_some-map (λ (e : List ℕ × Token). e.1) (with_it digest (entries (tokens_at t org)))
         ∙ ap is_some (digest_found digest t org t.tokens sound.tokens_apart sound.digests_apart)
-        ∙ found_same (entry_at digest t org) (find (is_digest_of org digest) t.tokens) ∙ sym (found_same (λ (x : Kept TokenRow). x.1.it.role) (find (is_digest_of org digest) t.tokens))
+        ∙ is_some-map (entry_at digest t org) (find (is_digest_of org digest) t.tokens) ∙ sym (is_some-map (λ (x : Kept TokenRow). x.1.it.role) (find (is_digest_of org digest) t.tokens))
 
     by_tests : (a b : Bool) → is_some (role_of_name org name t) ≡ a → is_some (role_of_digest org digest t) ≡ b
         → token_added name new_token (record_of t org) ≡ cond (a || b) (effect Exists (Some before)) (effect Done (Some (with_token before name new_token)))
@@ -299,12 +293,12 @@ module _ (t : Tables) (sound : IsSound t) (org name digest : List ℕ) (role : R
       put_tokens = same_map names_total names_same _ _ (λ q. by_name q (bytes_eq q name) refl)
         where
           by_name : (q : List ℕ) (b : Bool) → bytes_eq q name ≡ b → get (tokens_at added org) q ≡ get (insert (tokens_at t org) name new_token) q
-          by_name q true e = subst (λ (n : List ℕ). get (tokens_at added org) n ≡ get (insert (tokens_at t org) name new_token) n) (sym (same_name q name e))
+          by_name q true e = subst (λ (n : List ℕ). get (tokens_at added org) n ≡ get (insert (tokens_at t org) name new_token) n) (sym (equal_bytes q name e))
               (got_token added org name
               ∙ ap (option_map (λ (x : Kept TokenRow). token_at added x.1)) (find_pushed (is_token org name) t.tokens new_row (none_mapped (λ (x : Kept TokenRow). x.1.it.role) _ unnamed) (pair_is org name))
               ∙ ap (λ (b : Bounds). Some (token_of_cells b (record { digest = digest; role = role }))) reach
               ∙ sym (get_own (tokens_at t org) name new_token))
-          by_name q false e = other_token org name t added changes org q (other_ws org name q e) ∙ sym (get_other (tokens_at t org) name new_token q (names_apart q name e))
+          by_name q false e = other_token org name t added changes org q (other_ws org name q e) ∙ sym (get_other (tokens_at t org) name new_token q (apart_from q name e))
 
       pub token_own : record_of added org ≡ Some (with_token before name new_token)
       token_own = ap (option_map (organization_at added org)) there ∙ (λ i. Some (record { limit = cap; tokens = put_tokens i; workspaces = workspaces_carried t added same_rows org i }))

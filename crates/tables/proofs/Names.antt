@@ -7,27 +7,26 @@ use Rattle.std.proofs.lemmas.Bool.{false_from_ne_true, and_from}
 use Rattle.std.proofs.lemmas.Map.Text.{is_eq-slice_cmp}
 use Rattle.std.proofs.lemmas.Slice.Eq.{bytes_eq-Decides}
 use Rattle.sqlite_keyed.proofs.RuleLemmas.{first_of_both, second_of_both}
+use Rattle.basis.proofs.NameLemmas.{equal_bytes}
 use Rattle.machine.specs.Order.{name_cmp}
 use Rattle.machine.proofs.MapLemmas.{names_total}
+use Rattle.machine.proofs.KeepLemmas.{apart_from}
 pub use Rattle.tables.specs.Inner.Standing.{is_pair}
-
-pub same_name : (a b : List ℕ) → bytes_eq a b ≡ true → a ≡ b
-same_name a b e = (bytes_eq-Decides a b).0 e
 
 pub name_is : (a : List ℕ) → bytes_eq a a ≡ true
 name_is a = (bytes_eq-Decides a a).1 refl
 
 pub apart_name : (a b : List ℕ) → a ≢ b → bytes_eq a b ≡ false
-apart_name a b apart = false_from_ne_true (bytes_eq a b) (λ e. apart (same_name a b e))
+apart_name a b apart = false_from_ne_true (bytes_eq a b) (λ e. apart (equal_bytes a b e))
 
-pub names_apart : (a b : List ℕ) → bytes_eq a b ≡ false → a ≢ b
-names_apart a b none e = let no_one : ⊥ = cc (sym ((bytes_eq-Decides a b).1 e) ∙ none) in no_one
+pub turned_apart : (a b : List ℕ) → bytes_eq a b ≡ false → bytes_eq b a ≡ false
+turned_apart a b apart = apart_name b a (λ same. apart_from a b apart (sym same))
 
 pub pair_first : (a b p q : List ℕ) → is_pair a b p q ≡ true → p ≡ a
-pair_first a b p q e = same_name p a (first_of_both _ _ e)
+pair_first a b p q e = equal_bytes p a (first_of_both _ _ e)
 
 pub pair_second : (a b p q : List ℕ) → is_pair a b p q ≡ true → q ≡ b
-pair_second a b p q e = same_name q b (second_of_both _ _ e)
+pair_second a b p q e = equal_bytes q b (second_of_both _ _ e)
 
 pub pair_is : (a b : List ℕ) → is_pair a b a b ≡ true
 pair_is a b = and_from (bytes_eq a a) (bytes_eq b b) (name_is a) (name_is b)

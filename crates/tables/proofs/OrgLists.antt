@@ -9,7 +9,7 @@ use Rattle.machine.specs.Records.{count_of}
 use Rattle.machine.specs.Tokens.{is_row_of, Ascend, TellsOrganization, AreOrganizations}
 use Rattle.machine.specs.declared.keeps.OrgRow.{OrgRow}
 use Rattle.machine.specs.declared.records.Organization.{Organization}
-use Rattle.machine.proofs.MapLemmas.{names_total}
+use Rattle.machine.proofs.MapLemmas.{names_total, both_first, both_second}
 use Rattle.statements.specs.Rows.{Kept, OrgRow as OrgCells}
 use Rattle.statements.specs.Tables.{Tables}
 use Rattle.statements.specs.Finds.{cap_of, workspaces_of}
@@ -21,7 +21,7 @@ use Rattle.tables.proofs.Names.{tied}
 use Rattle.tables.proofs.Lawful.{limit_there}
 use Rattle.tables.proofs.Finding.{count_found}
 use Rattle.tables.proofs.Managed.{record_there}
-use Rattle.tables.proofs.Ranks.{both_first, both_second, all_found, rows_above}
+use Rattle.tables.proofs.Ranks.{all_found, rows_above}
 
 module _ {A V : Type 0} (key : A → List ℕ) (value : A → V) (q : List ℕ) where
   found_of_all : (xs : List A) → find_entry name_cmp q (map (λ x. (key x, value x)) xs) ≡ option_map value (find (λ x. bytes_eq (key x) q) xs)

@@ -1,5 +1,5 @@
 -- Which rows stand apart, and which belong to a row that is there, after a change of a workspace.
-use Rattle.std.proofs.Common.{◌≡◌, ℕ, ◌+◌, Bool, true, false, not, ◌||◌, cond, List, [], ◌∷◌, ◌++◌, find, filter, length, is_some, Option, Some, None, option_map, refl, sym, ap, subst, ◌∙◌, arith}
+use Rattle.std.proofs.Common.{◌≡◌, ℕ, ◌+◌, Bool, true, false, not, ◌||◌, cond, List, [], ◌∷◌, ◌++◌, find, filter, length, is_some, Option, Some, None, refl, sym, ap, subst, ◌∙◌, arith}
 use Rattle.std.specs.List.{AllByRecursion, list_any}
 use Rattle.std.proofs.lemmas.Bool.{false_from_ne_true}
 use Rattle.sqlite_keyed.specs.Keyed.{next_key}
@@ -7,7 +7,7 @@ use Rattle.sqlite_keyed.specs.Lists.{update_where, delete_where}
 use Rattle.sqlite_keyed.specs.Rules.{AreApart}
 use Rattle.sqlite_keyed.proofs.ListLemmas.{all_weaker, all_both, all-filter, all-append}
 use Rattle.sqlite_keyed.proofs.RuleLemmas.{apart_update, apart_delete}
-use Rattle.sqlite_keyed.proofs.SliceLemmas.{any_is_found}
+use Rattle.sqlite_keyed.proofs.SliceLemmas.{any_is_found, is_some-map}
 use Rattle.basis.specs.declared.rows.RunAsk.{RunAsk}
 use Rattle.basis.specs.declared.rows.RunSettings.{RunSettings}
 use Rattle.basis.specs.declared.rows.Settings.{Settings}
@@ -25,13 +25,12 @@ use Rattle.statements.specs.Rows.{Kept, id_of, WsRow, KeepingRow, VersionRow, Ru
 use Rattle.statements.specs.Tables.{Tables}
 use Rattle.statements.specs.Changes.{is_org, is_ws, is_keeping, HasNoKeeping, keeping_changed, is_version_of, is_run_of, is_run_row, with_run_settings, held_by, released_from, with_next_version, with_next_run, ws_changed, ws_added, ws_removed, workspace_made, runs_removed, run_made, run_added, run_changed_to, run_acted}
 use Rattle.statements.specs.Finds.{workspace_of}
-use Rattle.statements.proofs.Found.{all_updated, apart_pushed}
+use Rattle.statements.proofs.Found.{all_updated, apart_pushed, all_deleted}
 use Rattle.tables.specs.Sound.{IsSound}
 use Rattle.tables.specs.Inner.Edits.{all_gone, removed_rows, made_rows, settings_rows, configured_rows, numbered_rows, versioned_rows, if_there, run_put, run_counted, freed_rows, edited_rows, started_rows, changed_rows, TakesVersion, TakesEdit}
 use Rattle.tables.proofs.Ordered.{versions_in}
 use Rattle.machine.specs.Changes.{left_above}
 use Rattle.tables.proofs.Absent.{no_row, no_keeping}
-use Rattle.tables.proofs.TextLists.{all_deleted}
 use Rattle.tables.proofs.TextRows.{Becomes, versions_counted}
 use Rattle.tables.proofs.VersionEdits.{all_go, settings_leave, versions_come}
 use Rattle.tables.proofs.Lists.{any_updated}
@@ -234,11 +233,7 @@ module _ (org ws : List ℕ) (t : Tables) (sound : IsSound t) where
 
 module _ (org ws : List ℕ) where
   pub row_there : (t : Tables) (w : WorkspaceCells) → workspace_of org ws t ≡ Some w → list_any (is_ws org ws) t.wss ≡ true
-  row_there t w e = any_is_found (is_ws org ws) t.wss ∙ sym (some_mapped (find (is_ws org ws) t.wss)) ∙ ap is_some e
-    where
-      some_mapped : (o : Option (Kept WsRow)) → is_some (option_map (λ (x : Kept WsRow). x.1.it) o) ≡ is_some o
-      some_mapped None = refl
-      some_mapped (Some x) = refl
+  row_there t w e = any_is_found (is_ws org ws) t.wss ∙ sym (is_some-map (λ (x : Kept WsRow). x.1.it) (find (is_ws org ws) t.wss)) ∙ ap is_some e
 
   owned_run_rows : (number : ℕ) (ask : RunAsk) (created : ℕ) (t : Tables) → AreOwned t → (r : Option WorkspaceCells) → workspace_of org ws t ≡ r
       → AreOwned (if_there r (run_put org ws number ask created (run_counted org ws number t)) t)

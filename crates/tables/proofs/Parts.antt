@@ -1,5 +1,6 @@
 -- What each write does to the rows and the runs of a workspace.
-use Rattle.std.proofs.Common.{◌≡◌, ℕ, Bool, true, false, ◌&&◌, ◌==◌, cond, List, [], ◌∷◌, ◌++◌, map, filter, find, is_some, Option, Some, None, option_map, refl, ap, ◌∙◌}
+use Rattle.std.proofs.Common.{◌≡◌, ℕ, Bool, true, false, ◌&&◌, ◌==◌, cond, List, [], ◌∷◌, ◌++◌, map, filter, find, is_some, Option, Some, None, option_map, refl, ap, ◌∙◌, sym}
+use Rattle.std.proofs.Math.Bool.{and_assoc}
 use Rattle.std.specs.Str.{bytes_eq}
 use Rattle.std.specs.Option.{unwrap_or}
 use Rattle.sqlite_keyed.specs.Keyed.{next_key}
@@ -38,10 +39,6 @@ status_of_begun false r = refl
 status_of_acted : (action : RunAction) (status : RunStatus) (b : Bool) (r : Run) → cond b (record r { status = status; action = Some action }) r ≡ record r { status = cond b status r.status; action = cond b (Some action) r.action }
 status_of_acted action status true r = refl
 status_of_acted action status false r = refl
-
-three : (a b c : Bool) → (a && (b && c)) ≡ ((a && b) && c)
-three true b c = refl
-three false b c = refl
 
 pub first_two : (a b c : Bool) → (a && (b && c)) ≡ true → (a && b) ≡ true
 first_two true true c e = refl
@@ -113,7 +110,7 @@ module _ (org ws : List ℕ) where
 
     pub runs_begun : (n : ℕ) → runs_in (run_changed_to Planning org ws n t) org ws ≡ map (begun n) (runs_in t org ws)
     runs_begun n =
-        ap (λ xs. map (λ (x : Kept RunRow). x.1.it) (filter (is_run_of org ws) xs)) (map_same (λ (x : Kept RunRow). cond (is_run_row org ws n x) (planned x) x) (λ (x : Kept RunRow). cond (is_run_of org ws x && x.1.it.number == n) (planned x) x) (λ x. ap (λ (b : Bool). cond b (planned x) x) (three (bytes_eq x.1.org org) (bytes_eq x.1.ws ws) (x.1.it.number == n))) t.runs)
+        ap (λ xs. map (λ (x : Kept RunRow). x.1.it) (filter (is_run_of org ws) xs)) (map_same (λ (x : Kept RunRow). cond (is_run_row org ws n x) (planned x) x) (λ (x : Kept RunRow). cond (is_run_of org ws x && x.1.it.number == n) (planned x) x) (λ x. ap (λ (b : Bool). cond b (planned x) x) (sym (and_assoc (bytes_eq x.1.org org) (bytes_eq x.1.ws ws) (x.1.it.number == n)))) t.runs)
         ∙ slice-update_mine (is_run_of org ws) (λ (x : Kept RunRow). x.1.it) (λ (r : Run). r.number == n) planned (λ (r : Run). record r { status = Planning }) (λ x. refl) (λ x. refl) t.runs
         ∙ map_same (λ (r : Run). cond (r.number == n) (record r { status = Planning }) r) (begun n) (λ r. status_of_begun (r.number == n) r) (runs_in t org ws)
 
@@ -130,7 +127,7 @@ module _ (org ws : List ℕ) where
     module _ (status : RunStatus) (action : RunAction) (n : ℕ) where
       pub runs_acted : runs_in (run_acted status action org ws n t) org ws ≡ map (reported n action status) (runs_in t org ws)
       runs_acted =
-          ap (λ xs. map (λ (x : Kept RunRow). x.1.it) (filter (is_run_of org ws) xs)) (map_same (λ (x : Kept RunRow). cond (is_run_row org ws n x) (acted status action x) x) (λ (x : Kept RunRow). cond (is_run_of org ws x && x.1.it.number == n) (acted status action x) x) (λ x. ap (λ (b : Bool). cond b (acted status action x) x) (three (bytes_eq x.1.org org) (bytes_eq x.1.ws ws) (x.1.it.number == n))) t.runs)
+          ap (λ xs. map (λ (x : Kept RunRow). x.1.it) (filter (is_run_of org ws) xs)) (map_same (λ (x : Kept RunRow). cond (is_run_row org ws n x) (acted status action x) x) (λ (x : Kept RunRow). cond (is_run_of org ws x && x.1.it.number == n) (acted status action x) x) (λ x. ap (λ (b : Bool). cond b (acted status action x) x) (sym (and_assoc (bytes_eq x.1.org org) (bytes_eq x.1.ws ws) (x.1.it.number == n)))) t.runs)
           ∙ slice-update_mine (is_run_of org ws) (λ (x : Kept RunRow). x.1.it) (λ (r : Run). r.number == n) (acted status action) (λ (r : Run). record r { status = status; action = Some action }) (λ x. refl) (λ x. refl) t.runs
           ∙ map_same (λ (r : Run). cond (r.number == n) (record r { status = status; action = Some action }) r) (reported n action status) (λ r. status_of_acted action status (r.number == n) r) (runs_in t org ws)
 

@@ -4,14 +4,14 @@ use Rattle.std.specs.Option.{unwrap_or}
 use Rattle.std.specs.Str.{bytes_eq}
 use Rattle.std.specs.List.{AllByRecursion, list_any, list_all}
 use Rattle.std.specs.FinMap.{from_entries}
-use Rattle.std.proofs.lemmas.Bool.{and_parts, or_parts, or_from}
+use Rattle.std.proofs.lemmas.Bool.{and_parts, or_parts, or_from, not-true, or_right}
 use Rattle.std.proofs.lemmas.List.{append-nil, append_assoc, map-append}
 use Rattle.sqlite_schema.specs.declared.schema.Table.{Table}
 use Rattle.sqlite_schema.specs.Names.{same_name}
 use Rattle.sqlite_trees.specs.Tree.{IsAscending}
 use Rattle.sqlite_keyed.specs.Keyed.{next_key}
 use Rattle.sqlite_keyed.specs.Rules.{AreApart}
-use Rattle.sqlite_keyed.proofs.ListLemmas.{all_weaker, all-append, ascending-map, ascending_from_map}
+use Rattle.sqlite_keyed.proofs.ListLemmas.{all_weaker, all-append, ascending-map, ascending_from_map, all_map, all_unmap}
 use Rattle.basis.specs.Names.{is_prefix}
 use Rattle.basis.specs.declared.numbers.TheConstants.{FIRST_KEPT}
 use Rattle.machine.specs.Order.{name_cmp}
@@ -26,12 +26,14 @@ use Rattle.statements.specs.Making.{sequence_name, IsNotNamed, NamesNoOther, rai
 use Rattle.statements.proofs.Counts.{next_version, more_tables}
 use Rattle.statements.proofs.Decoding.{tables_at-held}
 use Rattle.statements.proofs.Found.{found_holds}
+use Rattle.pages.proofs.Alone.{none_if}
 use Rattle.tables.specs.Records.{no_bounds, bounds_at, retention_at, token_of_cells, is_token_of, tokens_at, record_of}
 use Rattle.tables.specs.Sound.{IsBoundRow, IsSoundIn}
 use Rattle.tables.specs.Stores.{is_in_schema}
 use Rattle.tables.specs.Versions.{HoldsSchema, Becomes, KeepsBeside}
 use Rattle.tables.proofs.TextRows.{AreTexts, texts_carried, KeepsWorkspaces, workspace_carried, workspaces_carried, organization_carried}
 use Rattle.tables.proofs.Names.{pair_is}
+use Rattle.tables.proofs.There.{any_map}
 
 -- ---- rows of a pair of names, one for each row of another table
 
@@ -40,22 +42,6 @@ Pair = List ℕ × List ℕ
 
 abbrev is_same : List ℕ → List ℕ → Pair → Bool
 is_same org name p = bytes_eq p.0 org && bytes_eq p.1 name
-
-any_map : {A B : Type 0} (f : A → B) (p : B → Bool) (xs : List A) → list_any (λ x. p (f x)) xs ≡ list_any p (map f xs)
-any_map f p [] = refl
-any_map f p (x ∷ xs) = ap (λ (b : Bool). p (f x) || b) (any_map f p xs)
-
-all_to_map : {A B : Type 0} (f : A → B) (P : B → Type 0) (xs : List A) → AllByRecursion (λ x. P (f x)) xs → AllByRecursion P (map f xs)
-all_to_map f P [] h = tt
-all_to_map f P (x ∷ xs) h = (h.0, all_to_map f P xs h.1)
-
-all_of_map : {A B : Type 0} (f : A → B) (P : B → Type 0) (xs : List A) → AllByRecursion P (map f xs) → AllByRecursion (λ x. P (f x)) xs
-all_of_map f P [] h = tt
-all_of_map f P (x ∷ xs) h = (h.0, all_of_map f P xs h.1)
-
-or_right : (a b : Bool) → b ≡ true → (a || b) ≡ true
-or_right true b e = refl
-or_right false b e = e
 
 module _ {R S : Type 0} (f : R → S) where
   -- each row of the one gets such a row of the other
@@ -107,7 +93,7 @@ module _ {R S : Type 0} (f : R → S) where
       IsOwned p = list_any (is_owner p.0 p.1) ts ≡ true
 
       each_owned : AllByRecursion (λ x. list_any (is_owner (own_pair x).0 (own_pair x).1) ts ≡ true) (filled ts [])
-      each_owned = all_of_map own_pair IsOwned (filled ts []) (subst (AllByRecursion IsOwned) (sym (names_filled ts [])) (all_to_map owner_pair IsOwned ts (own_found ts ts (λ org name e. e))))
+      each_owned = all_unmap IsOwned own_pair (filled ts []) (subst (AllByRecursion IsOwned) (sym (names_filled ts [])) (all_map IsOwned owner_pair ts (own_found ts ts (λ org name e. e))))
 
       filled_apart : AreApart (λ a b. is_owner (owner_pair a).0 (owner_pair a).1 b) ts → AreApart (λ a b. is_own (own_pair a).0 (own_pair a).1 b) (filled ts [])
       filled_apart apart = ascending_from_map (λ (p q : Pair). is_same p.0 p.1 q ≡ false) own_pair (filled ts [])
@@ -286,19 +272,11 @@ step_of (suc (suc (suc n))) known low = absurd (omega (arith, low))
 
 -- ---- databases
 
-none_of : (o : Option ℕ) → is_some o ≡ false → o ≡ None
-none_of None e = refl
-none_of (Some n) e = absurd (cc)
-
-is_not : (b : Bool) → not b ≡ true → b ≡ false
-is_not false e = refl
-is_not true e = absurd (cc)
-
 not_named : (name : List ℕ) (ts : List Table) → list_all (λ (y : Table). not (same_name y.name name)) ts ≡ true → AllByRecursion (IsNotNamed name) ts
 not_named name [] e = tt
 not_named name (t ∷ ts) e =
     let parts = and_parts (not (same_name t.name name)) (list_all (λ (y : Table). not (same_name y.name name)) ts) e in
-    (is_not (same_name t.name name) parts.0, not_named name ts parts.1)
+    (not-true (same_name t.name name) parts.0, not_named name ts parts.1)
 
 none_behind : (p : Table → Bool) (i j : ℕ) (xs : List Table) → i ≤ j → list_any p (drop i xs) ≡ false → list_any p (drop j xs) ≡ false
 none_behind p zero zero xs low e = e
@@ -315,7 +293,7 @@ still_absent old new added names (x ∷ xs) apart none =
     let parts = and_parts (is_apart added x) (list_all (is_apart added) xs) apart in
     let own = and_parts (not (same_name sequence_name x.name)) (list_all (λ (y : Table). not (same_name y.name x.name)) added) parts.0 in
     let lacks = or_parts (is_in_schema old.schema x) (list_any (is_in_schema old.schema) xs) none in
-    or_from _ _ (ap is_some (names x.name (is_not _ own.0) (not_named x.name added own.1) (none_of _ lacks.0))) (still_absent old new added names xs parts.1 lacks.1)
+    or_from _ _ (ap is_some (names x.name (not-true _ own.0) (not_named x.name added own.1) (none_if _ lacks.0))) (still_absent old new added names xs parts.1 lacks.1)
 
 module _ (n : ℕ) (low : n < NEWEST) (old new : Database) (raises : Raises n old new) where
   abbrev rows : Tables

@@ -1,5 +1,5 @@
 -- Rising numbers, the first rows of a list, and the entries of a map.
-use Rattle.std.proofs.Common.{◌≡◌, ℕ, ◌+◌, ◌<◌, ◌≤◌, nat_lt, Bool, true, false, cond, ◌&&◌, T, List, [], ◌∷◌, map, filter, take, length, min, find, ◌==◌, Option, Some, None, refl, sym, ap, subst, ◌∙◌, arith}
+use Rattle.std.proofs.Common.{◌≡◌, ℕ, ◌+◌, ◌<◌, ◌≤◌, nat_lt, Bool, true, false, cond, T, List, [], ◌∷◌, map, filter, take, length, min, find, ◌==◌, Option, Some, None, refl, sym, ap, subst, ◌∙◌, arith}
 use Rattle.std.specs.Str.{bytes_eq}
 use Rattle.std.specs.List.{AllByRecursion}
 use Rattle.std.specs.Ordering.{is_lt, is_eq, eq_by_cmp}
@@ -12,11 +12,13 @@ use Rattle.std.proofs.lemmas.Bool.{eqb-true, lt-ltb, le-ltb, ltb-true, ltb-false
 use Rattle.std.proofs.lemmas.List.{take-take, length-take}
 use Rattle.sqlite_trees.specs.Tree.{IsAscending}
 use Rattle.basis.specs.Listings.{listing_of}
+use Rattle.basis.proofs.NameLemmas.{equal_bytes}
 use Rattle.machine.specs.Laws.{Rises}
 use Rattle.machine.specs.Order.{name_cmp}
-use Rattle.machine.proofs.MapLemmas.{names_total, names_same}
+use Rattle.machine.proofs.MapLemmas.{names_total, names_same, both_first, both_second}
+use Rattle.machine.proofs.PageLemmas.{holds_true}
 use Rattle.tables.specs.Inner.Lists.{newest_by}
-use Rattle.tables.proofs.Names.{tied, same_name}
+use Rattle.tables.proofs.Names.{tied}
 
 -- the last of a list
 abbrev pub last_in : {X : Type 0} → List X → Option X
@@ -97,27 +99,11 @@ shown_rows g f h k p q (x ∷ xs) all = go (p (g x)) (q (h x)) all.0.1 (shown_ro
     go true false e more = absurd (let none : ⊥ = cc in none)
     go false true e more = absurd (let none : ⊥ = cc in none)
 
-pub every : {X : Type 0} (P : X → Type 0) → ((x : X) → P x) → (xs : List X) → AllByRecursion P xs
-every P h [] = tt
-every P h (x ∷ xs) = (h x, every P h xs)
-
 pub same_names : {X Y : Type 0} (f : X → Y) (n : Y → ℕ) (m : X → ℕ) → ((x : X) → n (f x) ≡ m x) → (xs : List X) → map n (map f xs) ≡ map m xs
 same_names f n m same [] = refl
 same_names f n m same (x ∷ xs) = λ i. same x i ∷ same_names f n m same xs i
 
 -- ---- entries
-
-pub both_first : (a b : Bool) → T (a && b) → T a
-both_first true b h = tt
-both_first false b h = absurd h
-
-pub both_second : (a b : Bool) → T (a && b) → T b
-both_second true b h = h
-both_second false b h = absurd h
-
-is_yes : (b : Bool) → T b → b ≡ true
-is_yes true h = refl
-is_yes false h = absurd h
 
 no_length : {X : Type 0} (es : List X) → 0 ≡ length es → es ≡ []
 no_length [] e = refl
@@ -133,7 +119,7 @@ not_earlier earlier later below = go (bytes_eq earlier later) refl
     go : (b : Bool) → bytes_eq earlier later ≡ b → eq_by_cmp name_cmp later earlier ≡ false
     go false e = tied later earlier ∙ e
     go true e =
-        let same : earlier ≡ later = same_name earlier later e in
+        let same : earlier ≡ later = equal_bytes earlier later e in
         absurd (subst (λ (o : Ordering). T (is_lt o)) (tied_itself names_total later) (subst (λ (n : List ℕ). T (is_lt (name_cmp n later))) same below))
 
 module _ {X : Type 0} where
@@ -155,7 +141,7 @@ module _ {X : Type 0} where
   pub rows_above : {Y : Type 0} (row : List ℕ × X → Y) (name : Y → List ℕ) → ((e : List ℕ × X) → name (row e) ≡ e.0) → (n : List ℕ) (es : List (List ℕ × X)) → T (below_all name_cmp n es)
       → AllByRecursion (λ (later : Y). is_lt (name_cmp n (name later)) ≡ true) (map row es)
   rows_above row name same n [] below = tt
-  rows_above row name same n (e ∷ es) below = (ap (λ m. is_lt (name_cmp n m)) (same e) ∙ is_yes _ (both_first _ _ below), rows_above row name same n es (both_second _ _ below))
+  rows_above row name same n (e ∷ es) below = (ap (λ m. is_lt (name_cmp n m)) (same e) ∙ holds_true _ (both_first _ _ below), rows_above row name same n es (both_second _ _ below))
 
 -- values that are shown in another way, by their names
 module _ {X Y : Type 0} (show : List ℕ → X → Y) where

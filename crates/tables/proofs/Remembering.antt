@@ -1,8 +1,11 @@
 -- What is kept in memory of an organization's workspaces stays so.
 use Rattle.std.proofs.Common.{◌≡◌, ◌≢◌, ℕ, ◌+◌, ◌-◌, nat_lt, Bool, true, false, cond, List, is_some, Option, Some, None, IfSome, option_map, refl, sym, ap, subst, ◌∙◌}
+use Rattle.std.proofs.lemmas.Option.{same_Some}
 use Rattle.std.specs.Str.{bytes_eq}
 use Rattle.std.specs.FinMap.{FinMap, get, len, len-insert, len-remove, len-entries}
+use Rattle.sqlite_keyed.proofs.SliceLemmas.{is_some-map}
 use Rattle.basis.specs.declared.numbers.TheConstants.{MAX_LIMIT}
+use Rattle.basis.proofs.NameLemmas.{equal_bytes}
 use Rattle.machine.specs.Order.{name_cmp}
 use Rattle.machine.specs.Needs.{needs}
 use Rattle.machine.specs.Records.{count_of, with_workspace, placed}
@@ -17,12 +20,11 @@ use Rattle.machine.specs.declared.acts.Unit.{Unit}
 use Rattle.machine.specs.declared.acts.Unit.TheVariants.{Absent, Present}
 use Rattle.machine.specs.declared.records.Organization.{Organization}
 use Rattle.machine.specs.declared.records.Workspace.{Workspace}
-use Rattle.machine.proofs.KeepLemmas.{own_workspace, other_workspace}
+use Rattle.machine.proofs.KeepLemmas.{own_workspace, other_workspace, apart_from}
 use Rattle.machine.proofs.MapLemmas.{names_total}
 use Rattle.tables.specs.declared.counts.Counted.{Counted}
 use Rattle.tables.specs.Counting.{IsCount, IsCounted}
 use Rattle.tables.specs.Inner.Counting.{known_of, looked, one_more_of, edited_count, changed_count}
-use Rattle.tables.proofs.Names.{same_name, names_apart}
 
 -- ---- workspaces of a map
 
@@ -44,9 +46,9 @@ stays_absent : (m : FinMap name_cmp Workspace) (ws : List ℕ) (w : Option Works
 stays_absent m ws w absent same none = by_name (bytes_eq absent ws) refl
   where
     by_name : (b : Bool) → bytes_eq absent ws ≡ b → get (with_workspace m ws w) absent ≡ None
-    by_name false e = other_workspace m ws w absent (names_apart absent ws e) ∙ none
+    by_name false e = other_workspace m ws w absent (apart_from absent ws e) ∙ none
     by_name true e =
-        let own : absent ≡ ws = same_name absent ws e in
+        let own : absent ≡ ws = equal_bytes absent ws e in
         let gone : w ≡ None = none_of w (sym same ∙ ap (λ (n : List ℕ). is_some (get m n)) (sym own) ∙ ap is_some none) in
         ap (get (with_workspace m ws w)) own ∙ own_workspace m ws w ∙ gone
 
@@ -57,7 +59,7 @@ known_is rows None org is o there = tt
 known_is rows (Some c) org is o there = by_name (bytes_eq c.org org) refl
   where
     by_name : (b : Bool) → bytes_eq c.org org ≡ b → IfSome (cond b (Some c.count) None) (λ n. n ≡ count_of o)
-    by_name true e = is.count o (ap rows (same_name c.org org e) ∙ there)
+    by_name true e = is.count o (ap rows (equal_bytes c.org org e) ∙ there)
     by_name false e = tt
 
 -- ---- a look
@@ -89,10 +91,6 @@ started_there : (start : Option ℕ) (w : Option Workspace) → is_some (option_
 started_there start None = refl
 started_there start (Some w) = refl
 
-mapped_there : (f : Workspace → Workspace) (w : Option Workspace) → is_some (option_map f w) ≡ is_some w
-mapped_there f None = refl
-mapped_there f (Some w) = refl
-
 module _ (rows after : List ℕ → Option Organization) (org ws : List ℕ) (change : Change) (others : (q : List ℕ) → q ≢ org → after q ≡ rows q) (o : Organization) (there : rows org ≡ Some o)
     (own : after org ≡ Some (placed o ws (changed_by change (get o.workspaces ws)))) where
   abbrev left : Option Workspace
@@ -100,10 +98,7 @@ module _ (rows after : List ℕ → Option Organization) (org ws : List ℕ) (ch
 
   -- the organization after it
   is_placed : (name : List ℕ) → name ≡ org → (p : Organization) → after name ≡ Some p → placed o ws left ≡ p
-  is_placed name e p is = some_is (sym own ∙ ap after (sym e) ∙ is)
-    where
-      some_is : {x y : Organization} → Some x ≡ Some y → x ≡ y
-      some_is e = cc
+  is_placed name e p is = same_Some (placed o ws left) p (sym own ∙ ap after (sym e) ∙ is)
 
   -- as many workspaces as before, and the absent one is absent
   as_many : (c : Counted) → c.org ≡ org → IsCount rows c → is_some (get o.workspaces ws) ≡ is_some left → IsCount after c
@@ -125,7 +120,7 @@ module _ (rows after : List ℕ → Option Organization) (org ws : List ℕ) (ch
       counted : bytes_eq n ws ≡ true → (p : Organization) → placed o ws left ≡ p → c.count + 1 ≡ count_of p
       counted f p h =
           ap (λ (m : ℕ). m + 1) (is.count o (ap rows e ∙ there) ∙ sym (len-entries o.workspaces))
-          ∙ sym (len_more o.workspaces ws w (ap (get o.workspaces) (sym (same_name n ws f)) ∙ none))
+          ∙ sym (len_more o.workspaces ws w (ap (get o.workspaces) (sym (equal_bytes n ws f)) ∙ none))
           ∙ len-entries (with_workspace o.workspaces ws (Some w))
           ∙ ap (λ (v : Option Workspace). count_of (placed o ws v)) (sym made)
           ∙ ap count_of h
@@ -143,18 +138,18 @@ module _ (rows after : List ℕ → Option Organization) (org ws : List ℕ) (ch
   by_edit : (c : Counted) → c.org ≡ org → IsCount rows c → (edit : Edit) → change.edit ≡ edit → IsCounted after (edited_count c ws edit)
   by_edit c e is (Make settings) f = more c e is c.absent (is.absent o (ap rows e ∙ there)) _ (ap (λ (x : Edit). option_map (started_if change.start) (edited x (get o.workspaces ws))) f)
   by_edit c e is Remove f = tt
-  by_edit c e is (Configure settings outgoing) f = as_many c e is (stays (Configure settings outgoing) f (mapped_there _ (get o.workspaces ws)))
-  by_edit c e is (AddVersion version outgoing) f = as_many c e is (stays (AddVersion version outgoing) f (mapped_there _ (get o.workspaces ws)))
-  by_edit c e is Purge f = as_many c e is (stays Purge f (mapped_there _ (get o.workspaces ws)))
-  by_edit c e is (Hold id text) f = as_many c e is (stays (Hold id text) f (mapped_there _ (get o.workspaces ws)))
-  by_edit c e is (Release id) f = as_many c e is (stays (Release id) f (mapped_there _ (get o.workspaces ws)))
-  by_edit c e is (AddRun number ask created) f = as_many c e is (stays (AddRun number ask created) f (mapped_there _ (get o.workspaces ws)))
-  by_edit c e is (Report number action status frees) f = as_many c e is (stays (Report number action status frees) f (mapped_there _ (get o.workspaces ws)))
+  by_edit c e is (Configure settings outgoing) f = as_many c e is (stays (Configure settings outgoing) f (is_some-map _ (get o.workspaces ws)))
+  by_edit c e is (AddVersion version outgoing) f = as_many c e is (stays (AddVersion version outgoing) f (is_some-map _ (get o.workspaces ws)))
+  by_edit c e is Purge f = as_many c e is (stays Purge f (is_some-map _ (get o.workspaces ws)))
+  by_edit c e is (Hold id text) f = as_many c e is (stays (Hold id text) f (is_some-map _ (get o.workspaces ws)))
+  by_edit c e is (Release id) f = as_many c e is (stays (Release id) f (is_some-map _ (get o.workspaces ws)))
+  by_edit c e is (AddRun number ask created) f = as_many c e is (stays (AddRun number ask created) f (is_some-map _ (get o.workspaces ws)))
+  by_edit c e is (Report number action status frees) f = as_many c e is (stays (Report number action status frees) f (is_some-map _ (get o.workspaces ws)))
 
   pub changed_is : (counted : Option Counted) → IsCounted rows counted → IsCounted after (changed_count counted org ws change.edit)
   changed_is None is = tt
   changed_is (Some c) is = by_name (bytes_eq c.org org) refl
     where
       by_name : (b : Bool) → bytes_eq c.org org ≡ b → IsCounted after (cond b (edited_count c ws change.edit) (Some c))
-      by_name true e = by_edit c (same_name c.org org e) is change.edit refl
-      by_name false e = let same = others c.org (names_apart c.org org e) in record { count = λ p h. is.count p (sym same ∙ h); absent = λ p h. is.absent p (sym same ∙ h) }
+      by_name true e = by_edit c (equal_bytes c.org org e) is change.edit refl
+      by_name false e = let same = others c.org (apart_from c.org org e) in record { count = λ p h. is.count p (sym same ∙ h); absent = λ p h. is.absent p (sym same ∙ h) }

@@ -1,5 +1,6 @@
 -- An organization without one of its tokens.
 use Rattle.std.proofs.Common.{◌≡◌, ◌≢◌, ℕ, ◌≤◌, Bool, true, false, not, cond, List, find, is_some, Option, Some, None, option_map, refl, sym, ap, subst, ◌∙◌}
+use Rattle.std.proofs.lemmas.Option.{same_Some}
 use Rattle.std.specs.Str.{bytes_eq}
 use Rattle.std.specs.List.{list_any}
 use Rattle.std.specs.FinMap.{get, remove, same_map}
@@ -7,24 +8,25 @@ use Rattle.sqlite_keyed.proofs.ListLemmas.{all_both, all-filter}
 use Rattle.sqlite_keyed.proofs.RuleLemmas.{apart_delete}
 use Rattle.sqlite_keyed.proofs.SliceLemmas.{any_is_found}
 use Rattle.basis.specs.declared.roles.Role.{Role}
+use Rattle.basis.proofs.NameLemmas.{equal_bytes}
 use Rattle.machine.specs.Effects.{effect}
 use Rattle.machine.specs.Records.{count_of}
 use Rattle.machine.specs.Tokens.{without_token, token_revoked}
 use Rattle.machine.specs.declared.keeps.AdminAnswer.TheVariants.{Done, Absent}
 use Rattle.machine.specs.declared.records.Organization.{Organization}
 use Rattle.machine.proofs.MapLemmas.{names_total, names_same, removed_own, removed_other}
+use Rattle.machine.proofs.KeepLemmas.{apart_from}
 use Rattle.statements.specs.Rows.{Kept, TokenRow}
 use Rattle.statements.specs.Tables.{Tables}
 use Rattle.statements.specs.Changes.{is_org, is_token, is_digest_of, is_bound, token_removed}
 use Rattle.statements.specs.Finds.{cap_of, role_of_name, bound_in}
-use Rattle.statements.proofs.Found.{found_passes, find_deleted, find_left, found_holds}
+use Rattle.statements.proofs.Found.{found_passes, find_deleted, find_left, found_holds, all_deleted}
 use Rattle.tables.specs.Records.{token_at, tokens_at, organization_at, record_of}
 use Rattle.tables.specs.Sound.{IsTokenRow, IsBoundRow, IsSound}
 use Rattle.tables.proofs.TextRows.{AreTexts, sound_texts, texts_carried, KeepsWorkspaces, workspace_carried, workspaces_carried}
-use Rattle.tables.proofs.Names.{same_name, names_apart, is_pair, pair_first, pair_apart}
-use Rattle.tables.proofs.TextLists.{all_deleted}
+use Rattle.tables.proofs.Names.{is_pair, pair_first, pair_apart}
 use Rattle.tables.proofs.TokenRows.{ChangesToken, other_token, other_tokens}
-use Rattle.tables.proofs.Sets.{got_token, one_of, other_ws}
+use Rattle.tables.proofs.Sets.{got_token, other_ws}
 use Rattle.tables.proofs.Finding.{none_there}
 use Rattle.tables.proofs.Managed.{record_there, record_missing, named_in_rows}
 
@@ -48,8 +50,8 @@ module _ (org name : List ℕ) (t : Tables) where
   tokens_left = same_map names_total names_same _ _ (λ q. by_name q (bytes_eq q name) refl)
     where
       by_name : (q : List ℕ) (b : Bool) → bytes_eq q name ≡ b → get (tokens_at left org) q ≡ get (remove (tokens_at t org) name) q
-      by_name q true e = subst (λ (n : List ℕ). get (tokens_at left org) n ≡ get (remove (tokens_at t org) name) n) (sym (same_name q name e)) (got_removed ∙ sym (removed_own (tokens_at t org) name))
-      by_name q false e = other_token org name t left revoke_changes org q (other_ws org name q e) ∙ sym (removed_other (tokens_at t org) name q (names_apart q name e))
+      by_name q true e = subst (λ (n : List ℕ). get (tokens_at left org) n ≡ get (remove (tokens_at t org) name) n) (sym (equal_bytes q name e)) (got_removed ∙ sym (removed_own (tokens_at t org) name))
+      by_name q false e = other_token org name t left revoke_changes org q (other_ws org name q e) ∙ sym (removed_other (tokens_at t org) name q (apart_from q name e))
 
   -- its record is without the token
   pub revoke_own : (o : Organization) → record_of t org ≡ Some o → record_of left org ≡ Some (without_token o name)
@@ -57,7 +59,7 @@ module _ (org name : List ℕ) (t : Tables) where
     where
       by_limit : (c : Option ℕ) → option_map (organization_at t org) c ≡ Some o → option_map (organization_at left org) c ≡ Some (without_token o name)
       by_limit None f = absurd (let none : ⊥ = cc in none)
-      by_limit (Some cap) f = subst (λ (p : Organization). Some (organization_at left org cap) ≡ Some (without_token p name)) (one_of (organization_at t org cap) o f)
+      by_limit (Some cap) f = subst (λ (p : Organization). Some (organization_at left org cap) ≡ Some (without_token p name)) (same_Some (organization_at t org cap) o f)
           (λ i. Some (record { limit = cap; tokens = tokens_left i; workspaces = workspaces_carried t left same_rows org i }))
 
   -- the answer, by whether the organization and the token are there
@@ -147,5 +149,5 @@ module _ (org name : List ℕ) (t : Tables) where
       within : (q : List ℕ) (o : Organization) (c : Option ℕ) → cap_of q t ≡ c → option_map (organization_at left q) c ≡ Some o → count_of o ≤ 100_000
       within q o None f e = absurd (let none : ⊥ = cc in none)
       within q o (Some c) f e =
-          subst (λ (r : Organization). count_of r ≤ 100_000) (one_of (organization_at left q c) o e)
+          subst (λ (r : Organization). count_of r ≤ 100_000) (same_Some (organization_at left q c) o e)
           (subst (λ ws. count_of (record { limit = c; tokens = tokens_at left q; workspaces = ws }) ≤ 100_000) (sym (workspaces_carried t left same_rows q)) (sound.counts q (organization_at t q c) (ap (option_map (organization_at t q)) f)))

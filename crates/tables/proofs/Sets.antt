@@ -1,5 +1,6 @@
 -- From the rows of a workspace to the record of its organization.
 use Rattle.std.proofs.Common.{◌≡◌, ◌≢◌, ℕ, Bool, true, false, ◌&&◌, cond, List, [], ◌∷◌, map, filter, find, Option, Some, None, option_map, refl, sym, ap, subst, ◌∙◌}
+use Rattle.std.proofs.lemmas.Option.{same_Some}
 use Rattle.std.specs.Str.{bytes_eq}
 use Rattle.std.specs.FinMap.{get, same_map, get-from_entries}
 use Rattle.std.specs.FinMap.Entries.{find as find_entry}
@@ -7,10 +8,11 @@ use Rattle.machine.specs.Order.{name_cmp}
 use Rattle.machine.specs.Records.{with_workspace, placed}
 use Rattle.machine.specs.declared.records.Version.{Version}
 use Rattle.basis.specs.declared.rows.RunRow.{RunRow as Run}
+use Rattle.basis.proofs.NameLemmas.{equal_bytes}
 use Rattle.machine.specs.declared.records.Workspace.{Workspace}
 use Rattle.machine.specs.declared.records.Organization.{Organization}
 use Rattle.machine.proofs.MapLemmas.{names_total, names_same}
-use Rattle.machine.proofs.KeepLemmas.{own_workspace, other_workspace}
+use Rattle.machine.proofs.KeepLemmas.{own_workspace, other_workspace, apart_from}
 use Rattle.statements.specs.declared.rows.Workspace.{Workspace as WorkspaceCells}
 use Rattle.statements.specs.Rows.{Kept, OrgRow, TokenRow, WsRow}
 use Rattle.statements.specs.Tables.{Tables}
@@ -19,7 +21,7 @@ use Rattle.statements.specs.Finds.{cap_of}
 use Rattle.statements.proofs.Found.{found_passes}
 use Rattle.tables.specs.Records.{workspace_of_cells, workspace_at, workspace_by, is_token_of, token_at, tokens_at, workspaces_at, organization_at, record_of}
 use Rattle.tables.proofs.TextRows.{tokens_carried}
-use Rattle.tables.proofs.Names.{same_name, name_is, apart_name, names_apart, is_pair, pair_second, tied}
+use Rattle.tables.proofs.Names.{name_is, apart_name, is_pair, pair_second, tied}
 
 -- ---- what a name gives
 
@@ -51,16 +53,13 @@ module _ (t : Tables) (org name : List ℕ) where
       get-from_entries names_total (map (λ (x : Kept TokenRow). (x.1.name, token_at t x.1)) (filter (is_token_of org) t.tokens)) name
       ∙ entry_found (is_token_of org) (λ (x : Kept TokenRow). x.1.name) (λ (x : Kept TokenRow). token_at t x.1) name t.tokens
 
-pub one_of : (a b : Organization) → Some a ≡ Some b → a ≡ b
-one_of a b e = cc
-
 -- the workspaces of a record are those that have rows
 pub workspace_there : (t : Tables) (org name : List ℕ) (o : Organization) → record_of t org ≡ Some o → get o.workspaces name ≡ workspace_by t org name
 workspace_there t org name o e = by_limit (cap_of org t) e
   where
     by_limit : (cap : Option ℕ) → option_map (organization_at t org) cap ≡ Some o → get o.workspaces name ≡ workspace_by t org name
     by_limit None e = absurd (let none : ⊥ = cc in none)
-    by_limit (Some cap) e = subst (λ (p : Organization). get p.workspaces name ≡ workspace_by t org name) (one_of (organization_at t org cap) o e) (got_workspace t org name)
+    by_limit (Some cap) e = subst (λ (p : Organization). get p.workspaces name ≡ workspace_by t org name) (same_Some (organization_at t org cap) o e) (got_workspace t org name)
 
 -- ---- a workspace from its parts
 
@@ -97,9 +96,9 @@ module _ (org ws : List ℕ) (w : Option Workspace) (t u : Tables) (puts : Puts 
   put_workspaces = same_map names_total names_same _ _ (λ q. by_name q (bytes_eq q ws) refl)
     where
       by_name : (q : List ℕ) (b : Bool) → bytes_eq q ws ≡ b → get (workspaces_at u org) q ≡ get (with_workspace (workspaces_at t org) ws w) q
-      by_name q true e = subst (λ (n : List ℕ). get (workspaces_at u org) n ≡ get (with_workspace (workspaces_at t org) ws w) n) (sym (same_name q ws e))
+      by_name q true e = subst (λ (n : List ℕ). get (workspaces_at u org) n ≡ get (with_workspace (workspaces_at t org) ws w) n) (sym (equal_bytes q ws e))
           (got_workspace u org ws ∙ puts.own ∙ sym (own_workspace (workspaces_at t org) ws w))
-      by_name q false e = got_workspace u org q ∙ puts.others org q (other_ws org ws q e) ∙ sym (got_workspace t org q) ∙ sym (other_workspace (workspaces_at t org) ws w q (names_apart q ws e))
+      by_name q false e = got_workspace u org q ∙ puts.others org q (other_ws org ws q e) ∙ sym (got_workspace t org q) ∙ sym (other_workspace (workspaces_at t org) ws w q (apart_from q ws e))
 
   other_workspaces : (q : List ℕ) → q ≢ org → workspaces_at u q ≡ workspaces_at t q
   other_workspaces q apart = same_map names_total names_same _ _ (λ n. got_workspace u q n ∙ puts.others q n (other_org org ws q n apart) ∙ sym (got_workspace t q n))
@@ -107,7 +106,7 @@ module _ (org ws : List ℕ) (w : Option Workspace) (t u : Tables) (puts : Puts 
   put_organization : (cap : Option ℕ) (o : Organization) → option_map (organization_at t org) cap ≡ Some o → option_map (organization_at u org) cap ≡ Some (placed o ws w)
   put_organization None o e = absurd (let none : ⊥ = cc in none)
   put_organization (Some cap) o e =
-      subst (λ (p : Organization). Some (organization_at u org cap) ≡ Some (placed p ws w)) (one_of (organization_at t org cap) o e) (λ i. Some (record { limit = cap; tokens = same_tokens org i; workspaces = put_workspaces i }))
+      subst (λ (p : Organization). Some (organization_at u org cap) ≡ Some (placed p ws w)) (same_Some (organization_at t org cap) o e) (λ i. Some (record { limit = cap; tokens = same_tokens org i; workspaces = put_workspaces i }))
 
   pub put_own : (o : Organization) → record_of t org ≡ Some o → record_of u org ≡ Some (placed o ws w)
   put_own o e = ap (option_map (organization_at u org)) (same_orgs org) ∙ put_organization (cap_of org t) o e

@@ -85,7 +85,7 @@ module _ {A : Type 0} (cmp : A → A → Ordering) where
       go true every more = let rest = more every.1 in (rest.0, (every.0, rest.1))
       go false every more = every
 
-  all_unsorted : (P : A → Type 0) (xs : List A) → AllByRecursion P (sort_by cmp xs) → AllByRecursion P xs
+  pub all_unsorted : (P : A → Type 0) (xs : List A) → AllByRecursion P (sort_by cmp xs) → AllByRecursion P xs
   all_unsorted P [] all = tt
   all_unsorted P (x ∷ xs) all = let taken = all_taken P x (sort_by cmp xs) all in (taken.0, all_unsorted P xs taken.1)
 

@@ -1,5 +1,5 @@
 -- Lists of which the least that passes goes, together with those that pass a narrower test with it.
-use Rattle.std.proofs.Common.{◌≡◌, ◌≤◌, suc, Bool, true, false, not, cond, List, [], ◌∷◌, ◌++◌, filter, find, length, slice_get, Option, Some, None, refl, sym, ap, subst, ◌∙◌, arith, Ordering, Equal, is_gt}
+use Rattle.std.proofs.Common.{◌≡◌, ◌≤◌, suc, Bool, true, false, not, cond, List, [], ◌∷◌, filter, find, length, slice_get, Option, Some, None, refl, sym, ap, subst, ◌∙◌, arith, Ordering, Equal, is_gt}
 use Rattle.std.specs.Cmp.{IsTotalOrder}
 use Rattle.std.specs.List.{AllByRecursion}
 use Rattle.std.proofs.lemmas.List.Sorted.{length_permutation}
@@ -10,22 +10,6 @@ use Rattle.sqlite_keyed.proofs.SortLemmas.{IsPermutation-sort_by}
 use Rattle.statements.proofs.Sorting.{AtMost, all_sorted, sorted_as_is, filter-sort_by}
 
 module _ {X : Type 0} where
-  pub all_deleted : (p : X → Bool) (xs : List X) → AllByRecursion (λ x. p x ≡ false) (delete_where p xs)
-  all_deleted p [] = tt
-  all_deleted p (x ∷ xs) = go (p x) refl (all_deleted p xs)
-    where
-      go : (b : Bool) → p x ≡ b → AllByRecursion (λ y. p y ≡ false) (delete_where p xs) → AllByRecursion (λ y. p y ≡ false) (cond (not b) (x ∷ delete_where p xs) (delete_where p xs))
-      go true e more = more
-      go false e more = (e, more)
-
-  pub found_front : (p : X → Bool) (xs ys : List X) (x : X) → find p xs ≡ Some x → find p (xs ++ ys) ≡ Some x
-  found_front p [] ys x e = absurd (let none : ⊥ = cc in none)
-  found_front p (z ∷ zs) ys x e = go (p z) e (found_front p zs ys x)
-    where
-      go : (b : Bool) → cond b (Some z) (find p zs) ≡ Some x → (find p zs ≡ Some x → find p (zs ++ ys) ≡ Some x) → cond b (Some z) (find p (zs ++ ys)) ≡ Some x
-      go true e more = e
-      go false e more = more e
-
   -- where none passes, none goes
   pub none_goes : (p : X → Bool) (xs : List X) → length (filter p xs) ≤ 0 → delete_where p xs ≡ xs
   none_goes p [] few = refl

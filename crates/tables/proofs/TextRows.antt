@@ -12,6 +12,7 @@ use Rattle.sqlite_keyed.proofs.SliceLemmas.{slice-push_mine, slice-push_other, s
 use Rattle.std.proofs.lemmas.List.{length-map}
 use Rattle.tables.proofs.Parts.{none_mapped, first_two}
 use Rattle.basis.specs.declared.roles.Bounds.{Bounds}
+use Rattle.basis.proofs.NameLemmas.{equal_bytes}
 use Rattle.machine.specs.declared.records.Version.{Version}
 use Rattle.statements.specs.Rows.{Kept, id_of, TokenRow, BoundRow, WsRow, VersionRow, RunRow, VpageRow}
 use Rattle.statements.specs.declared.rows.Workspace.{Workspace as WorkspaceCells}
@@ -20,17 +21,17 @@ use Rattle.machine.specs.Order.{name_cmp}
 use Rattle.statements.specs.Tables.{Tables}
 use Rattle.statements.specs.Changes.{is_bound, is_ws, is_ws_of, is_run_of, is_version_of, is_version, is_version_below, new_version, version_removed}
 use Rattle.statements.specs.Finds.{version_cmp, run_cmp, bound_in, oldest_below, size_of}
-use Rattle.statements.proofs.Found.{find_pushed, find_left}
+use Rattle.statements.proofs.Found.{find_pushed, find_left, none_passes, none_found, all_deleted}
+use Rattle.statements.proofs.Grown.{find_front}
 use Rattle.texts.specs.Texts.{is_place_of, pages_for, text_removed, text_of, IsWhole, HasNoPlaces, HasSoundPlaces}
-use Rattle.texts.proofs.PieceLists.{none_passes, none_found}
 use Rattle.texts.proofs.PlaceLaws.{IsOtherVersion, version_parts, version_from}
 use Rattle.texts.proofs.TextLaws.{text_added_keeps, text_added_whole, text_added_text, text_added_others_whole, text_added_others_text, text_added_places, text_added_metas, text_added_orgs, text_added_tokens, text_added_wss, text_added_versions, text_added_runs, text_added_bounds, text_added_editions, text_added_keepings, text_removed_keeps, text_removed_others_whole, text_removed_others_text, text_removed_places, text_removed_none, text_removed_metas, text_removed_orgs, text_removed_tokens, text_removed_wss, text_removed_versions, text_removed_runs, text_removed_bounds, text_removed_editions, text_removed_keepings, carried_whole, carried_text, carried_sound}
 use Rattle.tables.specs.Records.{version_of_cells, no_bounds, token_of_cells, workspace_of_cells, retention_at, version_at, versions_at, workspace_by, is_token_of, tokens_at, workspaces_at, organization_at}
 use Rattle.tables.specs.Sound.{IsPlaced, HasText, IsSound}
 use Rattle.tables.specs.Inner.Edits.{first_gone, so_many_gone, gone_below, row_added, added_rows, FitsTwins}
 use Rattle.tables.proofs.Ordered.{versions_total, versions_in}
-use Rattle.tables.proofs.Names.{same_name, name_is, is_pair, pair_is, pair_apart}
-use Rattle.tables.proofs.TextLists.{all_deleted, found_front, none_goes, filter_fewer, absorbed, fewer_left, least, none_least, least_holds, least_passes, least_within}
+use Rattle.tables.proofs.Names.{name_is, is_pair, pair_is, pair_apart}
+use Rattle.tables.proofs.TextLists.{none_goes, filter_fewer, absorbed, fewer_left, least, none_least, least_holds, least_passes, least_within}
 pub use Rattle.tables.specs.Inner.Standing.{AreTexts}
 
 pub sound_texts : (t : Tables) → IsSound t → AreTexts t
@@ -72,7 +73,7 @@ pub version_row_parts : (org ws : List ℕ) (n : ℕ) (y : Kept VersionRow) → 
 version_row_parts org ws n y e =
     let a = and_parts (bytes_eq y.1.org org) (bytes_eq y.1.ws ws && y.1.it.number == n) e in
     let b = and_parts (bytes_eq y.1.ws ws) (y.1.it.number == n) a.1 in
-    (same_name y.1.org org a.0, (same_name y.1.ws ws b.0, eqb-true y.1.it.number n b.1))
+    (equal_bytes y.1.org org a.0, (equal_bytes y.1.ws ws b.0, eqb-true y.1.it.number n b.1))
 
 pub version_row_from : (org ws : List ℕ) (n : ℕ) (y : Kept VersionRow) → y.1.org ≡ org → y.1.ws ≡ ws → y.1.it.number ≡ n → is_version org ws n y ≡ true
 version_row_from org ws n y e f g =
@@ -83,7 +84,7 @@ pub below_parts : (org ws : List ℕ) (below : ℕ) (y : Kept VersionRow) → is
 below_parts org ws below y e =
     let a = and_parts (bytes_eq y.1.org org) (bytes_eq y.1.ws ws && nat_lt y.1.it.number below) e in
     let b = and_parts (bytes_eq y.1.ws ws) (nat_lt y.1.it.number below) a.1 in
-    (same_name y.1.org org a.0, (same_name y.1.ws ws b.0, b.1))
+    (equal_bytes y.1.org org a.0, (equal_bytes y.1.ws ws b.0, b.1))
 
 below_from : (org ws : List ℕ) (below : ℕ) (y : Kept VersionRow) → y.1.org ≡ org → y.1.ws ≡ ws → nat_lt y.1.it.number below ≡ true → is_version_below org ws below y ≡ true
 below_from org ws below y e f g =
@@ -106,8 +107,8 @@ shown_same t u o w (x ∷ xs) all = go (is_version_of o w x) refl (shown_same t 
     here e =
         let a = and_parts (bytes_eq x.1.org o) (bytes_eq x.1.ws w) e in
         let moved : text_of o w x.1.it.number x.1.it.size u ≡ text_of o w x.1.it.number x.1.it.size t =
-        subst (λ (p : List ℕ). text_of p w x.1.it.number x.1.it.size u ≡ text_of p w x.1.it.number x.1.it.size t) (same_name x.1.org o a.0)
-        (subst (λ (q : List ℕ). text_of x.1.org q x.1.it.number x.1.it.size u ≡ text_of x.1.org q x.1.it.number x.1.it.size t) (same_name x.1.ws w a.1) all.0) in
+        subst (λ (p : List ℕ). text_of p w x.1.it.number x.1.it.size u ≡ text_of p w x.1.it.number x.1.it.size t) (equal_bytes x.1.org o a.0)
+        (subst (λ (q : List ℕ). text_of x.1.org q x.1.it.number x.1.it.size u ≡ text_of x.1.org q x.1.it.number x.1.it.size t) (equal_bytes x.1.ws w a.1) all.0) in
         ap (λ (text : List ℕ). version_of_cells text x.1.it) moved
 
     go : (b : Bool) → is_version_of o w x ≡ b
@@ -424,7 +425,7 @@ module _ (keys : ℕ → List ℕ) (org ws : List ℕ) (v : Version) (t : Tables
       by_row None f h = absurd (let none : ⊥ = cc in none)
       by_row (Some x) f h =
           ap (λ (vs : List (Kept VersionRow)). option_map (λ (y : Kept VersionRow). y.1.it.size) (find (is_version o w m) vs)) come_versions
-          ∙ ap (option_map (λ (y : Kept VersionRow). y.1.it.size)) (found_front (is_version o w m) t.versions (new ∷ []) x f) ∙ h
+          ∙ ap (option_map (λ (y : Kept VersionRow). y.1.it.size)) (find_front (is_version o w m) t.versions (new ∷ []) x f) ∙ h
 
   new_size : size_of org ws v.number come ≡ Some (length v.text)
   new_size =

@@ -3,6 +3,7 @@ use Rattle.std.proofs.Common.{◌≡◌, ℕ, Bool, true, false, cond, List, [],
 use Rattle.std.specs.FinMap.{from_entries, entries}
 use Rattle.basis.specs.declared.roles.Role.{Role}
 use Rattle.basis.specs.declared.roles.Caller.{Caller}
+use Rattle.basis.proofs.NameLemmas.{equal_bytes}
 use Rattle.machine.specs.Order.{name_cmp}
 use Rattle.machine.specs.Tokens as tokens
 use Rattle.machine.specs.declared.keeps.AdminAnswer.TheVariants.{Tokens}
@@ -14,7 +15,6 @@ use Rattle.statements.specs.Finds.{cap_of}
 use Rattle.statements.specs.Listings.{roles_by_name, role_row}
 use Rattle.tables.specs.Records.{caller_with, bounds_at, token_at, is_token_of, tokens_at, organization_at, record_of}
 use Rattle.tables.specs.Inner.Lists.{token_row_in, tokens_listed_in, tokens_told_by, tokens_told_in}
-use Rattle.tables.proofs.Names.{same_name}
 use Rattle.tables.proofs.Ranks.{entries_shown}
 
 module _ (t : Tables) (org : List ℕ) where
@@ -43,7 +43,7 @@ module _ (t : Tables) (org : List ℕ) where
     where
       go : (b : Bool) → is_token_of org x ≡ b → map of_token (filter (is_token_of org) xs) ≡ map of_row (filter (is_token_of org) xs)
           → map of_token (cond b (x ∷ filter (is_token_of org) xs) (filter (is_token_of org) xs)) ≡ map of_row (cond b (x ∷ filter (is_token_of org) xs) (filter (is_token_of org) xs))
-      go true e more = ap₂ (λ (a : List ℕ) (rest : List (List ℕ × Caller)). (x.1.name, caller_with x.1.it.role (bounds_at t a x.1.name)) ∷ rest) (same_name x.1.org org e) more
+      go true e more = ap₂ (λ (a : List ℕ) (rest : List (List ℕ × Caller)). (x.1.name, caller_with x.1.it.role (bounds_at t a x.1.name)) ∷ rest) (equal_bytes x.1.org org e) more
       go false e more = more
 
   -- the same entries, by the record and by the rows

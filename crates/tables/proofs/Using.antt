@@ -2,6 +2,8 @@
 use Rattle.std.proofs.Common.{◌≡◌, ℕ, ◌≤◌, ◌<◌, ◌+◌, zero, suc, Bool, true, false, ◌||◌, List, [], ◌∷◌, ◌++◌, take, length, get_or, Ok, refl, sym, ap, subst, ◌∙◌}
 use Rattle.std.specs.List.{list_any}
 use Rattle.std.proofs.lemmas.List.{take_more, take_all}
+use Rattle.std.proofs.lemmas.List.Folds.{list_any-append}
+use Rattle.std.proofs.Math.Bool.{or-false}
 use Rattle.sqlite_trees.specs.declared.store.Store.{Ghosts}
 use Rattle.sqlite.specs.Held.{Held}
 use Rattle.statements.specs.declared.rows.NamedToken.{NamedToken}
@@ -18,18 +20,9 @@ use Rattle.tables.proofs.KeepFound.{seen_both}
 
 module _ {A : Type 0} (p : A → Bool) where
   any_last : (xs : List A) (x : A) → list_any p (xs ++ x ∷ []) ≡ (list_any p xs || p x)
-  any_last [] x = go (p x)
-    where
-      go : (b : Bool) → (b || false) ≡ b
-      go true = refl
-      go false = refl
-  any_last (y ∷ ys) x = go (p y) (any_last ys x)
-    where
-      go : (b : Bool) → list_any p (ys ++ x ∷ []) ≡ (list_any p ys || p x) → (b || list_any p (ys ++ x ∷ [])) ≡ ((b || list_any p ys) || p x)
-      go true more = refl
-      go false more = more
+  any_last xs x = list_any-append p xs (x ∷ []) ∙ ap (λ (b : Bool). list_any p xs || b) (or-false (p x))
 
-  any_more : (xs : List A) (i : ℕ) (x : A) → i < length xs → x ≡ get_or xs i x → list_any p (take (i + 1) xs) ≡ (list_any p (take i xs) || p x)
+  pub any_more : (xs : List A) (i : ℕ) (x : A) → i < length xs → x ≡ get_or xs i x → list_any p (take (i + 1) xs) ≡ (list_any p (take i xs) || p x)
   any_more xs i x within is = ap (list_any p) (take_more xs i x within) ∙ ap (λ (y : A). list_any p (take i xs ++ y ∷ [])) (sym is) ∙ any_last (take i xs) x
 
   -- one of the first is one of them

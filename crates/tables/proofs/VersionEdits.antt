@@ -1,5 +1,5 @@
 -- What edits do to the versions of a workspace, and to their texts.
-use Rattle.std.proofs.Common.{◌≡◌, ◌≤◌, ℕ, ◌+◌, nat_lt, Bool, true, not, cond, List, [], ◌∷◌, ◌++◌, map, filter, find, length, is_some, Option, Some, None, option_map, refl, sym, ap, subst, ◌∙◌, arith}
+use Rattle.std.proofs.Common.{◌≡◌, ◌≤◌, ℕ, ◌+◌, nat_lt, Bool, true, not, cond, List, [], ◌∷◌, ◌++◌, map, filter, find, length, Option, Some, None, option_map, refl, sym, ap, subst, ◌∙◌, arith}
 use Rattle.std.specs.List.{AllByRecursion, list_any}
 use Rattle.std.proofs.lemmas.Bool.{lt-ltb}
 use Rattle.std.proofs.lemmas.List.{length-append}
@@ -9,11 +9,11 @@ use Rattle.machine.specs.Laws.{Rises}
 use Rattle.machine.specs.Changes.{left_above}
 use Rattle.machine.specs.declared.records.Version.{Version}
 use Rattle.statements.specs.declared.rows.Workspace.{Workspace as WorkspaceCells}
-use Rattle.statements.specs.Rows.{Kept, WsRow}
 use Rattle.statements.specs.Tables.{Tables}
 use Rattle.statements.specs.Changes.{is_ws, with_next_version}
 use Rattle.statements.specs.Finds.{workspace_of}
-use Rattle.sqlite_keyed.proofs.SliceLemmas.{any_is_found}
+use Rattle.statements.specs.Rows.{Kept, WsRow}
+use Rattle.sqlite_keyed.proofs.SliceLemmas.{any_is_found, is_some-map}
 use Rattle.tables.specs.Records.{versions_at, workspace_at}
 use Rattle.tables.proofs.Sorted.{length_sorted, count_sorted}
 use Rattle.tables.proofs.Ordered.{by_version, by_version_total, versions_in, versions_sorted}
@@ -111,11 +111,7 @@ module _ (org ws : List ℕ) (t : Tables) (sound : IsSound t) where
     added = added_rows keys org ws v numbered
 
     pub ws_there : list_any (is_ws org ws) t.wss ≡ true
-    ws_there = any_is_found (is_ws org ws) t.wss ∙ sym (some_mapped (find (is_ws org ws) t.wss)) ∙ takes.there
-      where
-        some_mapped : (o : Option (Kept WsRow)) → is_some (option_map (λ (x : Kept WsRow). x.1.it) o) ≡ is_some o
-        some_mapped None = refl
-        some_mapped (Some x) = refl
+    ws_there = any_is_found (is_ws org ws) t.wss ∙ sym (is_some-map (λ (x : Kept WsRow). x.1.it) (find (is_ws org ws) t.wss)) ∙ takes.there
 
     come : Becomes (λ vs. vs ++ v ∷ []) org ws numbered added
     come = comes keys org ws v numbered (texts_carried t numbered refl refl refl (sound_texts t sound)) takes.fresh takes.fits

@@ -3,20 +3,21 @@ use Rattle.std.proofs.Common.{◌≡◌, ◌<◌, ◌≤◌, ◌⊎◌, inl, inr
 use Rattle.std.specs.Prelude.{unwrap_or}
 use Rattle.std.specs.List.{AllByRecursion}
 use Rattle.std.proofs.lemmas.Bool.{false_from_ne_true, true≢false, ltb-true, ltb-false}
+use Rattle.std.proofs.lemmas.Option.{same_Some}
 use Rattle.sqlite_keyed.specs.Keyed.{next_key}
 use Rattle.sqlite_keyed.specs.Rules.{AreApart}
 use Rattle.sqlite_keyed.proofs.ListLemmas.{all_weaker, all-append}
 use Rattle.statements.specs.Rows.{Kept, id_of, VpageRow}
 use Rattle.statements.specs.Tables.{Tables}
 use Rattle.statements.specs.Changes.{with_next}
-use Rattle.statements.proofs.Found.{find_pushed, find_pushed_other, apart_pushed}
+use Rattle.statements.proofs.Found.{find_pushed, find_pushed_other, apart_pushed, none_passes, none_found}
 use Rattle.pages.specs.declared.store.PageId.{PageId}
 use Rattle.pages.specs.Rows.{page_bytes, page_uses, equal_page}
 use Rattle.pages.specs.Puts.{twin_limit, twin_for, put_found, page_put}
 use Rattle.pages.specs.Pages.{Page, pages_in, HasSoundPages, PutsPage}
 use Rattle.pages.proofs.PageLaws.{put_is, put_keeps}
 use Rattle.texts.specs.Texts.{is_place_of, is_place, names_page, place_added, page_name, bytes_named, piece_of, piece_at, piece_added, pieces_added, TwinsFit, HasNoPlaces, HasSoundPlaces}
-use Rattle.texts.proofs.PieceLists.{none_passes, none_found, counted_more}
+use Rattle.texts.proofs.PieceLists.{counted_more}
 use Rattle.texts.proofs.PlaceLaws.{IsOtherPlace, place_parts, place_from, version_from, other_place, named_from, named_not, same_page, bytes_are, uses_are, named_there, piece_stays}
 
 -- ---- a page that is put
@@ -42,15 +43,12 @@ module _ (key bytes : List ℕ) (t : Tables) (sound : HasSoundPages t) (fits : t
   abbrev uses_in : Option Page → ℕ
   uses_in o = unwrap_or (option_map (λ (p : Page). p.uses) o) 0
 
-  some_page : (p q : Page) → ◌≡◌ {A = Option Page} (Some p) (Some q) → p ≡ q
-  some_page p q e = cc
-
   -- the page that is put: it has its bytes, and had them if it was there
   put_there : (pages_in u key twin ≡ Some (record { bytes = bytes; uses = uses_in (pages_in t key twin) + 1 })) × ((p : Page) → pages_in t key twin ≡ Some p → p.bytes ≡ bytes)
   put_there = elim is_put.page [
     | inl (p, before, same, after) ↦ (
       after ∙ ap (λ (o : Option Page). Some (record { bytes = bytes; uses = uses_in o + 1 })) (sym before),
-      λ q e. ap (λ (r : Page). r.bytes) (some_page q p (sym e ∙ before)) ∙ same,
+      λ q e. ap (λ (r : Page). r.bytes) (same_Some q p (sym e ∙ before)) ∙ same,
     )
     | inr (new, free, after) ↦ (
       after ∙ ap (λ (o : Option Page). Some (record { bytes = bytes; uses = uses_in o + 1 })) (sym free.free),

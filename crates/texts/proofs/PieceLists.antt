@@ -1,30 +1,15 @@
 -- Lists in which what passes a test is found, counted, put at the end and taken away.
-use Rattle.std.proofs.Common.{◌≡◌, ◌≤◌, ℕ, ◌+◌, Bool, true, false, not, cond, List, [], ◌∷◌, ◌++◌, length, filter, find, Some, None, refl, sym, ap, ◌∙◌, subst, arith}
-use Rattle.std.specs.List.{AllByRecursion}
+use Rattle.std.proofs.Common.{◌≡◌, ◌≤◌, ℕ, ◌+◌, Bool, true, false, not, cond, List, [], ◌∷◌, ◌++◌, length, filter, find, Some, refl, sym, ap, ◌∙◌, subst, arith}
 use Rattle.std.proofs.lemmas.Bool.{false_from_ne_true, true≢false}
 use Rattle.std.proofs.lemmas.List.{length-append}
 use Rattle.std.proofs.lemmas.List.Elements.{filter-append}
 use Rattle.sqlite_keyed.specs.Lists.{delete_where}
 use Rattle.sqlite_keyed.specs.Rules.{AreApart}
-use Rattle.sqlite_keyed.proofs.ListLemmas.{all_weaker, filter_all}
+use Rattle.sqlite_keyed.proofs.ListLemmas.{all_weaker}
+use Rattle.statements.proofs.Found.{none_deleted}
 
 module _ {X : Type 0} where
   module _ (p : X → Bool) where
-    pub none_passes : (xs : List X) → find p xs ≡ None → AllByRecursion (λ x. p x ≡ false) xs
-    none_passes [] e = tt
-    none_passes (x ∷ xs) e = go (p x) refl e (none_passes xs)
-      where
-        go : (b : Bool) → p x ≡ b → cond b (Some x) (find p xs) ≡ None → (find p xs ≡ None → AllByRecursion (λ y. p y ≡ false) xs) → (p x ≡ false) × AllByRecursion (λ y. p y ≡ false) xs
-        go true is none more = absurd (let no_one : ⊥ = cc in no_one)
-        go false is none more = (is, more none)
-
-    pub none_found : (xs : List X) → AllByRecursion (λ x. p x ≡ false) xs → find p xs ≡ None
-    none_found [] all = refl
-    none_found (x ∷ xs) all = rw all.0 (none_found xs all.1)
-
-    pub none_deleted : (xs : List X) → AllByRecursion (λ x. p x ≡ false) xs → delete_where p xs ≡ xs
-    none_deleted xs all = filter_all (λ x. not (p x)) xs (all_weaker (λ x. p x ≡ false) (λ x. not (p x) ≡ true) (λ x e. ap not e) xs all)
-
     -- how many pass, with one more at the end
     pub counted_more : (xs : List X) (x : X) → length (filter p (xs ++ x ∷ [])) ≡ length (filter p xs) + cond (p x) 1 0
     counted_more xs x = ap length (filter-append p xs (x ∷ [])) ∙ length-append (filter p xs) (filter p (x ∷ [])) ∙ ap (λ k. length (filter p xs) + k) (go (p x))

@@ -5,8 +5,11 @@ use Rattle.std.specs.List.{AllByRecursion}
 use Rattle.std.proofs.lemmas.Bool.{lt-ltb, le-ltb}
 use Rattle.std.proofs.lemmas.List.Sorted.{IsPermutation-sym}
 use Rattle.std.proofs.lemmas.Bool.Decides.{nat_tests}
+use Rattle.std.proofs.lemmas.Option.{slice_get_within}
+use Rattle.sqlite_trees.proofs.ListLemmas.{all-permutation}
 use Rattle.sqlite_value.specs.Order.{Row, column}
 use Rattle.sqlite_keyed.specs.Lists.{delete_where}
+use Rattle.sqlite_keyed.proofs.ListLemmas.{all_kept, all-slice_get}
 use Rattle.sqlite.specs.State.{State, KeepsCommit, Shown, FailsToQuery, IsTooLate, IsUnchanged, IsRolledBack}
 use Rattle.sqlite.specs.declared.error.Error.{Error}
 use Rattle.statements.specs.Calls.{IsQuery}
@@ -18,14 +21,14 @@ use Rattle.statements.proofs.ReadBack.{number_read}
 use Rattle.pages.specs.Rows.{page_bytes, page_uses, page_used, page_removed}
 use Rattle.pages.specs.Puts.{released_found, page_released}
 use Rattle.statements.proofs.Transactions.{moves_then}
+use Rattle.statements.proofs.Found.{none_passes}
 use Rattle.pages.proofs.Looking.{as_it_is, one_look, still_holds, failed_behind, moved_behind}
 use Rattle.texts.specs.Texts.{pages_for, text_removed, is_place_of, is_place, place_removed, page_name, page_at, released_at, bytes_named, piece_of, pieces_removed, WereThere}
 use Rattle.texts.specs.Inner.Calls.{places_removed, place_shown, AreRowsOf, name_in, row_at, name_at, released_by, WereReleased}
 use Rattle.texts.proofs.NextPiece.{one_more, each_more}
-use Rattle.texts.proofs.PieceLists.{none_passes}
 use Rattle.texts.proofs.PlaceLaws.{place_parts, place_from, version_parts, version_from, other_place}
 use Rattle.texts.proofs.RemovedLaws.{released_places, removed_rows, gone_find}
-use Rattle.texts.proofs.WholeReads.{all_shuffled, all_found}
+use Rattle.texts.proofs.WholeReads.{all_found}
 
 -- ---- a query inside a transaction
 
@@ -56,28 +59,9 @@ get_there [] i low = absurd (omega (arith, low))
 get_there (x ∷ xs) zero low = (x, refl)
 get_there (x ∷ xs) (suc i) low = get_there xs i (omega (arith, low))
 
-get_within : {X : Type 0} (xs : List X) (i : ℕ) (x : X) → slice_get xs i ≡ Some x → i < length xs
-get_within [] i x at = absurd (let none : ⊥ = cc in none)
-get_within (y ∷ ys) zero x at = omega arith
-get_within (y ∷ ys) (suc i) x at = let low = get_within ys i x at in omega (arith, low)
-
 all_got : {X : Type 0} (P : X → Type 0) (xs : List X) → ((i : ℕ) (x : X) → slice_get xs i ≡ Some x → P x) → AllByRecursion P xs
 all_got P [] each = tt
 all_got P (x ∷ xs) each = (each 0 x refl, all_got P xs (λ i y at. each (suc i) y at))
-
-got_of_all : {X : Type 0} (P : X → Type 0) (xs : List X) (i : ℕ) (x : X) → AllByRecursion P xs → slice_get xs i ≡ Some x → P x
-got_of_all P [] i x all at = absurd (let none : ⊥ = cc in none)
-got_of_all P (y ∷ ys) zero x all at = let same : y ≡ x = cc in subst P same all.0
-got_of_all P (y ∷ ys) (suc i) x all at = got_of_all P ys i x all.1 at
-
--- what holds of those that pass is said of all
-all_of_passing : {X : Type 0} (P : X → Type 0) (p : X → Bool) (xs : List X) → AllByRecursion P (filter p xs) → AllByRecursion (λ x. p x ≡ true → P x) xs
-all_of_passing P p [] all = tt
-all_of_passing {X} P p (x ∷ xs) all = go (p x) refl all (all_of_passing P p xs)
-  where
-    go : (b : Bool) → p x ≡ b → AllByRecursion P (cond b (x ∷ filter p xs) (filter p xs)) → (AllByRecursion P (filter p xs) → AllByRecursion (λ y. p y ≡ true → P y) xs) → (p x ≡ true → P x) × AllByRecursion (λ y. p y ≡ true → P y) xs
-    go true is all more = ((λ _. all.0), more all.1)
-    go false is all more = ((λ passes. absurd (let none : ⊥ = cc (sym passes ∙ is) in none)), more all)
 
 to_passing : {X : Type 0} (P Q : X → Type 0) (p : X → Bool) → ((x : X) → p x ≡ true → P x → Q x) → (xs : List X) → AllByRecursion P xs → AllByRecursion Q (filter p xs)
 to_passing P Q p means [] all = tt
@@ -134,7 +118,7 @@ module _ (org ws : List ℕ) (n : ℕ) (t : Tables) (rows : List Row) (are : Are
 
   place_is : (i : ℕ) (x : Kept VpageRow) → slice_get shown i ≡ Some x → x.1.place ≡ i
   place_is i x at =
-      let low : i < length rows = let within = get_within shown i x at in omega (arith, within, as_many) in
+      let low : i < length rows = let within = slice_get_within shown i x at in omega (arith, within, as_many) in
       sym (number_read x.1.place i (sym (ap (λ r. column r 2) (row_is i x at)) ∙ in_turn i low))
 
   name_is : (i : ℕ) (x : Kept VpageRow) → slice_get shown i ≡ Some x → page_name x ≡ name_at rows i
@@ -145,10 +129,10 @@ module _ (org ws : List ℕ) (n : ℕ) (t : Tables) (rows : List Row) (are : Are
   IsNamed x = (x.1.place < length rows) × (page_name x ≡ name_at rows x.1.place)
 
   all_named : AllByRecursion (λ x. mine x ≡ true → IsNamed x) t.vpages
-  all_named = all_of_passing IsNamed mine t.vpages (all_shuffled IsNamed shown (filter mine t.vpages) (IsPermutation-sym (filter mine t.vpages) shown are.1)
+  all_named = all_kept IsNamed mine t.vpages (all-permutation IsNamed shown (filter mine t.vpages) (IsPermutation-sym (filter mine t.vpages) shown are.1)
       (all_got IsNamed shown (λ i x at.
       let here = place_is i x at in
-      let within = get_within shown i x at in
+      let within = slice_get_within shown i x at in
       (omega (arith, here, within, as_many), name_is i x at ∙ ap (name_at rows) (sym here)))))
 
   one_mine : (x : Kept VpageRow) (place : ℕ) → is_place org ws n place x ≡ true → mine x ≡ true
@@ -164,7 +148,7 @@ module _ (org ws : List ℕ) (n : ℕ) (t : Tables) (rows : List Row) (are : Are
       none : find (is_place org ws n place) t.vpages ≡ None → ⊥
       none is =
           let away : AllByRecursion (λ x. ¬ (x.1.place ≡ place)) (filter mine t.vpages) = apart (none_passes (is_place org ws n place) t.vpages is) in
-          got_of_all (λ x. ¬ (x.1.place ≡ place)) shown place one.0 (all_shuffled (λ (x : Kept VpageRow). ¬ (x.1.place ≡ place)) (filter mine t.vpages) shown are.1 away) one.1 (place_is place one.0 one.1)
+          all-slice_get (λ (x : Kept VpageRow). ¬ (x.1.place ≡ place)) shown place one.0 one.1 (all-permutation (λ (x : Kept VpageRow). ¬ (x.1.place ≡ place)) (filter mine t.vpages) shown are.1 away) (place_is place one.0 one.1)
         where
           apart : AllByRecursion (λ x. is_place org ws n place x ≡ false) t.vpages → AllByRecursion (λ x. ¬ (x.1.place ≡ place)) (filter mine t.vpages)
           apart all = to_passing (λ x. is_place org ws n place x ≡ false) (λ x. ¬ (x.1.place ≡ place)) mine (λ x passes not_it at.

@@ -3,20 +3,21 @@ use Rattle.std.proofs.Common.{◌≡◌, ◌<◌, ◌≤◌, ◌⊎◌, inl, inr
 use Rattle.std.specs.Prelude.{unwrap_or}
 use Rattle.std.specs.List.{AllByRecursion}
 use Rattle.std.proofs.lemmas.Bool.{ltb-true, ltb-false}
+use Rattle.std.proofs.lemmas.Option.{same_Some}
 use Rattle.sqlite_keyed.specs.Lists.{delete_where}
 use Rattle.sqlite_keyed.specs.Rules.{AreApart}
 use Rattle.sqlite_keyed.proofs.ListLemmas.{all-filter}
 use Rattle.sqlite_keyed.proofs.RuleLemmas.{apart_delete}
 use Rattle.statements.specs.Rows.{Kept, VpageRow}
 use Rattle.statements.specs.Tables.{Tables}
-use Rattle.statements.proofs.Found.{find_left, find_deleted}
+use Rattle.statements.proofs.Found.{find_left, find_deleted, none_passes, none_found, none_deleted}
 use Rattle.pages.specs.declared.store.PageId.{PageId}
 use Rattle.pages.specs.Rows.{page_bytes, page_uses, page_used, page_removed}
 use Rattle.pages.specs.Puts.{released_found, page_released}
 use Rattle.pages.specs.Pages.{Page, pages_in, HasSoundPages, less_used, ReleasesPage}
 use Rattle.pages.proofs.PageLaws.{release_is, release_keeps}
 use Rattle.texts.specs.Texts.{is_place, names_page, place_removed, page_name, page_at, released_at, piece_of, piece_removed, pieces_removed, HasSoundPlaces}
-use Rattle.texts.proofs.PieceLists.{none_passes, none_found, none_deleted, counted_some, counted_less}
+use Rattle.texts.proofs.PieceLists.{counted_some, counted_less}
 use Rattle.texts.proofs.PlaceLaws.{IsOtherPlace, places_clash, named_from, named_not, same_page, bytes_are, uses_are, page_there, named_there, piece_stays}
 
 -- ---- a page that is released
@@ -44,15 +45,12 @@ module _ (key : List ℕ) (twin : ℕ) (t : Tables) where
   abbrev uses_in : Option Page → ℕ
   uses_in o = unwrap_or (option_map (λ (p : Page). p.uses) o) 0
 
-  some_page : (p q : Page) → ◌≡◌ {A = Option Page} (Some p) (Some q) → p ≡ q
-  some_page p q e = cc
-
   module _ (p : Page) (there : pages_in t key twin ≡ Some p) where
     is_released : ReleasesPage key twin (pages_in t) (pages_in r)
     is_released = release_is key twin t p.uses (uses_are key twin t ∙ ap (option_map (λ (q : Page). q.uses)) there)
 
     left : pages_in r key twin ≡ less_used p
-    left = is_released.page.2 ∙ ap less_used (some_page is_released.page.0 p (sym is_released.page.1 ∙ there))
+    left = is_released.page.2 ∙ ap less_used (same_Some is_released.page.0 p (sym is_released.page.1 ∙ there))
 
     -- one use less of it than before
     pub released_uses : unwrap_or (page_uses key twin r) 0 ≡ p.uses - 1
@@ -70,7 +68,7 @@ module _ (key : List ℕ) (twin : ℕ) (t : Tables) where
     released_bytes k m q after = bytes_are k m r ∙ go (same_page k m key twin) ∙ sym (bytes_are k m t)
       where
         less : (b : Bool) → ◌≡◌ {A = Option Page} (cond b (Some (record p { uses = p.uses - 1 })) None) (Some q) → q.bytes ≡ p.bytes
-        less true e = sym (ap (λ (x : Page). x.bytes) (some_page (record p { uses = p.uses - 1 }) q e))
+        less true e = sym (ap (λ (x : Page). x.bytes) (same_Some (record p { uses = p.uses - 1 }) q e))
         less false e = absurd (let no_one : ⊥ = cc in no_one)
 
         go : ((k ≡ key) × (m ≡ twin)) ⊎ (¬ ((k ≡ key) × (m ≡ twin))) → option_map (λ (x : Page). x.bytes) (pages_in r k m) ≡ option_map (λ (x : Page). x.bytes) (pages_in t k m)

@@ -1,12 +1,12 @@
 -- What the query that a text is read by shows: for each place of a version the bytes of its page.
-use Rattle.std.proofs.Common.{◌≡◌, ℕ, Bool, true, false, cond, List, [], ◌∷◌, ◌++◌, map, filter, find, flat_map, IsPermutation, Option, Some, None, option_map, Result, Ok, Err, IfOk, OnOk, OnErr, refl, sym, ap, ◌∙◌, subst}
+use Rattle.std.proofs.Common.{◌≡◌, ℕ, Bool, true, false, cond, List, [], ◌∷◌, ◌++◌, map, filter, find, flat_map, Option, Some, None, option_map, Result, Ok, Err, IfOk, OnOk, OnErr, refl, sym, ap, ◌∙◌, subst}
 use Rattle.std.specs.List.{list_all, AllByRecursion}
 use Rattle.std.proofs.lemmas.Bool.{true≢false}
-use Rattle.std.proofs.lemmas.List.Sorted.{All-permutation, IsPermutation-sym}
-use Rattle.std.proofs.lemmas.List.Elements.{All-from_recursion, recursion_from_All}
+use Rattle.std.proofs.lemmas.List.Sorted.{IsPermutation-sym}
 use Rattle.sqlite_value.specs.declared.value.Value.TheVariants.{Null, Text, Blob}
 use Rattle.sqlite_value.specs.Order.{Row, column}
 use Rattle.sqlite_trees.specs.Tree.{Trees}
+use Rattle.sqlite_trees.proofs.ListLemmas.{all-permutation}
 use Rattle.sqlite_sql.specs.Term.{Env, holds, eval_all}
 use Rattle.sqlite_sql.specs.Query.{Query, Output, matches, or_nulls, output, IsAnswer}
 use Rattle.sqlite_sql.specs.Program.{overlay}
@@ -26,12 +26,12 @@ use Rattle.statements.proofs.Writes.{plain_program}
 use Rattle.statements.proofs.Own.{stored_tree}
 use Rattle.statements.proofs.ReadBack.{number_read, blob_read}
 use Rattle.statements.proofs.Conditions.{two_texts_number}
+use Rattle.statements.proofs.Found.{none_passes}
 use Rattle.pages.specs.Rows.{is_page}
 use Rattle.statements.specs.Steps.{LeavesAsIs}
 use Rattle.pages.proofs.PageWrites.{blob_number}
 use Rattle.texts.specs.Texts.{is_place_of, is_place, page_name, bytes_named, piece_of, joined, AreThere}
 use Rattle.texts.specs.Inner.Calls.{ShowsPlace, AreInTurn}
-use Rattle.texts.proofs.PieceLists.{none_passes}
 use Rattle.texts.proofs.PlaceLaws.{place_parts, place_from, version_parts, version_from}
 use Rattle.texts.proofs.WholeTexts.{whole_means, whole_rest, whole_names, with_page, names_it}
 
@@ -49,10 +49,6 @@ all_back P (x ∷ xs) ys all = all_back P xs ys all.1
 all_given : {A B : Type 0} (P : B → Type 0) (f : A → List B) (xs : List A) → AllByRecursion P (flat_map f xs) → AllByRecursion (λ x. AllByRecursion P (f x)) xs
 all_given P f [] all = tt
 all_given P f (x ∷ xs) all = (all_front P (f x) (flat_map f xs) all, all_given P f xs (all_back P (f x) (flat_map f xs) all))
-
--- what holds of all of a list holds of all of it in another order
-pub all_shuffled : {A : Type 0} (P : A → Type 0) (xs ys : List A) → IsPermutation xs ys → AllByRecursion P xs → AllByRecursion P ys
-all_shuffled P xs ys same all = recursion_from_All P ys (All-permutation P xs ys same (All-from_recursion P xs all))
 
 -- and of the member that is found
 pub all_found : {A : Type 0} (P : A → Type 0) (p : A → Bool) (xs : List A) (x : A) → find p xs ≡ Some x → AllByRecursion P xs → P x × (p x ≡ true)
@@ -131,12 +127,12 @@ module _ (old new : State) (t : Tables) (h : Holds old.now t) (org ws : List ℕ
     to_rows all =
         let staged = subst (AllByRecursion (λ (e : Env). P (show e))) (sym (a.grouped ∙ matched_is)) (all-flat_map (λ (e : Env). P (show e)) given t.vpages all) in
         let kept = subst (AllByRecursion (λ (o : Output). P o.1)) (sym a.distinct) (all_map (λ (o : Output). P o.1) (output asked) a.staged staged) in
-        subst (AllByRecursion P) (sym a.shown) (all_map P (λ (o : Output). o.1) a.ordered (all_shuffled (λ (o : Output). P o.1) a.kept a.ordered a.same kept))
+        subst (AllByRecursion P) (sym a.shown) (all_map P (λ (o : Output). o.1) a.ordered (all-permutation (λ (o : Output). P o.1) a.kept a.ordered a.same kept))
 
     from_rows : AllByRecursion P rows → AllByRecursion (λ x. AllByRecursion (λ e. P (show e)) (given x)) t.vpages
     from_rows all =
         let ordered = all_unmap P (λ (o : Output). o.1) a.ordered (subst (AllByRecursion P) a.shown all) in
-        let kept = all_shuffled (λ (o : Output). P o.1) a.ordered a.kept (IsPermutation-sym a.kept a.ordered a.same) ordered in
+        let kept = all-permutation (λ (o : Output). P o.1) a.ordered a.kept (IsPermutation-sym a.kept a.ordered a.same) ordered in
         let staged = all_unmap (λ (o : Output). P o.1) (output asked) a.staged (subst (AllByRecursion (λ (o : Output). P o.1)) a.distinct kept) in
         all_given (λ (e : Env). P (show e)) given t.vpages (subst (AllByRecursion (λ (e : Env). P (show e))) (a.grouped ∙ matched_is) staged)
 

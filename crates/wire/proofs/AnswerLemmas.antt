@@ -3,6 +3,7 @@ use Rattle.std.proofs.Common.{◌≡◌, ◌≢◌, ℕ, ◌<◌, ◌≤◌, Lis
 use Rattle.std.specs.Io.KnownBytes.{Consumes}
 use Rattle.std.proofs.lemmas.List.{append-nil, take-append-le, drop-append-le}
 use Rattle.std.proofs.lemmas.Bool.{lt-leb, le-leb}
+use Rattle.std.proofs.KnownBytes.{Appends-nil}
 use Rattle.wire.specs.declared.framing.Frame.{Frame}
 use Rattle.wire.specs.declared.framing.FrameFault.{FrameFault}
 use Rattle.wire.specs.declared.framing.FrameFault.TheVariants.{Refused as HeadRefused, Down as NoMemory}
@@ -15,7 +16,6 @@ use Rattle.wire.specs.Inner.Spans.{Frames}
 use Rattle.wire.specs.Messages.{Reading, unfinished, refused, whole, framed_message, reading_by, ReadsByEnd, Reads, AwaitsContinueBy, AwaitsContinue, IsAwaited}
 use Rattle.wire.specs.Links.{continue_text, continue_if, WritesPrefix, Writes, WritesContinue, ReportsReceived, ReportsInput}
 use Rattle.wire.specs.Inner.Bodies.{Finishes, refusal_fault}
-use Rattle.wire.proofs.LinkLemmas.{Appends-none}
 use Rattle.wire.proofs.HeadLemmas.{head_end_more}
 use Rattle.wire.proofs.ReadingLemmas.{judged_one, reads_more, awaited_more}
 
@@ -83,8 +83,8 @@ finish_reports received more n frame left old new (Err Down) e h j f = f
 pub refused_reports : (received : List ℕ) (n : ℕ) (fault : FrameFault) (left old : Option (List ℕ))
     → head_end_of received ≡ Whole n → n ≤ length received → Frames (take n received) (Err fault)
     → ReportsReceived (received ++ []) left old old (Err (refusal_fault fault))
-refused_reports received n (HeadRefused refusal is_head) left old e h j = (rests received [] n (refuses refusal is_head) e h j, Appends-none old)
-refused_reports received n NoMemory left old e h j = Appends-none old
+refused_reports received n (HeadRefused refusal is_head) left old e h j = (rests received [] n (refuses refusal is_head) e h j, Appends-nil old)
+refused_reports received n NoMemory left old e h j = Appends-nil old
 
 -- the same, by the two parts that the head was cut into
 pub finished : (received head rest more : List ℕ) (n : ℕ) (frame : Frame) (left old new : Option (List ℕ)) (result : Result Message WireFault)

@@ -2,8 +2,10 @@
 use Rattle.std.proofs.Common.{◌≡◌, ℕ, ◌+◌, ◌<◌, List, [], ◌∷◌, ◌++◌, length, take, get_or, Bool, true, false, cond, ◌||◌, refl, sym, ap, subst, ◌∙◌, arith, add-one, length-append}
 use Rattle.std.proofs.lemmas.List.{map-append}
 use Rattle.std.proofs.Math.Seq.{take-suc}
+use Rattle.std.proofs.Math.Bool.{or-false}
 use Rattle.std.specs.List.{list_any}
 use Rattle.std.proofs.lemmas.List.{append-nil}
+use Rattle.std.proofs.lemmas.List.Folds.{list_any-append}
 use Rattle.httparse.specs.declared.spans.Span.{Span}
 use Rattle.httparse.specs.declared.spans.HeaderSpan.{HeaderSpan}
 use Rattle.httparse.specs.Spans.{span_bytes, header_bytes, IsWithin}
@@ -22,16 +24,7 @@ field_values-append name (f ∷ xs) ys = both (is_named name f) (field_values-ap
     both false e = e
 
 list_any-push : (p : List ℕ × List ℕ → Bool) (xs : Fields) (y : List ℕ × List ℕ) → list_any p (xs ++ y ∷ []) ≡ (list_any p xs || p y)
-list_any-push p [] y = or_false (p y)
-  where
-    or_false : (b : Bool) → (b || false) ≡ b
-    or_false true = refl
-    or_false false = refl
-list_any-push p (x ∷ xs) y = or_more (p x) (list_any-push p xs y)
-  where
-    or_more : (b : Bool) → list_any p (xs ++ y ∷ []) ≡ (list_any p xs || p y) → (b || list_any p (xs ++ y ∷ [])) ≡ ((b || list_any p xs) || p y)
-    or_more true e = refl
-    or_more false e = e
+list_any-push p xs y = list_any-append p xs (y ∷ []) ∙ ap (λ b. list_any p xs || b) (or-false (p y))
 
 fields_more : (head : List ℕ) (spans : List HeaderSpan) (i : ℕ) (d : HeaderSpan) → i < length spans
     → fields_at head (take (i + 1) spans) ≡ fields_at head (take i spans) ++ header_bytes head (get_or spans i d) ∷ []

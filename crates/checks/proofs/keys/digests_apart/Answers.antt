@@ -1,12 +1,13 @@
 use Rattle.std.proofs.Common.{◌&&◌, ◌||◌, ap, ap₂, sym, ◌∙◌}
 use Rattle.std.specs.Str.{bytes_eq}
 use Rattle.statements.specs.Changes.{is_digest_of}
+use Rattle.tables.proofs.Using.{any_more}
 use Rattle.checks.specs.declared.found.FaultKind.TheVariants as kind
 use Rattle.checks.specs.Faults.{name_fault}
 use Rattle.checks.specs.Inner.Keys.{has_key}
 use Rattle.checks.proofs.JudgingLemmas.{judges_named}
 use Rattle.checks.proofs.KeyLemmas.{bytes_turned, fresh_by}
-use Rattle.checks.proofs.RowLists.{any_judged, apart_judged}
+use Rattle.checks.proofs.RowLists.{apart_judged}
 use Rattle.checks.proofs.keys.digests_apart.Goals as goal
 
 pub loop-row-preserved : goal.loop-row-preserved
@@ -27,5 +28,5 @@ loop-row-preserved c =
           known.judged (judges_named c.loop-row.found c.judge.new.self (ap₂ (name_fault kind.DigestTwice) c.as_str-org.ensures c.as_str-name.ensures) c.in_ok-judge.ensures);
       keys = λ m n.
           c.in_ok-fresh.ensures.added m n ∙ ap₂ ◌||◌ (known.keys m n) (ap₂ ◌&&◌ (ap (λ l. bytes_eq l m) of_org) (ap (λ l. bytes_eq l n) of_digest))
-          ∙ sym (any_judged (is_digest_of m n) xs i x c.loop-row-test.true c.loop-row-item.is);
+          ∙ sym (any_more (is_digest_of m n) xs i x c.loop-row-test.true c.loop-row-item.is);
     }

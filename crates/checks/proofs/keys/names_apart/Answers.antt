@@ -1,11 +1,12 @@
 use Rattle.std.proofs.Common.{◌&&◌, ◌||◌, ap, ap₂, sym, ◌∙◌}
 use Rattle.std.specs.Str.{bytes_eq}
+use Rattle.tables.proofs.Using.{any_more}
 use Rattle.checks.specs.declared.found.FaultKind.TheVariants as kind
 use Rattle.checks.specs.Judging.{fault_of}
 use Rattle.checks.specs.Inner.Keys.{has_key}
 use Rattle.checks.proofs.JudgingLemmas.{judges_named}
 use Rattle.checks.proofs.KeyLemmas.{bytes_turned, fresh_by}
-use Rattle.checks.proofs.RowLists.{any_judged, apart_judged}
+use Rattle.checks.proofs.RowLists.{apart_judged}
 use Rattle.checks.proofs.keys.names_apart.Goals as goal
 
 pub loop-row-preserved : goal.loop-row-preserved
@@ -29,5 +30,5 @@ loop-row-preserved g c =
           known.judged (judges_named c.loop-row.found c.judge.new.self (λ j. fault_of kind.Twice (c.org-org.ensures j) (c.name-name.ensures j) (c.number-number.ensures j)) c.in_ok-judge.ensures);
       keys = λ m n.
           c.in_ok-fresh.ensures.added m n ∙ ap₂ ◌||◌ (known.keys m n) (ap₂ ◌&&◌ (ap (λ l. bytes_eq l m) of_org) (ap (λ l. bytes_eq l n) of_name))
-          ∙ sym (any_judged (λ y. bytes_eq (org y.1) m && bytes_eq (name y.1) n) xs i x c.loop-row-test.true c.loop-row-item.is);
+          ∙ sym (any_more (λ y. bytes_eq (org y.1) m && bytes_eq (name y.1) n) xs i x c.loop-row-test.true c.loop-row-item.is);
     }

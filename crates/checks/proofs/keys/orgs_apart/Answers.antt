@@ -1,12 +1,13 @@
 use Rattle.std.proofs.Common.{◌||◌, [], not, ap, ap₂, sym, ◌∙◌}
 use Rattle.std.specs.Str.{bytes_eq}
 use Rattle.statements.specs.Changes.{is_org}
+use Rattle.tables.proofs.Using.{any_more}
 use Rattle.checks.specs.declared.found.FaultKind.TheVariants as kind
 use Rattle.checks.specs.Faults.{org_fault}
 use Rattle.checks.specs.Inner.Keys.{has_key}
 use Rattle.checks.proofs.JudgingLemmas.{judges_named}
 use Rattle.checks.proofs.KeyLemmas.{bytes_turned}
-use Rattle.checks.proofs.RowLists.{any_judged, apart_judged}
+use Rattle.checks.proofs.RowLists.{apart_judged}
 use Rattle.checks.proofs.keys.orgs_apart.Goals as goal
 
 pub loop-row-preserved : goal.loop-row-preserved
@@ -22,5 +23,5 @@ loop-row-preserved c =
           (c.in_ok-fresh.ensures.fresh ∙ ap not (ap (λ n. has_key c.loop-row.keys [] n 0 0) named ∙ known.keys x.1.name)) known.judged (judges_named c.loop-row.found c.judge.new.self (ap (org_fault kind.Twice) c.as_str-name.ensures) c.in_ok-judge.ensures);
       keys = λ name.
           c.in_ok-fresh.ensures.added [] name ∙ ap₂ ◌||◌ (known.keys name) (ap (λ n. bytes_eq n name) named)
-          ∙ sym (any_judged (is_org name) xs i x c.loop-row-test.true c.loop-row-item.is);
+          ∙ sym (any_more (is_org name) xs i x c.loop-row-test.true c.loop-row-item.is);
     }

@@ -1,10 +1,12 @@
 use Rattle.std.proofs.Common.{◌&&◌, ◌||◌, ◌==◌, [], None, not, ap, ap₂, sym, ◌∙◌}
+use Rattle.std.proofs.Math.Bool.{and_comm}
 use Rattle.std.specs.Str.{bytes_eq}
+use Rattle.tables.proofs.Using.{any_more}
 use Rattle.checks.specs.declared.found.FaultKind.TheVariants as kind
 use Rattle.checks.specs.Judging.{fault_of}
 use Rattle.checks.specs.Inner.Keys.{has_key}
-use Rattle.checks.proofs.KeyLemmas.{bytes_turned, number_turned, both_turned}
-use Rattle.checks.proofs.RowLists.{any_judged, apart_judged}
+use Rattle.checks.proofs.KeyLemmas.{bytes_turned, number_turned}
+use Rattle.checks.proofs.RowLists.{apart_judged}
 use Rattle.checks.proofs.keys.pages_apart.Goals as goal
 
 pub loop-head-preserved : goal.loop-head-preserved
@@ -22,6 +24,6 @@ loop-head-preserved c =
           xs i x c.in_ok-fresh.fresh c.args.found.now c.loop-head.found c.judge.new.self c.loop-head-test.true c.head-item.is
           (c.in_ok-fresh.ensures.fresh ∙ ap not (ap (λ k. has_key c.loop-head.keys [] k x.twin 0) of_key ∙ known.keys x.key x.twin)) known.judged c.in_ok-judge.ensures;
       keys = λ key twin.
-          c.in_ok-fresh.ensures.added [] key twin 0 ∙ ap₂ ◌||◌ (known.keys key twin) (both_turned (x.twin == twin) _ ∙ ap (λ k. bytes_eq k key && x.twin == twin) of_key)
-          ∙ sym (any_judged (λ y. bytes_eq y.key key && y.twin == twin) xs i x c.loop-head-test.true c.head-item.is);
+          c.in_ok-fresh.ensures.added [] key twin 0 ∙ ap₂ ◌||◌ (known.keys key twin) (and_comm (x.twin == twin) _ ∙ ap (λ k. bytes_eq k key && x.twin == twin) of_key)
+          ∙ sym (any_more (λ y. bytes_eq y.key key && y.twin == twin) xs i x c.loop-head-test.true c.head-item.is);
     }

@@ -1,13 +1,14 @@
 use Rattle.std.proofs.Common.{◌&&◌, ◌||◌, ◌==◌, Some, ap₂, sym, ◌∙◌}
 use Rattle.std.specs.Str.{bytes_eq}
 use Rattle.texts.specs.Texts.{is_place}
+use Rattle.tables.proofs.Using.{any_more}
 use Rattle.checks.specs.declared.found.FaultKind.TheVariants as kind
 use Rattle.checks.specs.Judging.{fault_of}
 use Rattle.checks.specs.Faults.{place_fault}
 use Rattle.checks.specs.Inner.Keys.{has_key}
 use Rattle.checks.proofs.JudgingLemmas.{judges_named}
 use Rattle.checks.proofs.KeyLemmas.{bytes_turned, number_turned, regrouped, fresh_by}
-use Rattle.checks.proofs.RowLists.{any_judged, apart_judged}
+use Rattle.checks.proofs.RowLists.{apart_judged}
 use Rattle.checks.proofs.keys.vpages_apart.Goals as goal
 
 pub loop-row-preserved : goal.loop-row-preserved
@@ -30,5 +31,5 @@ loop-row-preserved c =
       keys = λ org ws n place.
           c.in_ok-fresh.ensures.added org ws n place ∙ ap₂ ◌||◌ (known.keys org ws n place)
           (ap₂ (λ a b. x.1.place == place && (x.1.number == n && (bytes_eq a org && bytes_eq b ws))) of_org of_ws ∙ regrouped (x.1.place == place) (x.1.number == n) (bytes_eq x.1.org org) (bytes_eq x.1.ws ws))
-          ∙ sym (any_judged (is_place org ws n place) xs i x c.loop-row-test.true c.loop-row-item.is);
+          ∙ sym (any_more (is_place org ws n place) xs i x c.loop-row-test.true c.loop-row-item.is);
     }

@@ -1,6 +1,6 @@
 use Rattle.checks.proofs.JudgingLemmas.{judges_both, judges_as}
-use Rattle.checks.proofs.LookLemmas.{told_more}
 use Rattle.checks.proofs.looks.judge_owned.Goals as goal
+use Rattle.std.proofs.lemmas.Result.{on_ok_weaker}
 
 pub returns : goal.returns
 returns c =
@@ -10,7 +10,7 @@ returns c =
     let x3 = c.keepings_owned.new.found in
     let x4 = c.versions_owned.new.found in
     let z = c.runs_owned.new.found in
-    told_more c.runs_owned.result (λ last.
+    on_ok_weaker c.runs_owned.result (λ last.
     judges_as x z (λ laws. record { kept = laws.0; wss = laws.1.0; keepings = laws.1.1.0; versions = laws.1.1.1.0; runs = laws.1.1.1.1 }) (λ r. (r.kept, (r.wss, (r.keepings, (r.versions, r.runs)))))
     (judges_both x x1 z (rw (c.as_slice-wss.ensures, c.as_slice.ensures) at c.in_ok-wss_kept.ensures)
     (judges_both x1 x2 z (rw (c.as_slice-wss.ensures, c.as_slice-2.ensures) at c.in_ok-wss_owned.ensures)

@@ -1,6 +1,6 @@
 use Rattle.checks.proofs.JudgingLemmas.{judges_both, judges_as}
-use Rattle.checks.proofs.LookLemmas.{told_more}
 use Rattle.checks.proofs.looks.judge_ranges.Goals as goal
+use Rattle.std.proofs.lemmas.Result.{on_ok_weaker}
 
 pub returns : goal.returns
 returns c =
@@ -9,7 +9,7 @@ returns c =
     let x2 = c.orgs_in_range.new.found in
     let x3 = c.tokens_in_range.new.found in
     let z = c.bounds_in_range.new.found in
-    told_more c.bounds_in_range.result (λ last.
+    on_ok_weaker c.bounds_in_range.result (λ last.
     judges_as x z (λ laws. record { told = laws.0; orgs = laws.1.0; tokens = laws.1.1.0; bounds = laws.1.1.1 }) (λ r. (r.told, (r.orgs, (r.tokens, r.bounds))))
     (judges_both x x1 z (rw (c.as_slice.ensures, c.as_slice-2.ensures) at c.in_ok-version_told.ensures)
     (judges_both x1 x2 z (rw c.as_slice-3.ensures at c.in_ok-orgs_in_range.ensures) (judges_both x2 x3 z (rw c.as_slice-4.ensures at c.in_ok-tokens_in_range.ensures) last))))

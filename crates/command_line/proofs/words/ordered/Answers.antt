@@ -8,6 +8,7 @@ use Rattle.clap.specs.declared.parser.matches.SubCommand.{SubCommand}
 use Rattle.clap.specs.declared.parser.matches.ArgMatches.TheViews.{out-ArgMatches, out-SubCommand}
 use Rattle.clap.proofs.WalkLemmas.{first_value-rows}
 use Rattle.std.proofs.lemmas.Result.{IfErr-weaker}
+use Rattle.std.proofs.lemmas.Option.{same_Some}
 use Rattle.command_line.specs.Arguments.{first_misfit}
 use Rattle.command_line.specs.Inner.Misfits.{IsUnread, IsUnreadOf}
 use Rattle.command_line.specs.declared.misfits.Unread.{Unread}
@@ -21,16 +22,9 @@ names_agree : {Z : Type 0} (x : Option (Box SubCommand Z)) → option_map (λ p.
 names_agree None = refl
 names_agree (Some b) = refl
 
-some_is : {X : Type 0} (a b : X) → Some a ≡ Some b → a ≡ b
-some_is a b e = ap (unwrap_or_this a) e
-  where
-    unwrap_or_this : {X : Type 0} → X → Option X → X
-    unwrap_or_this x None = x
-    unwrap_or_this x (Some y) = y
-
 found_is : {X : Type 0} (F : Option (Text × List Row) → X) (G : Text → Given → X) → ((p : Text × List Row) → F (Some p) ≡ G p.0 (given_in p.1)) → (o : Option (Text × List Row)) (name : Text) (rows : List Row) → option_map (λ p. p.0) o ≡ Some name → option_map (λ p. p.1) o ≡ Some rows → F o ≡ G name (given_in rows)
 found_is F G same None name rows n r = cc
-found_is F G same (Some p) name rows n r = same p ∙ ap₂ (λ a b. G a (given_in b)) (some_is p.0 name n) (some_is p.1 rows r)
+found_is F G same (Some p) name rows n r = same p ∙ ap₂ (λ a b. G a (given_in b)) (same_Some p.0 name n) (same_Some p.1 rows r)
 
 same_unread : (found : Option (Text × List Row)) (command : Text) (given : Given) (unread : Unread) → asked_by_command found ≡ asked_with command given → misfit_by_command found ≡ first_misfit command given → IsUnread command given unread → IsUnreadOf found unread
 same_unread found command given (Value argument) asked misfit is = (asked ∙ is.0, misfit ∙ is.1)

@@ -1,4 +1,5 @@
-use Rattle.std.proofs.Common.{◌≡◌, ◌⊎◌, List, [], ◌∷◌, Bool, true, false, ◌||◌, inl, inr, refl}
+use Rattle.std.proofs.Common.{◌≡◌, ◌⊎◌, List, [], ◌∷◌, true, inl, inr, refl}
+use Rattle.std.proofs.Math.Bool.{or-true}
 use Rattle.std.specs.List.{list_any}
 use Rattle.clap.specs.Kinds.{IsAmong}
 use Rattle.clap.specs.declared.error.kind.ErrorKind.{ErrorKind}
@@ -6,14 +7,10 @@ use Rattle.clap.specs.declared.error.kind.ErrorKind.TheVariants as kind
 use Rattle.command_line.specs.Words.{ask_for_version, faults, is_version}
 use Rattle.command_line.proofs.words.unmatched.Goals as goal
 
-or_true : (b : Bool) → (b || true) ≡ true
-or_true true = refl
-or_true false = refl
-
 is_among : (kinds : List ErrorKind) → IsAmong kind.DisplayVersion kinds → list_any is_version kinds ≡ true
 is_among [] one = absurd one
 is_among (k ∷ ks) (inl is) = rw (← is) refl
-is_among (k ∷ ks) (inr one) = rw (is_among ks one) (or_true (is_version k))
+is_among (k ∷ ks) (inr one) = rw (is_among ks one) (or-true (is_version k))
 
 asked_is : (k : ErrorKind) (kinds : List ErrorKind) → k ≡ kind.DisplayVersion → (k ≡ kind.OutOfMemory) ⊎ IsAmong k kinds → list_any is_version kinds ≡ true
 asked_is k kinds is (inl none) = cc

@@ -1,5 +1,5 @@
 use Rattle.std.proofs.Common.{ℕ, ◌++◌, take, append_assoc, take-append-drop}
-use Rattle.wire.proofs.LinkLemmas.{Appends-then}
+use Rattle.std.proofs.KnownBytes.{Appends-trans}
 use Rattle.program.proofs.logs.write_bytes.Goals as goal
 
 pub writing-preserved : goal.writing-preserved
@@ -8,5 +8,5 @@ writing-preserved g c =
     let done = c.writing.invariant in (
       done.0 ++ take n c.writing.rest.now,
       rw (c.split_at.ensures.back, append_assoc, take-append-drop n c.writing.rest.now) done.1,
-      Appends-then _ _ _ done.0 (take n c.writing.rest.now) done.2 c.in-Ok.ensures.bytes,
+      Appends-trans _ _ _ done.0 (take n c.writing.rest.now) done.2 c.in-Ok.ensures.bytes,
     )

@@ -1,30 +1,30 @@
-use Rattle.serve.proofs.RecordLemmas.{if_ok}
 use Rattle.serve.proofs.TakenLemmas.{list_carried, tokens_carried}
 use Rattle.serve.proofs.commands.tell.Goals as goal
+use Rattle.std.proofs.lemmas.Result.{IfOk-weaker}
 
 pub returns-in-OrgAdd-clause-ok : goal.returns-in-OrgAdd-clause-ok
-returns-in-OrgAdd-clause-ok g c = λ clean sound. if_ok c.tell_word.result (λ told carried. carried (rw c.in-OrgAdd.is tt)) (c.tell_word.ensures.ok clean sound)
+returns-in-OrgAdd-clause-ok g c = λ clean sound. IfOk-weaker c.tell_word.result _ _ (λ told carried. carried (rw c.in-OrgAdd.is tt)) (c.tell_word.ensures.ok clean sound)
 
 pub returns-in-OrgLimit-clause-ok : goal.returns-in-OrgLimit-clause-ok
-returns-in-OrgLimit-clause-ok g c = λ clean sound. if_ok c.tell_word-in-OrgLimit.result (λ told carried. carried (rw c.in-OrgLimit.is tt)) (c.tell_word-in-OrgLimit.ensures.ok clean sound)
+returns-in-OrgLimit-clause-ok g c = λ clean sound. IfOk-weaker c.tell_word-in-OrgLimit.result _ _ (λ told carried. carried (rw c.in-OrgLimit.is tt)) (c.tell_word-in-OrgLimit.ensures.ok clean sound)
 
 pub returns-in-OrgRemove-clause-ok : goal.returns-in-OrgRemove-clause-ok
-returns-in-OrgRemove-clause-ok g c = λ clean sound. if_ok c.tell_word-in-OrgRemove.result (λ told carried. carried (rw c.in-OrgRemove.is tt)) (c.tell_word-in-OrgRemove.ensures.ok clean sound)
+returns-in-OrgRemove-clause-ok g c = λ clean sound. IfOk-weaker c.tell_word-in-OrgRemove.result _ _ (λ told carried. carried (rw c.in-OrgRemove.is tt)) (c.tell_word-in-OrgRemove.ensures.ok clean sound)
 
 pub returns-in-TokenAdd-clause-ok : goal.returns-in-TokenAdd-clause-ok
-returns-in-TokenAdd-clause-ok g c = λ clean sound. if_ok c.tell_word-in-TokenAdd.result (λ told carried. carried (rw c.in-TokenAdd.is tt)) (c.tell_word-in-TokenAdd.ensures.ok clean sound)
+returns-in-TokenAdd-clause-ok g c = λ clean sound. IfOk-weaker c.tell_word-in-TokenAdd.result _ _ (λ told carried. carried (rw c.in-TokenAdd.is tt)) (c.tell_word-in-TokenAdd.ensures.ok clean sound)
 
 pub returns-in-TokenRevoke-clause-ok : goal.returns-in-TokenRevoke-clause-ok
-returns-in-TokenRevoke-clause-ok g c = λ clean sound. if_ok c.tell_word-in-TokenRevoke.result (λ told carried. carried (rw c.in-TokenRevoke.is tt)) (c.tell_word-in-TokenRevoke.ensures.ok clean sound)
+returns-in-TokenRevoke-clause-ok g c = λ clean sound. IfOk-weaker c.tell_word-in-TokenRevoke.result _ _ (λ told carried. carried (rw c.in-TokenRevoke.is tt)) (c.tell_word-in-TokenRevoke.ensures.ok clean sound)
 
 pub returns-in-OrgList-clause-ok : goal.returns-in-OrgList-clause-ok
 returns-in-OrgList-clause-ok g c = λ clean sound.
-    if_ok c.tell_organizations.result
+    IfOk-weaker c.tell_organizations.result _ _
     (λ told listed. list_carried (g.K.Keep.rows c.args.keep.now) (g.K.Keep.rows c.tell_organizations.new.keep) c.args.asked.now told c.in-OrgList.is (c.tell_organizations.ensures.looks.same clean) listed.0 listed.1 listed.2)
     (c.tell_organizations.ensures.ok clean sound)
 
 pub returns-in-TokenList-clause-ok : goal.returns-in-TokenList-clause-ok
 returns-in-TokenList-clause-ok g c = λ clean sound.
-    if_ok c.tell_tokens.result
+    IfOk-weaker c.tell_tokens.result _ _
     (λ told listed. tokens_carried (g.K.Keep.rows c.args.keep.now) (g.K.Keep.rows c.tell_tokens.new.keep) c.args.asked.now c.in-TokenList.org told c.in-TokenList.is (c.tell_tokens.ensures.looks.same clean) listed)
     (c.tell_tokens.ensures.ok clean sound)

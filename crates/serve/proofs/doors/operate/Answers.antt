@@ -1,10 +1,10 @@
 use Rattle.std.proofs.Common.{inl, Some, None}
-use Rattle.serve.proofs.RecordLemmas.{if_ok}
+use Rattle.std.proofs.lemmas.Result.{IfOk-weaker}
 use Rattle.serve.proofs.DoorLemmas.{if_err, turned}
 use Rattle.serve.proofs.doors.operate.Goals as goal
 
 pub returns-in-Ok-clause-ok : goal.returns-in-Ok-clause-ok
-returns-in-Ok-clause-ok g c = λ clean sound. if_ok c.carry_out.result (λ done operates. inl (c.in-Ok.asked, c.in-Ok.ensures, operates)) (c.carry_out.ensures.ok clean sound)
+returns-in-Ok-clause-ok g c = λ clean sound. IfOk-weaker c.carry_out.result _ _ (λ done operates. inl (c.in-Ok.asked, c.in-Ok.ensures, operates)) (c.carry_out.ensures.ok clean sound)
 
 pub returns-in-Ok-clause-row : goal.returns-in-Ok-clause-row
 returns-in-Ok-clause-row g c = if_err c.carry_out.result (λ row is. record { command = Some c.in-Ok.asked; asks = c.in-Ok.ensures; is = is }) c.carry_out.ensures.row

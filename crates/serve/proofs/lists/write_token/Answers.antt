@@ -1,7 +1,7 @@
 use Rattle.std.proofs.Common.{◌≡◌, ◌∙◌, ◌++◌, ℕ, List, Option, Result, Ok, Err, ap, sym, subst, append_assoc}
+use Rattle.std.proofs.KnownBytes.{Appends-trans}
 use Rattle.std.specs.Prelude.{OnOk}
 use Rattle.std.specs.Io.KnownBytes.{Appends}
-use Rattle.wire.proofs.LinkLemmas.{Appends-then}
 use Rattle.serve.proofs.lists.write_token.Goals as goal
 
 -- what is written of a caller stands behind its name, one piece after another
@@ -13,7 +13,7 @@ onto x r s u p e =
 printed : {T E : Type 0} (result : Result T E) (a b c d : Option (List ℕ)) (n r s u p e : List ℕ) → Appends a b n → Appends b c s → OnOk result (Appends c d (r ++ s ++ u ++ s ++ p ++ e))
     → OnOk result (Appends a d (n ++ s ++ r ++ s ++ u ++ s ++ p ++ e))
 printed (Ok done) a b c d n r s u p e first second third =
-    subst (λ (t : List ℕ). Appends a d t) (onto (n ++ s) r s u p e) (Appends-then a c d (n ++ s) (r ++ s ++ u ++ s ++ p ++ e) (Appends-then a b c n s first second) third)
+    subst (λ (t : List ℕ). Appends a d t) (onto (n ++ s) r s u p e) (Appends-trans a c d (n ++ s) (r ++ s ++ u ++ s ++ p ++ e) (Appends-trans a b c n s first second) third)
 printed (Err fault) a b c d n r s u p e first second third = tt
 
 pub returns : goal.returns

@@ -2,9 +2,9 @@ use Rattle.std.proofs.Common.{◌∙◌, ◌+◌, ◌<◌, ℕ, List, [], Option
 use Rattle.std.specs.Io.KnownBytes.{Appends}
 use Rattle.std.specs.List.{flat_map}
 use Rattle.std.proofs.lemmas.List.{take_more, flat_map_more}
+use Rattle.std.proofs.KnownBytes.{Appends-trans}
 use Rattle.machine.specs.declared.keeps.TokenRow.{TokenRow}
 use Rattle.serve.specs.Service.{token_line}
-use Rattle.wire.proofs.LinkLemmas.{Appends-then}
 use Rattle.serve.proofs.lists.write_token_lines.Goals as goal
 
 -- one more row behind those that are written
@@ -12,7 +12,7 @@ printed_more : {X : Type 0} (f : X → List ℕ) (a b c : Option (List ℕ)) (xs
     → Appends a c (flat_map f (take (i + 1) xs))
 printed_more f a b c xs i x inside so_far one =
     let more = ap (flat_map f) (take_more xs i x inside) ∙ sym (flat_map_more f [] (take i xs) (get_or xs i x)) in
-    subst (λ (t : List ℕ). Appends a c t) (sym more) (Appends-then a b c (flat_map f (take i xs)) (f (get_or xs i x)) so_far one)
+    subst (λ (t : List ℕ). Appends a c t) (sym more) (Appends-trans a b c (flat_map f (take i xs)) (f (get_or xs i x)) so_far one)
 
 pub rows-preserved : goal.rows-preserved
 rows-preserved g c =

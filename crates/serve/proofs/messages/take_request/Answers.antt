@@ -1,9 +1,10 @@
 use Rattle.std.proofs.Common.{◌≡◌, Some, Result, Ok, IfOk, ap, subst, ◌∙◌, rules}
+use Rattle.std.proofs.lemmas.Option.{same_Some}
 use Rattle.docs.specs.declared.logs.LogRow.{LogRow}
 use Rattle.serve.specs.Inner.Replying.{PreparesFor, LogsFor}
 use Rattle.serve.specs.declared.prepared.Prepared.{Prepared}
 use Rattle.machine.proofs.LastingLemmas.{lasts_behind}
-use Rattle.serve.proofs.ExchangeLemmas.{input_read, input_answered, bytes_of, asks_something}
+use Rattle.serve.proofs.ExchangeLemmas.{input_read, input_answered, asks_something}
 use Rattle.serve.proofs.messages.take_request.Goals as goal
 
 pub returns-in_err-commit-clause-lasts : goal.returns-in_err-commit-clause-lasts
@@ -29,4 +30,4 @@ returns-clause-ok g c = λ clean sound.
     let known = input_read _ _ (Some c.read_message-read.new.outlet.writer.items) c.args.bytes.now c.read_message-read.result c.new-inlet.ensures.left (c.new-outlet.ensures.written ∙ ap Some c.new.ensures.items) c.read_message-read.ensures.known in
     input_answered c.args.at c.read_message-read.result (g.K.Keep.rows c.args.keep.now) (g.K.Keep.rows c.prepare.new.keep) (g.K.Keep.rows c.commit.new.keep) c.in-Ok-Ok.ready c.in-Ok-Ok.ready.row c.args.bytes.now
     (Some c.read_message-read.new.outlet.writer.items) t.0 c.new-2.result
-    (c.prepare.ensures.looks.same before) ok logs (c.in_ok-commit.ensures.ok clean kept) t.1 known (c.new-2.ensures ∙ bytes_of _ _ c.into_inner.ensures ∙ t.2)
+    (c.prepare.ensures.looks.same before) ok logs (c.in_ok-commit.ensures.ok clean kept) t.1 known (c.new-2.ensures ∙ same_Some _ _ c.into_inner.ensures ∙ t.2)

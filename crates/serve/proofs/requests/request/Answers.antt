@@ -1,11 +1,11 @@
 use Rattle.std.proofs.Common.{Ok, Err, IsSome, Option, subst, sym, ◌≡◌, ap, ◌∙◌}
-use Rattle.std.proofs.lemmas.Result.{IfErr-weaker}
+use Rattle.std.proofs.lemmas.Result.{IfErr-weaker, IfOk-weaker}
 use Rattle.basis.specs.declared.refusals.Refusal.TheVariants.{Unavailable}
 use Rattle.machine.specs.declared.records.Organization.{Organization}
 use Rattle.serve.specs.Logs.{id_spelt, traced, workspace_named}
 use Rattle.serve.specs.Steps.{carried, request_step}
 use Rattle.serve.specs.Inner.Prepared.{Foresees, workspace_of_task}
-use Rattle.serve.proofs.RecordLemmas.{if_ok, refused_then}
+use Rattle.serve.proofs.RecordLemmas.{refused_then}
 use Rattle.serve.proofs.LogLemmas.{ok_apart, err_apart, facts_same, with_known, carried_so_far, refused_so_far}
 use Rattle.serve.proofs.requests.request.Goals as goal
 
@@ -16,7 +16,7 @@ returns-in-Ok-clause-ok g c = λ clean sound.
     let before : g.K.Keep.clean c.checked.new.keep = c.carry.ensures.looks.so_far clean in
     let same : g.K.Keep.rows c.checked.new.keep org ≡ r = c.checked.ensures.looks.same before org in
     let some : IsSome (g.K.Keep.rows c.checked.new.keep org) = subst IsSome (sym same) (c.in-Ok.ensures.there before sound) in
-    if_ok c.carry.result
+    IfOk-weaker c.carry.result _ _
     (λ p foreseen.
     subst (λ named. Foresees r named (request_step r c.args.at c.args.asked.now c.args.content_md5.now c.args.body) p.0 p.1) c.in-Ok.ensures.place
     (subst (λ answered. Foresees r (workspace_of_task c.in-Ok.task) answered p.0 p.1) (c.in-Ok.ensures.ok before sound)
@@ -38,7 +38,7 @@ returns-in-Ok-clause-facts g c = λ clean sound.
     let same : g.K.Keep.rows c.checked.new.keep org ≡ r = c.checked.ensures.looks.same before org in
     let some : IsSome (g.K.Keep.rows c.checked.new.keep org) = subst IsSome (sym same) (c.in-Ok.ensures.there before sound) in
     let good : c.checked.result ≡ Err Unavailable → ⊥ = λ e. ok_apart c.in-Ok.task c.checked.result c.in-Ok.is e in
-    if_ok c.carry.result
+    IfOk-weaker c.carry.result _ _
     (λ p is. is some ∙ facts_same _ _ _ _ _ _ (c.checked.ensures.names before sound good) (sym (ap id_spelt c.in-Ok.is) ∙ c.checked.ensures.spells before sound good)
     (ap (λ (x : Option Organization). traced c.args.at x (Ok c.in-Ok.task)) same ∙ c.in-Ok.ensures.traces before sound))
     (c.carry.ensures.facts clean (c.checked.ensures.looks.kept before sound))
@@ -49,7 +49,7 @@ returns-in-Err-clause-facts g c = λ clean sound.
     let r = g.K.Keep.rows c.args.keep.now org in
     with_known _ c.refuse_request.result (λ apart.
     let bad : c.checked.result ≡ Err Unavailable → ⊥ = λ e. err_apart c.in-Err.refusal c.checked.result c.in-Err.is apart e in
-    if_ok c.refuse_request.result
+    IfOk-weaker c.refuse_request.result _ _
     (λ p is. is ∙ facts_same _ _ _ _ _ _ (c.checked.ensures.names clean sound bad) (sym (ap id_spelt c.in-Err.is) ∙ c.checked.ensures.spells clean sound bad)
     (sym (ap (traced c.args.at r) (c.in-Err.ensures.ok clean sound apart))))
     c.refuse_request.ensures.facts) c.refuse_request.ensures.known

@@ -1,7 +1,8 @@
 use Rattle.std.proofs.Common.{rules, ◌≡◌, true, false, is_some, None}
 use Rattle.sqlite.specs.Held.{state}
 use Rattle.machine.specs.declared.keeps.AdminAnswer.TheVariants.{Exists, Absent}
-use Rattle.tables.proofs.KeepCopied.{is_absent, is_there, none_of, copies_none, copies_one}
+use Rattle.pages.proofs.Alone.{none_if}
+use Rattle.tables.proofs.KeepCopied.{is_absent, is_there, copies_none, copies_one}
 use Rattle.tables.proofs.KeepKeyed.{keyed_unchanged, keyed_behind}
 use Rattle.tables.proofs.operators.copy.Goals as goal
 
@@ -38,7 +39,7 @@ returns-clause-done g c clean =
     let told = c.in_ok-there.ensures.read (c.copy_organization.ensures.ends.so_far clean) in
     let none : is_some there ≡ false = search rules in (
       copies_one g.T.Store org found there a b c.args.from.now c.cap.new.conn c.assert_committed.ensures c.assert_committed-2.ensures (λ clean. let read = c.in_ok-found.ensures.read clean in (read.0, read.1.0)) told.0 told.1.0
-          c.in-Some.cap d c.copy_organization.new.from c.in-Some.is (none_of there none) c.copy_organization.ensures.looks.so_far (c.in_ok-copy_organization.ensures.done clean).0,
+          c.in-Some.cap d c.copy_organization.new.from c.in-Some.is (none_if there none) c.copy_organization.ensures.looks.so_far (c.in_ok-copy_organization.ensures.done clean).0,
       tt,
     )
 

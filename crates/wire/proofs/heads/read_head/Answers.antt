@@ -1,7 +1,7 @@
 use Rattle.std.proofs.Common.{◌≡◌, ◌<◌, ◌≤◌, ◌++◌, ◌∙◌, ℕ, ◌+◌, List, Some, true, not, cond, ap, is_ok, take, drop, length, arith, length-append, length-take}
 use Rattle.std.proofs.lemmas.List.{take-append-le}
+use Rattle.std.proofs.KnownBytes.{Consumes-trans, Consumes-kept}
 use Rattle.wire.specs.Heads.{head_len}
-use Rattle.wire.proofs.LinkLemmas.{Consumes-then, Consumes-kept}
 use Rattle.wire.proofs.HeadLemmas.{head_end_some, head_end_short, head_end_long, passes_none, passes_end}
 use Rattle.wire.proofs.heads.read_head.Goals as goal
 
@@ -15,7 +15,7 @@ returns-in_default-clause-found g c =
 
 pub returns-then-is_err-clause-found : goal.returns-then-is_err-clause-found
 returns-then-is_err-clause-found g c =
-    (c.reading.bytes.items ++ take c.in-Ok.count c.read.new.buf, Consumes-then _ _ _ _ _ c.reading.invariant.received c.in-Ok.ensures.bytes.0, tt)
+    (c.reading.bytes.items ++ take c.in-Ok.count c.read.new.buf, Consumes-trans _ _ _ _ _ c.reading.invariant.received c.in-Ok.ensures.bytes.0, tt)
 
 pub returns-in-Some-clause-found : goal.returns-in-Some-clause-found
 returns-in-Some-clause-found g c =
@@ -35,7 +35,7 @@ returns-in-Some-clause-found g c =
     let room : length got ≡ length (take c.min-room.result c.reading.chunk) = c.read.auto.buf in
     let few : length received + c.in-Some.end ≤ 16_384 = omega (arith, in_piece, ap length same, length-take n got, room, length-take c.min-room.result c.reading.chunk, c.min-room.ensures, c.len-in-reading.ensures, c.in-Ok.ensures.bound, c.reading-test.true) in (
       received ++ take n got,
-      Consumes-then _ _ _ _ _ c.reading.invariant.received c.in-Ok.ensures.bytes.0,
+      Consumes-trans _ _ _ _ _ c.reading.invariant.received c.in-Ok.ensures.bytes.0,
       (items, rw len (head_end_some (received ++ take n got) (length received + c.in-Some.end) (rw same at end) few), in_all),
     )
 

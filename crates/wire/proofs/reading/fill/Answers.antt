@@ -1,6 +1,6 @@
 use Rattle.std.proofs.Common.{◌≡◌, ◌-◌, ◌≤◌, ◌+◌, ℕ, ◌++◌, length, take, append_assoc, ap, ◌∙◌, arith, rules}
+use Rattle.std.proofs.KnownBytes.{Consumes-trans}
 use Rattle.wire.proofs.FillLemmas.{rest_fills, filled_more, filled_same}
-use Rattle.wire.proofs.LinkLemmas.{Consumes-then}
 use Rattle.wire.proofs.reading.fill.Goals as goal
 
 pub filling-preserved : goal.filling-preserved
@@ -17,7 +17,7 @@ filling-preserved g c =
       goes_on = search rules;
       received = (
         before.0 ++ take n part,
-        Consumes-then _ _ _ before.0 (take n part) before.1 c.in-Ok.ensures.bytes.0,
+        Consumes-trans _ _ _ before.0 (take n part) before.1 c.in-Ok.ensures.bytes.0,
         filled_more c.filling.filled c.filling.body part fits whole n c.in-Ok.ensures.bound.0 ∙ ap (λ xs. xs ++ take n part) before.2 ∙ append_assoc (take c.args.begun c.args.body.now) before.0 (take n part),
       );
       short = few;

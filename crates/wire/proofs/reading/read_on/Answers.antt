@@ -1,5 +1,5 @@
 use Rattle.std.proofs.Common.{[], ◌∙◌, ap, take, drop}
-use Rattle.wire.proofs.LinkLemmas.{Consumes-none}
+use Rattle.std.proofs.KnownBytes.{Consumes-nil}
 use Rattle.wire.proofs.AnswerLemmas.{finished, refused_here}
 use Rattle.wire.proofs.reading.read_on.Goals as goal
 
@@ -17,7 +17,7 @@ returns-in-Ok-clause-answer g c =
 pub returns-clause-answer : goal.returns-clause-answer
 returns-clause-answer g c = (
   [],
-  Consumes-none _,
+  Consumes-nil _,
   refused_here c.args.received_head.bytes c.split_at.result.0.now c.args.received_head.len c.in-Err.fault c.refusal_fault.result _ _
       (c.split_at.ensures.front ∙ ap (take c.args.received_head.len) c.as_slice.ensures)
       c.requires.head_end c.requires.within c.in-Err.ensures c.refusal_fault.ensures,

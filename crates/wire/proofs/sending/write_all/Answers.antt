@@ -1,5 +1,5 @@
 use Rattle.std.proofs.Common.{ℕ, ◌++◌, take, append_assoc, take-append-drop}
-use Rattle.wire.proofs.LinkLemmas.{Appends-then}
+use Rattle.std.proofs.KnownBytes.{Appends-trans}
 use Rattle.wire.proofs.sending.write_all.Goals as goal
 
 pub writing-preserved : goal.writing-preserved
@@ -11,6 +11,6 @@ writing-preserved g c =
       done = (
         done.0 ++ take n c.writing.rest.now,
         rw (c.split_at.ensures.back, append_assoc, take-append-drop n c.writing.rest.now) done.1,
-        Appends-then _ _ _ done.0 (take n c.writing.rest.now) done.2 c.in-Ok.ensures.bytes,
+        Appends-trans _ _ _ done.0 (take n c.writing.rest.now) done.2 c.in-Ok.ensures.bytes,
       );
     }
