@@ -2,7 +2,7 @@
 """Tests the operator's door of a service: `serve --operator`, by requests over 127.0.0.1 and exact replies; and `admin`.
 
     python3 tools/doors.py CUSTODY    the program as `rt ci` or `rt run` leaves it
-    python3 tools/doors.py story      prints the stories of the door, with the same requests, replies and lines of the log
+    python3 tools/doors.py story      prints the stories of the door: two of the program, with the same requests, replies and lines of the log; and those of a store
 
 It prints a line for each thing that holds, and ends with status 1 at the first that does not.
 """
@@ -85,8 +85,8 @@ def listed(text=b""):
     return done(b"org-list", text, "list organizations")
 
 
-def refusals():
-    """What the door turns away, in the order of its checks, and what does not come to it. Nothing changes."""
+def refusals(there=b""):
+    """What the door turns away, in the order of its checks, and what does not come to it. Nothing changes; `there` are the lines of the organizations."""
     org = b"org-add acme"
     for method in [b"GET", b"PUT", b"DELETE", b"LOCK", b"UNLOCK"]:
         yield turned("the method %s" % method.decode(), at_door(b"", line=method + b" /operator?a HTTP/1.1", secret=None), "no-method")
@@ -101,11 +101,11 @@ def refusals():
                  b"org-add acme\r\n", b"org-remove acme forced", b"token-add acme ci write " + TOKEN[:-1], b"token-add acme ci owner " + TOKEN, b"token-list", b"org-add \xff",
                  b"org-add acme" + b" " * 4085, b"check", b"serve", b"admin org-list"]:
         yield turned("the body %s" % body[:40], at_door(body), "bad-body")
-    yield listed()
+    yield listed(there)
     for path in [b"//operator", b"/operator/", b"/v1/../operator", b"/Operator", b"/operator%20", b"/%6fperator", b"/v1/operator"]:
         yield Exchange("the path %s" % path, at_door(org, line=b"POST %s HTTP/1.1" % path), REFUSED["no-route"], refusal="no-route", status=404)
     yield Exchange("two fields", at_door(org, b"Authorization: Operator " + SECRET), REFUSED["bad-message"], refusal="bad-message", status=400)
-    yield listed()
+    yield listed(there)
 
 
 def commands():
@@ -302,8 +302,109 @@ def story(name, exchanges):
     return [*lines, "|", "?", "| custody: there was no file at the path; a new one was created", "|", ""]
 
 
+BASE = "two organizations and an empty workspace"
+THERE = b"acme 1 200\nbeta 0 200\n"
+PLAIN = b"text/plain; charset=utf-8"
+
+
+def rows(text):
+    """The pieces of a body."""
+    if not text:
+        return ["|"]
+    if text.endswith(b" "):
+        front = text.rstrip(b" ")
+        return ["\\ " + escaped(front), "* %d \\x20" % (len(text) - len(front))]
+    plain = all(32 <= b < 127 or b == 10 for b in text)
+    return ["| " + line if line else "|" for line in text.decode().split("\n")] if plain else ["\\ " + escaped(text)]
+
+
+def short(one):
+    """A request and its reply as a step of a store, in short form; as they are if no short form has them."""
+    head, _, body = one.sent.partition(b"\r\n\r\n")
+    line, *fields = head.decode().split("\r\n")
+    if fields[:1] == ["Host: c"] and fields[-1].startswith("Content-Length: ") and not any(field.endswith(" ") for field in fields):
+        is_admin = fields[1] == "Authorization: " + ADMIN.decode()
+        words = ("A " if is_admin else "- ") + line.removesuffix(" HTTP/1.1").replace(" /v1/acme/", " ")
+        asked = [words, *("+ " + field for field in fields[2 if is_admin else 1 : -1]), *rows(body)]
+    else:
+        asked = ["raw", *pieces(one.sent)]
+    head, _, body = one.due.partition(b"\r\n\r\n")
+    if one.due.startswith(CONTINUE):
+        return [*asked, "= raw", *pieces(one.due.replace(b"Date: DATE", b"Date: " + DATE))]
+    line, *fields = head.decode().split("\r\n")
+    status, word = line.split(" ")[1], json.loads(body)["error"] if body.startswith(b'{"error":') else ""
+    own = [field for field in fields if field.startswith(("Allow:", "WWW-Authenticate:")) or field == "Content-Type: " + PLAIN.decode()]
+    if word and not any(field.startswith("WWW-Authenticate: ") for field in own):
+        return [*asked, "= %s %s" % (status, word), *("+ " + field for field in own)]
+    if own and own[0].startswith("WWW-Authenticate: Bearer"):
+        return [*asked, "= %s %s" % (status, word)]
+    return [*asked, "= " + status, *("+ " + field for field in own), *(rows(body) if body else [])]
+
+
+def stored(name, above, exchanges, secret=SECRET):
+    """A story of a store, whose door is open to this secret."""
+    lines = ["story " + name, *above, *(["operator " + secret.decode()] if secret else [])]
+    return [*lines, *(line for one in exchanges for line in short(one)), ""]
+
+
+def broken(*more):
+    """Commands of each kind with each answer, as few as there can be."""
+    yield done(b"org-add gamma", b"ok\n", None)
+    yield done(b"org-add acme", b"refused exists\n", None)
+    yield done(b"org-limit gamma 3", b"ok\n", None)
+    yield done(b"org-limit delta 3", b"refused absent\n", None)
+    yield done(b"token-add gamma ci write " + TOKEN, b"ok\n", None)
+    yield done(b"token-list gamma", b"ci write - -\n", None)
+    yield from more
+    yield done(b"token-revoke gamma ci", b"ok\n", None)
+    yield done(b"org-remove gamma", b"ok\n", None)
+    yield done(b"org-remove acme", b"refused in-use\n", None)
+    yield done(b"org-remove acme force", b"ok\n", None)
+    yield done(b"org-list", b"beta 0 200\n", None)
+
+
+def turned_away():
+    """A request for each check of the door."""
+    yield turned("", at_door(b"", line=b"GET /operator?a HTTP/1.1", secret=None), "no-method")
+    yield turned("", at_door(b"", line=b"POST /operator?a HTTP/1.1", secret=None), "bad-query")
+    yield turned("", at_door(b"org-add gamma", secret=b"Operator " + SECRET[:-1]), "bad-token")
+    yield turned("", at_door(b"org-add gamma", b"Content-MD5: " + base64.b64encode(bytes(16))), "bad-digest")
+    yield turned("", at_door(b"org-add Gamma"), "bad-body")
+
+
+def closed():
+    """There is no door without a secret, whatever comes to it."""
+    for sent in [at_door(b"org-list"), at_door(b"org-list", secret=None), at_door(b"", line=b"GET /operator?a HTTP/1.1")]:
+        yield Exchange("the door that is closed", sent, REFUSED["no-route"])
+
+
+def taken_for_another():
+    """A token's secret at the door, and the operator's secret as a token's."""
+    for secret in [b"Bearer acme." + TOKEN, b"Operator acme." + TOKEN, b"Operator adminadminadmin1"]:
+        yield turned("", at_door(b"org-list", secret=secret), "bad-token")
+    for line in [b"GET /v1/acme/state/net HTTP/1.1", b"POST /v1/acme/state/net HTTP/1.1"]:
+        yield Exchange("", message(line, b'{"serial":1}', secret=b"Bearer acme." + SECRET), NO_TOKEN)
+    yield listed(THERE)
+
+
+def lock_in_acme():
+    lock = message(b"LOCK /v1/acme/state/net HTTP/1.1", b'{"ID":"5f2c"}', secret=ADMIN)
+    return Exchange("a lock", lock, ok())
+
+
 def stories():
-    return [*story("operator's commands come by the door", commands()), *story("the door turns away what has no secret or no command", refusals())]
+    after = "after " + BASE
+    others = done(b"token-list delta", b"refused absent\n", None), done(b"token-add gamma other read " + TOKEN, b"refused exists\n", None)
+    return [
+        *story("operator's commands come by the door", commands()),
+        *story("the door turns away what has no secret or no command", refusals()),
+        *stored("each command at the operator's door, over a store", ["links refused"], commands()),
+        *stored("commands at the operator's door over links that break", [after, "links cut reads writes again"], [lock_in_acme(), *broken()]),
+        *stored("commands at the operator's door over power that is cut", [after, "stops"], [lock_in_acme(), *broken(*others)]),
+        *stored("what a store's door turns away changes nothing", [after], [*refusals(THERE), *taken_for_another()]),
+        *stored("what the operator's door turns away, over links that break", [after, "links cut reads writes refused"], turned_away()),
+        *stored("without the operator's secret there is no door", [after, "links cut reads writes refused"], closed(), None),
+    ]
 
 
 if __name__ == "__main__":

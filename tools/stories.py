@@ -60,7 +60,7 @@ def marked(line, marks):
 
 class Story:
     def __init__(self, name):
-        self.name, self.after, self.begins, self.links, self.steps, self.plots = name, None, None, [], [], []
+        self.name, self.after, self.begins, self.operator, self.links, self.steps, self.plots = name, None, None, None, [], [], []
 
 
 def read(text):
@@ -95,6 +95,10 @@ def read(text):
         mark, rest = marked(line, ["begins"])
         if mark:
             story.begins = rest
+            continue
+        mark, rest = marked(line, ["operator"])
+        if mark:
+            story.operator = rest
             continue
         mark, rest = marked(line, ["links"])
         if mark:
@@ -151,7 +155,7 @@ def due(told, at, method, part):
     lines += part.fields
     if refusal in told["challenge"]:
         lines.append("WWW-Authenticate: " + told["challenge"][refusal])
-    if body:
+    if body and not any(field.startswith("Content-Type: ") for field in part.fields):
         lines.append("Content-Type: application/json")
     if status != "204":
         lines.append("Content-Length: %d" % len(body))
@@ -159,8 +163,8 @@ def due(told, at, method, part):
 
 
 def steps_of(story):
-    """All steps of a story of a store, those that come before it too; None for a story of the program or of values, and for one that begins with a file."""
-    if story.begins:
+    """All steps of a story of a store, those that come before it too; None for a story of the program or of values, for one that begins with a file, and for one with a door, which no replay has."""
+    if story.begins or story.operator:
         return None
     before = steps_of(story.after) if story.after else []
     steps = [it for it in story.steps if it]

@@ -33,6 +33,8 @@ DATA = os.path.join(HERE, "..", "crates", "stories", "data")
 UNREAD = [
     ("story x\n- GET /\n= 299\n", "line 3: the text defines no reason for this status"),
     ("story x\n\\ \\q\n", "line 2: a piece stands in no step"),
+    ("story x\noperator short\n- GET /\n= nothing\n", "line 2: an operator's secret is 16 to 64 ASCII letters or digits"),
+    ("story x\n- GET /\n= nothing\noperator operatoroperator1\n", "line 4: `operator` stands before the first step of a story"),
     ("story x\nraw\n\\ \\q\n= nothing\n", "line 3: the escapes are \\r \\n \\t \\\\ and \\xHH"),
 ]
 

@@ -1,12 +1,11 @@
 //! A story of a store over tables in a file, which is closed and opened again midway.
 use crate::programs::{forget, is_done};
 use program::environment::Opening;
-use serve::Step;
 use sqlite_disk::{Start, Unknown};
 use std::fs;
 use story_runner::devices::ALL;
 use story_runner::failures::Failure;
-use story_runner::plays::{Due, Play};
+use story_runner::plays::Play;
 use story_runner::taking::{Way, take_over};
 use system::{close_file, open_file};
 
@@ -36,13 +35,14 @@ fn take_from<S: Start>(
     path: &str,
     opening: Opening,
     start: S,
-    steps: &[Step],
-    due: &[Due],
+    play: &Play,
+    from: usize,
+    to: usize,
 ) -> Result<(), Failure> {
     let Ok(keep) = open_file(rt, path, opening, start) else {
         return Err(Failure::refused(0, "the file doesn't open"));
     };
-    let (keep, taken) = take_over(rt.alloc(), keep, Way::Exchange(ALL), steps, due);
+    let (keep, taken) = take_over(rt.alloc(), keep, Way::Exchange(ALL), play, from, to);
     if close_file(keep).is_err() {
         return Err(Failure::refused(0, "the file doesn't close"));
     }
@@ -51,10 +51,9 @@ fn take_from<S: Start>(
 
 fn take_halves(rt: &HostRuntime, play: &Play, first: Opening) -> Result<(), Failure> {
     let middle = play.steps.len() / 2;
-    let (steps, due) = play.between(0, middle);
-    take_from(rt, PATH, first, Unknown, steps, due)?;
-    let (steps, due) = play.between(middle, play.steps.len());
-    take_from(rt, PATH, Opening::Existing, Unknown, steps, due)
+    let end = play.steps.len();
+    take_from(rt, PATH, first, Unknown, play, 0, middle)?;
+    take_from(rt, PATH, Opening::Existing, Unknown, play, middle, end)
 }
 
 fn take_halves_of(rt: &HostRuntime, play: &Play, bytes: &[u8]) -> Result<(), Failure> {
@@ -74,12 +73,11 @@ fn copy_all(rt: &HostRuntime) -> Result<(), Failure> {
 }
 
 fn take_behind(rt: &HostRuntime, play: &Play) -> Result<(), Failure> {
-    let (steps, due) = play.between(0, play.own);
-    take_from(rt, PATH, Opening::Created, Unknown, steps, due)?;
+    let (own, end) = (play.own, play.steps.len());
+    take_from(rt, PATH, Opening::Created, Unknown, play, 0, own)?;
     copy_all(rt)?;
-    let (steps, due) = play.between(play.own, play.steps.len());
-    take_from(rt, COPY, Opening::Existing, Unknown, steps, due)?;
-    take_from(rt, PATH, Opening::Existing, Unknown, steps, due)
+    take_from(rt, COPY, Opening::Existing, Unknown, play, own, end)?;
+    take_from(rt, PATH, Opening::Existing, Unknown, play, own, end)
 }
 
 /// Runs the stories before it over tables in a file, copies each organization to another file by the program's words, and

@@ -82,6 +82,13 @@ pub struct Plot<'a> {
     pub parts: Vec<Part<'a>>,
 }
 
+/// An operator's secret, and its line.
+#[derive(Clone, Copy)]
+pub struct Operator<'a> {
+    pub line: usize,
+    pub secret: &'a str,
+}
+
 /// A story as the text has it.
 #[derive(Drop)]
 pub struct Story<'a> {
@@ -90,6 +97,8 @@ pub struct Story<'a> {
     pub before: Vec<usize>,
     /// The file with whose tables it begins; none where it begins with no organization.
     pub begins: Option<&'a str>,
+    /// The operator's secret, if the operator's door is open.
+    pub operator: Option<Operator<'a>>,
     /// What breaks under its own steps.
     pub modes: Modes,
     pub plots: Vec<Plot<'a>>,
@@ -177,6 +186,7 @@ impl<'a> Book<'a> {
             name,
             before: Vec::new(alloc),
             begins: None,
+            operator: None,
             modes: self.modes,
             plots: Vec::new(alloc),
         })?;
@@ -267,6 +277,20 @@ impl<'a> Book<'a> {
             _ => Err(Unread {
                 line,
                 why: "`begins` is the first line of a story, which comes after no other",
+            }),
+        }
+    }
+
+    // Of the story that begins.
+    fn set_operator(&mut self, line: usize, secret: &'a str) -> Result<(), Unread> {
+        match self.stories.last_mut() {
+            Some(story) if story.plots.is_empty() => {
+                story.operator = Some(Operator { line, secret });
+                Ok(())
+            }
+            _ => Err(Unread {
+                line,
+                why: "`operator` stands before the first step of a story",
             }),
         }
     }
@@ -364,6 +388,7 @@ impl<'a> Book<'a> {
             Line::Links(words) => self.set_modes(line, words),
             Line::Sets(mode) => self.set(line, mode),
             Line::FromFile(path) => self.set_begins(line, path),
+            Line::Operator(secret) => self.set_operator(line, secret),
             Line::Field(field) => self.add_field(line, field),
             Line::Piece(piece, text) => self.add_piece(alloc, line, piece, text),
             Line::Begins(mark, text) => self.begin(alloc, line, mark, text),

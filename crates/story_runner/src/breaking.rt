@@ -37,7 +37,7 @@ fn asked_at(play: &Play, place: usize) -> Option<Asked<'_>> {
     let step = play.steps.get(place)?;
     let due = play.due.get(place)?;
     match step {
-        Step::Request { at, bytes } => Some(Asked::new(*at, bytes.as_slice(), due)),
+        Step::Request { at, bytes } => Some(Asked::new(*at, bytes.as_slice(), due, &play.door)),
         Step::Command { .. } => None,
     }
 }

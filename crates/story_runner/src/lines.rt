@@ -54,6 +54,8 @@ pub enum Line<'a> {
     Sets(Mode),
     /// `begins`: a story begins with the tables of a file.
     FromFile(&'a str),
+    /// `operator`: the operator's door is open to this secret.
+    Operator(&'a str),
     Piece(Piece, &'a str),
     /// `+`: a field of a head.
     Field(&'a str),
@@ -78,6 +80,7 @@ enum Front {
     After,
     Links,
     FromFile,
+    Operator,
     Field,
     Defines(Defines),
 }
@@ -95,6 +98,7 @@ const FRONTS: &[(&str, Front)] = &[
     ("after", Front::After),
     ("links", Front::Links),
     ("begins", Front::FromFile),
+    ("operator", Front::Operator),
     ("+", Front::Field),
     ("token", Front::Defines(Defines::Token)),
     ("at", Front::Defines(Defines::Moment)),
@@ -119,6 +123,7 @@ fn line_of(front: Front, rest: &str) -> Line<'_> {
         Front::After => Line::After(rest),
         Front::Links => Line::Links(rest),
         Front::FromFile => Line::FromFile(rest),
+        Front::Operator => Line::Operator(rest),
         Front::Field => Line::Field(rest),
         Front::Defines(defines) => Line::Definition(defines, rest),
     }

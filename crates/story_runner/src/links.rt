@@ -8,7 +8,7 @@ use crate::stopping::is_repeat;
 use crate::taking::{Came, exchange_over};
 use basis::Moment;
 use machine::Keep;
-use serve::{LinkFault, Service};
+use serve::{Door, LinkFault, Service};
 use std::alloc::Global;
 
 /// A request, and what is due to it.
@@ -18,17 +18,30 @@ pub struct Asked<'s> {
     pub at: Moment,
     pub bytes: &'s [u8],
     pub due: &'s [u8],
+    pub door: &'s Door,
 }
 
 impl<'s> Asked<'s> {
-    pub fn new(at: Moment, bytes: &'s [u8], due: &'s Due) -> Asked<'s> {
+    pub fn new(at: Moment, bytes: &'s [u8], due: &'s Due, door: &'s Door) -> Asked<'s> {
         Asked {
             line: due.line,
             at,
             bytes,
             due: due.bytes.as_slice(),
+            door,
         }
     }
+}
+
+/// One exchange of this request over this reader and this writer.
+pub fn ask<K: Keep>(
+    alloc: Global,
+    service: &mut Service<K>,
+    asked: &Asked<'_>,
+    giver: Giver<'_>,
+    taker: Taker,
+) -> Came {
+    exchange_over(alloc, service, asked.door, asked.at, giver, taker)
 }
 
 /// How a link breaks under a request.
@@ -107,7 +120,7 @@ fn length_of<K: Keep>(alloc: Global, service: &mut Service<K>, asked: &Asked<'_>
         return all;
     }
     let giver = Giver::new(asked.bytes, 1);
-    let came = exchange_over(alloc, service, asked.at, giver, Taker::new(alloc));
+    let came = ask(alloc, service, asked, giver, Taker::new(alloc));
     came.reads.min(all)
 }
 
@@ -122,7 +135,7 @@ fn is_cut<K: Keep>(
         return false;
     };
     let giver = Giver::new(front, most);
-    let came = exchange_over(alloc, service, asked.at, giver, Taker::new(alloc));
+    let came = ask(alloc, service, asked, giver, Taker::new(alloc));
     came.ended == Err(LinkFault::Ended) && came.written.as_slice() == due_after(asked, count)
 }
 
@@ -155,7 +168,7 @@ fn is_failed_read<K: Keep>(
 ) -> bool {
     let given = read.saturating_sub(1).saturating_mul(most);
     let giver = Giver::failing(asked.bytes, most, read);
-    let came = exchange_over(alloc, service, asked.at, giver, Taker::new(alloc));
+    let came = ask(alloc, service, asked, giver, Taker::new(alloc));
     came.ended == Err(LinkFault::Read)
         && came.reads == read
         && came.written.as_slice() == due_after(asked, given)
@@ -216,7 +229,7 @@ fn take_whole<K: Keep>(
     most: usize,
 ) -> Result<(), Failure> {
     let giver = Giver::new(asked.bytes, most);
-    let came = exchange_over(alloc, service, asked.at, giver, Taker::new(alloc));
+    let came = ask(alloc, service, asked, giver, Taker::new(alloc));
     compare_bytes(alloc, asked.line, asked.due, came.written.as_slice())?;
     let reads = reads_of(asked.bytes.len(), most);
     if came.ended == Ok(()) && came.reads > reads {
@@ -260,7 +273,7 @@ pub fn stop_write<K: Keep>(
 ) -> Result<(), Failure> {
     let giver = Giver::new(asked.bytes, stops.most);
     let taker = Taker::stopping(alloc, stops.at, stops.stop);
-    let came = exchange_over(alloc, service, asked.at, giver, taker);
+    let came = ask(alloc, service, asked, giver, taker);
     if is_stopped(&came, due, stops.at) {
         Ok(())
     } else {
@@ -294,7 +307,7 @@ fn take_again<K: Keep>(
     most: usize,
 ) -> Result<(), Failure> {
     let giver = Giver::new(asked.bytes, most);
-    let came = exchange_over(alloc, service, asked.at, giver, Taker::new(alloc));
+    let came = ask(alloc, service, asked, giver, Taker::new(alloc));
     if came.ended == Ok(()) && is_repeat(asked.due, came.written.as_slice()) {
         return Ok(());
     }

@@ -1,11 +1,11 @@
 //! A story of a store as it is played: its steps, what is due to each, and what is asked of the tables.
-use crate::books::{Book, Part, Plot, Story};
+use crate::books::{Book, Operator, Part, Plot, Story};
 use crate::definitions::{Definitions, Unread};
 use crate::keyed::Keyed;
 use crate::lines::Mark;
 use crate::requests::{reply_of, request_of};
-use basis::{Bytes, Down, Moment, Unfit};
-use serve::Step;
+use basis::{Bytes, Down, Moment, Secret, Unfit};
+use serve::{Door, Step};
 use std::alloc::Global;
 
 /// What is due to a step, and the line where that step stands.
@@ -36,6 +36,8 @@ pub struct Play {
     pub questions: Vec<Question>,
     /// By which key its tables have their pages where the power is cut.
     pub keyed: Keyed,
+    /// The operator's door.
+    pub door: Door,
 }
 
 /// How an operator's command is read from its words.
@@ -82,6 +84,7 @@ impl Play {
             due: Vec::new(alloc),
             questions: Vec::new(alloc),
             keyed: Keyed::Sha,
+            door: Door::Closed,
         }
     }
 
@@ -198,6 +201,18 @@ impl Play {
     }
 }
 
+// The door that is open to an operator's secret.
+fn door_of(alloc: Global, operator: Operator<'_>) -> Result<Door, Unread> {
+    match Secret::read(alloc, operator.secret) {
+        Ok(secret) => Ok(Door::opened_by(&secret)),
+        Err(Unfit::Syntax) => Err(Unread {
+            line: operator.line,
+            why: "an operator's secret is 16 to 64 ASCII letters or digits",
+        }),
+        Err(Unfit::Down) => Err(Unread::from(Down)),
+    }
+}
+
 /// The steps of a story, behind those of the stories before it.
 pub fn play_of<R: ReadsCommands>(
     alloc: Global,
@@ -208,6 +223,9 @@ pub fn play_of<R: ReadsCommands>(
     let mut play = Play::new(alloc);
     if let Some(keyed) = story.modes.stops {
         play.keyed = keyed;
+    }
+    if let Some(operator) = story.operator {
+        play.door = door_of(alloc, operator)?;
     }
     for place in story.before.as_slice() {
         if let Some(earlier) = book.stories.get(*place) {

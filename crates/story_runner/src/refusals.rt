@@ -1,12 +1,12 @@
 //! A story of requests told to a store that refuses each change: a 503 is due then, and nothing changes.
 use crate::devices::{ALL, Giver, Stop, Taker};
 use crate::failures::{Failure, compare_bytes};
-use crate::links::{Asked, WriteStop, line_in, stop_write};
+use crate::links::{Asked, WriteStop, ask, line_in, stop_write};
 use crate::messages::CONTINUE;
 use crate::modes::Counts;
 use crate::plays::Play;
 use crate::refusing::Refusing;
-use crate::taking::{Way, exchange_over, taken_to};
+use crate::taking::{Way, taken_to};
 use machine::{Keep, PlainKeep};
 use serve::{Service, Step};
 use std::alloc::{AllocError, Global};
@@ -71,7 +71,7 @@ fn refuse<K: Keep>(
     counts: &mut Counts,
 ) -> Result<(), Failure> {
     let giver = Giver::new(asked.bytes, ALL);
-    let came = exchange_over(alloc, service, asked.at, giver, Taker::new(alloc));
+    let came = ask(alloc, service, asked, giver, Taker::new(alloc));
     if came.written.as_slice() == asked.due {
         return Ok(());
     }
@@ -107,7 +107,7 @@ fn refuse_at(
 ) -> Result<PlainKeep, Failure> {
     let keep = match (play.steps.get(place), play.due.get(place)) {
         (Some(Step::Request { at, bytes }), Some(due)) => {
-            let asked = Asked::new(*at, bytes.as_slice(), due);
+            let asked = Asked::new(*at, bytes.as_slice(), due, &play.door);
             refused(alloc, keep, &asked, counts)?
         }
         _ => keep,

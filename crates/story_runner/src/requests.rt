@@ -123,13 +123,22 @@ fn begin_reply(
     Ok(bytes)
 }
 
+// Whether further fields say the type of the body.
+fn has_type(fields: &[u8]) -> bool {
+    match str::from_utf8(fields) {
+        Ok(text) => text.split_once("Content-Type: ").is_some(),
+        Err(_) => false,
+    }
+}
+
 fn put_body_fields(
     alloc: Global,
     bytes: &mut Vec<u8>,
+    fields: &[u8],
     status: &str,
     length: usize,
 ) -> Result<(), AllocError> {
-    if length > 0 {
+    if length > 0 && !has_type(fields) {
         put(bytes, &["Content-Type: application/json\r\n"])?;
     }
     if status != "204" {
@@ -161,7 +170,8 @@ fn short_reply(
     let body = body_of(alloc, answer, word)?;
     let mut bytes = begin_reply(alloc, definitions, date, answer, status)?;
     put_challenge(&mut bytes, definitions, word)?;
-    put_body_fields(alloc, &mut bytes, status, body.len())?;
+    let fields = answer.fields.as_slice();
+    put_body_fields(alloc, &mut bytes, fields, status, body.len())?;
     if !is_head {
         bytes.extend_from_slice(body.as_slice())?;
     }

@@ -83,7 +83,7 @@ fn take_at<K: Keep>(
     let (Some(step), Some(due)) = (play.steps.get(place), play.due.get(place)) else {
         return Err(Failure::refused(0, "there is no such step"));
     };
-    let came = answered(alloc, service, ALL, step);
+    let came = answered(alloc, service, &play.door, ALL, step);
     if is_due(due, &came) {
         return Ok(true);
     }
@@ -126,6 +126,7 @@ pub fn is_repeat(due: &[u8], reply: &[u8]) -> bool {
     reply == due
         || reply == b"refused exists\n".as_slice()
         || reply == b"refused absent\n".as_slice()
+        || reply.ends_with(b"\r\n\r\nrefused exists\n")
         || reply.starts_with(b"HTTP/1.1 404 ")
 }
 
@@ -148,7 +149,7 @@ pub fn sent_again<K: Keep + Drop>(
         return Err(Failure::refused(0, "there is no such step"));
     };
     let mut service = Service::new(keep);
-    let came = answered(alloc, &mut service, ALL, step);
+    let came = answered(alloc, &mut service, &play.door, ALL, step);
     let keep = service.into_keep();
     let is_right = if is_applied {
         is_repeated(due, &came)

@@ -1,17 +1,17 @@
 //! Steps taken by a service: in turn, or exchange by exchange.
-use crate::devices::{Giver, Taker};
+use crate::devices::{ALL, Giver, Taker};
 use crate::failures::{Failure, compare_bytes};
 use crate::plays::{Due, Play};
 use basis::{Bytes, Down, Moment, Role};
 use machine::{AdminAnswer, Keep, OrgRow, TokenRow};
-use serve::{LinkFault, Service, Step};
+use serve::{Door, LinkFault, Service, Step};
 use std::alloc::{AllocError, Global};
 use wire::{FromRead, ToWrite};
 
 /// How steps are taken.
 #[derive(Clone, Copy)]
 pub enum Way {
-    /// In turn, by `replay`, which takes all of them.
+    /// In turn, by `replay`, which takes all of them; with an open door, which no replay has, exchange by exchange.
     Replay,
     /// Exchange by exchange, each read giving at most so many bytes.
     Exchange(usize),
@@ -45,13 +45,17 @@ pub struct Came {
 pub fn exchange_over<K: Keep>(
     alloc: Global,
     service: &mut Service<K>,
+    door: &Door,
     at: Moment,
     giver: Giver<'_>,
     taker: Taker,
 ) -> Came {
     let mut inlet = FromRead::new(giver);
     let mut outlet = ToWrite::new(taker);
-    let ended = service.exchange(alloc, at, &mut inlet, &mut outlet);
+    let ended = match door {
+        Door::Closed => service.exchange(alloc, at, &mut inlet, &mut outlet),
+        Door::Open { .. } => service.exchange_with(alloc, door, at, &mut inlet, &mut outlet),
+    };
     let giver = inlet.into_inner();
     let taker = outlet.into_inner();
     Came {
@@ -66,12 +70,13 @@ pub fn exchange_over<K: Keep>(
 fn exchanged<K: Keep>(
     alloc: Global,
     service: &mut Service<K>,
+    door: &Door,
     most: usize,
     at: Moment,
     bytes: &[u8],
 ) -> Result<Bytes, Down> {
     let giver = Giver::new(bytes, piece_of(most, bytes.len()));
-    let came = exchange_over(alloc, service, at, giver, Taker::new(alloc));
+    let came = exchange_over(alloc, service, door, at, giver, Taker::new(alloc));
     match came.ended {
         Ok(()) | Err(LinkFault::Ended) => Ok(Bytes::new(came.written)),
         Err(_) => Err(Down),
@@ -134,11 +139,14 @@ fn answer_lines(alloc: Global, answer: &AdminAnswer) -> Result<Vec<u8>, AllocErr
 pub fn answered<K: Keep>(
     alloc: Global,
     service: &mut Service<K>,
+    door: &Door,
     most: usize,
     step: &Step,
 ) -> Result<Bytes, Down> {
     match step {
-        Step::Request { at, bytes } => exchanged(alloc, service, most, *at, bytes.as_slice()),
+        Step::Request { at, bytes } => {
+            exchanged(alloc, service, door, most, *at, bytes.as_slice())
+        }
         Step::Command { at, command } => {
             let answer = service.admin(alloc, *at, command)?;
             Ok(Bytes::new(answer_lines(alloc, &answer)?))
@@ -149,12 +157,13 @@ pub fn answered<K: Keep>(
 fn answered_each<K: Keep>(
     alloc: Global,
     service: &mut Service<K>,
+    door: &Door,
     most: usize,
     steps: &[Step],
 ) -> Result<Vec<Bytes>, Down> {
     let mut replies = Vec::new(alloc);
     for step in steps {
-        let reply = answered(alloc, service, most, step)?;
+        let reply = answered(alloc, service, door, most, step)?;
         replies.push(reply)?;
     }
     Ok(replies)
@@ -189,12 +198,14 @@ fn resumed<K: Keep>(
 fn replies_to<K: Keep>(
     alloc: Global,
     service: &mut Service<K>,
+    door: &Door,
     way: Way,
     steps: &[Step],
 ) -> Result<Vec<Bytes>, Down> {
-    match way {
-        Way::Replay => service.replay(alloc, steps),
-        Way::Exchange(most) => answered_each(alloc, service, most, steps),
+    match (way, door) {
+        (Way::Replay, Door::Closed) => service.replay(alloc, steps),
+        (Way::Replay, Door::Open { .. }) => answered_each(alloc, service, door, ALL, steps),
+        (Way::Exchange(most), _) => answered_each(alloc, service, door, most, steps),
     }
 }
 
@@ -266,16 +277,18 @@ pub fn replay_over<K: Keep>(
     (service.into_keep(), gave_up)
 }
 
-/// Takes steps over a store and compares the replies with those that are due. The store is given back.
+/// Takes the steps from a place to another over a store, and compares the replies with those that are due. The store is given back.
 pub fn take_over<K: Keep>(
     alloc: Global,
     keep: K,
     way: Way,
-    steps: &[Step],
-    due: &[Due],
+    play: &Play,
+    from: usize,
+    to: usize,
 ) -> (K, Result<(), Failure>) {
+    let (steps, due) = play.between(from, to);
     let mut service = Service::new(keep);
-    let replies = replies_to(alloc, &mut service, way, steps);
+    let replies = replies_to(alloc, &mut service, &play.door, way, steps);
     let keep = service.into_keep();
     let compared = match replies {
         Ok(replies) => compare(alloc, due, replies.as_slice()),
@@ -293,8 +306,7 @@ pub fn taken_to<K: Keep + Drop>(
     from: usize,
     to: usize,
 ) -> Result<K, Failure> {
-    let (steps, due) = play.between(from, to);
-    let (keep, taken) = take_over(alloc, keep, way, steps, due);
+    let (keep, taken) = take_over(alloc, keep, way, play, from, to);
     match taken {
         Ok(()) => Ok(keep),
         Err(failure) => Err(failure),
