@@ -10,7 +10,7 @@ use Rattle.basis.specs.declared.refusals.Refusal.TheVariants.{TwoTokens, NoToken
 use Rattle.basis.specs.declared.acts.Look.TheVariants.{State, Versions}
 use Rattle.basis.specs.declared.runs.RunAction.TheVariants.{Discard}
 use Rattle.wire.specs.declared.messages.Message.{Message}
-use Rattle.route.specs.declared.acts.AskedAct.TheVariants.{OfWorkspace}
+use Rattle.route.specs.declared.routes.AskedAct.TheVariants.{OfWorkspace}
 use Rattle.basis.specs.declared.acts.WsAct.{WsAct}
 use Rattle.basis.specs.declared.acts.WsAct.TheVariants.{Look, UpdateState, Unlock, ForceUnlock, ReportRun}
 use Rattle.route.specs.Asks.{Asking, refused, asks, asked_of, asked_made}

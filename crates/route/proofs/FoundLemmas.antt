@@ -12,9 +12,9 @@ use Rattle.route.specs.Inner.Kinds.{Pairs, part_of, ws_of, number_in, resource_n
 use Rattle.route.specs.Paths.{Resource, Workspace, State, AllVersions, Version, AllRuns, Run, Action, action_of, in_org}
 use Rattle.route.specs.Queries.{query_read}
 use Rattle.route.specs.Tokens.{org_of}
-use Rattle.route.specs.declared.acts.Asked.{Asked}
-use Rattle.route.specs.declared.acts.AskedAct.{AskedAct}
-use Rattle.route.specs.declared.acts.AskedAct.TheVariants.{OfWorkspace}
+use Rattle.route.specs.declared.routes.Asked.{Asked}
+use Rattle.route.specs.declared.routes.AskedAct.{AskedAct}
+use Rattle.route.specs.declared.routes.AskedAct.TheVariants.{OfWorkspace}
 use Rattle.basis.specs.declared.acts.WsAct.{WsAct}
 use Rattle.basis.specs.declared.acts.WsAct.TheVariants.{ReportRun}
 use Rattle.route.specs.declared.routes.Kind.{Kind}

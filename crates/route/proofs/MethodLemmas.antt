@@ -5,7 +5,7 @@ use Rattle.std.specs.Option.{is_some}
 use Rattle.basis.specs.declared.acts.Look.TheVariants.{Workspace as WorkspaceLook, State as StateLook, Version as VersionLook, Versions as VersionsLook, Run as RunLook, Runs as RunsLook}
 use Rattle.route.specs.Acts.{workspace_act, unlock_of, state_act, runs_act, got, posted}
 use Rattle.route.specs.Methods.{MethodsAreListed}
-use Rattle.route.specs.declared.acts.AskedAct.TheVariants.{ListWorkspaces, OfWorkspace}
+use Rattle.route.specs.declared.routes.AskedAct.TheVariants.{ListWorkspaces, OfWorkspace}
 use Rattle.basis.specs.declared.acts.WsAct.TheVariants.{Look, Put, Delete, UpdateState, PurgeState, Lock, MakeRun, ReportRun}
 use Rattle.route.specs.Paths.{AllWorkspaces, Workspace, State, AllVersions, Version, AllRuns, Run, Action}
 

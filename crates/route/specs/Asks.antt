@@ -3,9 +3,9 @@ use Rattle.std.specs.Prelude.{ℕ, Bool, true, false, List, [], ◌∷◌, Optio
 use Rattle.basis.specs.declared.refusals.Refusal.{Refusal}
 use Rattle.basis.specs.declared.refusals.Refusal.TheVariants.{NoRoute}
 use Rattle.wire.specs.declared.messages.Message.{Message}
-use Rattle.route.specs.declared.acts.Asked.{Asked}
-use Rattle.route.specs.declared.acts.AskedAct.{AskedAct}
-use Rattle.route.specs.declared.queries.Query.{Query}
+use Rattle.route.specs.declared.routes.Asked.{Asked}
+use Rattle.route.specs.declared.routes.AskedAct.{AskedAct}
+use Rattle.route.specs.declared.asks.Query.{Query}
 use Rattle.route.specs.declared.tokens.BearerToken.{BearerToken}
 use Rattle.basis.specs.Checks.{or_refused, and_then}
 use Rattle.route.specs.Paths.{OrgResource, resource_of}

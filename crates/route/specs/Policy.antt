@@ -9,8 +9,8 @@ use Rattle.basis.specs.declared.roles.Role.TheVariants.{Read, Write, Admin}
 use Rattle.basis.specs.declared.refusals.Refusal.{Refusal}
 use Rattle.basis.specs.declared.refusals.Refusal.TheVariants.{NeedWrite, NeedAdmin, NotFound}
 use Rattle.route.specs.Acts.{least_role_on}
-use Rattle.route.specs.declared.acts.AskedAct.{AskedAct}
-use Rattle.route.specs.declared.acts.AskedAct.TheVariants.{ListWorkspaces, OfWorkspace}
+use Rattle.route.specs.declared.routes.AskedAct.{AskedAct}
+use Rattle.route.specs.declared.routes.AskedAct.TheVariants.{ListWorkspaces, OfWorkspace}
 
 -- the least role for what is asked
 abbrev pub least_role : AskedAct → Role

@@ -9,11 +9,11 @@ use Rattle.basis.specs.declared.numbers.TheConstants.{MAX_NUMBER}
 use Rattle.basis.specs.declared.refusals.Refusal.{Refusal}
 use Rattle.basis.specs.declared.refusals.Refusal.TheVariants.{BadQuery}
 use Rattle.basis.specs.declared.acts.Look.TheVariants.{Versions, Runs}
-use Rattle.route.specs.declared.acts.AskedAct.{AskedAct}
-use Rattle.route.specs.declared.acts.AskedAct.TheVariants.{ListWorkspaces, OfWorkspace}
+use Rattle.route.specs.declared.routes.AskedAct.{AskedAct}
+use Rattle.route.specs.declared.routes.AskedAct.TheVariants.{ListWorkspaces, OfWorkspace}
 use Rattle.basis.specs.declared.acts.WsAct.{WsAct}
 use Rattle.basis.specs.declared.acts.WsAct.TheVariants.{Look}
-use Rattle.route.specs.declared.queries.Query.{Query}
+use Rattle.route.specs.declared.asks.Query.{Query}
 use Rattle.basis.specs.Checks.{or_refused}
 
 -- the key of a bearer token (RFC 6750, section 2.3)

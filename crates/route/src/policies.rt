@@ -2,8 +2,7 @@
 ghost use Rattle.std.specs.Prelude.{◌≡◌};
 ghost use Rattle.route.specs.Policy.{least_role, role_refused, is_admitted, caller_refused, allowed_by};
 
-use crate::acts::{Asked, AskedAct};
-use crate::methods::least_role_on;
+use crate::routes::{Asked, AskedAct, least_role_on};
 use basis::{Caller, Refusal, Role, WsPrefix};
 
 /// Whether a caller's role is enough for what is asked, and its prefix admits the workspace, or how it

@@ -1,11 +1,13 @@
-//! Bearer tokens.
+//! Bearer tokens, and the digest by which a token's secret is known.
 ghost use Rattle.std.specs.Prelude.{◌≡◌, Some, None, MatchOption, option_map, option_and_then};
 ghost use Rattle.basis.specs.Checks.{or_refused};
 ghost use Rattle.basis.specs.Inner.Checks.{Follows};
+ghost use Rattle.sha2.specs.Sha256.{sha256};
 ghost use Rattle.route.specs.Inner.Checks.{now_of, result_of};
 ghost use Rattle.route.specs.Tokens.{before, behind, unspaced, bearer_of, one_token, org_of, secret_of, bearer_token_of, bearer_token_read};
 
 use basis::{OrgName, Refusal, Secret, Unfit};
+use sha2::{Digest, Sha256};
 use std::alloc::Global;
 use std::str;
 
@@ -117,4 +119,11 @@ pub(crate) fn unspaced(bytes: &[u8]) -> &[u8]
         [b' ', rest @ ..] => unspaced(rest),
         _ => bytes,
     }
+}
+
+/// SHA-256 of the secret's bytes (FIPS 180-4). It takes no memory.
+pub fn secret_digest(secret: &Secret) -> [u8; 32]
+    ensures { result ≡ sha256 secret.now }
+{
+    Sha256::digest(secret.as_str().as_bytes())
 }

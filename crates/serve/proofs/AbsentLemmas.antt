@@ -14,12 +14,12 @@ use Rattle.route.specs.Asks as route
 use Rattle.route.specs.Paths.{Resource, AllWorkspaces, Workspace, State, AllVersions, Version, AllRuns, Run, Action, OrgResource, path_parts, action_of, of_workspace, of_number, of_action, after_workspace, in_org, resource_at, resource_of}
 use Rattle.route.specs.Queries.{query_read, lock_id_read, name_after, listed_from, ws_begun_after, begun_after, after_read}
 use Rattle.route.specs.Tokens.{bearer_token_read}
-use Rattle.route.specs.declared.acts.Asked.{Asked}
-use Rattle.route.specs.declared.acts.AskedAct.{AskedAct}
-use Rattle.route.specs.declared.acts.AskedAct.TheVariants.{ListWorkspaces, OfWorkspace}
+use Rattle.route.specs.declared.routes.Asked.{Asked}
+use Rattle.route.specs.declared.routes.AskedAct.{AskedAct}
+use Rattle.route.specs.declared.routes.AskedAct.TheVariants.{ListWorkspaces, OfWorkspace}
 use Rattle.basis.specs.declared.acts.WsAct.{WsAct}
 use Rattle.basis.specs.declared.acts.WsAct.TheVariants.{ReportRun}
-use Rattle.route.specs.declared.queries.Query.{Query}
+use Rattle.route.specs.declared.asks.Query.{Query}
 use Rattle.wire.specs.declared.messages.Message.{Message}
 use Rattle.wire.specs.Messages.{Reading, Reads, unfinished, whole}
 use Rattle.wire.specs.Messages as wire

@@ -33,14 +33,14 @@ use Rattle.machine.proofs.QueueLemmas.{actions_come_again, keyed_creations_come_
 use Rattle.machine.proofs.Rulings.{IsWrite, all_writes}
 use Rattle.machine.proofs.BookLemmas.{IsAcceptedWrite, rises_by_write, held_stays, one_is_active, IsBelow, starts_below, stays_below, starts_above, Reaches, reaches_itself, reaches_more}
 use Rattle.machine.proofs.KeepLemmas.{apart_from}
-use Rattle.route.specs.declared.acts.Asked.{Asked}
-use Rattle.route.specs.declared.acts.AskedAct.{AskedAct}
-use Rattle.route.specs.declared.acts.AskedAct.TheVariants.{OfWorkspace}
+use Rattle.route.specs.declared.routes.Asked.{Asked}
+use Rattle.route.specs.declared.routes.AskedAct.{AskedAct}
+use Rattle.route.specs.declared.routes.AskedAct.TheVariants.{OfWorkspace}
 use Rattle.basis.specs.declared.acts.WsAct.{WsAct}
 use Rattle.basis.specs.declared.acts.WsAct.TheVariants.{UpdateState, PurgeState}
 use Rattle.serve.specs.declared.steps.Admin.{Admin}
-use Rattle.serve.specs.declared.prepared.Task.{Task}
-use Rattle.serve.specs.declared.prepared.Task.TheVariants.{ListAll, Carry}
+use Rattle.serve.specs.declared.checks.Task.{Task}
+use Rattle.serve.specs.declared.checks.Task.TheVariants.{ListAll, Carry}
 use Rattle.serve.specs.declared.steps.Step.{Step}
 use Rattle.serve.specs.Asks.{Ask, silent, requests, commands, Owner, organization}
 use Rattle.serve.specs.Asks as ask

@@ -13,14 +13,14 @@ use Rattle.machine.specs.declared.acts.Act.{Act}
 use Rattle.machine.specs.declared.records.Token.{Token}
 use Rattle.machine.specs.declared.records.Organization.{Organization}
 use Rattle.route.specs.Policy.{role_refused, is_admitted, or_else_refused, caller_refused, allowed_by}
-use Rattle.route.specs.declared.acts.Asked.{Asked}
-use Rattle.route.specs.declared.acts.AskedAct.{AskedAct}
-use Rattle.route.specs.declared.acts.AskedAct.TheVariants.{ListWorkspaces, OfWorkspace}
+use Rattle.route.specs.declared.routes.Asked.{Asked}
+use Rattle.route.specs.declared.routes.AskedAct.{AskedAct}
+use Rattle.route.specs.declared.routes.AskedAct.TheVariants.{ListWorkspaces, OfWorkspace}
 use Rattle.basis.specs.declared.acts.WsAct.{WsAct}
 use Rattle.serve.specs.Checks.{task_of, require, while_it_counts, known_caller, may_do, admitted, in_reach, is_found, found, digest_checked, act_of, checked}
 use Rattle.serve.specs.Inner.Prepared.{caller_known}
-use Rattle.serve.specs.declared.prepared.Task.{Task}
-use Rattle.serve.specs.declared.prepared.Task.TheVariants.{ListAll, Carry}
+use Rattle.serve.specs.declared.checks.Task.{Task}
+use Rattle.serve.specs.declared.checks.Task.TheVariants.{ListAll, Carry}
 
 module _ {A B : Type 0} where
   pub after_ok : (x : Result A Refusal) (f : A → Result B Refusal) (a : A) (y : Result B Refusal) → x ≡ Ok a → f a ≡ y → and_then x f ≡ y

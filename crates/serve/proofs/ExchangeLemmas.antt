@@ -27,7 +27,7 @@ use Rattle.serve.specs.Service.{same_owner, record_for, asked_by, ask_of, Asks, 
 use Rattle.serve.specs.Exchanges.{IsServed, IsUnavailableFor, IsAnswered, Exchanges, ChangesAtMostOne, ComesAsTold, ChangesAsTold}
 use Rattle.serve.specs.declared.exchanges.LinkFault.{LinkFault}
 use Rattle.serve.specs.declared.exchanges.LinkFault.TheVariants.{Ended as LinkEnded, Read as LinkRead, Continue as LinkContinue, Write as LinkWrite}
-use Rattle.serve.specs.declared.prepared.Prepared.{Prepared}
+use Rattle.serve.specs.declared.messages.Prepared.{Prepared}
 use Rattle.basis.specs.declared.refusals.Refusal.{Refusal}
 use Rattle.serve.proofs.LawLemmas.{refusals_change_nothing}
 use Rattle.serve.proofs.RecordLemmas.{workspace_lawful}

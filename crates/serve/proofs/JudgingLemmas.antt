@@ -8,16 +8,16 @@ use Rattle.machine.specs.Effects.{effect}
 use Rattle.machine.specs.Rules.{refused}
 use Rattle.machine.specs.declared.acts.Act.{Act}
 use Rattle.machine.specs.declared.records.Organization.{Organization}
-use Rattle.route.specs.declared.acts.AskedAct.{AskedAct}
-use Rattle.route.specs.declared.acts.AskedAct.TheVariants.{ListWorkspaces, OfWorkspace}
+use Rattle.route.specs.declared.routes.AskedAct.{AskedAct}
+use Rattle.route.specs.declared.routes.AskedAct.TheVariants.{ListWorkspaces, OfWorkspace}
 use Rattle.basis.specs.declared.acts.WsAct.{WsAct}
 use Rattle.serve.specs.Checks.{require, is_found, found, digest_checked, act_of, task_of}
 use Rattle.serve.specs.Steps.{answer_to, ruled_in, refusing, carried}
 use Rattle.serve.specs.Inner.Judging.{judged_task, missed}
 use Rattle.serve.specs.Inner.Prepared.{IsTaskInRange, workspace_of_task}
 use Rattle.serve.specs.Logs.{workspace_named}
-use Rattle.serve.specs.declared.prepared.Task.{Task}
-use Rattle.serve.specs.declared.prepared.Task.TheVariants.{ListAll, Carry}
+use Rattle.serve.specs.declared.checks.Task.{Task}
+use Rattle.serve.specs.declared.checks.Task.TheVariants.{ListAll, Carry}
 use Rattle.serve.proofs.ActLemmas.{act_is}
 use Rattle.serve.proofs.CheckLemmas.{after_ok, after_err, passed}
 use Rattle.serve.proofs.RecordLemmas.{placed_as_it_was}

@@ -34,8 +34,8 @@ use Rattle.machine.specs.declared.records.Workspace.{Workspace}
 use Rattle.machine.specs.declared.records.Organization.{Organization}
 use Rattle.machine.proofs.TokenLemmas.{asker_calls}
 use Rattle.route.specs.Policy.{caller_refused, allowed_by}
-use Rattle.route.specs.declared.acts.Asked.{Asked}
-use Rattle.route.specs.declared.acts.AskedAct.{AskedAct}
+use Rattle.route.specs.declared.routes.Asked.{Asked}
+use Rattle.route.specs.declared.routes.AskedAct.{AskedAct}
 use Rattle.basis.specs.declared.acts.WsAct.{WsAct}
 use Rattle.serve.specs.Checks.{while_it_counts, in_reach, is_found, found, act_of}
 use Rattle.serve.specs.Inner.Judging.{judged_task}
@@ -45,8 +45,8 @@ use Rattle.serve.specs.Logs.{run_told, number_given, version_made, run_holding, 
 use Rattle.serve.specs.Steps.{seen_at}
 use Rattle.serve.specs.declared.logs.RowFacts.{RowFacts}
 use Rattle.serve.specs.declared.logs.Trace.{Trace}
-use Rattle.serve.specs.declared.prepared.Task.{Task}
-use Rattle.serve.specs.declared.prepared.Task.TheVariants.{Carry}
+use Rattle.serve.specs.declared.checks.Task.{Task}
+use Rattle.serve.specs.declared.checks.Task.TheVariants.{Carry}
 use Rattle.serve.proofs.ActLemmas.{act_is}
 use Rattle.serve.proofs.CheckLemmas.{unknown_refused, policy_refuses, out_of_reach, past_reach}
 use Rattle.serve.proofs.JudgingLemmas.{after_callers, judged_as}

@@ -9,7 +9,7 @@ use Rattle.route.specs.Asks as route
 use Rattle.wire.specs.declared.messages.Message.{Message}
 use Rattle.wire.specs.Messages.{unfinished, whole, Reading}
 use Rattle.wire.specs.Messages as wire
-use Rattle.serve.specs.declared.prepared.Prepared.{Prepared}
+use Rattle.serve.specs.declared.messages.Prepared.{Prepared}
 use Rattle.serve.specs.Asks.{Ask, silent, requests, commands, organization}
 use Rattle.serve.specs.Asks as ask
 use Rattle.serve.specs.Inner.Prepared.{IsPrepared, Foresees}

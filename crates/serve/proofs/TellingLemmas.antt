@@ -13,17 +13,17 @@ use Rattle.machine.specs.declared.keeps.TokenRow.{TokenRow}
 use Rattle.machine.specs.declared.records.Token.{Token}
 use Rattle.machine.specs.declared.records.Organization.{Organization}
 use Rattle.route.specs.Policy.{role_refused, is_admitted, allowed_by}
-use Rattle.route.specs.declared.acts.Asked.{Asked}
-use Rattle.route.specs.declared.acts.AskedAct.{AskedAct}
-use Rattle.route.specs.declared.acts.AskedAct.TheVariants.{ListWorkspaces, OfWorkspace}
+use Rattle.route.specs.declared.routes.Asked.{Asked}
+use Rattle.route.specs.declared.routes.AskedAct.{AskedAct}
+use Rattle.route.specs.declared.routes.AskedAct.TheVariants.{ListWorkspaces, OfWorkspace}
 use Rattle.serve.specs.Checks.{require, while_it_counts, known_caller, in_reach, found, checked}
 use Rattle.serve.specs.Inner.Judging.{judged_task}
 use Rattle.serve.specs.Inner.Prepared.{found_counted, caller_known}
 use Rattle.serve.specs.Laws.{NamesDecideNothing, SecretsAreNotTold}
 use Rattle.serve.specs.Logs.{name_counted, token_named, id_spelt, task_read, traced, row_of_request}
 use Rattle.serve.specs.Steps.{carried, request_step}
-use Rattle.serve.specs.declared.prepared.Task.{Task}
-use Rattle.serve.specs.declared.prepared.Task.TheVariants.{ListAll, Carry}
+use Rattle.serve.specs.declared.checks.Task.{Task}
+use Rattle.serve.specs.declared.checks.Task.TheVariants.{ListAll, Carry}
 use Rattle.serve.proofs.CheckLemmas.{after_names, after_prefix}
 use Rattle.serve.proofs.LogLemmas.{caller_by, callers_are}
 

@@ -22,13 +22,13 @@ use Rattle.machine.specs.declared.records.Organization.{Organization}
 use Rattle.machine.proofs.CustodyLemmas.{workspaces_begin_anew}
 use Rattle.machine.proofs.VersionLemmas.{numbers_rise}
 use Rattle.machine.proofs.KeepLemmas.{apart_from}
-use Rattle.route.specs.declared.acts.Asked.{Asked}
+use Rattle.route.specs.declared.routes.Asked.{Asked}
 use Rattle.serve.specs.Checks.{checked}
 use Rattle.serve.specs.Exchanges.{Makes, OfNamed, ComesAsTold}
 use Rattle.serve.specs.Logs.{workspace_named, number_given, version_made, run_holding, run_started, traced, request_row}
 use Rattle.serve.specs.Steps.{seen_at, carried, request_step}
-use Rattle.serve.specs.declared.prepared.Task.{Task}
-use Rattle.serve.specs.declared.prepared.Task.TheVariants.{ListAll, Carry}
+use Rattle.serve.specs.declared.checks.Task.{Task}
+use Rattle.serve.specs.declared.checks.Task.TheVariants.{ListAll, Carry}
 use Rattle.serve.proofs.CheckLemmas.{Passes, order_passes}
 use Rattle.serve.proofs.CustodyLemmas.{own_after, other_after, seen_there}
 use Rattle.serve.proofs.LogLemmas.{given_same}

@@ -9,7 +9,7 @@ use Rattle.machine.specs.declared.records.Token.{Token}
 use Rattle.machine.specs.declared.records.Organization.{Organization}
 use Rattle.route.specs.Paths.{path_parts}
 use Rattle.route.specs.Policy.{is_admitted}
-use Rattle.route.specs.declared.acts.Asked.{Asked}
+use Rattle.route.specs.declared.routes.Asked.{Asked}
 use Rattle.wire.specs.Replies.{refused_answer}
 use Rattle.wire.specs.Retargeting.{SameButTarget}
 use Rattle.wire.specs.Targets.{origin_of, path_of, query_of}

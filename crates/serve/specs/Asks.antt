@@ -1,7 +1,7 @@
 -- What a step asks, and whose step it is.
 use Rattle.std.specs.Prelude.{ℕ, Bool, List, Option}
 use Rattle.basis.specs.declared.refusals.Refusal.{Refusal}
-use Rattle.route.specs.declared.acts.Asked.{Asked}
+use Rattle.route.specs.declared.routes.Asked.{Asked}
 use Rattle.serve.specs.declared.steps.Admin.{Admin}
 use Rattle.serve.specs.declared.steps.Admin.TheVariants.{OrgAdd, OrgLimit, OrgRemove, OrgList, TokenAdd, TokenList, TokenRevoke}
 

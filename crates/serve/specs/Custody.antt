@@ -10,9 +10,9 @@ use Rattle.machine.specs.declared.keeps.AdminAnswer.TheVariants.{Done}
 use Rattle.basis.specs.declared.rows.Holder.TheVariants.{Lock}
 use Rattle.machine.specs.declared.records.Workspace.{Workspace}
 use Rattle.machine.specs.declared.records.Organization.{Organization}
-use Rattle.route.specs.declared.acts.Asked.{Asked}
-use Rattle.route.specs.declared.acts.AskedAct.{AskedAct}
-use Rattle.route.specs.declared.acts.AskedAct.TheVariants.{ListWorkspaces, OfWorkspace}
+use Rattle.route.specs.declared.routes.Asked.{Asked}
+use Rattle.route.specs.declared.routes.AskedAct.{AskedAct}
+use Rattle.route.specs.declared.routes.AskedAct.TheVariants.{ListWorkspaces, OfWorkspace}
 use Rattle.serve.specs.Asks.{Ask, silent, requests, commands}
 use Rattle.serve.specs.Asks as ask
 use Rattle.serve.specs.Checks.{act_of}

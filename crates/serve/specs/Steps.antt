@@ -15,15 +15,15 @@ use Rattle.machine.specs.declared.keeps.AdminAnswer.TheVariants.{Done}
 use Rattle.basis.specs.declared.rows.Holder.{Holder}
 use Rattle.basis.specs.declared.rows.Holder.TheVariants.{Nobody, Lock as HeldLock, Run as HeldRun}
 use Rattle.machine.specs.declared.records.Organization.{Organization}
-use Rattle.route.specs.declared.acts.Asked.{Asked}
+use Rattle.route.specs.declared.routes.Asked.{Asked}
 use Rattle.wire.specs.Replies.{Answer, empty_answer, no_content_answer, document_answer, refused_answer}
 use Rattle.serve.specs.declared.steps.Admin.{Admin}
 use Rattle.serve.specs.declared.steps.Admin.TheVariants.{OrgAdd, OrgLimit, OrgRemove, OrgList, TokenAdd, TokenList, TokenRevoke}
 use Rattle.serve.specs.Asks.{Ask, silent, requests, commands}
 use Rattle.serve.specs.Asks as ask
 use Rattle.serve.specs.Checks.{checked}
-use Rattle.serve.specs.declared.prepared.Task.{Task}
-use Rattle.serve.specs.declared.prepared.Task.TheVariants.{ListAll, Carry}
+use Rattle.serve.specs.declared.checks.Task.{Task}
+use Rattle.serve.specs.declared.checks.Task.TheVariants.{ListAll, Carry}
 
 -- what is said to the one who asks
 pub data Said : Type 0 where

@@ -12,12 +12,11 @@ ghost use Rattle.machine.specs.declared.records.Organization.{Organization};
 ghost use Rattle.serve.specs.Checks.{require, in_reach, makes, named_by, is_there, is_found, digest_checked, spelt, act_of, id_of_act, task_of};
 ghost use Rattle.serve.specs.Logs.{id_of_task};
 ghost use Rattle.serve.specs.Inner.Prepared.{counted, row_known};
-ghost use Rattle.route.specs.declared.acts.AskedAct.TheVariants.{OfWorkspace};
-ghost use Rattle.serve.specs.declared.prepared.Task.TheVariants.{ListAll};
+ghost use Rattle.route.specs.declared.routes.AskedAct.TheVariants.{OfWorkspace};
+ghost use Rattle.serve.specs.declared.checks.Task.TheVariants.{ListAll};
 ghost use Rattle.serve.specs.Inner.Judging.{judged_task, missed};
 ghost use Rattle.serve.specs.Inner.Units.{if_named, sees_named, is_present};
 
-use crate::prepared::Task;
 use basis::{
     Bytes, Down, LockId, Look, Moment, Number, OrgName, Refusal, StateHead, WsAct, WsName, WsPrefix,
 };
@@ -25,6 +24,20 @@ use docs::{DocFault, digest_fits, read_lock, read_run, read_settings, read_state
 use machine::{Act, Keep, Needs, StateText, TokenRow, Unit, WorkspaceUnit};
 use route::{Asked, AskedAct, secret_digest};
 use std::alloc::{AllocError, Global};
+
+/// What is asked, with its document read: to list the organization's workspaces after a name, of those that a prefix
+/// admits, or an act on a workspace.
+#[derive(Drop)]
+pub enum Task {
+    ListAll {
+        after: Option<WsName>,
+        prefix: WsPrefix,
+    },
+    Carry {
+        ws: WsName,
+        act: Act,
+    },
+}
 
 // A token that counts at this moment. One that has ended is as if it weren't there.
 fn counted(row: TokenRow, at: Moment) -> Result<TokenRow, Refusal>

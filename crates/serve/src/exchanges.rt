@@ -14,8 +14,7 @@ ghost use Rattle.serve.specs.Inner.Replying.{AnswersTo, due_reply, due_row, Sett
 
 use crate::doors::{Door, Operated, operate};
 use crate::logs::{as_unavailable, silent_row};
-use crate::messages::{commit, is_head, prepare, without_body};
-use crate::prepared::Prepared;
+use crate::messages::{Prepared, commit, is_head, prepare, without_body};
 use basis::{Down, Moment};
 use docs::LogRow;
 use machine::Keep;

@@ -12,7 +12,6 @@ mod lists;
 mod logs;
 mod messages;
 pub mod parts;
-mod prepared;
 mod requests;
 mod service;
 pub mod steps;

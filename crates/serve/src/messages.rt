@@ -13,7 +13,6 @@ ghost use Rattle.serve.specs.Service.{is_head, asked_by, Asks, Carries, Stays, s
 
 use crate::exchanges::LinkFault;
 use crate::logs::{RowFacts, as_unavailable, refused_row, request_row, unavailable_row};
-use crate::prepared::Prepared;
 use crate::requests::{refuse, request};
 use basis::{Bytes, Down, Moment, Refusal};
 use docs::LogRow;
@@ -21,6 +20,15 @@ use machine::{Change, Keep};
 use route::{Asked, Routes, asked};
 use std::alloc::Global;
 use wire::{FromRead, Message, Reply, ToWrite, WireFault, read_message, write_reply};
+
+/// An answer that is made in full before anything changes: the reply, the change that is to follow, and what the log tells
+/// once it is done. The change is of the workspace that the log's row names.
+#[derive(Drop)]
+pub struct Prepared {
+    pub reply: Reply,
+    pub change: Option<Change>,
+    pub row: LogRow,
+}
 
 /// Whether the method of a message is HEAD.
 pub fn is_head(message: &Message) -> bool

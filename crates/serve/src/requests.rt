@@ -6,7 +6,7 @@ ghost use Rattle.machine.specs.Records.{workspace_in, seen_in};
 ghost use Rattle.machine.specs.Rules.{refused_by};
 ghost use Rattle.machine.specs.Meaning.{meaning, answered, holder_of, ChangeIsDue};
 ghost use Rattle.machine.specs.declared.acts.Answer.TheVariants.{Workspace as ShownWorkspace, Run as ShownRun, Versions as ListedVersions, Runs as ListedRuns};
-ghost use Rattle.serve.specs.declared.prepared.Task.TheVariants.{ListAll, Carry};
+ghost use Rattle.serve.specs.declared.checks.Task.TheVariants.{ListAll, Carry};
 ghost use Rattle.machine.specs.declared.acts.Decision.TheVariants.{Accepted};
 ghost use Rattle.machine.specs.declared.records.Organization.{Organization};
 ghost use Rattle.docs.specs.Bodies.{error_text};
@@ -19,9 +19,8 @@ ghost use Rattle.serve.specs.Inner.Tracing.{facts_of, read_so_far, AreReadSoFar}
 ghost use Rattle.serve.specs.Inner.Prepared.{Foresees, IsTaskInRange, workspace_of_task};
 ghost use Rattle.serve.specs.Inner.Units.{holder_in};
 
-use crate::checks::{in_reach, judged, known_caller, missed, spelt_id};
+use crate::checks::{Task, in_reach, judged, known_caller, missed, spelt_id};
 use crate::logs::{RowFacts, Trace, trace_by};
-use crate::prepared::Task;
 use basis::numbers::MAX_MOMENT;
 use basis::{Bytes, Down, Holder, Moment, OrgName, Refusal, RunRow, Text, WsName, WsPrefix, WsRow};
 use docs::{

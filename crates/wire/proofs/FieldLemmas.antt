@@ -9,8 +9,8 @@ use Rattle.std.proofs.lemmas.List.Folds.{list_any-append}
 use Rattle.httparse.specs.declared.spans.Span.{Span}
 use Rattle.httparse.specs.declared.spans.HeaderSpan.{HeaderSpan}
 use Rattle.httparse.specs.Spans.{span_bytes, header_bytes, IsWithin}
-use Rattle.wire.specs.declared.fields.Lookup.{Lookup}
-use Rattle.wire.specs.declared.fields.Lookup.TheVariants.{Absent, Once, Again}
+use Rattle.wire.specs.declared.heads.Lookup.{Lookup}
+use Rattle.wire.specs.declared.heads.Lookup.TheVariants.{Absent, Once, Again}
 use Rattle.wire.specs.Fields.{Fields, field_values, is_named, is_field, has_value}
 use Rattle.wire.specs.Inner.Spans.{fields_at, LooksUp}
 

@@ -6,9 +6,7 @@ ghost use Rattle.httparse.specs.Spans.{IsRequestWithin, IsRequestOf, IsRequestAt
 ghost use Rattle.wire.specs.Framing.{is_without_host, repeats_a_field, is_framed_twice, max_body, awaits_continue, is_misframed, frame_of, body_length, is_head_method, parts_of, Verdict, IsJudged};
 ghost use Rattle.wire.specs.Inner.Spans.{fields_at, AreWithin, capped_length, parts_at, Judges, Frames, GivesLength};
 
-use crate::fields::{has_value, is_there, stands_twice, value};
-use crate::heads::feeds;
-use crate::targets::{origin, path, query};
+use crate::heads::{feeds, has_value, is_there, origin, path, query, stands_twice, value};
 use basis::{Bytes, Down, Refusal, Text};
 use http::Method;
 use http::method::MethodError;

@@ -1,11 +1,20 @@
-//! Reading the head of a request, up to its end and however it is cut: each byte is looked at once.
-ghost use Rattle.std.specs.Prelude.{◌≡◌, ◌↔◌, ◌≤◌, ◌+◌, ℕ, List, ◌∷◌, ◌++◌, length, false, true, IfSome, IsErrOf, count_by};
+//! The head of a request: reading it up to its end however it is cut (each byte is looked at once), the fields in it by their names, and its
+//! target, a path and a query after `http://` and a host or without them.
+ghost use Rattle.std.specs.Prelude.{◌≡◌, ◌↔◌, ◌≤◌, ◌+◌, ℕ, List, ◌∷◌, ◌++◌, length, false, true, IfSome, IsErrOf, count_by, ◌<◌, Some, None, IsTrue};
 ghost use Rattle.std.specs.Io.KnownBytes.{Consumes};
+ghost use Rattle.std.specs.Option.{option_copied};
+ghost use Rattle.std.specs.Str.{str_eq_ignore_ascii_case};
+ghost use Rattle.std.specs.List.{position_or_len};
+ghost use Rattle.httparse.specs.Spans.{header_bytes, IsHeaderWithin};
 ghost use Rattle.wire.specs.Heads.{is_break, is_feed, feeds_of};
 ghost use Rattle.wire.specs.Inner.Positions.{len_from, len_after, len_past, Finds};
+ghost use Rattle.wire.specs.Fields.{field_values, is_named, has_field, stands_twice, value_of, has_value, is_field};
+ghost use Rattle.wire.specs.Inner.Spans.{fields_at, AreWithin, LooksUp};
+ghost use Rattle.wire.specs.Targets.{begins_with_slash, begins_with_scheme, ends_host, origin_of, or_root, path_of, query_of};
 
 use crate::devices::Inlet;
 use basis::Bytes;
+use httparse::spans::{HeaderSpan, Span};
 use std::alloc::Global;
 
 /// The most bytes of a head, with its empty line.
@@ -133,4 +142,174 @@ fn is_break(byte: u8) -> bool
     ensures { result ≡ is_break byte }
 {
     byte == b'\n' || byte == b'\r'
+}
+
+/// Whether no field has a name, or one, or more.
+#[derive(Clone, Copy)]
+pub enum Lookup {
+    Absent,
+    Once(Span),
+    Again,
+}
+
+fn look_up(head: &[u8], fields: &[HeaderSpan], name: &[u8]) -> Lookup
+    requires { AreWithin head.now fields.now }
+    ensures { LooksUp head.now (field_values name.now (fields_at head.now fields.now)) result }
+{
+    let mut found = Lookup::Absent;
+    for field in fields {
+        if is_named(head, *field, name) {
+            found = match found {
+                Lookup::Absent => Lookup::Once(field.value),
+                _ => Lookup::Again,
+            };
+        }
+    }
+    found
+}
+
+/// The value of the only field of a name.
+pub fn value<'b>(head: &'b [u8], fields: &[HeaderSpan], name: &[u8]) -> Option<&'b [u8]>
+    requires { AreWithin head.now fields.now }
+    ensures { option_copied result ≡ value_of name.now (fields_at head.now fields.now) }
+{
+    match look_up(head, fields, name) {
+        Lookup::Once(span) => Some(span.of(head)),
+        _ => None,
+    }
+}
+
+pub fn is_there(head: &[u8], fields: &[HeaderSpan], name: &[u8]) -> bool
+    requires { AreWithin head.now fields.now }
+    ensures { result ≡ has_field name.now (fields_at head.now fields.now) }
+{
+    match look_up(head, fields, name) {
+        Lookup::Absent => false,
+        _ => true,
+    }
+}
+
+pub fn stands_twice(head: &[u8], fields: &[HeaderSpan], name: &[u8]) -> bool
+    requires { AreWithin head.now fields.now }
+    ensures { result ≡ stands_twice name.now (fields_at head.now fields.now) }
+{
+    match look_up(head, fields, name) {
+        Lookup::Again => true,
+        _ => false,
+    }
+}
+
+/// Whether a field of a name has this value, in any case.
+pub fn has_value(head: &[u8], fields: &[HeaderSpan], name: &[u8], wanted: &[u8]) -> bool
+    requires { AreWithin head.now fields.now }
+    ensures { result ≡ has_value name.now wanted.now (fields_at head.now fields.now) }
+{
+    let mut found = false;
+    for field in fields {
+        if is_field(head, *field, name, wanted) {
+            found = true;
+        }
+    }
+    found
+}
+
+// Whether the field has the name and the value.
+fn is_field(head: &[u8], field: HeaderSpan, name: &[u8], wanted: &[u8]) -> bool
+    requires { IsHeaderWithin (length head.now) field }
+    ensures { result ≡ is_field name.now wanted.now (header_bytes head.now field) }
+{
+    is_named(head, field, name) && is_same(field.value.of(head), wanted)
+}
+
+fn is_named(head: &[u8], field: HeaderSpan, name: &[u8]) -> bool
+    requires { IsHeaderWithin (length head.now) field }
+    ensures { result ≡ is_named name.now (header_bytes head.now field) }
+{
+    is_same(field.name.of(head), name)
+}
+
+fn is_same(text: &[u8], other: &[u8]) -> bool
+    ensures { result ≡ str_eq_ignore_ascii_case text.now other.now }
+{
+    text.eq_ignore_ascii_case(other)
+}
+
+const SCHEME: &[u8] = b"http://";
+
+/// The target without scheme and host, where it has one of the two forms.
+pub fn origin(target: &str) -> Option<&str>
+    ensures { option_copied result ≡ origin_of target.now }
+{
+    let bytes = target.as_bytes();
+    if begins_with_slash(bytes) {
+        return Some(target);
+    }
+    if !begins_with_scheme(bytes) {
+        return None;
+    }
+    let host = host_len(bytes.split_at(SCHEME.len()).1);
+    if host == 0 {
+        return None;
+    }
+    Some(&target[SCHEME.len() + host..])
+}
+
+/// What stands before the first `?`, or `/`.
+pub fn path(origin: &str) -> &str
+    ensures { result.now ≡ path_of origin.now }
+{
+    match origin.split_once('?') {
+        Some((path, _)) => or_root(path),
+        None => or_root(origin),
+    }
+}
+
+/// What stands after the first `?`.
+pub fn query(origin: &str) -> Option<&str>
+    ensures { option_copied result ≡ query_of origin.now }
+{
+    match origin.split_once('?') {
+        Some((_, query)) => Some(query),
+        None => None,
+    }
+}
+
+fn begins_with_slash(target: &[u8]) -> bool
+    ensures { result ≡ begins_with_slash target.now }
+{
+    match target {
+        [byte, ..] => *byte == b'/',
+        [] => false,
+    }
+}
+
+fn begins_with_scheme(target: &[u8]) -> bool
+    ensures value { result ≡ begins_with_scheme target.now }
+    ensures long { IsTrue result → 7 ≤ length target.now }
+{
+    target.len() >= SCHEME.len() && target[..SCHEME.len()].eq_ignore_ascii_case(SCHEME)
+}
+
+fn host_len(rest: &[u8]) -> usize
+    ensures position { result ≡ position_or_len ends_host rest.now }
+    ensures within { result ≤ length rest.now }
+{
+    for (i, byte) in rest.iter().enumerate() {
+        if ends_host(*byte) {
+            return i;
+        }
+    }
+    rest.len()
+}
+
+fn ends_host(byte: u8) -> bool
+    ensures { result ≡ ends_host byte }
+{
+    byte == b'/' || byte == b'?'
+}
+
+fn or_root(path: &str) -> &str
+    ensures { result.now ≡ or_root path.now }
+{
+    if path.is_empty() { "/" } else { path }
 }

@@ -5,19 +5,13 @@
 #![tactic(auto)]
 
 mod devices;
-mod fields;
 mod framing;
 mod heads;
 mod laws;
 mod messages;
-mod reading;
 mod replies;
-mod sending;
-mod targets;
 
 pub use devices::{Broken, FromRead, Inlet, Outlet, ToWrite, tells_end};
 pub use laws::{one_reading, one_text, retargeted_reads, some_reading, stays_awaited, stays_read};
-pub use messages::{Message, WireFault};
-pub use reading::read_message;
-pub use replies::Reply;
-pub use sending::{WriteFault, write_reply};
+pub use messages::{Message, WireFault, read_message};
+pub use replies::{Reply, WriteFault, write_reply};

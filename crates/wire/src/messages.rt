@@ -1,6 +1,18 @@
-//! A message of HTTP, and why none was read.
+//! A message of HTTP, and reading it: its head, the `100 Continue` where it is awaited, and its body.
+ghost use Rattle.std.specs.Prelude.{◌≡◌, ◌≤◌, ◌↔◌, ◌++◌, ℕ, List, length, take, true, false, Err, IfSome, IsErrOf, IsTrue, OnErr, is_err, min};
+ghost use Rattle.std.specs.Io.KnownBytes.{Consumes};
+ghost use Rattle.wire.specs.Heads.{head_end_of, Whole};
+ghost use Rattle.wire.specs.Links.{ReportsReceived, ReportsInput, Writes, continue_if};
+ghost use Rattle.wire.specs.Inner.Bodies.{Fills, Finishes, ReadsBody, body_fault, wire_fault, refusal_fault};
+ghost use Rattle.wire.specs.Messages.{framed_message};
+
+use crate::devices::{Inlet, Outlet};
+use crate::framing::{Frame, FrameFault, read_frame};
+use crate::heads::{HeadFault, ReceivedHead, read_head};
+use crate::replies::{WriteFault, write_all};
 use basis::{Bytes, Refusal, Text};
 use http::Method;
+use std::alloc::Global;
 use std::error::Error;
 use std::fmt;
 
@@ -50,3 +62,229 @@ impl fmt::Display for WireFault {
 }
 
 impl Error for WireFault {}
+
+// The interim reply that gives leave to send the body (RFC 9110, section 15.2.1).
+const CONTINUE: &[u8] = b"HTTP/1.1 100 Continue\r\n\r\n";
+
+/// Reads a message, however its bytes are cut into reads, and writes the `100 Continue` as soon as the
+/// head is whole, where it is awaited. No read is made once the message is whole or refused; bytes
+/// received with its last ones are dropped.
+pub fn read_message<I: Inlet, O: Outlet>(
+    alloc: Global,
+    inlet: &mut I,
+    outlet: &mut O,
+) -> Result<Message, WireFault>
+    requires reads { I.broken inlet.old ≡ false }
+    requires writes { O.broken outlet.old ≡ false }
+    ensures answer { (received : List ℕ) × Consumes (I.left inlet.old) (I.left inlet.new) received
+        × ReportsReceived received (I.left inlet.new) (O.written outlet.old) (O.written outlet.new) result }
+    ensures known { IfSome (I.left inlet.old) (λ bytes. ReportsInput bytes (O.written outlet.old) (O.written outlet.new) result) }
+    ensures read { (I.broken inlet.new ≡ true) ↔ IsErrOf result WireFault.Read }
+    ensures end { I.ended inlet.old ≡ false → ((I.ended inlet.new ≡ true) ↔ IsErrOf result WireFault.Ended) }
+    ensures written { (O.broken outlet.new ≡ true) ↔ IsErrOf result WireFault.Continue }
+{
+    read_through(alloc, inlet, outlet)
+}
+
+// The message of the bytes received, whether or not the reader tells those that it has left.
+fn read_through<I: Inlet, O: Outlet>(
+    alloc: Global,
+    inlet: &mut I,
+    outlet: &mut O,
+) -> Result<Message, WireFault>
+    requires reads { I.broken inlet.old ≡ false }
+    requires writes { O.broken outlet.old ≡ false }
+    ensures answer { (received : List ℕ) × Consumes (I.left inlet.old) (I.left inlet.new) received
+        × ReportsReceived received (I.left inlet.new) (O.written outlet.old) (O.written outlet.new) result }
+    ensures read { (I.broken inlet.new ≡ true) ↔ IsErrOf result WireFault.Read }
+    ensures end { I.ended inlet.old ≡ false → ((I.ended inlet.new ≡ true) ↔ IsErrOf result WireFault.Ended) }
+    ensures written { (O.broken outlet.new ≡ true) ↔ IsErrOf result WireFault.Continue }
+{
+    match read_head(alloc, inlet) {
+        Ok(received_head) => read_on(alloc, received_head, inlet, outlet),
+        Err(fault) => Err(wire_fault(fault)),
+    }
+}
+
+// The message whose head is received.
+fn read_on<I: Inlet, O: Outlet>(
+    alloc: Global,
+    received_head: ReceivedHead,
+    inlet: &mut I,
+    outlet: &mut O,
+) -> Result<Message, WireFault>
+    requires reads { I.broken inlet.old ≡ false }
+    requires writes { O.broken outlet.old ≡ false }
+    requires head_end { head_end_of received_head.bytes ≡ Whole received_head.len }
+    requires within { received_head.len ≤ length received_head.bytes }
+    ensures answer { (received : List ℕ) × Consumes (I.left inlet.old) (I.left inlet.new) received
+        × ReportsReceived (received_head.bytes ++ received) (I.left inlet.new) (O.written outlet.old) (O.written outlet.new) result }
+    ensures read { (I.broken inlet.new ≡ true) ↔ IsErrOf result WireFault.Read }
+    ensures end { I.ended inlet.old ≡ false → ((I.ended inlet.new ≡ true) ↔ IsErrOf result WireFault.Ended) }
+    ensures written { (O.broken outlet.new ≡ true) ↔ IsErrOf result WireFault.Continue }
+{
+    let (head, rest) = received_head.bytes.as_slice().split_at(received_head.len);
+    match read_frame(alloc, head) {
+        Ok(frame) => finish(alloc, frame, rest, inlet, outlet),
+        Err(fault) => Err(refusal_fault(fault)),
+    }
+}
+
+// The `100 Continue` and the body, past a head that is accepted.
+fn finish<I: Inlet, O: Outlet>(
+    alloc: Global,
+    frame: Frame,
+    rest: &[u8],
+    inlet: &mut I,
+    outlet: &mut O,
+) -> Result<Message, WireFault>
+    requires reads { I.broken inlet.old ≡ false }
+    requires writes { O.broken outlet.old ≡ false }
+    ensures finished { (received : List ℕ) × Consumes (I.left inlet.old) (I.left inlet.new) received
+        × Finishes frame (rest.now ++ received) (I.left inlet.new) (O.written outlet.old) (O.written outlet.new) result }
+    ensures read { (I.broken inlet.new ≡ true) ↔ IsErrOf result WireFault.Read }
+    ensures end { I.ended inlet.old ≡ false → ((I.ended inlet.new ≡ true) ↔ IsErrOf result WireFault.Ended) }
+    ensures written { (O.broken outlet.new ≡ true) ↔ IsErrOf result WireFault.Continue }
+{
+    match read_body(
+        alloc,
+        frame.body_len,
+        frame.awaits_continue,
+        rest,
+        inlet,
+        outlet,
+    ) {
+        Ok(body) => Ok(framed_message(frame, body)),
+        Err(fault) => Err(fault),
+    }
+}
+
+// The `100 Continue` where it is awaited, and the body.
+fn read_body<I: Inlet, O: Outlet>(
+    alloc: Global,
+    len: usize,
+    awaits_continue: bool,
+    rest: &[u8],
+    inlet: &mut I,
+    outlet: &mut O,
+) -> Result<Bytes, WireFault>
+    requires reads { I.broken inlet.old ≡ false }
+    requires writes { O.broken outlet.old ≡ false }
+    ensures body { (received : List ℕ) × Consumes (I.left inlet.old) (I.left inlet.new) received
+        × ReadsBody len awaits_continue (rest.now ++ received) (I.left inlet.new) (O.written outlet.old) (O.written outlet.new) result }
+    ensures read { (I.broken inlet.new ≡ true) ↔ IsErrOf result WireFault.Read }
+    ensures end { I.ended inlet.old ≡ false → ((I.ended inlet.new ≡ true) ↔ IsErrOf result WireFault.Ended) }
+    ensures written { (O.broken outlet.new ≡ true) ↔ IsErrOf result WireFault.Continue }
+{
+    let Some(mut body) = begun(alloc, len, rest) else {
+        return Err(WireFault::Down);
+    };
+    if write_continue(awaits_continue, outlet).is_err() {
+        return Err(WireFault::Continue);
+    }
+    let filled = rest.len().min(len);
+    match fill(body.as_mut_slice(), filled, inlet) {
+        Ok(()) => Ok(Bytes::new(body)),
+        Err(fault) => Err(body_fault(fault)),
+    }
+}
+
+// The whole body's bytes: what was received of it beside the head, and zeros where the rest is to be read.
+fn begun(alloc: Global, len: usize, rest: &[u8]) -> Option<Vec<u8>>
+    ensures begins { IfSome result (λ body. take (min (length rest.now) len) body.items ≡ take len rest.now) }
+    ensures whole { IfSome result (λ body. length body.items ≡ len) }
+{
+    let Ok(mut body) = Vec::with_capacity(alloc, len) else {
+        return None;
+    };
+    let received = rest.len().min(len);
+    body.extend_from_slice(&rest[..received]).unwrap();
+    body.resize(len, 0).unwrap();
+    Some(body)
+}
+
+// The `100 Continue`, where it is awaited.
+fn write_continue<O: Outlet>(awaits_continue: bool, outlet: &mut O) -> Result<(), WriteFault>
+    requires { O.broken outlet.old ≡ false }
+    ensures text { Writes (O.written outlet.old) (O.written outlet.new) (continue_if awaits_continue) result }
+    ensures awaited { OnErr result (IsTrue awaits_continue) }
+    ensures cause { O.broken outlet.new ≡ is_err result }
+{
+    if awaits_continue {
+        write_all(outlet, CONTINUE)
+    } else {
+        Ok(())
+    }
+}
+
+// Reads what the body lacks behind its first bytes, right into its place.
+fn fill<I: Inlet>(body: &mut [u8], begun: usize, inlet: &mut I) -> Result<(), BodyFault>
+    requires sound { I.broken inlet.old ≡ false }
+    requires short { begun ≤ length body.old }
+    ensures filled { (received : List ℕ) × Consumes (I.left inlet.old) (I.left inlet.new) received
+        × Fills (take begun body.old ++ received) (length body.old) (I.left inlet.new) body.new result }
+    ensures cause { (I.broken inlet.new ≡ true) ↔ (result ≡ Err BodyFault.Failed) }
+    ensures end { I.ended inlet.old ≡ false → ((I.ended inlet.new ≡ true) ↔ (result ≡ Err BodyFault.Ended)) }
+{
+    let len = body.len();
+    let mut filled = begun;
+    'filling: while filled < len {
+        let Ok(count) = inlet.read(&mut body[filled..]) else {
+            return Err(BodyFault::Failed);
+        };
+        if count == 0 {
+            return Err(BodyFault::Ended);
+        }
+        filled += count;
+    }
+    Ok(())
+}
+
+/// Why a body was not read whole.
+#[derive(Clone, Copy)]
+pub enum BodyFault {
+    Ended,
+    Failed,
+}
+
+fn body_fault(fault: BodyFault) -> WireFault
+    ensures { result ≡ body_fault fault }
+{
+    match fault {
+        BodyFault::Ended => WireFault::Ended,
+        BodyFault::Failed => WireFault::Read,
+    }
+}
+
+fn framed_message(frame: Frame, body: Bytes) -> Message
+    ensures { result ≡ framed_message frame body }
+{
+    Message {
+        method: frame.method,
+        path: frame.path,
+        query: frame.query,
+        authorization: frame.authorization,
+        content_md5: frame.content_md5,
+        body,
+    }
+}
+
+fn wire_fault(fault: HeadFault) -> WireFault
+    ensures { result ≡ wire_fault fault }
+{
+    match fault {
+        HeadFault::Ended => WireFault::Ended,
+        HeadFault::Failed => WireFault::Read,
+        HeadFault::TooLarge => WireFault::Refused(Refusal::HeadTooLarge, false),
+        HeadFault::Down => WireFault::Down,
+    }
+}
+
+fn refusal_fault(fault: FrameFault) -> WireFault
+    ensures { result ≡ refusal_fault fault }
+{
+    match fault {
+        FrameFault::Refused(refusal, is_head) => WireFault::Refused(refusal, is_head),
+        FrameFault::Down => WireFault::Down,
+    }
+}

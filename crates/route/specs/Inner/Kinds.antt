@@ -17,9 +17,9 @@ use Rattle.route.specs.Tokens.{org_of}
 use Rattle.route.specs.Acts.{listing_act, workspace_act, state_act, runs_act, got, posted}
 use Rattle.route.specs.Asks.{query_text, is_bodyless, with_query}
 use Rattle.route.specs.Queries.{query_read}
-use Rattle.route.specs.declared.acts.Asked.{Asked}
-use Rattle.route.specs.declared.acts.AskedAct.{AskedAct}
-use Rattle.route.specs.declared.acts.AskedAct.TheVariants.{OfWorkspace}
+use Rattle.route.specs.declared.routes.Asked.{Asked}
+use Rattle.route.specs.declared.routes.AskedAct.{AskedAct}
+use Rattle.route.specs.declared.routes.AskedAct.TheVariants.{OfWorkspace}
 use Rattle.basis.specs.declared.acts.WsAct.{WsAct}
 use Rattle.basis.specs.declared.acts.WsAct.TheVariants.{ReportRun}
 use Rattle.wire.specs.declared.messages.Message.{Message}

@@ -1,6 +1,6 @@
 -- One pair of a query after another: what is found so far, and what a further pair does to it.
 use Rattle.std.specs.Prelude.{◌≡◌, ℕ, Bool, ◌&&◌, List, [], ◌∷◌, ◌++◌, Option, Some, None}
-use Rattle.route.specs.declared.queries.Query.{Query}
+use Rattle.route.specs.declared.asks.Query.{Query}
 use Rattle.route.specs.Queries.{token_key, id_key, after_key, value_if, values_in, values, is_single}
 
 -- the values that are found so far

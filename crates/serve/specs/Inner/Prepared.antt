@@ -9,14 +9,14 @@ use Rattle.basis.specs.declared.roles.Caller.{Caller}
 use Rattle.sha2.specs.Sha256.{sha256}
 use Rattle.machine.specs.Ranges.{IsInRange}
 use Rattle.machine.specs.Records.{seen_in, placed}
-use Rattle.serve.specs.declared.prepared.Task.{Task}
-use Rattle.serve.specs.declared.prepared.Task.TheVariants.{ListAll, Carry}
+use Rattle.serve.specs.declared.checks.Task.{Task}
+use Rattle.serve.specs.declared.checks.Task.TheVariants.{ListAll, Carry}
 use Rattle.machine.specs.Changes.{changed_by, IsDue}
 use Rattle.machine.specs.Tokens.{asker_of}
 use Rattle.machine.specs.declared.acts.Change.{Change}
 use Rattle.machine.specs.declared.keeps.TokenRow.{TokenRow}
 use Rattle.machine.specs.declared.records.Organization.{Organization}
-use Rattle.route.specs.declared.acts.Asked.{Asked}
+use Rattle.route.specs.declared.routes.Asked.{Asked}
 use Rattle.docs.specs.Bodies.{error_text}
 use Rattle.wire.specs.Replies.{Answer, refused_answer}
 use Rattle.serve.specs.Asks.{Ask, silent, requests, commands}
@@ -24,7 +24,7 @@ use Rattle.serve.specs.Asks as ask
 use Rattle.serve.specs.Checks.{known_caller}
 use Rattle.serve.specs.Logs.{workspace_named}
 use Rattle.serve.specs.Steps.{Answered, request_step}
-use Rattle.serve.specs.declared.prepared.Prepared.{Prepared}
+use Rattle.serve.specs.declared.messages.Prepared.{Prepared}
 
 -- a token that counts at a moment
 abbrev pub counted : ℕ → TokenRow → Result TokenRow Refusal

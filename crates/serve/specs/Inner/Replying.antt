@@ -16,7 +16,7 @@ use Rattle.serve.specs.Exchanges.{Exchanges}
 use Rattle.serve.specs.declared.exchanges.LinkFault.{LinkFault}
 use Rattle.serve.specs.Inner.Prepared.{IsPrepared}
 use Rattle.serve.specs.Inner.Tracing.{as_unavailable}
-use Rattle.serve.specs.declared.prepared.Prepared.{Prepared}
+use Rattle.serve.specs.declared.messages.Prepared.{Prepared}
 
 -- whether the body of the reply to what was read is left out
 abbrev pub without_body : Result Message WireFault → Bool

@@ -14,7 +14,7 @@ use Rattle.machine.specs.declared.acts.Edit.TheVariants as edit
 use Rattle.machine.specs.declared.acts.Unit.{Unit as AnyUnit}
 use Rattle.machine.specs.declared.acts.Unit.TheVariants.{Absent, Present}
 use Rattle.machine.specs.declared.records.Organization.{Organization}
-use Rattle.route.specs.declared.acts.Asked.{Asked}
+use Rattle.route.specs.declared.routes.Asked.{Asked}
 use Rattle.serve.specs.Checks.{checked}
 use Rattle.serve.specs.Logs.{number_given, no_trace, token_named, id_spelt, task_read, traced, unavailable_row, IsReadSoFar}
 use Rattle.serve.specs.declared.logs.RowFacts.{RowFacts}

@@ -6,8 +6,8 @@ use Rattle.wire.specs.declared.framing.FrameFault.{FrameFault}
 use Rattle.wire.specs.declared.framing.FrameFault.TheVariants.{Refused as HeadRefused, Down as NoMemory}
 use Rattle.wire.specs.declared.heads.HeadFault.{HeadFault}
 use Rattle.wire.specs.declared.heads.HeadFault.TheVariants.{Ended as HeadEnded, Failed as HeadFailed, TooLarge, Down as NoRoom}
-use Rattle.wire.specs.declared.reading.BodyFault.{BodyFault}
-use Rattle.wire.specs.declared.reading.BodyFault.TheVariants.{Ended as BodyEnded, Failed as BodyFailed}
+use Rattle.wire.specs.declared.messages.BodyFault.{BodyFault}
+use Rattle.wire.specs.declared.messages.BodyFault.TheVariants.{Ended as BodyEnded, Failed as BodyFailed}
 use Rattle.wire.specs.declared.messages.Message.{Message}
 use Rattle.wire.specs.declared.messages.WireFault.{WireFault}
 use Rattle.wire.specs.declared.messages.WireFault.TheVariants.{Ended, Read, Continue, Refused, Down}

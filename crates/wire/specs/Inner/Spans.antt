@@ -3,8 +3,8 @@ use Rattle.std.specs.Prelude.{◌≡◌, ℕ, ◌<◌, List, [], ◌∷◌, leng
 use Rattle.std.specs.Str.Parse.{digits_value}
 use Rattle.httparse.specs.declared.spans.HeaderSpan.{HeaderSpan}
 use Rattle.httparse.specs.Spans.{span_bytes, header_bytes, IsWithin, IsHeaderWithin}
-use Rattle.wire.specs.declared.fields.Lookup.{Lookup}
-use Rattle.wire.specs.declared.fields.Lookup.TheVariants.{Absent, Once, Again}
+use Rattle.wire.specs.declared.heads.Lookup.{Lookup}
+use Rattle.wire.specs.declared.heads.Lookup.TheVariants.{Absent, Once, Again}
 use Rattle.wire.specs.declared.framing.Frame.{Frame}
 use Rattle.wire.specs.declared.framing.FrameFault.{FrameFault}
 use Rattle.wire.specs.declared.framing.FrameFault.TheVariants.{Refused, Down}
