@@ -17,5 +17,5 @@ unfolding run_id
 no_run id n unnamed = by (bytes_eq id (codes "run-" ++ decimal n)) (bytes_eq-Decides id (codes "run-" ++ decimal n))
   where
     by : (same : Bool) → Decides same (id ≡ codes "run-" ++ decimal n) → false ≡ same
-    by true tells = absurd (unnamed (decimal n) (tells.0 refl))
-    by false tells = refl
+    by true reports = absurd (unnamed (decimal n) (reports.0 refl))
+    by false reports = refl

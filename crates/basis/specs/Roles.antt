@@ -25,5 +25,5 @@ is_before now None = true
 is_before now (Some until) = nat_lt now until
 
 -- a token counts before its end, and always where it has none
-abbrev pub counts_at : ℕ → Caller → Bool
-counts_at now caller = is_before now caller.until
+abbrev pub is_valid_at : ℕ → Caller → Bool
+is_valid_at now caller = is_before now caller.until

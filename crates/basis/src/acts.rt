@@ -1,13 +1,13 @@
 //! What is asked of one workspace, and its words.
 ghost use Rattle.std.specs.Prelude.{◌≡◌};
-ghost use Rattle.basis.specs.Acts.{look_word, act_word, look_number, act_number};
+ghost use Rattle.basis.specs.Acts.{query_word, act_word, query_number, act_number};
 
 use crate::numbers::Number;
 use crate::runs::RunAction;
 
 /// What is told of a workspace; nothing changes by it.
 #[derive(Clone, Copy)]
-pub enum Look {
+pub enum Query {
     /// The workspace as it is shown.
     Workspace,
     /// The text of the newest version (Terraform's `GET`).
@@ -22,29 +22,29 @@ pub enum Look {
     Runs(u64),
 }
 
-impl Look {
+impl Query {
     fn word(self) -> &'static str
-        ensures { result.now ≡ look_word self }
+        ensures { result.now ≡ query_word self }
     {
         match self {
-            Look::Workspace => "show workspace",
-            Look::State => "read state",
-            Look::Version(_) => "read version",
-            Look::Versions(_) => "list versions",
-            Look::Run(_) => "read run",
-            Look::Runs(_) => "list runs",
+            Query::Workspace => "show workspace",
+            Query::State => "read state",
+            Query::Version(_) => "read version",
+            Query::Versions(_) => "list versions",
+            Query::Run(_) => "read run",
+            Query::Runs(_) => "list runs",
         }
     }
 
-    // The number of what is told, where the look names one.
+    // The number of what is told, where the query names one.
     fn number(self) -> Option<Number>
-        ensures { result ≡ look_number self }
+        ensures { result ≡ query_number self }
     {
         match self {
-            Look::Version(number) => Some(number),
-            Look::Run(number) => Some(number),
-            Look::Workspace | Look::State => None,
-            Look::Versions(_) | Look::Runs(_) => None,
+            Query::Version(number) => Some(number),
+            Query::Run(number) => Some(number),
+            Query::Workspace | Query::State => None,
+            Query::Versions(_) | Query::Runs(_) => None,
         }
     }
 }
@@ -53,7 +53,7 @@ impl Look {
 #[derive(Clone, Copy)]
 pub enum WsAct {
     /// Something is told of the workspace; nothing changes.
-    Look(Look),
+    Query(Query),
     /// Makes the workspace, or gives it other settings.
     Put,
     /// Takes the workspace away.
@@ -80,7 +80,7 @@ impl WsAct {
         ensures { result.now ≡ act_word self }
     {
         match self {
-            WsAct::Look(look) => look.word(),
+            WsAct::Query(query) => query.word(),
             WsAct::Put => "put workspace",
             WsAct::Delete => "delete workspace",
             WsAct::UpdateState => "update state",
@@ -98,7 +98,7 @@ impl WsAct {
         ensures { result ≡ act_number self }
     {
         match self {
-            WsAct::Look(look) => look.number(),
+            WsAct::Query(query) => query.number(),
             WsAct::ReportRun(number, _) => Some(number),
             WsAct::Put | WsAct::Delete | WsAct::MakeRun => None,
             WsAct::UpdateState | WsAct::PurgeState => None,

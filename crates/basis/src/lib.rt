@@ -14,7 +14,7 @@ pub mod rows;
 pub mod runs;
 pub mod texts;
 
-pub use acts::{Look, WsAct};
+pub use acts::{Query, WsAct};
 pub use memory::{Down, Unfit};
 pub use names::{LockId, OrgName, Secret, WsName, WsPrefix, is_free_id, is_run_id};
 pub use numbers::{KeepCount, Limit, Moment, Number, Serial};

@@ -1,6 +1,6 @@
 //! Roles of tokens.
 ghost use Rattle.std.specs.Prelude.{◌≡◌, ◌≢◌, ◌≤◌, Some, None, IfSome, IfNone};
-ghost use Rattle.basis.specs.Roles.{includes, role_word, counts_at, is_before};
+ghost use Rattle.basis.specs.Roles.{includes, role_word, is_valid_at, is_before};
 ghost use Rattle.basis.specs.declared.numbers.TheConstants.{MAX_MOMENT};
 ghost use Rattle.basis.specs.declared.roles.Role.{Role as AnyRole};
 
@@ -76,8 +76,8 @@ impl Bounds {
 
 impl Caller {
     /// Whether the token counts at this moment: it doesn't end, or ends later.
-    pub fn counts_at(&self, now: Moment) -> bool
-        ensures { result ≡ counts_at now self.now }
+    pub fn is_valid_at(&self, now: Moment) -> bool
+        ensures { result ≡ is_valid_at now self.now }
     {
         is_before(now, self.until)
     }

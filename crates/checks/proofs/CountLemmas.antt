@@ -30,12 +30,12 @@ counted_on (y ∷ xs) x org = go (is_ws_of org y) (is_ws_of org x) (counted_on x
     go false b more = more
 
 -- the groups have one place more
-pub one_counted : (xs : List (Kept WsRow)) (x : Kept WsRow) (old now : List ℕ → List ℕ) (place : ℕ) → ((org : List ℕ) → now org ≡ cond (bytes_eq x.1.org org && true) (old org ++ place ∷ []) (old org))
+pub one_counted : (xs : List (Kept WsRow)) (x : Kept WsRow) (old now : List ℕ → List ℕ) (row_index : ℕ) → ((org : List ℕ) → now org ≡ cond (bytes_eq x.1.org org && true) (old org ++ row_index ∷ []) (old org))
     → ((org : List ℕ) → length (old org) ≡ count_in xs org) → (org : List ℕ) → length (now org) ≡ count_in (xs ++ x ∷ []) org
-one_counted xs x old now place is before org = ap length (is org) ∙ go (bytes_eq x.1.org org) (before org) ∙ sym (counted_on xs x org)
+one_counted xs x old now row_index is before org = ap length (is org) ∙ go (bytes_eq x.1.org org) (before org) ∙ sym (counted_on xs x org)
   where
-    go : (b : Bool) → length (old org) ≡ count_in xs org → length (cond (b && true) (old org ++ place ∷ []) (old org)) ≡ cond b (count_in xs org + 1) (count_in xs org)
-    go true e = length-append (old org) (place ∷ []) ∙ ap (λ n. n + 1) e
+    go : (b : Bool) → length (old org) ≡ count_in xs org → length (cond (b && true) (old org ++ row_index ∷ []) (old org)) ≡ cond b (count_in xs org + 1) (count_in xs org)
+    go true e = length-append (old org) (row_index ∷ []) ∙ ap (λ n. n + 1) e
     go false e = e
 
 not_that : (n m : ℕ) → not (n == m) ≡ true → n ≡ m → ⊥

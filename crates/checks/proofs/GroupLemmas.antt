@@ -7,18 +7,18 @@ use Rattle.basis.proofs.NameLemmas.{equal_bytes}
 use Rattle.checks.specs.Inner.Groups.{with_some, picked}
 
 module _ {X : Type 0} (rows : List X) where
-  pub picked_first : (place : ℕ) (places : List ℕ) → picked rows (place ∷ places) ≡ picked rows (place ∷ []) ++ picked rows places
-  picked_first place places = go (slice_get rows place)
+  pub picked_first : (row_index : ℕ) (row_indices : List ℕ) → picked rows (row_index ∷ row_indices) ≡ picked rows (row_index ∷ []) ++ picked rows row_indices
+  picked_first row_index row_indices = go (slice_get rows row_index)
     where
-      go : (o : Option X) → with_some o (picked rows places) ≡ with_some o [] ++ picked rows places
+      go : (o : Option X) → with_some o (picked rows row_indices) ≡ with_some o [] ++ picked rows row_indices
       go None = refl
       go (Some x) = refl
 
-  pub picked_both : (places others : List ℕ) → picked rows (places ++ others) ≡ picked rows places ++ picked rows others
+  pub picked_both : (row_indices others : List ℕ) → picked rows (row_indices ++ others) ≡ picked rows row_indices ++ picked rows others
   picked_both [] others = refl
-  picked_both (p ∷ places) others = go (slice_get rows p) (picked_both places others)
+  picked_both (p ∷ row_indices) others = go (slice_get rows p) (picked_both row_indices others)
     where
-      go : (o : Option X) → picked rows (places ++ others) ≡ picked rows places ++ picked rows others → with_some o (picked rows (places ++ others)) ≡ with_some o (picked rows places) ++ picked rows others
+      go : (o : Option X) → picked rows (row_indices ++ others) ≡ picked rows row_indices ++ picked rows others → with_some o (picked rows (row_indices ++ others)) ≡ with_some o (picked rows row_indices) ++ picked rows others
       go None more = more
       go (Some x) more = ap (λ l. x ∷ l) more
 

@@ -281,7 +281,7 @@ module _ (key_of : List ℕ → List ℕ) (t : Tables) where
         },
       )
 
--- the looks at rows tell whether the tables are sound
+-- the checks at rows tell whether the tables are sound
 pub judges_tables : (key_of : List ℕ → List ℕ) (t : Tables) (pages : List PageHead) (versions : List (Kept VersionRow)) (vpages : List (Kept VpageRow)) (w x y z : Found)
     → pages ≡ map (head_in key_of t) t.pages → versions ≡ t.versions → vpages ≡ t.vpages
     → Judges (SamePages pages) (AreApart (λ (a b : PageHead). bytes_eq b.key a.key && b.twin == a.twin) pages) w x → Judges (SamePlaces vpages) (AreApart (λ a b. is_place a.1.org a.1.ws a.1.number a.1.place b) vpages) x y

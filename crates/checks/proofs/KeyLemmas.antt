@@ -91,8 +91,8 @@ regrouped false true first second = all_fail first second
 regrouped false false first second = all_fail first second
 
 -- what a set was asked, by the texts of a row
-pub told_by : (told : Bool) (has : List ℕ → List ℕ → Bool) (a b first second : List ℕ) (known : Bool) → told ≡ has a b → a ≡ first → b ≡ second → has first second ≡ known → told ≡ known
-told_by told has a b first second known e p q h = e ∙ ap₂ has p q ∙ h
+pub reported_by : (reported : Bool) (has : List ℕ → List ℕ → Bool) (a b first second : List ℕ) (known : Bool) → reported ≡ has a b → a ≡ first → b ≡ second → has first second ≡ known → reported ≡ known
+reported_by reported has a b first second known e p q h = e ∙ ap₂ has p q ∙ h
 
 pub fresh_by : (fresh : Bool) (has : List ℕ → List ℕ → Bool) (a b first second : List ℕ) (known : Bool) → fresh ≡ not (has a b) → a ≡ first → b ≡ second → has first second ≡ known → fresh ≡ not known
 fresh_by fresh has a b first second known e p q h = e ∙ ap not (ap₂ has p q ∙ h)

@@ -117,7 +117,7 @@ few vpages i x key m below has is =
     let at : unwrap_or (get key_cmp m key) 0 ≡ length (filter passes some) = ap (λ (o : Option ℕ). unwrap_or o 0) (sym (at_key x.key [] x.twin 0 key m is)) ∙ has x.key x.twin in
     omega (arith, parts, at, all)
 
--- one look after the other finds what is wrong with any of the rows
+-- one check after the other finds what is wrong with any of the rows
 pub judges_rows : (heads : List PageHead) (versions : List (Kept VersionRow)) (vpages : List (Kept VpageRow)) (v w x y z : Found)
     → Judges (OfHeads vpages heads) (AllByRecursion IsSoundHead heads) v w → Judges (PagesMiscounted vpages heads) (AllByRecursion (IsCountedIn vpages) heads) w x
     → Judges (PlacesOutside versions vpages) (AllByRecursion (λ r. IsPlacedIn versions r.1) vpages) x y

@@ -1,7 +1,7 @@
 -- The looks at one workspace.
 use Rattle.std.proofs.Common.{◌≡◌, ℕ, ◌≤◌, Bool, List, sym, ap, ◌∙◌, subst, IsTrue}
 use Rattle.basis.specs.declared.numbers.TheConstants.{MAX_KEPT}
-use Rattle.statements.specs.Rows.{Kept, WsRow, VersionRow, RunRow, KeepingRow}
+use Rattle.statements.specs.Rows.{Kept, WsRow, VersionRow, RunRow, RetentionRow}
 use Rattle.checks.specs.declared.found.Found.{Found}
 use Rattle.checks.specs.declared.found.FaultKind.TheVariants as kind
 use Rattle.checks.specs.Judging.{fault_of, Breaks, Judges}
@@ -13,13 +13,13 @@ use Rattle.checks.specs.Inner.Workspaces.{IsLawfulRow}
 use Rattle.checks.proofs.JudgingLemmas.{judges_both, judges_as, judges_law}
 
 -- three looks judge a workspace
-pub row_judged : (ks : List (Kept KeepingRow)) (vs : List (Kept VersionRow)) (rs : List (Kept RunRow)) (x : WsRow) (own versions runs : Bool) (keep : ℕ) (a b c d : Found)
-    → own ≡ is_own x → keep ≡ retention_among ks → 1 ≤ keep → keep ≤ MAX_KEPT → versions ≡ are_versions keep x.it.next_version vs → runs ≡ are_runs x.it.holder x.it.next_run rs
+pub row_judged : (ks : List (Kept RetentionRow)) (vs : List (Kept VersionRow)) (rs : List (Kept RunRow)) (x : WsRow) (own versions runs : Bool) (retention : ℕ) (a b c d : Found)
+    → own ≡ is_own x → retention ≡ retention_among ks → 1 ≤ retention → retention ≤ MAX_KEPT → versions ≡ are_versions retention x.it.next_version vs → runs ≡ are_runs x.it.holder x.it.next_run rs
     → Judges (Breaks (IsTrue own) (name_fault kind.Unlawful x.org x.name)) (IsTrue own) a b → Judges (Breaks (IsTrue versions) (fault_of kind.Versions x.org x.name (unfit_version vs))) (IsTrue versions) b c
     → Judges (Breaks (IsTrue runs) (fault_of kind.Runs x.org x.name (unfit_run x.it.holder rs))) (IsTrue runs) c d → Judges (OfWorkspace ks vs rs x) (IsLawfulRow ks vs rs x) a d
-row_judged ks vs rs x own versions runs keep a b c d is_it retention_is least most versions_are runs_are one two three =
+row_judged ks vs rs x own versions runs retention a b c d is_it retention_is least most versions_are runs_are one two three =
     judges_as a d
-    (λ all. record { keep = (subst (λ n. 1 ≤ n) retention_is least, subst (λ n. n ≤ MAX_KEPT) retention_is most); own = all.0; versions = all.1.0; runs = all.1.1 })
+    (λ all. record { retention = (subst (λ n. 1 ≤ n) retention_is least, subst (λ n. n ≤ MAX_KEPT) retention_is most); own = all.0; versions = all.1.0; runs = all.1.1 })
     (λ lawful. (lawful.own, (lawful.versions, lawful.runs)))
     (judges_both a b d (judges_law a b (subst IsTrue is_it) (subst IsTrue (sym is_it)) one)
     (judges_both b c d (judges_law b c (subst IsTrue kept) (subst IsTrue (sym kept)) two) (judges_law c d (subst IsTrue runs_are) (subst IsTrue (sym runs_are)) three)))

@@ -104,13 +104,13 @@ module _ {X : Type 0} where
   pub apart_judged : (clash : X → X → Bool) (fault : X → Fault) → ((a b : X) → clash a b ≡ clash b a) → (xs : List X) (i : ℕ) (x : X) (fresh : Bool) (start old new : Found) → i < length xs → x ≡ get_or xs i x
       → fresh ≡ not (list_any (clash x) (take i xs)) → Judges (OfClash clash fault (take i xs)) (AreApart clash (take i xs)) start old → Judges (Breaks (fresh ≡ true) (fault x)) (fresh ≡ true) old new
       → Judges (OfClash clash fault (take (i + 1) xs)) (AreApart clash (take (i + 1) xs)) start new
-  apart_judged clash fault turn xs i x fresh start old new inside is told before here =
+  apart_judged clash fault turn xs i x fresh start old new inside is reported before here =
       let same : list_any (λ a. clash a x) (take i xs) ≡ list_any (clash x) (take i xs) = any_same (λ a. clash a x) (clash x) (λ a. turn a x) (take i xs) in
       subst (λ (l : List X). Judges (OfClash clash fault l) (AreApart clash l) start new) (sym (next_row xs i x inside is))
       (judges_says start new (λ f says. clash_back clash fault (take i xs) x f (to f says)) (λ f says. from f (clash_split clash fault (take i xs) x f says))
       (judges_as start new
-      (λ both. apart_pushed clash (take i xs) x both.0 (none_from_any (λ a. clash a x) (take i xs) (same ∙ not-true _ (sym told ∙ both.1))))
-      (λ law. let parts = apart_less clash (take i xs) x law in (parts.0, told ∙ ap not (sym same ∙ any_from_none (λ a. clash a x) (take i xs) parts.1)))
+      (λ both. apart_pushed clash (take i xs) x both.0 (none_from_any (λ a. clash a x) (take i xs) (same ∙ not-true _ (sym reported ∙ both.1))))
+      (λ law. let parts = apart_less clash (take i xs) x law in (parts.0, reported ∙ ap not (sym same ∙ any_from_none (λ a. clash a x) (take i xs) parts.1)))
       (judges_both start old new before here)))
     where
       turned : list_any (λ a. clash a x) (take i xs) ≡ list_any (clash x) (take i xs)
@@ -118,8 +118,8 @@ module _ {X : Type 0} where
 
       to : (f : Fault) → OfClash clash fault (take i xs) f ⊎ Breaks (fresh ≡ true) (fault x) f → OfClash clash fault (take i xs) f ⊎ Here clash fault (take i xs) x f
       to f (inl s) = inl s
-      to f (inr s) = inr (turned ∙ stale fresh (list_any (clash x) (take i xs)) told s.0, s.1)
+      to f (inr s) = inr (turned ∙ stale fresh (list_any (clash x) (take i xs)) reported s.0, s.1)
 
       from : (f : Fault) → OfClash clash fault (take i xs) f ⊎ Here clash fault (take i xs) x f → OfClash clash fault (take i xs) f ⊎ Breaks (fresh ≡ true) (fault x) f
       from f (inl s) = inl s
-      from f (inr s) = inr (not_fresh fresh (list_any (clash x) (take i xs)) told (sym turned ∙ s.0), s.1)
+      from f (inr s) = inr (not_fresh fresh (list_any (clash x) (take i xs)) reported (sym turned ∙ s.0), s.1)

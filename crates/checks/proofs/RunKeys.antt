@@ -55,20 +55,20 @@ is_first true e = refl
 is_first false e = e
 
 -- one run more was looked at: the keys that are left are compared with one more
-pub one_more : (rows : List (Kept RunRow)) (place : ℕ) (places : List ℕ) (seen now : List ℕ → Bool) → ((q : List ℕ) → now q ≡ (list_any (has_key q) (picked rows (place ∷ [])) || seen q))
-    → list_all (is_unseen seen) (picked rows (place ∷ [])) ≡ true
-    → (list_all (is_unseen now) (picked rows places) && keys_differ (picked rows places)) ≡ (list_all (is_unseen seen) (picked rows (place ∷ places)) && keys_differ (picked rows (place ∷ places)))
-one_more rows place places seen now = go (slice_get rows place)
+pub one_more : (rows : List (Kept RunRow)) (row_index : ℕ) (row_indices : List ℕ) (seen now : List ℕ → Bool) → ((q : List ℕ) → now q ≡ (list_any (has_key q) (picked rows (row_index ∷ [])) || seen q))
+    → list_all (is_unseen seen) (picked rows (row_index ∷ [])) ≡ true
+    → (list_all (is_unseen now) (picked rows row_indices) && keys_differ (picked rows row_indices)) ≡ (list_all (is_unseen seen) (picked rows (row_index ∷ row_indices)) && keys_differ (picked rows (row_index ∷ row_indices)))
+one_more rows row_index row_indices seen now = go (slice_get rows row_index)
   where
     go : (o : Option (Kept RunRow)) → ((q : List ℕ) → now q ≡ (list_any (has_key q) (with_some o []) || seen q)) → list_all (is_unseen seen) (with_some o []) ≡ true
-        → (list_all (is_unseen now) (picked rows places) && keys_differ (picked rows places)) ≡ (list_all (is_unseen seen) (with_some o (picked rows places)) && keys_differ (with_some o (picked rows places)))
-    go None added fresh = ap (λ b. b && keys_differ (picked rows places)) (same_unseen seen now added (picked rows places))
+        → (list_all (is_unseen now) (picked rows row_indices) && keys_differ (picked rows row_indices)) ≡ (list_all (is_unseen seen) (with_some o (picked rows row_indices)) && keys_differ (with_some o (picked rows row_indices)))
+    go None added fresh = ap (λ b. b && keys_differ (picked rows row_indices)) (same_unseen seen now added (picked rows row_indices))
     go (Some x) added fresh = by_key x.1.it.key added fresh
       where
         by_key : (k : Option (List ℕ)) → ((q : List ℕ) → now q ≡ ((is_that q k || false) || seen q)) → (is_new seen k && true) ≡ true
-            → (list_all (is_unseen now) (picked rows places) && keys_differ (picked rows places)) ≡ ((is_new seen k && list_all (is_unseen seen) (picked rows places)) && (have_others k (picked rows places) && keys_differ (picked rows places)))
-        by_key None more new = ap (λ b. b && keys_differ (picked rows places)) (same_unseen seen now more (picked rows places))
+            → (list_all (is_unseen now) (picked rows row_indices) && keys_differ (picked rows row_indices)) ≡ ((is_new seen k && list_all (is_unseen seen) (picked rows row_indices)) && (have_others k (picked rows row_indices) && keys_differ (picked rows row_indices)))
+        by_key None more new = ap (λ b. b && keys_differ (picked rows row_indices)) (same_unseen seen now more (picked rows row_indices))
         by_key (Some key) more new =
-            ap (λ b. b && keys_differ (picked rows places)) (still_unseen seen now key (λ q. more q ∙ ap (λ b. b || seen q) (or-false (bytes_eq key q))) (picked rows places))
-            ∙ and_assoc (list_all (is_unseen seen) (picked rows places)) (have_others (Some key) (picked rows places)) (keys_differ (picked rows places))
-            ∙ ap (λ b. (b && list_all (is_unseen seen) (picked rows places)) && (have_others (Some key) (picked rows places) && keys_differ (picked rows places))) (sym (is_first (not (seen key)) new))
+            ap (λ b. b && keys_differ (picked rows row_indices)) (still_unseen seen now key (λ q. more q ∙ ap (λ b. b || seen q) (or-false (bytes_eq key q))) (picked rows row_indices))
+            ∙ and_assoc (list_all (is_unseen seen) (picked rows row_indices)) (have_others (Some key) (picked rows row_indices)) (keys_differ (picked rows row_indices))
+            ∙ ap (λ b. (b && list_all (is_unseen seen) (picked rows row_indices)) && (have_others (Some key) (picked rows row_indices) && keys_differ (picked rows row_indices))) (sym (is_first (not (seen key)) new))

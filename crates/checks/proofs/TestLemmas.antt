@@ -46,25 +46,25 @@ module _ {X : Type 0} (test : X → Bool) (number : X → ℕ) where
   all_fit none first xs e is = not_back none (is_some first) e ∙ ap (λ o. not (is_some o)) is ∙ none_unfit xs
 
   -- the first of them is that of the first place, or that of the others
-  module _ (rows : List X) (place : ℕ) (places : List ℕ) where
-    pub unfit_here : (n : ℕ) → Some n ≡ first_unfit test number (picked rows (place ∷ [])) → Some n ≡ first_unfit test number (picked rows (place ∷ places))
-    unfit_here n = go (slice_get rows place)
+  module _ (rows : List X) (row_index : ℕ) (row_indices : List ℕ) where
+    pub unfit_here : (n : ℕ) → Some n ≡ first_unfit test number (picked rows (row_index ∷ [])) → Some n ≡ first_unfit test number (picked rows (row_index ∷ row_indices))
+    unfit_here n = go (slice_get rows row_index)
       where
-        by_test : (b : Bool) (x : X) → Some n ≡ cond b None (Some (number x)) → Some n ≡ cond b (first_unfit test number (picked rows places)) (Some (number x))
+        by_test : (b : Bool) (x : X) → Some n ≡ cond b None (Some (number x)) → Some n ≡ cond b (first_unfit test number (picked rows row_indices)) (Some (number x))
         by_test true x e = absurd (let none : ⊥ = cc in none)
         by_test false x e = e
 
-        go : (o : Option X) → Some n ≡ first_unfit test number (with_some o []) → Some n ≡ first_unfit test number (with_some o (picked rows places))
+        go : (o : Option X) → Some n ≡ first_unfit test number (with_some o []) → Some n ≡ first_unfit test number (with_some o (picked rows row_indices))
         go None e = absurd (let none : ⊥ = cc in none)
         go (Some x) e = by_test (test x) x e
 
-    pub unfit_later : None ≡ first_unfit test number (picked rows (place ∷ [])) → first_unfit test number (picked rows places) ≡ first_unfit test number (picked rows (place ∷ places))
-    unfit_later = go (slice_get rows place)
+    pub unfit_later : None ≡ first_unfit test number (picked rows (row_index ∷ [])) → first_unfit test number (picked rows row_indices) ≡ first_unfit test number (picked rows (row_index ∷ row_indices))
+    unfit_later = go (slice_get rows row_index)
       where
-        by_test : (b : Bool) (x : X) → None ≡ cond b None (Some (number x)) → first_unfit test number (picked rows places) ≡ cond b (first_unfit test number (picked rows places)) (Some (number x))
+        by_test : (b : Bool) (x : X) → None ≡ cond b None (Some (number x)) → first_unfit test number (picked rows row_indices) ≡ cond b (first_unfit test number (picked rows row_indices)) (Some (number x))
         by_test true x e = refl
         by_test false x e = absurd (let none : ⊥ = cc in none)
 
-        go : (o : Option X) → None ≡ first_unfit test number (with_some o []) → first_unfit test number (picked rows places) ≡ first_unfit test number (with_some o (picked rows places))
+        go : (o : Option X) → None ≡ first_unfit test number (with_some o []) → first_unfit test number (picked rows row_indices) ≡ first_unfit test number (with_some o (picked rows row_indices))
         go None e = refl
         go (Some x) e = by_test (test x) x e

@@ -92,34 +92,34 @@ module _ (t : Tables) (org ws : List ℕ) where
       (le-leb x.1.it.created 253_402_300_799 v.created)
 
   -- the rows that pass denote lawful versions
-  pub versions_by_test : (keep next : ℕ) → IsRetention keep → IsNext next → are_versions keep next rows ≡ true → AreVersions keep next (versions_at t org ws)
-  versions_by_test keep next kept nexts h =
+  pub versions_by_test : (retention next : ℕ) → IsRetention retention → IsNext next → are_versions retention next rows ≡ true → AreVersions retention next (versions_at t org ws)
+  versions_by_test retention next kept nexts h =
       let ns = sorted (map version_number rows) in
-      let three = first_of_both (nat_le (length ns) keep && rises 0 ns next && reaches ns next) (list_all is_version_row rows) h in
-      let two = first_of_both (nat_le (length ns) keep && rises 0 ns next) (reaches ns next) three in
-      let rise : Rises 0 ns next = rises_by_test 0 next ns (second_of_both (nat_le (length ns) keep) (rises 0 ns next) two) in
+      let three = first_of_both (nat_le (length ns) retention && rises 0 ns next && reaches ns next) (list_all is_version_row rows) h in
+      let two = first_of_both (nat_le (length ns) retention && rises 0 ns next) (reaches ns next) three in
+      let rise : Rises 0 ns next = rises_by_test 0 next ns (second_of_both (nat_le (length ns) retention) (rises 0 ns next) two) in
       record {
-        keep = kept;
+        retention = kept;
         next = nexts;
         rise = subst (λ ms. Rises 0 ms next) (sym numbers_are) rise;
-        each = all_in_order version_cmp IsVersion value rows (all_from_tests is_version_row (λ x. IsVersion (value x)) row_by_test rows (second_of_both (nat_le (length ns) keep && rises 0 ns next && reaches ns next) (list_all is_version_row rows) h));
-        kept = subst (λ n. n ≤ keep) (sym count_is) (leb-true (length ns) keep (first_of_both (nat_le (length ns) keep) (rises 0 ns next) two));
+        each = all_in_order version_cmp IsVersion value rows (all_from_tests is_version_row (λ x. IsVersion (value x)) row_by_test rows (second_of_both (nat_le (length ns) retention && rises 0 ns next && reaches ns next) (list_all is_version_row rows) h));
+        kept = subst (λ n. n ≤ retention) (sym count_is) (leb-true (length ns) retention (first_of_both (nat_le (length ns) retention) (rises 0 ns next) two));
       }
 
   -- and none between them is missing
-  pub no_gap_by_test : (keep next : ℕ) → are_versions keep next rows ≡ true → HasNoGap (map (λ (v : Version). v.number) (versions_at t org ws)) next
-  no_gap_by_test keep next h =
+  pub no_gap_by_test : (retention next : ℕ) → are_versions retention next rows ≡ true → HasNoGap (map (λ (v : Version). v.number) (versions_at t org ws)) next
+  no_gap_by_test retention next h =
       let ns = sorted (map version_number rows) in
-      let three = first_of_both (nat_le (length ns) keep && rises 0 ns next && reaches ns next) (list_all is_version_row rows) h in
-      let two = first_of_both (nat_le (length ns) keep && rises 0 ns next) (reaches ns next) three in
-      let rise : Rises 0 ns next = rises_by_test 0 next ns (second_of_both (nat_le (length ns) keep) (rises 0 ns next) two) in
-      subst (λ ms. HasNoGap ms next) (sym numbers_are) (gapless_by_test 0 next ns rise (second_of_both (nat_le (length ns) keep && rises 0 ns next) (reaches ns next) three))
+      let three = first_of_both (nat_le (length ns) retention && rises 0 ns next && reaches ns next) (list_all is_version_row rows) h in
+      let two = first_of_both (nat_le (length ns) retention && rises 0 ns next) (reaches ns next) three in
+      let rise : Rises 0 ns next = rises_by_test 0 next ns (second_of_both (nat_le (length ns) retention) (rises 0 ns next) two) in
+      subst (λ ms. HasNoGap ms next) (sym numbers_are) (gapless_by_test 0 next ns rise (second_of_both (nat_le (length ns) retention && rises 0 ns next) (reaches ns next) three))
 
-  pub test_of_versions : (keep next : ℕ) → AreVersions keep next (versions_at t org ws) → HasNoGap (map (λ (v : Version). v.number) (versions_at t org ws)) next → are_versions keep next rows ≡ true
-  test_of_versions keep next are gapless =
+  pub test_of_versions : (retention next : ℕ) → AreVersions retention next (versions_at t org ws) → HasNoGap (map (λ (v : Version). v.number) (versions_at t org ws)) next → are_versions retention next rows ≡ true
+  test_of_versions retention next are gapless =
       let ns = sorted (map version_number rows) in
-      and_from (nat_le (length ns) keep && rises 0 ns next && reaches ns next) (list_all is_version_row rows)
-      (and_from (nat_le (length ns) keep && rises 0 ns next) (reaches ns next)
-      (and_from (nat_le (length ns) keep) (rises 0 ns next) (le-leb (length ns) keep (subst (λ n. n ≤ keep) count_is are.kept)) (test_of_rises 0 next ns (subst (λ ms. Rises 0 ms next) numbers_are are.rise)))
+      and_from (nat_le (length ns) retention && rises 0 ns next && reaches ns next) (list_all is_version_row rows)
+      (and_from (nat_le (length ns) retention && rises 0 ns next) (reaches ns next)
+      (and_from (nat_le (length ns) retention) (rises 0 ns next) (le-leb (length ns) retention (subst (λ n. n ≤ retention) count_is are.kept)) (test_of_rises 0 next ns (subst (λ ms. Rises 0 ms next) numbers_are are.rise)))
       (test_of_gapless next ns (subst (λ ms. HasNoGap ms next) numbers_are gapless)))
       (tests_from_all is_version_row (λ x. IsVersion (value x)) test_of_row rows (all_as_they_stand version_cmp IsVersion value rows are.each))

@@ -3,12 +3,12 @@ use Rattle.std.specs.Prelude.{◌≡◌, ◌≤◌, ◌<◌, ◌⊎◌, ℕ, tru
 use Rattle.std.specs.Str.{bytes_eq}
 use Rattle.std.specs.List.{list_any}
 use Rattle.basis.specs.declared.numbers.TheConstants.{MAX_LIMIT}
-use Rattle.statements.specs.Rows.{Kept, OrgRow, TokenRow, BoundRow, WsRow, KeepingRow, VersionRow, RunRow, VpageRow}
+use Rattle.statements.specs.Rows.{Kept, OrgRow, TokenRow, BoundRow, WsRow, RetentionRow, VersionRow, RunRow, VpageRow}
 use Rattle.statements.specs.Tables.{Tables}
-use Rattle.statements.specs.Changes.{is_org, is_token, is_digest_of, is_bound, is_ws, is_keeping, is_version_of, is_run_of}
+use Rattle.statements.specs.Changes.{is_org, is_token, is_digest_of, is_bound, is_ws, is_retention, is_version_of, is_run_of}
 use Rattle.statements.specs.declared.rows.PageHead.{PageHead}
 use Rattle.statements.specs.declared.rows.Rows.{Rows}
-use Rattle.statements.specs.declared.making.TheConstants.{NEWEST}
+use Rattle.statements.specs.declared.making.TheConstants.{SCHEMA_VERSION}
 use Rattle.pages.specs.Heads.{head_in}
 use Rattle.texts.specs.Texts.{is_place, names_page}
 use Rattle.tables.specs.Sound.{IsOrgRow, IsTokenRow, IsBoundRow}
@@ -69,8 +69,8 @@ SameWorkspaces = OfClash (λ a b. is_ws a.1.org a.1.name b) (λ x. name_fault ki
 abbrev pub SameBounds : List (Kept BoundRow) → Fault → Type 0
 SameBounds = OfClash (λ a b. is_bound a.1.org a.1.name b) (λ x. name_fault kind.Twice x.1.org x.1.name)
 
-abbrev pub SameKeepings : List (Kept KeepingRow) → Fault → Type 0
-SameKeepings = OfClash (λ a b. is_keeping a.1.org a.1.ws b) (λ x. name_fault kind.Twice x.1.org x.1.ws)
+abbrev pub SameRetentions : List (Kept RetentionRow) → Fault → Type 0
+SameRetentions = OfClash (λ a b. is_retention a.1.org a.1.ws b) (λ x. name_fault kind.Twice x.1.org x.1.ws)
 
 abbrev pub SamePages : List PageHead → Fault → Type 0
 SamePages = OfClash (λ a b. bytes_eq b.key a.key && b.twin == a.twin) (λ x. fault_of kind.Twice [] [] None)
@@ -89,14 +89,14 @@ TokensOwnerless orgs = OfSome (λ x. Breaks (list_any (is_org x.1.org) orgs ≡ 
 abbrev pub BoundsOwnerless : List (Kept TokenRow) → List (Kept BoundRow) → Fault → Type 0
 BoundsOwnerless tokens = OfSome (λ x. Breaks (list_any (is_token x.1.org x.1.name) tokens ≡ true) (name_fault kind.Ownerless x.1.org x.1.name))
 
-abbrev pub WorkspacesUnkept : List (Kept KeepingRow) → List (Kept WsRow) → Fault → Type 0
-WorkspacesUnkept keepings = OfSome (λ x. Breaks (list_any (is_keeping x.1.org x.1.name) keepings ≡ true) (name_fault kind.Unkept x.1.org x.1.name))
+abbrev pub WorkspacesUnkept : List (Kept RetentionRow) → List (Kept WsRow) → Fault → Type 0
+WorkspacesUnkept retentions = OfSome (λ x. Breaks (list_any (is_retention x.1.org x.1.name) retentions ≡ true) (name_fault kind.Unkept x.1.org x.1.name))
 
 abbrev pub WorkspacesOwnerless : List (Kept OrgRow) → List (Kept WsRow) → Fault → Type 0
 WorkspacesOwnerless orgs = OfSome (λ x. Breaks (list_any (is_org x.1.org) orgs ≡ true) (name_fault kind.Ownerless x.1.org x.1.name))
 
-abbrev pub KeepingsOwnerless : List (Kept WsRow) → List (Kept KeepingRow) → Fault → Type 0
-KeepingsOwnerless wss = OfSome (λ x. Breaks (list_any (is_ws x.1.org x.1.ws) wss ≡ true) (name_fault kind.Ownerless x.1.org x.1.ws))
+abbrev pub RetentionsOwnerless : List (Kept WsRow) → List (Kept RetentionRow) → Fault → Type 0
+RetentionsOwnerless wss = OfSome (λ x. Breaks (list_any (is_ws x.1.org x.1.ws) wss ≡ true) (name_fault kind.Ownerless x.1.org x.1.ws))
 
 abbrev pub VersionsOwnerless : List (Kept WsRow) → List (Kept VersionRow) → Fault → Type 0
 VersionsOwnerless wss = OfSome (λ x. Breaks (list_any (is_ws x.1.org x.1.ws) wss ≡ true) (version_fault kind.Ownerless x.1))
@@ -106,8 +106,8 @@ RunsOwnerless wss = OfSome (λ x. Breaks (list_any (is_ws x.1.org x.1.ws) wss �
 
 -- ---- rows that are out of range
 
-abbrev pub VersionUntold : Rows → Fault → Type 0
-VersionUntold r = Breaks ((r.editions ≡ (pos 1, NEWEST) ∷ []) × (r.metas ≡ [])) (fault_of kind.Version [] [] None)
+abbrev pub VersionNotStored : Rows → Fault → Type 0
+VersionNotStored r = Breaks ((r.editions ≡ (pos 1, SCHEMA_VERSION) ∷ []) × (r.metas ≡ [])) (fault_of kind.Version [] [] None)
 
 abbrev pub OrgsOutside : List (Kept OrgRow) → Fault → Type 0
 OrgsOutside = OfSome (λ x. Breaks (IsOrgRow x) (org_fault kind.Range x.1.name))
@@ -151,13 +151,13 @@ TooMany wss f = (org : List ℕ) × (MAX_LIMIT < count_in wss org) × (f ≡ org
 
 -- what is wrong with the row of a workspace, with its rows of keeping, versions and runs; it names the first version or run that is out of
 -- range, if there is one
-abbrev pub OfWorkspace : List (Kept KeepingRow) → List (Kept VersionRow) → List (Kept RunRow) → WsRow → Fault → Type 0
+abbrev pub OfWorkspace : List (Kept RetentionRow) → List (Kept VersionRow) → List (Kept RunRow) → WsRow → Fault → Type 0
 OfWorkspace ks vs rs x f =
     Breaks (IsTrue (is_own x)) (name_fault kind.Unlawful x.org x.name) f ⊎ Breaks (IsTrue (are_versions (retention_among ks) x.it.next_version vs)) (fault_of kind.Versions x.org x.name (unfit_version vs)) f
     ⊎ Breaks (IsTrue (are_runs x.it.holder x.it.next_run rs)) (fault_of kind.Runs x.org x.name (unfit_run x.it.holder rs)) f
 
 abbrev pub OfWorkspaces : Rows → Fault → Type 0
-OfWorkspaces r = OfSome (λ x. OfWorkspace (filter (is_keeping x.1.org x.1.name) r.keepings) (filter (is_version_of x.1.org x.1.name) r.versions) (filter (is_run_of x.1.org x.1.name) r.runs) x.1) r.wss
+OfWorkspaces r = OfSome (λ x. OfWorkspace (filter (is_retention x.1.org x.1.name) r.retentions) (filter (is_version_of x.1.org x.1.name) r.versions) (filter (is_run_of x.1.org x.1.name) r.runs) x.1) r.wss
 
 -- ---- all of them
 
@@ -165,16 +165,16 @@ abbrev pub OfNames : Rows → Fault → Type 0
 OfNames r f = SameOrgs r.orgs f ⊎ SameTokens r.tokens f ⊎ SameDigests r.tokens f ⊎ SameWorkspaces r.wss f
 
 abbrev pub OfOthers : Rows → Fault → Type 0
-OfOthers r f = SameBounds r.bounds f ⊎ SameKeepings r.keepings f
+OfOthers r f = SameBounds r.bounds f ⊎ SameRetentions r.retentions f
 
 abbrev pub OfTokens : Rows → Fault → Type 0
 OfTokens r f = TokensUnbounded r.bounds r.tokens f ⊎ TokensOwnerless r.orgs r.tokens f ⊎ BoundsOwnerless r.tokens r.bounds f
 
 abbrev pub OfOwned : Rows → Fault → Type 0
-OfOwned r f = WorkspacesUnkept r.keepings r.wss f ⊎ WorkspacesOwnerless r.orgs r.wss f ⊎ KeepingsOwnerless r.wss r.keepings f ⊎ VersionsOwnerless r.wss r.versions f ⊎ RunsOwnerless r.wss r.runs f
+OfOwned r f = WorkspacesUnkept r.retentions r.wss f ⊎ WorkspacesOwnerless r.orgs r.wss f ⊎ RetentionsOwnerless r.wss r.retentions f ⊎ VersionsOwnerless r.wss r.versions f ⊎ RunsOwnerless r.wss r.runs f
 
 abbrev pub OfRanges : Rows → Fault → Type 0
-OfRanges r f = VersionUntold r f ⊎ OrgsOutside r.orgs f ⊎ TokensOutside r.tokens f ⊎ BoundsOutside r.bounds f
+OfRanges r f = VersionNotStored r f ⊎ OrgsOutside r.orgs f ⊎ TokensOutside r.tokens f ⊎ BoundsOutside r.bounds f
 
 abbrev pub OfRows : Rows → Fault → Type 0
 OfRows r f = OfNames r f ⊎ OfOthers r f ⊎ OfTokens r f ⊎ OfOwned r f ⊎ OfRanges r f
@@ -206,5 +206,5 @@ rows_of key_of t = record {
   vpages = t.vpages;
   bounds = t.bounds;
   editions = t.editions;
-  keepings = t.keepings;
+  retentions = t.retentions;
 }

@@ -4,7 +4,7 @@ pub mod Firsts
 pub mod Groups
 pub mod Heads
 pub mod Keys
-pub mod Looks
+pub mod FaultChecks
 pub mod Places
 pub mod Stores
 pub mod Workspaces

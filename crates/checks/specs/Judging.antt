@@ -43,7 +43,7 @@ pub record Adds (Says : Fault → Type 0) (old new : List Fault) : Type 0 where
 -- A check found nothing new exactly if the law holds: if the list is empty afterwards, it was empty before, and the law holds; and if the law
 -- holds, nothing is found. What it adds are the faults that it says.
 pub record Judges (Says : Fault → Type 0) (law : Type 0) (old new : Found) : Type 0 where
-  pub told : IsClean new → IsClean old × law
+  pub reported : IsClean new → IsClean old × law
   pub spared : IsClean old → law → IsClean new
   pub adds : Adds Says old.faults new.faults
 
@@ -53,7 +53,7 @@ pub record Decides (law : Type 0) (found : Found) : Type 0 where
   pub clean : law → IsClean found
 
 -- Each of these faults is to be reported, and they are at most 50. If they are fewer, every fault that is to be reported is among them.
-pub record AreTold (Says : Fault → Type 0) (faults : List Fault) : Type 0 where
+pub record AreReported (Says : Fault → Type 0) (faults : List Fault) : Type 0 where
   pub right : All Says faults
   pub few : length faults ≤ MAX_FAULTS
   pub every : length faults < MAX_FAULTS → (f : Fault) → Says f → Contains faults f

@@ -9,7 +9,7 @@ use Rattle.tables.specs.Sound.{IsSound}
 use Rattle.checks.specs.declared.found.Fault.{Fault}
 use Rattle.checks.specs.declared.found.FaultKind.{FaultKind}
 use Rattle.checks.specs.declared.found.FaultKind.TheVariants as kind
-use Rattle.checks.specs.Judging.{AreTold}
+use Rattle.checks.specs.Judging.{AreReported}
 use Rattle.checks.specs.Faults.{IsFaultOf}
 
 abbrev pub fault_word : FaultKind → List ℕ
@@ -45,13 +45,13 @@ fault_line f =
     codes "fault " ++ fault_word f.kind ++ codes " " ++ name_or_hyphen f.org ++ codes " " ++ name_or_hyphen f.ws ++ codes " " ++ number_or_hyphen f.number
 
 -- One line for each of some faults that are to be reported: for all, if they are fewer than 50.
-pub record TellsEach (Says : Fault → Type 0) (lines : List (List ℕ)) : Type 0 where
+pub record ReportsEach (Says : Fault → Type 0) (lines : List (List ℕ)) : Type 0 where
   pub faults : List Fault
-  pub told : AreTold Says faults
+  pub reported : AreReported Says faults
   pub lines_are : lines ≡ map fault_line faults
 
 -- The lines of the faults of rows: none exactly if the tables that have these rows are sound, and each page's key is that of its bytes.
-pub record TellsFaults (rows : Rows) (lines : List (List ℕ)) : Type 0 where
-  pub each : TellsEach (IsFaultOf rows) lines
+pub record ReportsFaults (rows : Rows) (lines : List (List ℕ)) : Type 0 where
+  pub each : ReportsEach (IsFaultOf rows) lines
   pub holds : lines ≡ [] → (key_of : List ℕ → List ℕ) (t : Tables) → AreRowsOf key_of t rows → IsSound t × ArePagesKeyed key_of t
   pub clean : (key_of : List ℕ → List ℕ) (t : Tables) → AreRowsOf key_of t rows → IsSound t → ArePagesKeyed key_of t → lines ≡ []

@@ -9,25 +9,25 @@ use Rattle.tables.specs.Sound.{IsSound}
 use Rattle.checks.specs.declared.found.TheConstants.{MAX_FAULTS}
 use Rattle.checks.specs.Judging.{OfSome}
 use Rattle.checks.specs.Faults.{table_fault, rows_of, IsFaultOf}
-use Rattle.checks.specs.Lines.{TellsEach}
+use Rattle.checks.specs.Lines.{ReportsEach}
 
 -- The tables with our names have these rows, in the order of their rowids, however they are defined.
 abbrev pub HaveRows : Database → Tables → Type 0
 HaveRows db t = AllByRecursion (HasRows db) (stored_tables t)
 
 -- One line for each of some of our tables that are missing from the database or defined differently, at most 50.
-pub record TellsOthers (db : Database) (lines : List (List ℕ)) : Type 0 where
+pub record ReportsOthers (db : Database) (lines : List (List ℕ)) : Type 0 where
   pub names : List (List ℕ)
   pub others : AllByRecursion (IsOther db.schema our_tables) names
-  pub each : TellsEach (OfSome (λ name f. f ≡ table_fault name) names) lines
+  pub each : ReportsEach (OfSome (λ name f. f ≡ table_fault name) names) lines
 
 -- There is no line exactly if our tables exist in the database as they are defined, their rows are sound, and each page's key is that of its
 -- bytes. Each line reports a fault of the rows (if there are fewer than 50, all are reported); or, if a table of ours is missing or defined
 -- differently, a table.
-pub record TellsStore (key_of : List ℕ → List ℕ) (db : Database) (lines : List (List ℕ)) : Type 0 where
+pub record ReportsStore (key_of : List ℕ → List ℕ) (db : Database) (lines : List (List ℕ)) : Type 0 where
   pub few : length lines ≤ MAX_FAULTS
-  pub rows : IsOurs db.schema → (t : Tables) → HaveRows db t → TellsEach (IsFaultOf (rows_of key_of t)) lines
-  pub others : ¬ IsOurs db.schema → TellsOthers db lines
+  pub rows : IsOurs db.schema → (t : Tables) → HaveRows db t → ReportsEach (IsFaultOf (rows_of key_of t)) lines
+  pub others : ¬ IsOurs db.schema → ReportsOthers db lines
   pub ours : lines ≡ [] → IsOurs db.schema
   pub holds : lines ≡ [] → (t : Tables) → HaveRows db t → IsSound t × ArePagesKeyed key_of t
   pub clean : IsOurs db.schema → (t : Tables) → HaveRows db t → IsSound t → ArePagesKeyed key_of t → lines ≡ []

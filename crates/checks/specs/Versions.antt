@@ -38,5 +38,5 @@ sorted = sort_by nat_cmp
 
 -- the numbers rise without a gap up to the next one, there are no more versions than are kept, and each is in range
 abbrev pub are_versions : ℕ → ℕ → List (Kept VersionRow) → Bool
-are_versions keep next xs =
-    nat_le (length (sorted (map version_number xs))) keep && rises 0 (sorted (map version_number xs)) next && reaches (sorted (map version_number xs)) next && list_all is_version_row xs
+are_versions retention next xs =
+    nat_le (length (sorted (map version_number xs))) retention && rises 0 (sorted (map version_number xs)) next && reaches (sorted (map version_number xs)) next && list_all is_version_row xs

@@ -3,7 +3,7 @@ use Rattle.std.specs.Prelude.{ℕ, ◌+◌, Bool, true, ◌&&◌, nat_le, List, 
 use Rattle.std.specs.Option.{unwrap_or}
 use Rattle.basis.specs.Names.{is_ws_name, is_free_id}
 use Rattle.basis.specs.declared.numbers.TheConstants.{MAX_NUMBER, FIRST_KEPT}
-use Rattle.statements.specs.Rows.{Kept, WsRow, KeepingRow}
+use Rattle.statements.specs.Rows.{Kept, WsRow, RetentionRow}
 use Rattle.statements.specs.Changes.{is_ws_of}
 
 -- the number of a next version or run
@@ -19,11 +19,11 @@ abbrev pub is_own : WsRow → Bool
 is_own x = is_ws_name x.name && is_next x.it.next_version && is_next x.it.next_run && is_free_if x.it.released
 
 -- how many versions are kept, by the first row that says so, if there is one
-abbrev pub kept_in : List (Kept KeepingRow) → Option ℕ
+abbrev pub kept_in : List (Kept RetentionRow) → Option ℕ
 kept_in [] = None
-kept_in (x ∷ xs) = Some x.1.keep
+kept_in (x ∷ xs) = Some x.1.retention
 
-abbrev pub retention_among : List (Kept KeepingRow) → ℕ
+abbrev pub retention_among : List (Kept RetentionRow) → ℕ
 retention_among xs = unwrap_or (kept_in xs) FIRST_KEPT
 
 -- how many rows of workspaces an organization has

@@ -20,10 +20,10 @@ pub fn judge_counts(alloc: Global, wss: &[(i64, WsRow)], found: &mut Found) -> R
 {
     // The places of an organization's workspaces, all under the empty name.
     let mut groups = Groups::new(alloc);
-    for (place, row) in wss.iter().enumerate() {
+    for (row_index, row) in wss.iter().enumerate() {
         let org = row.1.org.as_str();
-        groups.add(alloc, org, "", place)?;
-        let count = groups.places(org, "").len();
+        groups.add(alloc, org, "", row_index)?;
+        let count = groups.row_indices(org, "").len();
         let within = count != TOO_MANY;
         found.judge(alloc, within, FaultKind::TooMany, org, "", None)?;
     }

@@ -1,6 +1,6 @@
 //! The tables that are defined otherwise than ours.
 ghost use Rattle.std.specs.Prelude.{◌≡◌, [], IfOk};
-ghost use Rattle.checks.specs.Judging.{OfSome, Decides, AreTold};
+ghost use Rattle.checks.specs.Judging.{OfSome, Decides, AreReported};
 ghost use Rattle.checks.specs.Faults.{table_fault};
 
 use crate::found::{FaultKind, Found};
@@ -10,7 +10,7 @@ use std::alloc::Global;
 /// A fault for each of these tables, for the first `MAX_FAULTS` of them.
 pub(crate) fn other_tables(alloc: Global, names: &[Text]) -> Result<Found, Down>
     ensures decides { IfOk result (Decides (names.now ≡ [])) }
-    ensures told { IfOk result (λ found. AreTold (OfSome (λ name f. f ≡ table_fault name) names.now) found.faults) }
+    ensures reported { IfOk result (λ found. AreReported (OfSome (λ name f. f ≡ table_fault name) names.now) found.faults) }
 {
     let mut found = Found::new(alloc);
     for name in names {

@@ -75,7 +75,7 @@ impl Found {
 
     /// Whether no fault was found.
     pub fn is_clean(&self) -> bool
-        ensures told { result ≡ true → IsClean self.now }
+        ensures reported { result ≡ true → IsClean self.now }
         ensures clean { IsClean self.now → result ≡ true }
     {
         self.faults.as_slice().is_empty()

@@ -3,7 +3,7 @@ ghost use Rattle.std.specs.Prelude.{◌≡◌, ◌++◌, ◌∷◌, [], ◌&&◌
 ghost use Rattle.std.specs.Str.{bytes_eq};
 ghost use Rattle.std.specs.Option.{option_map_or};
 ghost use Rattle.std.specs.BTreeMap.{get_by_text};
-ghost use Rattle.checks.specs.Inner.Groups.{places_at, places_in, AreGrouped};
+ghost use Rattle.checks.specs.Inner.Groups.{indices_at, indices_in, AreGrouped};
 
 use crate::keys::Named;
 use basis::Down;
@@ -18,7 +18,7 @@ pub struct Groups {
 
 impl Groups {
     pub fn new(alloc: Global) -> Groups
-        ensures { (org ws : List ℕ) → places_in result org ws ≡ [] }
+        ensures { (org ws : List ℕ) → indices_in result org ws ≡ [] }
     {
         Groups {
             orgs: BTreeMap::new(alloc),
@@ -26,32 +26,32 @@ impl Groups {
     }
 
     /// Adds a place to those of a workspace, behind them.
-    pub fn add(&mut self, alloc: Global, org: &str, ws: &str, place: usize) -> Result<(), Down>
-        ensures { OnOk result ((o w : List ℕ) → places_in self.new o w ≡ cond (bytes_eq org.now o && bytes_eq ws.now w) (places_in self.old o w ++ place ∷ []) (places_in self.old o w)) }
+    pub fn add(&mut self, alloc: Global, org: &str, ws: &str, row_index: usize) -> Result<(), Down>
+        ensures { OnOk result ((o w : List ℕ) → indices_in self.new o w ≡ cond (bytes_eq org.now o && bytes_eq ws.now w) (indices_in self.old o w ++ row_index ∷ []) (indices_in self.old o w)) }
     {
         let mut wss = take_org(alloc, &mut self.orgs, org);
-        add_place(alloc, &mut wss, ws, place)?;
+        add_index(alloc, &mut wss, ws, row_index)?;
         let org = String::from_str(alloc, org)?;
         self.orgs.insert(org, wss)?;
         Ok(())
     }
 
     /// The places of a workspace's rows, as they rise.
-    pub fn places(&self, org: &str, ws: &str) -> &[usize]
-        ensures { result.now ≡ places_in self.now org.now ws.now }
+    pub fn row_indices(&self, org: &str, ws: &str) -> &[usize]
+        ensures { result.now ≡ indices_in self.now org.now ws.now }
     {
         match self.orgs.get(org) {
-            Some(wss) => places_at(wss, ws),
+            Some(wss) => indices_at(wss, ws),
             None => &[],
         }
     }
 }
 
-fn places_at<'a>(wss: &'a BTreeMap<String, Vec<usize>>, ws: &str) -> &'a [usize]
-    ensures { result.now ≡ places_at wss.now ws.now }
+fn indices_at<'a>(wss: &'a BTreeMap<String, Vec<usize>>, ws: &str) -> &'a [usize]
+    ensures { result.now ≡ indices_at wss.now ws.now }
 {
     match wss.get(ws) {
-        Some(places) => places.as_slice(),
+        Some(row_indices) => row_indices.as_slice(),
         None => &[],
     }
 }
@@ -62,7 +62,7 @@ fn take_org(
     orgs: &mut BTreeMap<String, BTreeMap<String, Vec<usize>>>,
     org: &str,
 ) -> BTreeMap<String, Vec<usize>>
-    ensures taken { (w : List ℕ) → places_at result w ≡ option_map_or (λ wss. places_at wss w) (get_by_text orgs.old org.now) [] }
+    ensures taken { (w : List ℕ) → indices_at result w ≡ option_map_or (λ wss. indices_at wss w) (get_by_text orgs.old org.now) [] }
     ensures others { (o : List ℕ) → bytes_eq org.now o ≡ false → get_by_text orgs.new o ≡ get_by_text orgs.old o }
 {
     match orgs.remove(org) {
@@ -71,28 +71,28 @@ fn take_org(
     }
 }
 
-fn add_place(
+fn add_index(
     alloc: Global,
     wss: &mut BTreeMap<String, Vec<usize>>,
     ws: &str,
-    place: usize,
+    row_index: usize,
 ) -> Result<(), Down>
-    ensures { OnOk result ((w : List ℕ) → places_at wss.new w ≡ cond (bytes_eq ws.now w) (places_at wss.old w ++ place ∷ []) (places_at wss.old w)) }
+    ensures { OnOk result ((w : List ℕ) → indices_at wss.new w ≡ cond (bytes_eq ws.now w) (indices_at wss.old w ++ row_index ∷ []) (indices_at wss.old w)) }
 {
-    let mut places = take_places(alloc, wss, ws);
-    places.push(place)?;
+    let mut row_indices = take_indices(alloc, wss, ws);
+    row_indices.push(row_index)?;
     let ws = String::from_str(alloc, ws)?;
-    wss.insert(ws, places)?;
+    wss.insert(ws, row_indices)?;
     Ok(())
 }
 
 // Takes the places that the map has at a workspace.
-fn take_places(alloc: Global, wss: &mut BTreeMap<String, Vec<usize>>, ws: &str) -> Vec<usize>
-    ensures taken { result.items ≡ places_at wss.old ws.now }
+fn take_indices(alloc: Global, wss: &mut BTreeMap<String, Vec<usize>>, ws: &str) -> Vec<usize>
+    ensures taken { result.items ≡ indices_at wss.old ws.now }
     ensures others { (w : List ℕ) → bytes_eq ws.now w ≡ false → get_by_text wss.new w ≡ get_by_text wss.old w }
 {
     match wss.remove(ws) {
-        Some(places) => places,
+        Some(row_indices) => row_indices,
         None => Vec::new(alloc),
     }
 }
@@ -102,8 +102,8 @@ pub(crate) fn group<R: Named>(alloc: Global, rows: &[(i64, R)]) -> Result<Groups
     ensures { IfOk result (AreGrouped (λ org name x. bytes_eq (R.org_of x.1) org && bytes_eq (R.name_of x.1) name) rows.now) }
 {
     let mut groups = Groups::new(alloc);
-    for (place, row) in rows.iter().enumerate() {
-        groups.add(alloc, row.1.org(), row.1.name(), place)?;
+    for (row_index, row) in rows.iter().enumerate() {
+        groups.add(alloc, row.1.org(), row.1.name(), row_index)?;
     }
     Ok(groups)
 }

@@ -2,17 +2,17 @@
 ghost use Rattle.std.specs.Prelude.{◌≡◌, ℕ, List, Option, Some, None, false, not, ◌&&◌, ◌||◌, ◌==◌, bytes_eq, IfOk, OnOk};
 ghost use Rattle.std.specs.List.{list_any};
 ghost use Rattle.sqlite_keyed.specs.Rules.{AreApart};
-ghost use Rattle.statements.specs.Changes.{is_org, is_token, is_digest_of, is_ws, is_bound, is_keeping};
+ghost use Rattle.statements.specs.Changes.{is_org, is_token, is_digest_of, is_ws, is_bound, is_retention};
 ghost use Rattle.texts.specs.Texts.{is_place};
 ghost use Rattle.checks.specs.declared.found.FaultKind.TheVariants.{Twice};
 ghost use Rattle.checks.specs.Judging.{fault_of, OfClash, Judges};
-ghost use Rattle.checks.specs.Faults.{SameOrgs, SameTokens, SameDigests, SameWorkspaces, SameBounds, SameKeepings, SamePages, SamePlaces};
+ghost use Rattle.checks.specs.Faults.{SameOrgs, SameTokens, SameDigests, SameWorkspaces, SameBounds, SameRetentions, SamePages, SamePlaces};
 ghost use Rattle.checks.specs.Inner.Keys.{is_key, has_key};
 
 use crate::found::{FaultKind, Found};
 use basis::Down;
 use statements::rows::{
-    BoundRow, KeepingRow, OrgRow, PageHead, RunRow, TokenRow, VersionRow, VpageRow, WsRow,
+    BoundRow, OrgRow, PageHead, RetentionRow, RunRow, TokenRow, VersionRow, VpageRow, WsRow,
 };
 use std::alloc::Global;
 use std::collections::BTreeSet;
@@ -160,7 +160,7 @@ impl Named for WsRow {
     }
 }
 
-impl Named for KeepingRow {
+impl Named for RetentionRow {
     ghost org_of = { λ r. r.org };
 
     ghost name_of = { λ r. r.ws };
@@ -289,14 +289,14 @@ pub fn bounds_apart(
 }
 
 /// Whether no workspace has two rows of keeping.
-pub fn keepings_apart(
+pub fn retentions_apart(
     alloc: Global,
-    keepings: &[(i64, KeepingRow)],
+    retentions: &[(i64, RetentionRow)],
     found: &mut Found,
 ) -> Result<(), Down>
-    ensures { OnOk result (Judges (SameKeepings keepings.now) (AreApart (λ a b. is_keeping a.1.org a.1.ws b) keepings.now) found.old found.new) }
+    ensures { OnOk result (Judges (SameRetentions retentions.now) (AreApart (λ a b. is_retention a.1.org a.1.ws b) retentions.now) found.old found.new) }
 {
-    names_apart(alloc, keepings, found)
+    names_apart(alloc, retentions, found)
 }
 
 /// Whether no two tokens of an organization have one digest.

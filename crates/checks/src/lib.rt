@@ -3,25 +3,25 @@
 
 mod counts;
 mod defined;
+mod fault_checks;
 mod firsts;
 mod found;
 mod groups;
 mod heads;
 mod keys;
 mod lines;
-mod looks;
 mod owners;
 mod places;
 mod ranges;
 mod runs;
+mod stored_version;
 mod stores;
-mod told;
 mod totals;
 mod versions;
 mod workspaces;
 
+pub use fault_checks::faults;
 pub use found::{Fault, FaultKind, Found, MAX_FAULTS};
 pub use lines::fault_line;
-pub use looks::faults;
-pub use stores::{Looked, check};
+pub use stores::{Findings, check};
 pub use totals::Totals;

@@ -1,16 +1,16 @@
 //! Whether each row has those that it belongs to, or that belong to it.
 ghost use Rattle.std.specs.Prelude.{◌≡◌, ℕ, List, [], true, ◌&&◌, bytes_eq, IfOk, OnOk};
 ghost use Rattle.std.specs.List.{AllByRecursion, list_any};
-ghost use Rattle.statements.specs.Changes.{is_org, is_token, is_ws, is_bound, is_keeping};
+ghost use Rattle.statements.specs.Changes.{is_org, is_token, is_ws, is_bound, is_retention};
 ghost use Rattle.checks.specs.declared.found.FaultKind.TheVariants.{Ownerless};
 ghost use Rattle.checks.specs.Judging.{fault_of, Breaks, OfSome, Judges};
-ghost use Rattle.checks.specs.Faults.{TokensUnbounded, TokensOwnerless, BoundsOwnerless, WorkspacesUnkept, WorkspacesOwnerless, KeepingsOwnerless, VersionsOwnerless, RunsOwnerless};
+ghost use Rattle.checks.specs.Faults.{TokensUnbounded, TokensOwnerless, BoundsOwnerless, WorkspacesUnkept, WorkspacesOwnerless, RetentionsOwnerless, VersionsOwnerless, RunsOwnerless};
 ghost use Rattle.checks.specs.Inner.Keys.{has_key};
 
 use crate::found::{FaultKind, Found};
 use crate::keys::{Keys, Named, keys_of};
 use basis::Down;
-use statements::rows::{BoundRow, KeepingRow, OrgRow, RunRow, TokenRow, VersionRow, WsRow};
+use statements::rows::{BoundRow, OrgRow, RetentionRow, RunRow, TokenRow, VersionRow, WsRow};
 use std::alloc::Global;
 
 /// The keys of organizations.
@@ -81,12 +81,12 @@ pub fn tokens_bound<'a>(
 pub fn wss_kept<'a>(
     alloc: Global,
     wss: &'a [(i64, WsRow)],
-    keepings: &'a [(i64, KeepingRow)],
+    retentions: &'a [(i64, RetentionRow)],
     found: &mut Found,
 ) -> Result<(), Down>
-    ensures { OnOk result (Judges (WorkspacesUnkept keepings.now wss.now) (AllByRecursion (λ x. list_any (is_keeping x.1.org x.1.name) keepings.now ≡ true) wss.now) found.old found.new) }
+    ensures { OnOk result (Judges (WorkspacesUnkept retentions.now wss.now) (AllByRecursion (λ x. list_any (is_retention x.1.org x.1.name) retentions.now ≡ true) wss.now) found.old found.new) }
 {
-    all_among(alloc, keepings, wss, FaultKind::Unkept, found)
+    all_among(alloc, retentions, wss, FaultKind::Unkept, found)
 }
 
 /// Whether each token belongs to an organization.
@@ -126,15 +126,15 @@ pub fn wss_owned<'a>(
 }
 
 /// Whether each row of `keeping` belongs to a workspace.
-pub fn keepings_owned<'a>(
+pub fn retentions_owned<'a>(
     alloc: Global,
-    keepings: &'a [(i64, KeepingRow)],
+    retentions: &'a [(i64, RetentionRow)],
     wss: &'a [(i64, WsRow)],
     found: &mut Found,
 ) -> Result<(), Down>
-    ensures { OnOk result (Judges (KeepingsOwnerless wss.now keepings.now) (AllByRecursion (λ x. list_any (is_ws x.1.org x.1.ws) wss.now ≡ true) keepings.now) found.old found.new) }
+    ensures { OnOk result (Judges (RetentionsOwnerless wss.now retentions.now) (AllByRecursion (λ x. list_any (is_ws x.1.org x.1.ws) wss.now ≡ true) retentions.now) found.old found.new) }
 {
-    all_among(alloc, wss, keepings, FaultKind::Ownerless, found)
+    all_among(alloc, wss, retentions, FaultKind::Ownerless, found)
 }
 
 /// Whether each version belongs to a workspace.

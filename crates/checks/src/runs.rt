@@ -23,66 +23,70 @@ use std::collections::BTreeSet;
 pub fn are_runs(
     alloc: Global,
     rows: &[(i64, RunRow)],
-    places: &[usize],
+    row_indices: &[usize],
     holder: &Holder,
     next: u64,
 ) -> Result<bool, Down>
-    ensures { IfOk result (λ lawful. lawful ≡ are_runs holder.now next (picked rows.now places.now)) }
+    ensures { IfOk result (λ lawful. lawful ≡ are_runs holder.now next (picked rows.now row_indices.now)) }
 {
-    let mut numbers = run_numbers(alloc, rows, places)?;
+    let mut numbers = run_numbers(alloc, rows, row_indices)?;
     sort(&mut numbers);
-    let numbered = rise(&numbers, next) && are_run_rows(rows, places, holder);
+    let numbered = rise(&numbers, next) && are_run_rows(rows, row_indices, holder);
     let held = numbered
-        && count_open(rows, places) <= MAX_OPEN_RUNS
-        && is_held(rows, places, holder);
-    let apart = keys_differ(alloc, rows, places)?;
+        && count_open(rows, row_indices) <= MAX_OPEN_RUNS
+        && is_held(rows, row_indices, holder);
+    let apart = keys_differ(alloc, rows, row_indices)?;
     Ok(held && apart)
 }
 
 // The numbers of the runs at these places.
-fn run_numbers(alloc: Global, rows: &[(i64, RunRow)], places: &[usize]) -> Result<Vec<u64>, Down>
-    ensures { IfOk result (λ ns. ns.items ≡ map run_number (picked rows.now places.now)) }
+fn run_numbers(
+    alloc: Global,
+    rows: &[(i64, RunRow)],
+    row_indices: &[usize],
+) -> Result<Vec<u64>, Down>
+    ensures { IfOk result (λ ns. ns.items ≡ map run_number (picked rows.now row_indices.now)) }
 {
     let mut numbers = Vec::new(alloc);
-    for place in places {
-        push_number(&mut numbers, rows, *place)?;
+    for row_index in row_indices {
+        push_number(&mut numbers, rows, *row_index)?;
     }
     Ok(numbers)
 }
 
-fn push_number(numbers: &mut Vec<u64>, rows: &[(i64, RunRow)], place: usize) -> Result<(), Down>
-    ensures { OnOk result (numbers.new.items ≡ numbers.old.items ++ map run_number (picked rows.now (place ∷ []))) }
+fn push_number(numbers: &mut Vec<u64>, rows: &[(i64, RunRow)], row_index: usize) -> Result<(), Down>
+    ensures { OnOk result (numbers.new.items ≡ numbers.old.items ++ map run_number (picked rows.now (row_index ∷ []))) }
 {
-    let Some(row) = rows.get(place) else {
+    let Some(row) = rows.get(row_index) else {
         return Ok(());
     };
     numbers.push(u64::from(row.1.it.number.get()))?;
     Ok(())
 }
 
-fn are_run_rows(rows: &[(i64, RunRow)], places: &[usize], holder: &Holder) -> bool
-    ensures { result ≡ list_all (is_run_row holder.now) (picked rows.now places.now) }
+fn are_run_rows(rows: &[(i64, RunRow)], row_indices: &[usize], holder: &Holder) -> bool
+    ensures { result ≡ list_all (is_run_row holder.now) (picked rows.now row_indices.now) }
 {
-    unfit_run(rows, places, holder).is_none()
+    unfit_run(rows, row_indices, holder).is_none()
 }
 
 /// The number of the first run at these places that isn't in its ranges, where its last action ends, and
 /// active or waiting as the holder lets it.
-pub fn unfit_run(rows: &[(i64, RunRow)], places: &[usize], holder: &Holder) -> Option<u64>
-    ensures { result ≡ unfit_run holder.now (picked rows.now places.now) }
+pub fn unfit_run(rows: &[(i64, RunRow)], row_indices: &[usize], holder: &Holder) -> Option<u64>
+    ensures { result ≡ unfit_run holder.now (picked rows.now row_indices.now) }
 {
-    for place in places {
-        if let Some(number) = unfit_at(rows, *place, holder) {
+    for row_index in row_indices {
+        if let Some(number) = unfit_at(rows, *row_index, holder) {
             return Some(number);
         }
     }
     None
 }
 
-fn unfit_at(rows: &[(i64, RunRow)], place: usize, holder: &Holder) -> Option<u64>
-    ensures { result ≡ unfit_run holder.now (picked rows.now (place ∷ [])) }
+fn unfit_at(rows: &[(i64, RunRow)], row_index: usize, holder: &Holder) -> Option<u64>
+    ensures { result ≡ unfit_run holder.now (picked rows.now (row_index ∷ [])) }
 {
-    match rows.get(place) {
+    match rows.get(row_index) {
         Some(row) => unfit_as(row, holder),
         None => None,
     }
@@ -245,63 +249,63 @@ fn waits_rightly(plan_only: bool, pending: bool, free: bool) -> bool
 }
 
 // How many of the runs haven't ended.
-fn count_open(rows: &[(i64, RunRow)], places: &[usize]) -> usize
-    ensures { result ≡ count_open (picked rows.now places.now) }
+fn count_open(rows: &[(i64, RunRow)], row_indices: &[usize]) -> usize
+    ensures { result ≡ count_open (picked rows.now row_indices.now) }
 {
     let mut count = 0;
-    for place in places {
-        if is_open_at(rows, *place) {
+    for row_index in row_indices {
+        if is_open_at(rows, *row_index) {
             count += 1;
         }
     }
     count
 }
 
-fn is_open_at(rows: &[(i64, RunRow)], place: usize) -> bool
-    ensures { result ≡ list_any is_open_row (picked rows.now (place ∷ [])) }
+fn is_open_at(rows: &[(i64, RunRow)], row_index: usize) -> bool
+    ensures { result ≡ list_any is_open_row (picked rows.now (row_index ∷ [])) }
 {
-    match rows.get(place) {
+    match rows.get(row_index) {
         Some(row) => row.1.it.status.is_open(),
         None => false,
     }
 }
 
 // Whether a lock's ID names no run, and a run that holds is a queued one of these.
-fn is_held(rows: &[(i64, RunRow)], places: &[usize], holder: &Holder) -> bool
-    ensures { result ≡ is_held holder.now (picked rows.now places.now) }
+fn is_held(rows: &[(i64, RunRow)], row_indices: &[usize], holder: &Holder) -> bool
+    ensures { result ≡ is_held holder.now (picked rows.now row_indices.now) }
 {
     match holder {
         Holder::Nobody => true,
         Holder::Lock { id, text: _ } => is_free_id(id.as_str().as_bytes()),
-        Holder::Run(number) => is_queued(rows, places, number.get()),
+        Holder::Run(number) => is_queued(rows, row_indices, number.get()),
     }
 }
 
 // Whether the run of this number is a queued one.
-fn is_queued(rows: &[(i64, RunRow)], places: &[usize], number: u32) -> bool
-    ensures { result ≡ is_queued number (picked rows.now places.now) }
+fn is_queued(rows: &[(i64, RunRow)], row_indices: &[usize], number: u32) -> bool
+    ensures { result ≡ is_queued number (picked rows.now row_indices.now) }
 {
-    match queued_in(rows, places, number) {
+    match queued_in(rows, row_indices, number) {
         Some(queued) => queued,
         None => false,
     }
 }
 
-fn queued_in(rows: &[(i64, RunRow)], places: &[usize], number: u32) -> Option<bool>
-    ensures { result ≡ queued_in number (picked rows.now places.now) }
+fn queued_in(rows: &[(i64, RunRow)], row_indices: &[usize], number: u32) -> Option<bool>
+    ensures { result ≡ queued_in number (picked rows.now row_indices.now) }
 {
-    for place in places {
-        if let Some(queued) = queued_at(rows, *place, number) {
+    for row_index in row_indices {
+        if let Some(queued) = queued_at(rows, *row_index, number) {
             return Some(queued);
         }
     }
     None
 }
 
-fn queued_at(rows: &[(i64, RunRow)], place: usize, number: u32) -> Option<bool>
-    ensures { result ≡ queued_in number (picked rows.now (place ∷ [])) }
+fn queued_at(rows: &[(i64, RunRow)], row_index: usize, number: u32) -> Option<bool>
+    ensures { result ≡ queued_in number (picked rows.now (row_index ∷ [])) }
 {
-    match rows.get(place) {
+    match rows.get(row_index) {
         Some(row) => queued_as(row, number),
         None => None,
     }
@@ -318,12 +322,12 @@ fn queued_as(row: &(i64, RunRow), number: u32) -> Option<bool>
 }
 
 // Whether no two have one key.
-fn keys_differ(alloc: Global, rows: &[(i64, RunRow)], places: &[usize]) -> Result<bool, Down>
-    ensures { IfOk result (λ differ. differ ≡ keys_differ (picked rows.now places.now)) }
+fn keys_differ(alloc: Global, rows: &[(i64, RunRow)], row_indices: &[usize]) -> Result<bool, Down>
+    ensures { IfOk result (λ differ. differ ≡ keys_differ (picked rows.now row_indices.now)) }
 {
     let mut seen = BTreeSet::new(alloc);
-    for place in places {
-        let fresh = add_at(alloc, &mut seen, rows, *place)?;
+    for row_index in row_indices {
+        let fresh = add_at(alloc, &mut seen, rows, *row_index)?;
         if !fresh {
             return Ok(false);
         }
@@ -336,12 +340,12 @@ fn add_at(
     alloc: Global,
     seen: &mut BTreeSet<String>,
     rows: &[(i64, RunRow)],
-    place: usize,
+    row_index: usize,
 ) -> Result<bool, Down>
-    ensures fresh { IfOk result (λ fresh. fresh ≡ list_all (is_unseen (contains_text seen.old)) (picked rows.now (place ∷ []))) }
-    ensures added { OnOk result ((q : List ℕ) → contains_text seen.new q ≡ (list_any (has_key q) (picked rows.now (place ∷ [])) || contains_text seen.old q)) }
+    ensures fresh { IfOk result (λ fresh. fresh ≡ list_all (is_unseen (contains_text seen.old)) (picked rows.now (row_index ∷ []))) }
+    ensures added { OnOk result ((q : List ℕ) → contains_text seen.new q ≡ (list_any (has_key q) (picked rows.now (row_index ∷ [])) || contains_text seen.old q)) }
 {
-    let Some(row) = rows.get(place) else {
+    let Some(row) = rows.get(row_index) else {
         return Ok(true);
     };
     match &row.1.it.key {

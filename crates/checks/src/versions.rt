@@ -15,67 +15,71 @@ use std::alloc::Global;
 pub fn are_versions(
     alloc: Global,
     rows: &[(i64, VersionRow)],
-    places: &[usize],
+    row_indices: &[usize],
     retention: u32,
     next: u64,
 ) -> Result<bool, Down>
-    ensures { IfOk result (λ lawful. lawful ≡ are_versions retention next (picked rows.now places.now)) }
+    ensures { IfOk result (λ lawful. lawful ≡ are_versions retention next (picked rows.now row_indices.now)) }
 {
-    let mut numbers = version_numbers(alloc, rows, places)?;
+    let mut numbers = version_numbers(alloc, rows, row_indices)?;
     sort(&mut numbers);
     let numbered = numbers.len() as u64 <= u64::from(retention)
         && rise(&numbers, next)
         && reach(&numbers, next);
-    Ok(numbered && are_version_rows(rows, places))
+    Ok(numbered && are_version_rows(rows, row_indices))
 }
 
 // The numbers of the versions at these places.
 fn version_numbers(
     alloc: Global,
     rows: &[(i64, VersionRow)],
-    places: &[usize],
+    row_indices: &[usize],
 ) -> Result<Vec<u64>, Down>
-    ensures { IfOk result (λ ns. ns.items ≡ map version_number (picked rows.now places.now)) }
+    ensures { IfOk result (λ ns. ns.items ≡ map version_number (picked rows.now row_indices.now)) }
 {
     let mut numbers = Vec::new(alloc);
-    for place in places {
-        push_number(&mut numbers, rows, *place)?;
+    for row_index in row_indices {
+        push_number(&mut numbers, rows, *row_index)?;
     }
     Ok(numbers)
 }
 
-fn push_number(numbers: &mut Vec<u64>, rows: &[(i64, VersionRow)], place: usize) -> Result<(), Down>
-    ensures { OnOk result (numbers.new.items ≡ numbers.old.items ++ map version_number (picked rows.now (place ∷ []))) }
+fn push_number(
+    numbers: &mut Vec<u64>,
+    rows: &[(i64, VersionRow)],
+    row_index: usize,
+) -> Result<(), Down>
+    ensures { OnOk result (numbers.new.items ≡ numbers.old.items ++ map version_number (picked rows.now (row_index ∷ []))) }
 {
-    let Some(row) = rows.get(place) else {
+    let Some(row) = rows.get(row_index) else {
         return Ok(());
     };
     numbers.push(u64::from(row.1.it.number.get()))?;
     Ok(())
 }
 
-fn are_version_rows(rows: &[(i64, VersionRow)], places: &[usize]) -> bool
-    ensures { result ≡ list_all is_version_row (picked rows.now places.now) }
+fn are_version_rows(rows: &[(i64, VersionRow)], row_indices: &[usize]) -> bool
+    ensures { result ≡ list_all is_version_row (picked rows.now row_indices.now) }
 {
-    unfit_version(rows, places).is_none()
+    unfit_version(rows, row_indices).is_none()
 }
 
 /// The number of the first version at these places whose serial, lineage or moment is out of range.
-pub fn unfit_version(rows: &[(i64, VersionRow)], places: &[usize]) -> Option<u64>
-    ensures { result ≡ unfit_version (picked rows.now places.now) }
+pub fn unfit_version(rows: &[(i64, VersionRow)], row_indices: &[usize]) -> Option<u64>
+    ensures { result ≡ unfit_version (picked rows.now row_indices.now) }
 {
-    for place in places {
-        if let Some(number) = unfit_at(rows, *place) {
+    for row_index in row_indices {
+        if let Some(number) = unfit_at(rows, *row_index) {
             return Some(number);
         }
     }
     None
 }
 
-fn unfit_at(rows: &[(i64, VersionRow)], place: usize) -> Option<u64>
-    ensures { result ≡ unfit_version (picked rows.now (place ∷ [])) }
+fn unfit_at(rows: &[(i64, VersionRow)], row_index: usize) -> Option<u64>
+    ensures { result ≡ unfit_version (picked rows.now (row_index ∷ [])) }
 {
-    match rows.get(place) {
+    match rows.get(row_index) {
         Some(row) => unfit_as(row),
         None => None,
     }

@@ -15,7 +15,7 @@ use crate::runs::{are_runs, unfit_run};
 use crate::versions::{are_versions, unfit_version};
 use basis::numbers::MAX_NUMBER;
 use basis::{Down, KeepCount, LockId, Unfit, WsName, is_free_id};
-use statements::rows::{KeepingRow, Rows, WsRow};
+use statements::rows::{RetentionRow, Rows, WsRow};
 use std::alloc::Global;
 
 /// The places of the rows of versions, runs and keeping, by their workspaces.
@@ -23,7 +23,7 @@ use std::alloc::Global;
 pub struct Grouped {
     pub versions: Groups,
     pub runs: Groups,
-    pub keepings: Groups,
+    pub retentions: Groups,
 }
 
 /// Looks whether each workspace is lawful: its name, next numbers, holder and the lock released last, its
@@ -42,11 +42,11 @@ fn group_all(alloc: Global, rows: &Rows) -> Result<Grouped, Down>
 {
     let versions = group(alloc, rows.versions.as_slice())?;
     let runs = group(alloc, rows.runs.as_slice())?;
-    let keepings = group(alloc, rows.keepings.as_slice())?;
+    let retentions = group(alloc, rows.retentions.as_slice())?;
     Ok(Grouped {
         versions,
         runs,
-        keepings,
+        retentions,
     })
 }
 
@@ -73,57 +73,57 @@ fn judge_row(
     let ws = row.1.name.as_str();
     let own = is_own(alloc, &row.1)?;
     found.judge(alloc, own, FaultKind::Unlawful, org, ws, None)?;
-    let places = groups.keepings.places(org, ws);
-    let retention = retention_among(rows.keepings.as_slice(), places).get();
-    let places = groups.versions.places(org, ws);
+    let row_indices = groups.retentions.row_indices(org, ws);
+    let retention = retention_among(rows.retentions.as_slice(), row_indices).get();
+    let row_indices = groups.versions.row_indices(org, ws);
     let versions = are_versions(
         alloc,
         rows.versions.as_slice(),
-        places,
+        row_indices,
         retention,
         row.1.it.next_version,
     )?;
-    let number = unfit_version(rows.versions.as_slice(), places);
+    let number = unfit_version(rows.versions.as_slice(), row_indices);
     found.judge(alloc, versions, FaultKind::Versions, org, ws, number)?;
-    let places = groups.runs.places(org, ws);
+    let row_indices = groups.runs.row_indices(org, ws);
     let runs = are_runs(
         alloc,
         rows.runs.as_slice(),
-        places,
+        row_indices,
         &row.1.it.holder,
         row.1.it.next_run,
     )?;
-    let number = unfit_run(rows.runs.as_slice(), places, &row.1.it.holder);
+    let number = unfit_run(rows.runs.as_slice(), row_indices, &row.1.it.holder);
     found.judge(alloc, runs, FaultKind::Runs, org, ws, number)?;
     Ok(())
 }
 
 // How many versions are kept, by the first of these rows.
-fn retention_among(rows: &[(i64, KeepingRow)], places: &[usize]) -> KeepCount
-    ensures { result ≡ retention_among (picked rows.now places.now) }
+fn retention_among(rows: &[(i64, RetentionRow)], row_indices: &[usize]) -> KeepCount
+    ensures { result ≡ retention_among (picked rows.now row_indices.now) }
 {
-    match kept_in(rows, places) {
+    match kept_in(rows, row_indices) {
         Some(retention) => retention,
         None => KeepCount::first(),
     }
 }
 
-fn kept_in(rows: &[(i64, KeepingRow)], places: &[usize]) -> Option<KeepCount>
-    ensures { result ≡ kept_in (picked rows.now places.now) }
+fn kept_in(rows: &[(i64, RetentionRow)], row_indices: &[usize]) -> Option<KeepCount>
+    ensures { result ≡ kept_in (picked rows.now row_indices.now) }
 {
-    for place in places {
-        if let Some(retention) = kept_at(rows, *place) {
+    for row_index in row_indices {
+        if let Some(retention) = kept_at(rows, *row_index) {
             return Some(retention);
         }
     }
     None
 }
 
-fn kept_at(rows: &[(i64, KeepingRow)], place: usize) -> Option<KeepCount>
-    ensures { result ≡ kept_in (picked rows.now (place ∷ [])) }
+fn kept_at(rows: &[(i64, RetentionRow)], row_index: usize) -> Option<KeepCount>
+    ensures { result ≡ kept_in (picked rows.now (row_index ∷ [])) }
 {
-    match rows.get(place) {
-        Some(row) => Some(row.1.keep),
+    match rows.get(row_index) {
+        Some(row) => Some(row.1.retention),
         None => None,
     }
 }

@@ -6,7 +6,7 @@ use lib.Utf8.{encode}
 use Rattle.basis.specs.declared.roles.Role.TheVariants.{Write}
 use Rattle.clap.proofs.OnLiterals.{clap_on_literals}
 use Rattle.serve.specs.Bounds.{bounds, no_bounds}
-use Rattle.command_line.specs.Orders.{carries, adds_token, looks_over, copies, compacts, serves, carries_all, replays, tells_version, unlimited}
+use Rattle.command_line.specs.Orders.{carries, adds_token, checks_file, copies, compacts, serves, carries_all, replays, reports_version, unlimited}
 use Rattle.command_line.specs.Words.{asked_in, misfit_in}
 use Rattle.command_line.specs.declared.arguments.Argument.TheVariants.{Org, Limit, Counting, Count}
 use Rattle.serve.specs.declared.steps.Admin.TheVariants.{OrgAdd, OrgRemove, TokenList}
@@ -85,7 +85,7 @@ operator_asked : asked_in (codes "serve" ∷ codes "--db" ∷ codes "t.db" ∷ c
 unfolding clap_on_literals chars is_utf8 encode
 operator_asked = refl
 
-check_asked : asked_in (codes "check" ∷ codes "--db" ∷ codes "t.db" ∷ []) ≡ Some (looks_over (codes "t.db"))
+check_asked : asked_in (codes "check" ∷ codes "--db" ∷ codes "t.db" ∷ []) ≡ Some (checks_file (codes "t.db"))
 unfolding clap_on_literals chars is_utf8 encode
 check_asked = refl
 
@@ -165,11 +165,11 @@ none_at_fault : misfit_in (codes "org-add" ∷ codes "--db" ∷ codes "t.db" ∷
 unfolding clap_on_literals chars is_utf8 encode
 none_at_fault = refl
 
-version_asked : asked_in (codes "--version" ∷ []) ≡ Some tells_version
+version_asked : asked_in (codes "--version" ∷ []) ≡ Some reports_version
 unfolding clap_on_literals chars is_utf8 encode
 version_asked = refl
 
-version_asked_shortly : asked_in (codes "-V" ∷ []) ≡ Some tells_version
+version_asked_shortly : asked_in (codes "-V" ∷ []) ≡ Some reports_version
 unfolding clap_on_literals chars is_utf8 encode
 version_asked_shortly = refl
 

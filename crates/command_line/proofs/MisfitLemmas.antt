@@ -237,7 +237,7 @@ not_both (Some x) none some = cc
 pub one_misfits : (command : List ℕ) (given : Given) → asked_with command given ≡ None → first_misfit command given ≡ None → ⊥
 one_misfits command given nothing all = not_both (asked_with command given) nothing (all_fit command given all)
 
--- ---- the look for it
+-- ---- the check for it
 
 pub misfit_at : {X : Type 0} (p : X → Bool) (xs : List X) (i : ℕ) (d : X) → i < length xs → p (slice_index_or xs i d) ≡ false → find (λ y. not (p y)) (drop i xs) ≡ find (λ y. not (p y)) xs → Some (slice_index_or xs i d) ≡ find (λ y. not (p y)) xs
 misfit_at p xs i d lt hit same = find_here (λ y. not (p y)) xs i (slice_index_or xs i d) lt (get_or_default xs i d _ lt) (rw hit refl) same

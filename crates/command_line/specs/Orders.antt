@@ -24,7 +24,7 @@ pub data Asked : Type 0 where
   -- a new token of this organization, name and role, with these bounds, but without its secret
   adds_token : List ℕ → List ℕ → List ℕ → Role → Bounds → Asked
   -- to check the tables of a file
-  looks_over : List ℕ → Asked
+  checks_file : List ℕ → Asked
   -- to copy an organization from one file to another: the two paths, and its name
   copies : List ℕ → List ℕ → List ℕ → Asked
   -- to copy every organization from one file to another
@@ -37,7 +37,7 @@ pub data Asked : Type 0 where
   -- to answer frames
   replays : Asked
   -- to print the version of the program
-  tells_version : Asked
+  reports_version : Asked
 
 -- the values among the words, by argument, and whether `--unlimited`, `--log`, `--check`, `--operator` and `--force` are given
 pub record Given : Type 0 where
@@ -137,7 +137,7 @@ compacting_asked db to = option_map (λ path. compacts db path) to
 abbrev pub file_asked : List ℕ → List ℕ → Given → Option Asked
 file_asked command db given =
     cond (bytes_eq command (codes "serve")) (serving_asked db given)
-    (cond (bytes_eq command (codes "check")) (Some (looks_over db))
+    (cond (bytes_eq command (codes "check")) (Some (checks_file db))
     (cond (bytes_eq command (codes "admin")) (Some (carries_all db))
     (cond (bytes_eq command (codes "org-copy")) (copying_asked db given)
     (cond (bytes_eq command (codes "compact")) (compacting_asked db given.to)
@@ -226,13 +226,13 @@ given_of values = record {
 abbrev pub said_by : Order → Asked
 said_by (Carry db command) = carries db.now command
 said_by (AddToken db token) = adds_token db.now token.org token.name token.role token.bounds
-said_by (Check db) = looks_over db.now
+said_by (Check db) = checks_file db.now
 said_by (Copy from to org) = copies from.now to.now org
 said_by (Compact from to) = compacts from.now to.now
 said_by (Serve db port count timeouts logs checks operates) = serves db.now port count timeouts logs checks operates
 said_by (CarryAll db) = carries_all db.now
 said_by Replay = replays
-said_by Version = tells_version
+said_by Version = reports_version
 
 -- the command that adds a token with a secret
 abbrev pub with_secret : NewToken → List ℕ → Operator.Admin

@@ -15,7 +15,7 @@ use Rattle.command_line.specs.declared.words.Unasked.TheVariants.{Help, Words, V
 use Rattle.command_line.specs.declared.arguments.Argument.{Argument}
 use Rattle.command_line.specs.declared.arguments.Argument.TheVariants as argument
 use Rattle.command_line.specs.Arguments.{first_misfit}
-use Rattle.command_line.specs.Orders.{Asked, tells_version, asked_with, given_in}
+use Rattle.command_line.specs.Orders.{Asked, reports_version, asked_with, given_in}
 
 -- the bytes of each word
 abbrev pub words_bytes : List (String Global) → List (List ℕ)
@@ -163,7 +163,7 @@ ask_for_version words = list_any is_version (faults words)
 
 -- what the words ask for; nothing if they are not those of a command, or a value is not valid
 abbrev pub asked_in : List (List ℕ) → Option Asked
-asked_in words = cond (ask_for_version words) (Some tells_version) (cond (is_empty (faults words)) (asked_by_command (subcommand_of custody words)) None)
+asked_in words = cond (ask_for_version words) (Some reports_version) (cond (is_empty (faults words)) (asked_by_command (subcommand_of custody words)) None)
 
 -- the first argument that the values which `clap` finds do not fit
 abbrev pub misfit_by_command : Option (Text × List Row) → Option Argument

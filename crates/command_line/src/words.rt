@@ -389,7 +389,7 @@ fn why(kind: ErrorKind, text: String) -> Unasked
     }
 }
 
-fn told(alloc: Global, error: &Error) -> Unasked
+fn reported(alloc: Global, error: &Error) -> Unasked
     ensures { (words : List (List ℕ)) → HasKind (faults words) error.now → (kind_of error.now ≡ ErrorKind.DisplayVersion → ⊥) → IsWhy words result }
 {
     match text_of(alloc, error) {
@@ -404,7 +404,7 @@ fn unmatched<'a>(alloc: Global, error: &Error) -> Result<Order<'a>, Unasked>
 {
     match error.kind() {
         ErrorKind::DisplayVersion => Ok(Order::Version),
-        _ => Err(told(alloc, error)),
+        _ => Err(reported(alloc, error)),
     }
 }
 

@@ -4,7 +4,7 @@
 use program::exits::{Exit, unread};
 use program::reasons::Cause;
 use program::replies::{refuse, refuse_usage};
-use program::streams::Counted;
+use program::streams::CountedErrors;
 use std::fs::{File, OpenOptions};
 use std::io::{BufWriter, Stderr};
 use std::process::ExitCode;
@@ -16,8 +16,8 @@ fn read_arguments(rt: &HostRuntime) -> io::Result<Vec<String>> {
     Ok(words)
 }
 
-fn error_stream(rt: &HostRuntime) -> Counted<Stderr> {
-    Counted::new(rt.stderr())
+fn error_stream(rt: &HostRuntime) -> CountedErrors<Stderr> {
+    CountedErrors::new(rt.stderr())
 }
 
 fn refuse_for(rt: &HostRuntime, cause: Cause) -> u8 {

@@ -30,8 +30,8 @@ unread bytes = unread_as bytes (is_utf8 bytes) refl
 
 -- a fault that is `Bad` isn't want of memory
 pub not_memory : {T : Type 0} (r : Result T DocFault) (M : Type 0) → IsErrAnd r (λ e. (M → e ≡ Down) × (¬ M → e ≡ Bad)) → IsErrOf r Bad → ¬ M
-not_memory (Ok x) M told is m = absurd (cc)
-not_memory (Err e) M told is m = let down : e ≡ Down = told.0 m in absurd (cc)
+not_memory (Ok x) M reported is m = absurd (cc)
+not_memory (Err e) M reported is m = let down : e ≡ Down = reported.0 m in absurd (cc)
 
 -- no bytes are no object
 pub some_bytes : (bytes : List ℕ) (ms : Members) → object_of bytes ≡ Some ms → 0 < length bytes

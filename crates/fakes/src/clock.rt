@@ -11,7 +11,7 @@ pub struct StandingClock {
 }
 
 impl Clock for StandingClock {
-    ghost tells = { λ old told new. (told ≡ old.moment) × (new ≡ old) };
+    ghost reports = { λ old reported new. (reported ≡ old.moment) × (new ≡ old) };
 
     fn now(&mut self) -> Option<Moment> {
         self.moment

@@ -1,6 +1,6 @@
 //! A database in memory, in the place of one in a file.
 ghost use Rattle.std.specs.Prelude.{◌≡◌, ◌≢◌, ◌⊎◌, Some, None, Ok, IfOk, false, not, is_some, map};
-ghost use Rattle.fakes.specs.declared.files.TheConstants.{NEWEST};
+ghost use Rattle.fakes.specs.declared.files.TheConstants.{SCHEMA_VERSION};
 ghost use Rattle.fakes.specs.Files.{IsKeptStore};
 ghost use Rattle.program.specs.declared.reasons.Cause.TheVariants as cause;
 ghost use Rattle.program.specs.declared.reasons.OpenFault.TheVariants as fault;
@@ -10,12 +10,12 @@ use machine::{AdminAnswer, Keep, PlainKeep};
 use program::environment::{Files, Opening};
 use program::reasons::{Cause, OpenFault};
 use program::replays::replay_over;
-use program::totals::{Looked, Totals};
+use program::totals::{Findings, Totals};
 use serve::Step;
 use std::alloc::Global;
 
 /// The newest version of the schema of which a file would be.
-pub const NEWEST: u64 = 3;
+pub const SCHEMA_VERSION: u64 = 3;
 
 /// There are no tables, so there are no rows.
 const NO_ROWS: Totals = Totals {
@@ -36,7 +36,7 @@ pub struct MemoryFile<'a> {
     pub keeps_log: bool,
     /// Whether others than its owner may read the file.
     pub is_readable: bool,
-    /// What a look for faults finds: a line for each.
+    /// What a check for faults finds: a line for each.
     pub faults: Vec<&'a str>,
 }
 
@@ -93,7 +93,7 @@ impl Files<PlainKeep> for MemoryFile<'_> {
     // It has no tables: which faults are found is told to it.
     ghost finds = { λ store _ after. after ≡ store };
 
-    ghost newest = { NEWEST };
+    ghost newest = { SCHEMA_VERSION };
 
     ghost is_ours = { λ store. ⟦<PlainKeep as Keep>⟧.sound store };
 
@@ -106,7 +106,7 @@ impl Files<PlainKeep> for MemoryFile<'_> {
     }
 
     fn newest_schema(&self) -> u64 {
-        NEWEST
+        SCHEMA_VERSION
     }
 
     fn open(&mut self, path: &str, opening: Opening) -> Result<PlainKeep, OpenFault> {
@@ -130,9 +130,9 @@ impl Files<PlainKeep> for MemoryFile<'_> {
         Ok(())
     }
 
-    fn check(&self, alloc: Global, _store: &mut PlainKeep) -> Result<Looked, Down> {
+    fn check(&self, alloc: Global, _store: &mut PlainKeep) -> Result<Findings, Down> {
         match lines_of(alloc, self.faults.as_slice()) {
-            Ok(faults) => Ok(Looked {
+            Ok(faults) => Ok(Findings {
                 faults,
                 totals: NO_ROWS,
             }),

@@ -96,7 +96,7 @@ impl<'a> Connections for MemoryPeers<'a> {
         Ok((FromRead::new(*sent), ToWrite::new(got)))
     }
 
-    fn finish(&mut self, _reader: FromRead<&'a [u8]>, writer: ToWrite<Sipped>, _was_whole: bool) {
+    fn finish(&mut self, _reader: FromRead<&'a [u8]>, writer: ToWrite<Sipped>, _was_read: bool) {
         let bytes = Bytes::new(writer.into_inner().bytes);
         if self.got.push(bytes).is_err() {
             self.is_lost = true;

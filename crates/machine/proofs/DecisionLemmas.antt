@@ -17,7 +17,7 @@ use Rattle.machine.specs.Workspaces.{max_open_runs, newest, last_of, holder_stat
 use Rattle.machine.specs.Writing.{may_write}
 use Rattle.machine.specs.Succession.{after_newest, lineages_differ, is_newer, same, other_lineage, old_serial, next}
 use Rattle.machine.specs.Showing.{holder_id, shown_of}
-use Rattle.machine.specs.Rules.{rules, done, delete, by_may_write, by_succession, numbered_update, number_left, workspace, refused, the_run, run_answer, told_with, told_already, new_run, with_run, with_version, purged, shown_with, numbered_run, make_run, reported, frees, with_report, by_step, report, kept_for, settings_for, with_settings, put, purge, lock, unlock, force_unlock, is_released, released, done_with, done_already, refused_by, rules_there, rules_missing, Ruling}
+use Rattle.machine.specs.Rules.{rules, done, delete, by_may_write, by_succession, numbered_update, number_left, workspace, refused, the_run, run_answer, run_shown_with, run_shown_already, new_run, with_run, with_version, purged, shown_with, numbered_run, make_run, reported, frees, with_report, by_step, report, kept_for, settings_for, with_settings, put, purge, lock, unlock, force_unlock, is_released, released, done_with, done_already, refused_by, rules_there, rules_missing, Ruling}
 use Rattle.machine.specs.Settling.{is_waiting, first_waiting, to_start, started_if}
 use Rattle.machine.specs.RunSteps.{next_status, is_last}
 use Rattle.machine.proofs.StepLemmas.{never_pending, pending_idle}
@@ -31,7 +31,7 @@ use Rattle.basis.specs.declared.runs.RunAction.{RunAction}
 use Rattle.machine.specs.Needs.{needs, staying_for}
 use Rattle.machine.specs.Units.{unit_of, workspace_unit, newest_unit, settings_unit, outgoing_by, unit_by}
 use Rattle.machine.specs.declared.acts.Act.{Act}
-use Rattle.machine.specs.declared.acts.Act.TheVariants.{Look, PutWorkspace, DeleteWorkspace, UpdateState, PurgeState, Lock as LockAct, Unlock, ForceUnlock, MakeRun, ReportRun}
+use Rattle.machine.specs.declared.acts.Act.TheVariants.{Query, PutWorkspace, DeleteWorkspace, UpdateState, PurgeState, Lock as LockAct, Unlock, ForceUnlock, MakeRun, ReportRun}
 use Rattle.machine.specs.declared.acts.Decision.{Decision}
 use Rattle.machine.specs.declared.acts.Decision.TheVariants.{Refused, Accepted}
 use Rattle.machine.specs.declared.acts.Answer.TheVariants.{Done, Workspace as ShownWorkspace, Run as ShownRun}
@@ -51,7 +51,7 @@ use Rattle.machine.specs.Meaning.{meaning, Meets, ChangeIsDue}
 use Rattle.machine.specs.Laws.{is_nobody, AreVersions, IsRun, IsLawful, IsLawfulIfThere, IsLawfulOrganization, is_pending}
 use Rattle.machine.specs.Records.{Seen, seen_by, standing, count_of, seen_in}
 use Rattle.machine.specs.Ranges.{IsRetention, IsSettingsAsk, IsInRange, IsMoment}
-use Rattle.machine.proofs.LookLemmas.{all_looks}
+use Rattle.machine.proofs.QueryLemmas.{all_queries}
 use Rattle.machine.proofs.Rulings.{IsPut, Misses, put_or_missed}
 
 -- where somebody holds none starts, and where nobody does none waits
@@ -127,27 +127,27 @@ force_model w (Lock id_held text) = refl
 force_model w (Run n) = refl
 
 -- a PUT that asks for a number doesn't need the one that the workspace has
-kept_same : (asked : Option ℕ) (keep : ℕ) → kept_for asked (cond (is_none asked) keep FIRST_KEPT) ≡ kept_for asked keep
-kept_same None keep = refl
-kept_same (Some k) keep = refl
+kept_same : (asked : Option ℕ) (retention : ℕ) → kept_for asked (cond (is_none asked) retention FIRST_KEPT) ≡ kept_for asked retention
+kept_same None retention = refl
+kept_same (Some k) retention = refl
 
 settings_same : (ask : SettingsAsk) (s : Settings) → settings_for ask (Some (settings_unit (is_none ask.retention) s)) ≡ settings_for ask (Some s)
 settings_same ask s = λ i. record { runs = ask.runs; retention = kept_same ask.retention s.retention i }
 
 -- which versions go by a PUT: those before the last ones, and none where no number is asked for, whatever number is told
-record GoesBy (going : Option ℕ) (keep : ℕ) (versions : List Version) : Type 0 where
-  some : is_some going ≡ nat_lt keep (length versions)
-  left : left_above going versions ≡ last_of keep versions
-  newest_one : newest (last_of keep versions) ≡ newest versions
+record GoesBy (going : Option ℕ) (retention : ℕ) (versions : List Version) : Type 0 where
+  some : is_some going ≡ nat_lt retention (length versions)
+  left : left_above going versions ≡ last_of retention versions
+  newest_one : newest (last_of retention versions) ≡ newest versions
 
-goes_by : (asked : Option ℕ) (told keep top : ℕ) (versions : List Version) → IfSome asked IsRetention → AreVersions keep top versions
-    → GoesBy (outgoing_by (staying_for asked) told versions) (kept_for asked keep) versions
-goes_by None told keep top versions range are = record {
-  some = sym (le-ltb keep (length versions) are.kept);
-  left = sym (all_last keep versions are.kept);
-  newest_one = ap newest (all_last keep versions are.kept);
+goes_by : (asked : Option ℕ) (known_retention retention top : ℕ) (versions : List Version) → IfSome asked IsRetention → AreVersions retention top versions
+    → GoesBy (outgoing_by (staying_for asked) known_retention versions) (kept_for asked retention) versions
+goes_by None known_retention retention top versions range are = record {
+  some = sym (le-ltb retention (length versions) are.kept);
+  left = sym (all_last retention versions are.kept);
+  newest_one = ap newest (all_last retention versions are.kept);
 }
-goes_by (Some k) told keep top versions range are = record { some = some_go k versions; left = left_is_last k top versions are.rise; newest_one = newest_stays k versions range.0 }
+goes_by (Some k) known_retention retention top versions range are = record { some = some_go k versions; left = left_is_last k top versions are.rise; newest_one = newest_stays k versions range.0 }
 
 number_shown : (o : Option Version) → option_map (λ (v : Newest). v.number) (option_map (newest_unit None) o) ≡ option_map (λ (v : Version). v.number) o
 number_shown None = refl
@@ -160,14 +160,14 @@ put_model w ask lawful range = chosen (not (is_nobody w.holder) && is_some going
     settings : Settings
     settings = settings_for ask (Some w.settings)
 
-    told : ℕ
-    told = (settings_unit (is_none ask.retention) w.settings).retention
+    known_retention : ℕ
+    known_retention = (settings_unit (is_none ask.retention) w.settings).retention
 
     going : Option ℕ
-    going = outgoing_by (staying_for ask.retention) told w.versions
+    going = outgoing_by (staying_for ask.retention) known_retention w.versions
 
     goes : GoesBy going settings.retention w.versions
-    goes = goes_by ask.retention told w.settings.retention w.next_version w.versions range lawful.versions
+    goes = goes_by ask.retention known_retention w.settings.retention w.next_version w.versions range lawful.versions
 
     shown_from : Option ℕ → Shown
     shown_from version = record { settings = settings; holder = holder_id w.holder; version = version }
@@ -192,7 +192,7 @@ put_model w ask lawful range = chosen (not (is_nobody w.holder) && is_some going
 
 -- a run more: it is told as it is once one has started
 added_model : (w : Workspace) (ask : RunAsk) (now n : ℕ) → IsLawful w → run_of n w.runs ≡ None
-    → meaning (decided_number_of_run (Some n) (workspace_unit (MakeRun ask) w) ask now) (Some w) ≡ told_with n (with_run (new_run n ask now) w)
+    → meaning (decided_number_of_run (Some n) (workspace_unit (MakeRun ask) w) ask now) (Some w) ≡ run_shown_with n (with_run (new_run n ask now) w)
 added_model w ask now n lawful none =
     let r : AnyRun = new_run n ask now in
     let v : Workspace = with_run r w in
@@ -293,7 +293,7 @@ report_model w n action lawful None there = refl
 report_model w n action lawful (Some r) there = chosen (is_last action r.action)
   where
     chosen : (b : Bool) → meaning (cond b (Accepted (ShownRun r) None) (decided_step (next_status r.plan_only w.settings.runs.auto_apply r.status action) (workspace_unit (ReportRun n action) w) r n action)) (Some w)
-        ≡ cond b (told_already r w) (by_step (next_status r.plan_only w.settings.runs.auto_apply r.status action) n action w)
+        ≡ cond b (run_shown_already r w) (by_step (next_status r.plan_only w.settings.runs.auto_apply r.status action) n action w)
     chosen true = refl
     chosen false = step_model w n action r lawful there (next_status r.plan_only w.settings.runs.auto_apply r.status action) refl
 
@@ -313,7 +313,7 @@ delete_model w (Run n) = idle (nat_lt 0 (open_runs w.runs))
 
 there_model : (o : Organization) (w : Workspace) (act : Act) (now : ℕ) → IsLawful w → AsksInRange act → meaning (decision_of (unit_by o act (Some w)) act now) (Some w) ≡ rules_there act now w
 there_model o w (PutWorkspace ask) now lawful asked = ap (λ (s : Settings). meaning (decided_put s (workspace_unit (PutWorkspace ask) w)) (Some w)) (settings_same ask w.settings) ∙ put_model w ask lawful asked
-there_model o w (Look what) now lawful asked = (all_looks what w).model
+there_model o w (Query what) now lawful asked = (all_queries what w).model
 there_model o w (UpdateState head text id) now lawful asked = update_model w head text id now lawful (may_write w.holder (holder_status w.holder w.runs) id)
 there_model o w (PurgeState id) now lawful asked = purge_model w id lawful (may_write w.holder (holder_status w.holder w.runs) id)
 there_model o w (LockAct id text) now lawful asked = lock_model id text w w.holder

@@ -15,7 +15,7 @@ use Rattle.machine.specs.declared.records.Workspace.{Workspace}
 pub record IsKept (ruling : Ruling) (w : Workspace) : Type 0 where
   pub left : ruling.left ≡ Some w
   pub refusal : IsRefusal ruling.answer
-  pub tells : (holder : Holder) → ruling.answer ≡ held holder → holder ≡ w.holder
+  pub reports : (holder : Holder) → ruling.answer ≡ held holder → holder ≡ w.holder
   pub unlocked : ruling.answer ≡ refused Locked → ⊥
 
 -- it goes: no lock holds, and no run is open
@@ -26,12 +26,12 @@ pub record IsGone (ruling : Ruling) (w : Workspace) : Type 0 where
 
 idle_comes : (w : Workspace) → IsUnlocked w.holder → (b : Bool) → nat_lt 0 (open_runs w.runs) ≡ b
     → IsKept (cond b (effect (refused OpenRuns) (Some w)) (effect done None)) w ⊎ IsGone (cond b (effect (refused OpenRuns) (Some w)) (effect done None)) w
-idle_comes w free true e = inl (record { left = refl; refusal = tt; tells = λ holder t. absurd (let none : ⊥ = cc in none); unlocked = λ t. cc })
+idle_comes w free true e = inl (record { left = refl; refusal = tt; reports = λ holder t. absurd (let none : ⊥ = cc in none); unlocked = λ t. cc })
 idle_comes w free false e = inr (record { is = refl; unheld = free; idle = omega (arith, ltb-false 0 (open_runs w.runs) e) })
 
 by_holder : (w : Workspace) (h : Holder) → w.holder ≡ h → IsKept (delete h w) w ⊎ IsGone (delete h w) w
 by_holder w Nobody at = idle_comes w (subst IsUnlocked (sym at) tt) (nat_lt 0 (open_runs w.runs)) refl
-by_holder w (Lock id text) at = inl (record { left = refl; refusal = tt; tells = λ holder t. cc; unlocked = λ t. cc })
+by_holder w (Lock id text) at = inl (record { left = refl; refusal = tt; reports = λ holder t. cc; unlocked = λ t. cc })
 by_holder w (Run n) at = idle_comes w (subst IsUnlocked (sym at) tt) (nat_lt 0 (open_runs w.runs)) refl
 
 pub delete_comes : (w : Workspace) → IsKept (delete w.holder w) w ⊎ IsGone (delete w.holder w) w

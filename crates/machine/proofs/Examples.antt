@@ -4,11 +4,11 @@ use Rattle.std.specs.List.{AllByRecursion, range_with_len}
 use Rattle.std.specs.Prelude.{codes}
 use Rattle.std.specs.Fmt.{digits}
 use Rattle.basis.specs.Names.{run_id, is_prefix, admits}
-use Rattle.basis.specs.Roles.{counts_at}
+use Rattle.basis.specs.Roles.{is_valid_at}
 use Rattle.basis.specs.declared.roles.Caller.{Caller}
 use Rattle.basis.specs.declared.roles.Role.TheVariants.{Read}
 use Rattle.basis.specs.declared.refusals.Refusal.TheVariants.{NotFound, NotHeld, NotApplying, OtherLineage, OldSerial, OverLimit, WrongState, HeldByRun, OpenRuns, Locked}
-use Rattle.basis.specs.declared.acts.Look.TheVariants as look
+use Rattle.basis.specs.declared.acts.Query.TheVariants as query
 use Rattle.basis.specs.declared.rows.RunAsk.{RunAsk}
 use Rattle.basis.specs.declared.rows.StateHead.{StateHead}
 use Rattle.basis.specs.declared.runs.RunStatus.{RunStatus}
@@ -25,7 +25,7 @@ use Rattle.machine.specs.Ranges.{IsRetention}
 use Rattle.machine.specs.Laws.{Rises, AreVersions, IsRun, IsHolder, KeysDiffer, IsLawful}
 use Rattle.machine.specs.Settling.{is_waiting}
 use Rattle.machine.specs.Queue.{is_active_run, GoesOn}
-use Rattle.machine.specs.declared.acts.Act.TheVariants.{Look, PutWorkspace, DeleteWorkspace, UpdateState, PurgeState, Lock as LockAct, Unlock, ForceUnlock, MakeRun, ReportRun}
+use Rattle.machine.specs.declared.acts.Act.TheVariants.{Query, PutWorkspace, DeleteWorkspace, UpdateState, PurgeState, Lock as LockAct, Unlock, ForceUnlock, MakeRun, ReportRun}
 use Rattle.basis.specs.declared.rows.Holder.TheVariants.{Nobody, Lock, Run as HoldingRun}
 use Rattle.machine.specs.declared.records.Version.{Version}
 use Rattle.basis.specs.declared.rows.RunRow.{RunRow as Run}
@@ -153,10 +153,10 @@ no_number_left : rules (UpdateState (head 1 a1) s1 None) 1_700_000_000 (there (r
 no_number_left = refl
 
 -- the newest text, or none
-newest_read : rules (Look look.State) 1_700_000_000 (there with_s1) ≡ effect (state s1) (Some with_s1)
+newest_read : rules (Query query.State) 1_700_000_000 (there with_s1) ≡ effect (state s1) (Some with_s1)
 newest_read = refl
 
-nothing_read : rules (Look look.State) 1_700_000_000 (there empty) ≡ effect no_state (Some empty)
+nothing_read : rules (Query query.State) 1_700_000_000 (there empty) ≡ effect no_state (Some empty)
 nothing_read = refl
 
 -- runs: the first is over, two wait behind a lock, and the first of these starts once it is released
@@ -278,7 +278,7 @@ each_kind = record empty {
 
 each_kind_is_lawful : IsLawful each_kind
 each_kind_is_lawful = record {
-  versions = record { keep = (omega arith, omega arith); next = (omega arith, omega arith); rise = tt; each = tt; kept = omega arith };
+  versions = record { retention = (omega arith, omega arith); next = (omega arith, omega arith); rise = tt; each = tt; kept = omega arith };
   runs = record {
     next = (omega arith, omega arith);
     rise = (omega arith, omega arith, (omega arith, omega arith, (omega arith, omega arith, (omega arith, omega arith, (omega arith, omega arith, tt)))));
@@ -386,17 +386,17 @@ no_room = refl
 abbrev last_two : List Version
 last_two = version 2 2 a1 s2 ∷ version 3 3 a1 t1 ∷ []
 
-abbrev keeping : ℕ → List Version → Workspace
-keeping keep stored = record empty { settings = record { runs = record { auto_apply = false }; retention = keep }; next_version = 4; versions = stored }
+abbrev retaining : ℕ → List Version → Workspace
+retaining retention stored = record empty { settings = record { runs = record { auto_apply = false }; retention = retention }; next_version = 4; versions = stored }
 
 abbrev three : Workspace
-three = keeping 3 (version 1 1 a1 s1 ∷ last_two)
+three = retaining 3 (version 1 1 a1 s1 ∷ last_two)
 
 abbrev held_three : Workspace
 held_three = record three { holder = Lock x1 t1 }
 
 -- a lower number lets the oldest go at once
-lowered : rules (PutWorkspace (record { runs = record { auto_apply = false }; retention = Some 2 })) 1_700_000_000 (there three) ≡ effect (workspace (shown_of (keeping 2 last_two))) (Some (keeping 2 last_two))
+lowered : rules (PutWorkspace (record { runs = record { auto_apply = false }; retention = Some 2 })) 1_700_000_000 (there three) ≡ effect (workspace (shown_of (retaining 2 last_two))) (Some (retaining 2 last_two))
 lowered = refl
 
 -- but none while somebody holds, who is told
@@ -417,7 +417,7 @@ oldest_goes : rules (UpdateState (head 4 a1) t2 None) 1_700_000_000 (there three
 oldest_goes = refl
 
 -- and where one alone is kept, it is the one that came
-newest_alone : rules (UpdateState (head 4 a1) t2 None) 1_700_000_000 (there (keeping 1 (version 3 3 a1 t1 ∷ []))) ≡ effect done (Some (record (keeping 1 (version 4 4 a1 t2 ∷ [])) { next_version = 5 }))
+newest_alone : rules (UpdateState (head 4 a1) t2 None) 1_700_000_000 (there (retaining 1 (version 3 3 a1 t1 ∷ []))) ≡ effect done (Some (record (retaining 1 (version 4 4 a1 t2 ∷ [])) { next_version = 5 }))
 newest_alone = refl
 
 -- three are too many where two are kept, and none or 1,001 is no such number
@@ -428,18 +428,18 @@ no_such_number : (IsRetention 0 → ⊥) × (IsRetention 1_001 → ⊥)
 no_such_number = ((λ is. omega (arith, is.0)), (λ is. omega (arith, is.1)))
 
 -- a version by its number, and one that isn't kept
-first_read : rules (Look (look.Version 1)) 1_700_000_000 (there with_s1) ≡ effect (state s1) (Some with_s1)
+first_read : rules (Query (query.Version 1)) 1_700_000_000 (there with_s1) ≡ effect (state s1) (Some with_s1)
 first_read = refl
 
-second_missing : rules (Look (look.Version 2)) 1_700_000_000 (there with_s1) ≡ effect (refused NotFound) (Some with_s1)
+second_missing : rules (Query (query.Version 2)) 1_700_000_000 (there with_s1) ≡ effect (refused NotFound) (Some with_s1)
 second_missing = refl
 
 -- a list begins after the number that it follows, and tells a text's size
-row_1 : rules (Look (look.Versions 0)) 1_700_000_000 (there with_s1)
+row_1 : rules (Query (query.Versions 0)) 1_700_000_000 (there with_s1)
     ≡ effect (versions (record { items = (record { created = 1_700_000_000; lineage = a1; number = 1; serial = 1; size = 39 }) ∷ []; more = false })) (Some with_s1)
 row_1 = refl
 
-none_after_1 : rules (Look (look.Versions 1)) 1_700_000_000 (there with_s1) ≡ effect (versions (record { items = []; more = false })) (Some with_s1)
+none_after_1 : rules (Query (query.Versions 1)) 1_700_000_000 (there with_s1) ≡ effect (versions (record { items = []; more = false })) (Some with_s1)
 none_after_1 = refl
 
 -- 50 items are a page, and one more is told of
@@ -475,10 +475,10 @@ prefixes = (refl, refl, refl, refl, refl, refl)
 abbrev until_10 : Caller
 until_10 = record { role = Read; until = Some 1_700_000_010; prefix = a_ }
 
-counted : (counts_at 1_700_000_009 until_10 ≡ true) × (counts_at 1_700_000_010 until_10 ≡ false)
+counted : (is_valid_at 1_700_000_009 until_10 ≡ true) × (is_valid_at 1_700_000_010 until_10 ≡ false)
 counted = (refl, refl)
 
-counted_without_end : counts_at 253_402_300_799 (record until_10 { until = None }) ≡ true
+counted_without_end : is_valid_at 253_402_300_799 (record until_10 { until = None }) ≡ true
 counted_without_end = refl
 
 -- where the actions lead from each status: of a queued run, of one under auto-apply, and of a plan-only one

@@ -1,6 +1,6 @@
 -- Calls of a store one after the other.
 use Rattle.std.proofs.Common.{ℕ, List, Option}
-use Rattle.machine.specs.Keeping.{Looks, Lasts, LastsWhere}
+use Rattle.machine.specs.StoreCalls.{Unchanged, Lasts, LastsWhere}
 use Rattle.machine.specs.declared.records.Organization.{Organization}
 
 module _ {S : Type 0} {clean sound keyed shielded : S → Type 0} where
@@ -18,11 +18,11 @@ module _ {S : Type 0} {clean sound keyed shielded : S → Type 0} where
   }
 
   module _ {rows : S → List ℕ → Option Organization} where
-    -- a look, and behind it a call that is due
-    pub lasts_behind : {due : Type 0} (a b c : S) → Looks rows clean sound keyed shielded a b → LastsWhere due clean sound keyed shielded b c → (clean b → sound a → due) → Lasts clean sound keyed shielded a c
-    lasts_behind a b c look made is_due = record {
-      so_far = λ is. look.so_far (made.so_far is);
-      kept = λ is was. made.kept is (look.kept (made.so_far is) was) (is_due (made.so_far is) was);
-      keys = λ is was had. made.keys is (look.kept (made.so_far is) was) (look.keys (made.so_far is) was had);
-      shield = λ is. made.shield (look.shield is);
+    -- a query, and behind it a call that is due
+    pub lasts_behind : {due : Type 0} (a b c : S) → Unchanged rows clean sound keyed shielded a b → LastsWhere due clean sound keyed shielded b c → (clean b → sound a → due) → Lasts clean sound keyed shielded a c
+    lasts_behind a b c query made is_due = record {
+      so_far = λ is. query.so_far (made.so_far is);
+      kept = λ is was. made.kept is (query.kept (made.so_far is) was) (is_due (made.so_far is) was);
+      keys = λ is was had. made.keys is (query.kept (made.so_far is) was) (query.keys (made.so_far is) was had);
+      shield = λ is. made.shield (query.shield is);
     }

@@ -66,10 +66,10 @@ version_is_lawful w n head text now e range moment lawful =
     let rose : Rises 0 (map (λ (u : Version). u.number) w.versions) n = subst (λ (t : ℕ). Rises 0 (map (λ (u : Version). u.number) w.versions) t) (sym left.0) lawful.versions.rise in
     let staying : ℕ = w.settings.retention - 1 in
     let k : ℕ = length w.versions - staying in
-    let kept : length (last_of staying w.versions ++ v ∷ []) ≤ w.settings.retention = rw length-append (omega (arith, last_length staying w.versions, lawful.versions.keep.0)) in
+    let kept : length (last_of staying w.versions ++ v ∷ []) ≤ w.settings.retention = rw length-append (omega (arith, last_length staying w.versions, lawful.versions.retention.0)) in
     record {
       versions = record {
-        keep = lawful.versions.keep;
+        retention = lawful.versions.retention;
         next = (omega arith, most);
         rise = Rises-push 0 (last_of staying w.versions) v below (Rises-drop k 0 w.versions n rose);
         each = All-push (last_of staying w.versions) v (All-drop k w.versions lawful.versions.each) (record { serial = range.0; lineage = range.1; created = moment });
@@ -99,7 +99,7 @@ still_is_lawful w lawful = subst (λ (start : Option ℕ). IsLawful (started_if 
 
 pub purged_is_lawful : (w : Workspace) → IsLawful w → IsLawful (purged w)
 purged_is_lawful w lawful = record {
-  versions = record { keep = lawful.versions.keep; next = lawful.versions.next; rise = tt; each = tt; kept = omega arith };
+  versions = record { retention = lawful.versions.retention; next = lawful.versions.next; rise = tt; each = tt; kept = omega arith };
   runs = lawful.runs;
   released = lawful.released;
 }
@@ -110,7 +110,7 @@ set_is_lawful settings w range lawful =
     let k : ℕ = length w.versions - settings.retention in
     record {
       versions = record {
-        keep = range;
+        retention = range;
         next = lawful.versions.next;
         rise = Rises-drop k 0 w.versions w.next_version lawful.versions.rise;
         each = All-drop k w.versions lawful.versions.each;

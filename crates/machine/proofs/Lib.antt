@@ -1,7 +1,7 @@
 pub mod StepLemmas
 pub mod RunLemmas
 pub mod RunRulings
-pub mod LookLemmas
+pub mod QueryLemmas
 pub mod RefusedLemmas
 pub mod FollowLemmas
 pub mod Rulings

@@ -241,8 +241,8 @@ module _ {E X : Type 0} (entry : E → List ℕ × X) where
       pub gap_at_end : (n : ℕ) → i ≡ n → n ≡ length rows → IsGapFor name (entries m) n
       gap_at_end n e all = rw entries_seen (is_end name _ n (omega (arith, length-map rows entry)) (subst (λ k. AreBelow name (take k (map entry rows))) e below))
 
-    pub place_within : (name : List ℕ) (i : ℕ) → IsAt name (entries m) i → i < length rows
-    place_within name i at = omega (arith, at.within, ap length entries_seen, length-map rows entry)
+    pub index_within : (name : List ℕ) (i : ℕ) → IsAt name (entries m) i → i < length rows
+    index_within name i at = omega (arith, at.within, ap length entries_seen, length-map rows entry)
 
     pub gap_within : (name : List ℕ) (i : ℕ) → IsGapFor name (entries m) i → i ≤ length rows
     gap_within name i at = omega (arith, at.within, ap length entries_seen, length-map rows entry)
@@ -250,7 +250,7 @@ module _ {E X : Type 0} (entry : E → List ℕ × X) where
     -- the row at the place of a name
     module _ (name : List ℕ) (i : ℕ) (at : IsAt name (entries m) i) (old : E) (is : old ≡ get_or rows i old) where
       read_at : entry old ≡ get_or (entries m) i (entry old)
-      read_at = sym (read_entry rows i old (place_within name i at) is (entry old)) ∙ ap (λ es. get_or es i (entry old)) (sym entries_seen)
+      read_at = sym (read_entry rows i old (index_within name i at) is (entry old)) ∙ ap (λ es. get_or es i (entry old)) (sym entries_seen)
 
       pub got_at : Some (entry old).1 ≡ get m name
       got_at = ap (λ (e : List ℕ × X). Some e.1) read_at ∙ sym (at.found (entry old)) ∙ sym (get-entries m name)

@@ -24,7 +24,7 @@ use Rattle.machine.specs.Effects.{effect}
 use Rattle.machine.specs.Records.{count_of}
 use Rattle.machine.specs.Inner.Places.{org_row}
 use Rattle.machine.specs.Removal.{is_in_use, has_use, org_removed}
-use Rattle.machine.specs.Tokens.{token_revoked, without_token, is_row_of, Ascend, TellsOrganization, AreOrganizations}
+use Rattle.machine.specs.Tokens.{token_revoked, without_token, is_row_of, Ascend, ShowsOrganization, AreOrganizations}
 use Rattle.machine.proofs.MapLemmas.{remove_absent, names_total, tied_names, below_apart, not_tied, both_first, both_second, is_true}
 use Rattle.machine.specs.declared.records.Version.{Version}
 use Rattle.machine.specs.Changes.{changed_by}
@@ -128,10 +128,10 @@ all_found [] sorted = tt
 all_found (e ∷ es) sorted =
     (rw (tied_itself names_total e.0) refl, found_later e es es (both_first _ _ sorted) (all_found es (both_second _ _ sorted)))
 
-rows_told : (m : FinMap name_cmp Organization) (fs : Entries) → AreFoundIn (entries m) fs → AllByRecursion (TellsOrganization (λ o. get m o)) (map row_at fs)
-rows_told m [] found = tt
-rows_told m (f ∷ fs) found =
-    (subst (λ (r : Option Organization). IsSomeAnd r (λ (o : Organization). (count_of f.1 ≡ count_of o) × (f.1.limit ≡ o.limit))) (sym (get-entries m f.0 ∙ found.0)) (refl, refl), rows_told m fs found.1)
+rows_shown : (m : FinMap name_cmp Organization) (fs : Entries) → AreFoundIn (entries m) fs → AllByRecursion (ShowsOrganization (λ o. get m o)) (map row_at fs)
+rows_shown m [] found = tt
+rows_shown m (f ∷ fs) found =
+    (subst (λ (r : Option Organization). IsSomeAnd r (λ (o : Organization). (count_of f.1 ≡ count_of o) × (f.1.limit ≡ o.limit))) (sym (get-entries m f.0 ∙ found.0)) (refl, refl), rows_shown m fs found.1)
 
 -- what is found has its row
 row_found : (org : List ℕ) (o : Organization) (es : Entries) → find name_cmp org es ≡ Some o → list_any (is_row_of org) (map row_at es) ≡ true
@@ -152,7 +152,7 @@ module _ (m : FinMap name_cmp Organization) where
   rows_are : (rows : List OrgRow) → rows ≡ map row_at (entries m) → AreOrganizations (λ o. get m o) rows
   rows_are rows is = subst (AreOrganizations (λ o. get m o)) (sym is) (record {
     ascend = rows_ascend (entries m) (entries_sorted m);
-    told = rows_told m (entries m) (all_found (entries m) (entries_sorted m));
+    reported = rows_shown m (entries m) (all_found (entries m) (entries_sorted m));
     whole = λ org o e. row_found org o (entries m) (sym (get-entries m org) ∙ e);
   })
 

@@ -27,7 +27,7 @@ put_comes settings w = by_test (takes_held settings.retention w) refl
     ruling b = cond b (effect (refused_by Locked w.holder) (Some w)) (shown_with (with_settings w settings))
 
     by_test : (b : Bool) → takes_held settings.retention w ≡ b → IsKept (ruling b) w ⊎ IsSet (ruling b) settings w
-    by_test true e = inl (record { left = refl; refusal = tt; tells = λ holder t. cc; unlocked = λ t. cc })
+    by_test true e = inl (record { left = refl; refusal = tt; reports = λ holder t. cc; unlocked = λ t. cc })
     by_test false e = inr (record { is = refl; free = e })
 
 pub put_becomes : (settings : Settings) (w : Workspace) → ((put settings w).left ≡ Some w) ⊎ ((put settings w).left ≡ Some (settled (with_settings w settings)))
@@ -38,16 +38,16 @@ put_becomes settings w = by_case (put_comes settings w)
     by_case (inr set) = inr (ap (λ (r : Ruling). r.left) set.is)
 
 -- while somebody holds, no more stand there than are to stay
-under_retention : (keep : ℕ) (w : Workspace) (b : Bool) → b ≡ false → (not b && nat_lt keep (length w.versions)) ≡ false → length w.versions ≤ keep
-under_retention keep w true somebody free = absurd (let none : ⊥ = cc in none)
-under_retention keep w false somebody free = omega (arith, ltb-false keep (length w.versions) free)
+under_retention : (retention : ℕ) (w : Workspace) (b : Bool) → b ≡ false → (not b && nat_lt retention (length w.versions)) ≡ false → length w.versions ≤ retention
+under_retention retention w true somebody free = absurd (let none : ⊥ = cc in none)
+under_retention retention w false somebody free = omega (arith, ltb-false retention (length w.versions) free)
 
 pub held_stay : (settings : Settings) (w : Workspace) → is_nobody w.holder ≡ false → takes_held settings.retention w ≡ false → (with_settings w settings).versions ≡ w.versions
 held_stay settings w somebody free = all_last settings.retention w.versions (under_retention settings.retention w (is_nobody w.holder) somebody free)
 
 -- where no more stand there than are to stay, none goes
-takes_none : (keep : ℕ) (w : Workspace) → length w.versions ≤ keep → takes_held keep w ≡ false
-takes_none keep w le = ap (λ (b : Bool). not (is_nobody w.holder) && b) (le-ltb keep (length w.versions) le) ∙ both_false (not (is_nobody w.holder))
+takes_none : (retention : ℕ) (w : Workspace) → length w.versions ≤ retention → takes_held retention w ≡ false
+takes_none retention w le = ap (λ (b : Bool). not (is_nobody w.holder) && b) (le-ltb retention (length w.versions) le) ∙ both_false (not (is_nobody w.holder))
   where
     both_false : (b : Bool) → (b && false) ≡ false
     both_false true = refl
@@ -67,10 +67,10 @@ put_once settings w e le still =
 -- what is asked for once is kept
 kept_twice : (asked : Option ℕ) (before : ℕ) → kept_for asked (kept_for asked before) ≡ kept_for asked before
 kept_twice None before = refl
-kept_twice (Some keep) before = refl
+kept_twice (Some retention) before = refl
 
 abbrev settings_of : RunSettings → ℕ → Settings
-settings_of runs keep = record { runs = runs; retention = keep }
+settings_of runs retention = record { runs = runs; retention = retention }
 
 pub asked_once : (ask : SettingsAsk) (before : Option Settings) → settings_for ask (Some (settings_for ask before)) ≡ settings_for ask before
 asked_once ask before = ap (settings_of ask.runs) (kept_twice ask.retention (kept_before before))
@@ -78,4 +78,4 @@ asked_once ask before = ap (settings_of ask.runs) (kept_twice ask.retention (kep
 -- the settings that are asked for are in range
 pub kept_in_range : (asked : Option ℕ) (before : ℕ) → IfSome asked IsRetention → IsRetention before → IsRetention (kept_for asked before)
 kept_in_range None before range was = was
-kept_in_range (Some keep) before range was = range
+kept_in_range (Some retention) before range was = range

@@ -19,7 +19,7 @@ use Rattle.machine.specs.Records.{Seen, there, standing}
 use Rattle.machine.specs.Workspaces.{max_open_runs, run_of, is_keyed, has_key, keyed_run, open_runs}
 use Rattle.machine.specs.RunSteps.{RunStep, plan_only_steps, auto_apply_steps, confirmed_steps, next_status, is_action, is_status, is_last}
 use Rattle.machine.specs.Settling.{is_waiting, first_waiting, to_start, begun, started_if, settled}
-use Rattle.machine.specs.Rules.{Outcome, refused, Ruling, rules, run_answer, with_version, with_settings, purged, locked, released, new_run, with_run, number_left, numbered_run, make_run, reported, frees, with_report, told_with, told_already, by_step, report}
+use Rattle.machine.specs.Rules.{Outcome, refused, Ruling, rules, run_answer, with_version, with_settings, purged, locked, released, new_run, with_run, number_left, numbered_run, make_run, reported, frees, with_report, run_shown_with, run_shown_already, by_step, report}
 use Rattle.machine.specs.Custody.{IsRefusal}
 use Rattle.machine.specs.Queue.{is_active_run, OneRunIsActive, PlanOnlyRunsStayOut, Starts, WaitedOrIsNew, RunsStartInOrder, GoesOn, StaysThere, RunsStay, AreInRange, Leads, ActionsComeAgain, KeyedCreationsComeAgain, HundredRunsAreLetIn, NoMoreRunsAreLetIn}
 use Rattle.machine.specs.Inner.Decisions.{status_begun, begun_by}
@@ -545,8 +545,8 @@ accepted_last n action now w v accepted e = by_run (run_of n w.runs) refl accept
         )
 
     by_last : (r : Run) → run_of n w.runs ≡ Some r → (b : Bool) → is_last action r.action ≡ b
-        → (IsRefusal (cond b (told_already r w) (by_step (next_status r.plan_only w.settings.runs.auto_apply r.status action) n action w)).answer → ⊥)
-        → (cond b (told_already r w) (by_step (next_status r.plan_only w.settings.runs.auto_apply r.status action) n action w)).left ≡ Some v
+        → (IsRefusal (cond b (run_shown_already r w) (by_step (next_status r.plan_only w.settings.runs.auto_apply r.status action) n action w)).answer → ⊥)
+        → (cond b (run_shown_already r w) (by_step (next_status r.plan_only w.settings.runs.auto_apply r.status action) n action w)).left ≡ Some v
         → (s : Run) × (run_of n v.runs ≡ Some s) × (s.action ≡ Some action)
     by_last r found true t accepted e = (r, ap (λ (x : Workspace). run_of n x.runs) (sym (same_Some w v e)) ∙ found, last_is r.action t)
     by_last r found false t accepted e = by_status r found (next_status r.plan_only w.settings.runs.auto_apply r.status action) accepted e
@@ -578,7 +578,7 @@ actions_come_again n action now later acts w v u lawful moment accepted e range 
     none_left s past None leads = refl
     none_left s past (Some status) leads = absurd (let none : ⊥ = cc (sym past ∙ not_past s.plan_only u.settings.runs.auto_apply s.status action status leads) in none)
 
-    refuses : (s : Run) → is_past action s.status ≡ true → (b : Bool) → (cond b (told_already s u) (by_step (next_status s.plan_only u.settings.runs.auto_apply s.status action) n action u)).left ≡ Some u
+    refuses : (s : Run) → is_past action s.status ≡ true → (b : Bool) → (cond b (run_shown_already s u) (by_step (next_status s.plan_only u.settings.runs.auto_apply s.status action) n action u)).left ≡ Some u
     refuses s past true = refl
     refuses s past false = none_left s past (next_status s.plan_only u.settings.runs.auto_apply s.status action) refl
 
@@ -649,11 +649,11 @@ pub keyed_creations_come_again : KeyedCreationsComeAgain
 keyed_creations_come_again ask again key now later acts w v u k l in_range lawful moment accepted e range leads =
     let after : IsLawful v = lawful_after (MakeRun ask) now (there w) v in_range moment lawful e in
     let has : HasKey key u = key_later key acts v u range leads after (accepted_keyed ask key now w v k accepted e) in
-    subst (λ (x : Option (List ℕ)). (make_run (keyed_run x u.runs) u again later).left ≡ Some u) (sym l) (told (keyed_run (Some key) u.runs) has)
+    subst (λ (x : Option (List ℕ)). (make_run (keyed_run x u.runs) u again later).left ≡ Some u) (sym l) (same_run (keyed_run (Some key) u.runs) has)
   where
-    told : (o : Option Run) → is_some o ≡ true → (make_run o u again later).left ≡ Some u
-    told None has = absurd (let none : ⊥ = cc in none)
-    told (Some r) has = refl
+    same_run : (o : Option Run) → is_some o ≡ true → (make_run o u again later).left ≡ Some u
+    same_run None has = absurd (let none : ⊥ = cc in none)
+    same_run (Some r) has = refl
 
 -- ---- 100 open runs are let in, and no more
 
@@ -670,7 +670,7 @@ hundred_runs_are_let_in ask now w unkeyed room low high = record {
   after = settled u;
   left = ap (λ (r : Ruling). r.left) is;
   stands = there_is;
-  told = ap (λ (r : Ruling). r.answer) is ∙ ap run_answer there_is;
+  reported = ap (λ (r : Ruling). r.answer) is ∙ ap run_answer there_is;
 }
   where
     u : Workspace
@@ -685,7 +685,7 @@ hundred_runs_are_let_in ask now w unkeyed room low high = record {
     there_is : run_of w.next_run (settled u).runs ≡ Some (begun_by start found.0)
     there_is = run_of-started start w.next_run u ∙ ap (option_map (begun_by start)) found.1
 
-    is : rules (MakeRun ask) now (there w) ≡ told_with w.next_run u
+    is : rules (MakeRun ask) now (there w) ≡ run_shown_with w.next_run u
     is =
         made_by_room ask now w true unkeyed (lt-ltb (open_runs w.runs) 100 room)
         ∙ ap (λ (m : Option ℕ). numbered_run m w ask now) (in_range_is_left w.next_run low high)

@@ -2,7 +2,7 @@
 use Rattle.std.proofs.Common.{◌≡◌, ◌⊎◌, inl, inr, ℕ, Bool, true, false, Some, None, sym, ap, subst, ◌∙◌, refl}
 use Rattle.basis.specs.declared.refusals.Refusal.TheVariants.{Locked}
 use Rattle.basis.specs.declared.rows.SettingsAsk.{SettingsAsk}
-use Rattle.machine.specs.Custody.{IsRefusal, RefusalsChangeNothing, RefusalsTellTheHolder, WritesCarryTheId}
+use Rattle.machine.specs.Custody.{IsRefusal, RefusalsChangeNothing, RefusalsNameTheHolder, WritesCarryTheId}
 use Rattle.machine.specs.Records.{Seen, missing, there}
 use Rattle.machine.specs.Rules.{Outcome, refused, held, Ruling, rules, rules_missing}
 use Rattle.machine.specs.declared.acts.Act.{Act}
@@ -28,11 +28,11 @@ refusals_change_nothing act now (there w) is = by_case (comes act now w)
     by_case (it_goes goes) = absurd (subst (λ (r : Ruling). IsRefusal r.answer) goes.is is)
     by_case (it_changes changes) = absurd (changes.accepted (subst (λ (r : Ruling). IsRefusal r.answer) changes.is is))
 
-pub refusals_tell_the_holder : RefusalsTellTheHolder
-refusals_tell_the_holder act now w holder e = by_case (comes act now w)
+pub refusals_name_the_holder : RefusalsNameTheHolder
+refusals_name_the_holder act now w holder e = by_case (comes act now w)
   where
     by_case : Comes act now w (rules act now (there w)) → holder ≡ w.holder
-    by_case (it_stays stays) = stays.tells holder e
+    by_case (it_stays stays) = stays.reports holder e
     by_case (it_goes goes) = absurd (let none : ⊥ = cc (sym (ap (λ (r : Ruling). r.answer) goes.is) ∙ e) in none)
     by_case (it_changes changes) = absurd (changes.accepted (subst IsRefusal (sym e ∙ ap (λ (r : Ruling). r.answer) changes.is) tt))
 
@@ -40,8 +40,8 @@ pub writes_carry_the_id : WritesCarryTheId
 writes_carry_the_id act now w id writes e = (all_writes act now w id writes).carries e
 
 -- a workspace that is missing has no holder to tell
-pub missing_tells_no_holder : (act : Act) (room : Bool) (holder : Holder) → (rules_missing act room).answer ≡ held holder → ⊥
-missing_tells_no_holder act room holder e = by_act (put_or_missed act)
+pub missing_names_no_holder : (act : Act) (room : Bool) (holder : Holder) → (rules_missing act room).answer ≡ held holder → ⊥
+missing_names_no_holder act room holder e = by_act (put_or_missed act)
   where
     made : (room : Bool) (ask : SettingsAsk) → (rules_missing (PutWorkspace ask) room).answer ≡ held holder → ⊥
     made true ask e = cc

@@ -21,7 +21,7 @@ rules_are_lawful act now (missing room) range moment lawful = by_act (put_or_mis
   where
     made : (room : Bool) (ask : SettingsAsk) → IsSettingsAsk ask → IsLawfulIfThere (rules_missing (PutWorkspace ask) room).left
     made true ask asked = record {
-      versions = record { keep = kept_in_range ask.retention 100 asked (omega arith, omega arith); next = (omega arith, omega arith); rise = tt; each = tt; kept = omega arith };
+      versions = record { retention = kept_in_range ask.retention 100 asked (omega arith, omega arith); next = (omega arith, omega arith); rise = tt; each = tt; kept = omega arith };
       runs = record { next = (omega arith, omega arith); rise = tt; each = tt; open_runs = omega arith; keys = tt; held = tt };
       released = tt;
     }
@@ -39,7 +39,7 @@ rules_are_lawful act now (there w) range moment lawful = by_case (comes act now 
     by_way u answer (versions_go v) = subst (λ (x : Workspace). IsLawful (settled x)) (sym v.is) (still_is_lawful (purged w) (purged_is_lawful w lawful))
     by_way u answer (settings_come v) =
         subst (λ (x : Workspace). IsLawful (settled x)) (sym v.is)
-        (still_is_lawful (with_settings w v.settings) (set_is_lawful v.settings w (v.range range lawful.versions.keep) lawful))
+        (still_is_lawful (with_settings w v.settings) (set_is_lawful v.settings w (v.range range lawful.versions.retention) lawful))
     by_way u answer (lock_comes v) = subst (λ (x : Workspace). IsLawful (settled x)) (sym v.is) (locked_is_lawful v.id v.text w v.nobody (v.range range) lawful)
     by_way u answer (lock_goes v) = subst (λ (x : Workspace). IsLawful (settled x)) (sym v.is) (release_is_lawful v.id v.text w v.holds lawful)
     by_way u answer (run_comes v) =

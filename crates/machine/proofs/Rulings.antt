@@ -27,18 +27,18 @@ use Rattle.machine.specs.Succession.{Succession, first, next, old_serial, other_
 use Rattle.machine.specs.Workspaces.{holder_status, keyed_run, last_of, max_open_runs, new_workspace, newest, open_runs, run_of}
 use Rattle.machine.specs.Writing.{is_applying, may_write}
 use Rattle.machine.specs.declared.acts.Act.{Act}
-use Rattle.machine.specs.declared.acts.Act.TheVariants.{DeleteWorkspace, ForceUnlock, Lock as LockAct, Look, MakeRun, PurgeState, PutWorkspace, ReportRun, Unlock, UpdateState}
+use Rattle.machine.specs.declared.acts.Act.TheVariants.{DeleteWorkspace, ForceUnlock, Lock as LockAct, Query, MakeRun, PurgeState, PutWorkspace, ReportRun, Unlock, UpdateState}
 use Rattle.machine.specs.declared.acts.Decision.TheVariants.{Refused}
 use Rattle.basis.specs.declared.rows.Holder.{Holder}
 use Rattle.basis.specs.declared.rows.Holder.TheVariants.{Lock, Nobody, Run as HoldingRun}
 use Rattle.basis.specs.declared.rows.RunRow.{RunRow as Run}
 use Rattle.machine.specs.declared.records.Workspace.{Workspace}
 use Rattle.machine.proofs.DeletionLemmas.{IsGone, IsKept, delete_again, delete_comes}
-use Rattle.machine.proofs.LookLemmas.{all_looks}
+use Rattle.machine.proofs.QueryLemmas.{all_queries}
 use Rattle.machine.proofs.PuttingLemmas.{IsSet, asked_once, kept_in_range, put_becomes, put_comes, put_once}
-use Rattle.machine.proofs.RefusedLemmas.{holder_told, never_done, refused_other, refuses}
+use Rattle.machine.proofs.RefusedLemmas.{holder_named, never_done, refused_other, refuses}
 use Rattle.machine.proofs.RunLemmas.{keyed-push, keyed-started, run_of-map, run_of-number, run_of-started, some_run-push}
-use Rattle.machine.proofs.RunRulings.{IsMade, IsPlain, IsReported, comes_to, make_comes, plainly_told, report_comes, told_of}
+use Rattle.machine.proofs.RunRulings.{IsMade, IsPlain, IsReported, comes_to, make_comes, plainly_answered, report_comes, answered_of}
 use Rattle.machine.proofs.RunRulings as run
 use Rattle.machine.specs.RunSteps.{is_last}
 use Rattle.machine.proofs.LawLemmas.{number_left-is}
@@ -56,7 +56,7 @@ IsPut act = (ask : SettingsAsk) × (act ≡ PutWorkspace ask)
 
 pub put_or_missed : (act : Act) → IsPut act ⊎ Misses act
 put_or_missed (PutWorkspace ask) = inl (ask, refl)
-put_or_missed (Look what) = inr (λ room. (refl, refl))
+put_or_missed (Query what) = inr (λ room. (refl, refl))
 put_or_missed (UpdateState head text id) = inr (λ room. (refl, refl))
 put_or_missed (PurgeState id) = inr (λ room. (refl, refl))
 put_or_missed (LockAct id text) = inr (λ room. (refl, refl))
@@ -71,7 +71,7 @@ put_or_missed (ReportRun n action) = inr (λ room. (refl, refl))
 -- it stays as it is: who is told of a holder is told of its holder
 pub record Stays (ruling : Ruling) (w : Workspace) : Type 0 where
   pub left : ruling.left ≡ Some w
-  pub tells : (holder : Holder) → ruling.answer ≡ held holder → holder ≡ w.holder
+  pub reports : (holder : Holder) → ruling.answer ≡ held holder → holder ≡ w.holder
   pub unlocked : ruling.answer ≡ refused Locked → ⊥
 
 -- it goes: by DELETE, where no lock holds and no run is open
@@ -167,13 +167,13 @@ pub data Comes (act : Act) (now : ℕ) (w : Workspace) (ruling : Ruling) : Type 
 
 -- what leaves it so
 stays_plainly : {ruling : Ruling} {w : Workspace} → IsPlain ruling w → Stays ruling w
-stays_plainly plain = record { left = plain.left; tells = λ holder e. absurd (plain.unheld holder e); unlocked = plain.unlocked }
+stays_plainly plain = record { left = plain.left; reports = λ holder e. absurd (plain.unheld holder e); unlocked = plain.unlocked }
 
 stays_refused : (refusal : Refusal) (w : Workspace) → Stays (effect (refused_by refusal w.holder) (Some w)) w
-stays_refused refusal w = record { left = refl; tells = λ holder e. holder_told refusal w.holder holder e; unlocked = λ e. refused_other refusal w.holder e }
+stays_refused refusal w = record { left = refl; reports = λ holder e. holder_named refusal w.holder holder e; unlocked = λ e. refused_other refusal w.holder e }
 
 stays_done : (w : Workspace) → Stays (done_already w) w
-stays_done w = record { left = refl; tells = λ holder e. absurd (let none : ⊥ = cc in none); unlocked = λ e. cc }
+stays_done w = record { left = refl; reports = λ holder e. absurd (let none : ⊥ = cc in none); unlocked = λ e. cc }
 
 stays_either : (refusal : Refusal) (w : Workspace) (b : Bool) → Stays (cond b (done_already w) (effect (refused_by refusal w.holder) (Some w))) w
 stays_either refusal w true = stays_done w
@@ -225,7 +225,7 @@ purge_comes id now w None =
 -- PUT, and DELETE
 set_comes : (ask : SettingsAsk) (now : ℕ) (w : Workspace) (settings : Settings) → settings_for ask (Some w.settings) ≡ settings → IsKept (put settings w) w ⊎ IsSet (put settings w) settings w
     → Comes (PutWorkspace ask) now w (put settings w)
-set_comes ask now w settings e (inl kept) = it_stays (record { left = kept.left; tells = kept.tells; unlocked = kept.unlocked })
+set_comes ask now w settings e (inl kept) = it_stays (record { left = kept.left; reports = kept.reports; unlocked = kept.unlocked })
 set_comes ask now w settings e (inr set) = it_changes (record {
   to = with_settings w settings;
   answer = workspace (shown_of (settled (with_settings w settings)));
@@ -240,7 +240,7 @@ set_comes ask now w settings e (inr set) = it_changes (record {
 })
 
 removal_comes : (now : ℕ) (w : Workspace) (ruling : Ruling) → IsKept ruling w ⊎ IsGone ruling w → Comes DeleteWorkspace now w ruling
-removal_comes now w ruling (inl kept) = it_stays (record { left = kept.left; tells = kept.tells; unlocked = kept.unlocked })
+removal_comes now w ruling (inl kept) = it_stays (record { left = kept.left; reports = kept.reports; unlocked = kept.unlocked })
 removal_comes now w ruling (inr gone) = it_goes (record { deletes = refl; is = gone.is; unheld = gone.unheld; idle = gone.idle })
 
 -- locks
@@ -281,7 +281,7 @@ force_comes now w (HoldingRun n) at = it_stays (stays_refused HeldByRun w)
 
 -- runs
 creation_comes : (ask : RunAsk) (now : ℕ) (w : Workspace) (o : Option Run) → keyed_run ask.key w.runs ≡ o → Comes (MakeRun ask) now w (make_run o w ask now)
-creation_comes ask now w (Some r) keyed = it_stays (stays_plainly (plainly_told r w))
+creation_comes ask now w (Some r) keyed = it_stays (stays_plainly (plainly_answered r w))
 creation_comes ask now w None unkeyed = chosen (nat_lt (open_runs w.runs) max_open_runs) refl
   where
     numbered : open_runs w.runs < max_open_runs → (m : Option ℕ) → number_left w.next_run ≡ m → Comes (MakeRun ask) now w (numbered_run m w ask now)
@@ -289,13 +289,13 @@ creation_comes ask now w None unkeyed = chosen (nat_lt (open_runs w.runs) max_op
     numbered room (Some n) e =
         let r : Run = new_run n ask now in
         let found : (x : Run) × (run_of n (w.runs ++ r ∷ []) ≡ Some x) = some_run-push n w.runs r refl in
-        let told = told_of n (with_run r w) found.0 found.1 in
+        let answered = answered_of n (with_run r w) found.0 found.1 in
         it_changes (record {
           to = with_run r w;
-          answer = the_run told.run;
+          answer = the_run answered.run;
           way = run_comes (record { ask = ask; range = λ range. range; unkeyed = unkeyed; room = room; made = (n, e, refl) });
           accepted = λ is. is;
-          is = told.is;
+          is = answered.is;
         })
 
     chosen : (b : Bool) → nat_lt (open_runs w.runs) max_open_runs ≡ b
@@ -305,17 +305,17 @@ creation_comes ask now w None unkeyed = chosen (nat_lt (open_runs w.runs) max_op
 
 action_comes : (n : ℕ) (action : RunAction) (now : ℕ) (w : Workspace) (ruling : Ruling) → run.Comes ruling w (IsReported w n action) → Comes (ReportRun n action) now w ruling
 action_comes n action now w ruling (inl plain) = it_stays (stays_plainly plain)
-action_comes n action now w ruling (inr told) = it_changes (record {
-  to = told.0;
-  answer = the_run told.2.run;
-  way = run_goes_on (record { n = n; action = action; reported = told.1 });
+action_comes n action now w ruling (inr answered) = it_changes (record {
+  to = answered.0;
+  answer = the_run answered.2.run;
+  way = run_goes_on (record { n = n; action = action; reported = answered.1 });
   accepted = λ is. is;
-  is = told.2.is;
+  is = answered.2.is;
 })
 
 pub comes : (act : Act) (now : ℕ) (w : Workspace) → Comes act now w (rules act now (there w))
 comes (PutWorkspace ask) now w = let settings : Settings = settings_for ask (Some w.settings) in set_comes ask now w settings refl (put_comes settings w)
-comes (Look what) now w = it_stays (stays_plainly (all_looks what w).plain)
+comes (Query what) now w = it_stays (stays_plainly (all_queries what w).plain)
 comes (UpdateState head text id) now w = update_comes head text id now w (may_write w.holder (holder_status w.holder w.runs) id)
 comes (PurgeState id) now w = purge_comes id now w (may_write w.holder (holder_status w.holder w.runs) id)
 comes (LockAct id text) now w = locking_comes id text now w w.holder refl
@@ -421,7 +421,7 @@ all_writes (PurgeState given) now w id writes = record {
       (writer w.holder (holder_status w.holder w.runs) given (λ m. (purge m w).answer) (λ refusal is. never_done refusal w.holder is) e);
 }
 all_writes (PutWorkspace ask) now w id writes = absurd writes
-all_writes (Look what) now w id writes = absurd writes
+all_writes (Query what) now w id writes = absurd writes
 all_writes (LockAct asked text) now w id writes = absurd writes
 all_writes (Unlock asked) now w id writes = absurd writes
 all_writes ForceUnlock now w id writes = absurd writes
@@ -663,8 +663,8 @@ report_again n action now later w = by_becoming (comes_to (report_comes w n acti
     last : (start : Option ℕ) (status : RunStatus) (x : Run) → run_of n w.runs ≡ Some x → is_last action (begun_by start (reported n action status x)).action ≡ true
     last start status x e = rw (eq-eqb x.number n (run_of-number n w.runs x e)) (same_action action)
 
-    told_once : (v : Workspace) (x : Run) → run_of n v.runs ≡ Some x → is_last action x.action ≡ true → (report (run_of n v.runs) n action v).left ≡ Some v
-    told_once v x e is = rw (e, is) refl
+    answered_once : (v : Workspace) (x : Run) → run_of n v.runs ≡ Some x → is_last action x.action ≡ true → (report (run_of n v.runs) n action v).left ≡ Some v
+    answered_once v x e is = rw (e, is) refl
 
     by_becoming : ((rules (ReportRun n action) now (there w)).left ≡ Some w) ⊎ (v : Workspace) × IsReported w n action v × ((rules (ReportRun n action) now (there w)).left ≡ Some (settled v))
         → Again (ReportRun n action) now later w
@@ -674,7 +674,7 @@ report_again n action now later w = by_becoming (comes_to (report_comes w n acti
         let u : Workspace = with_report n action is.status w in
         let start : Option ℕ = to_start u.holder (first_waiting u.runs) in
         again (ReportRun n action) now later w (settled u) (h.2 ∙ ap Some (ap settled is.is))
-        (told_once (settled u) (begun_by start (reported n action is.status is.run)) (taken start is.status is.run is.there) (last start is.status is.run is.there))
+        (answered_once (settled u) (begun_by start (reported n action is.status is.run)) (taken start is.status is.run is.there) (last start is.status is.run is.there))
 
 -- a workspace that was made by PUT
 made_again : (ask : SettingsAsk) (now later : ℕ) (v : Workspace) → (rules (PutWorkspace ask) now (missing true)).left ≡ Some v → (rules (PutWorkspace ask) later (there v)).left ≡ Some v
@@ -715,7 +715,7 @@ repeats act now later (missing room) v may e = by_act (put_or_missed act)
 repeats (PutWorkspace ask) now later (there w) v may e = put_again ask now later w (put_becomes (settings_for ask (Some w.settings)) w) v e
 repeats (UpdateState head text id) now later (there w) v may e =
     update_again head text id now later w (update_becomes head text w (may_write w.holder (holder_status w.holder w.runs) id)) v e
-repeats (Look what) now later (there w) v may e = refl
+repeats (Query what) now later (there w) v may e = refl
 repeats DeleteWorkspace now later (there w) v may e = delete_again w v e
 repeats (PurgeState id) now later (there w) v may e = purge_again id now later w (purge_becomes w (may_write w.holder (holder_status w.holder w.runs) id)) v e
 repeats (LockAct id text) now later (there w) v may e = lock_again id text now later w (lock_becomes id text w w.holder) v e

@@ -8,7 +8,7 @@ use Rattle.machine.specs.Effects.{effect}
 use Rattle.machine.specs.Workspaces.{max_open_runs, run_of, keyed_run, open_runs}
 use Rattle.machine.specs.RunSteps.{next_status, is_last}
 use Rattle.machine.specs.Settling.{first_waiting, to_start, settled}
-use Rattle.machine.specs.Rules.{refused, held, the_run, Ruling, run_answer, told_with, told_already, new_run, with_run, numbered_run, number_left, make_run, reported, with_report, by_step, report}
+use Rattle.machine.specs.Rules.{refused, held, the_run, Ruling, run_answer, run_shown_with, run_shown_already, new_run, with_run, numbered_run, number_left, make_run, reported, with_report, by_step, report}
 use Rattle.machine.specs.Inner.Decisions.{begun_by}
 use Rattle.machine.proofs.RunLemmas.{run_of-map, run_of-started, some_run-push}
 use Rattle.basis.specs.declared.rows.Holder.{Holder}
@@ -22,18 +22,18 @@ pub record IsPlain (ruling : Ruling) (w : Workspace) : Type 0 where
   pub unlocked : ruling.answer ≡ refused Locked → ⊥
 
 -- a workspace is changed and settles, and a run is told
-pub record IsTold (ruling : Ruling) (v : Workspace) : Type 0 where
+pub record IsAnswered (ruling : Ruling) (v : Workspace) : Type 0 where
   pub run : Run
   pub is : ruling ≡ effect (the_run run) (Some (settled v))
 
 abbrev pub Comes : Ruling → Workspace → (Workspace → Type 0) → Type 0
-Comes ruling w changed = IsPlain ruling w ⊎ (v : Workspace) × changed v × IsTold ruling v
+Comes ruling w changed = IsPlain ruling w ⊎ (v : Workspace) × changed v × IsAnswered ruling v
 
 -- the workspace is left: as it was, or changed and settled
 pub comes_to : {ruling : Ruling} {w : Workspace} {changed : Workspace → Type 0} → Comes ruling w changed
     → (ruling.left ≡ Some w) ⊎ (v : Workspace) × changed v × (ruling.left ≡ Some (settled v))
 comes_to (inl plain) = inl plain.left
-comes_to (inr told) = inr (told.0, told.1, ap (λ (x : Ruling). x.left) told.2.is)
+comes_to (inr answered) = inr (answered.0, answered.1, ap (λ (x : Ruling). x.left) answered.2.is)
 
 plainly_refused_over : (w : Workspace) → IsPlain (effect (refused OverLimit) (Some w)) w
 plainly_refused_over w = record { left = refl; unheld = λ holder e. cc; unlocked = λ e. cc }
@@ -44,12 +44,12 @@ plainly_refused_state w = record { left = refl; unheld = λ holder e. cc; unlock
 pub plainly_not_found : (w : Workspace) → IsPlain (effect (refused NotFound) (Some w)) w
 plainly_not_found w = record { left = refl; unheld = λ holder e. cc; unlocked = λ e. cc }
 
-pub plainly_told : (r : Run) (w : Workspace) → IsPlain (told_already r w) w
-plainly_told r w = record { left = refl; unheld = λ holder e. cc; unlocked = λ e. cc }
+pub plainly_answered : (r : Run) (w : Workspace) → IsPlain (run_shown_already r w) w
+plainly_answered r w = record { left = refl; unheld = λ holder e. cc; unlocked = λ e. cc }
 
 -- what is told of a run that is there
-pub told_of : (n : ℕ) (v : Workspace) (x : Run) → run_of n v.runs ≡ Some x → IsTold (told_with n v) v
-told_of n v x e =
+pub answered_of : (n : ℕ) (v : Workspace) (x : Run) → run_of n v.runs ≡ Some x → IsAnswered (run_shown_with n v) v
+answered_of n v x e =
     let start : Option ℕ = to_start v.holder (first_waiting v.runs) in
     record {
       run = begun_by start x;
@@ -65,10 +65,10 @@ numbered_comes w ask now None e = inl (plainly_refused_over w)
 numbered_comes w ask now (Some n) e =
     let r : Run = new_run n ask now in
     let found : (x : Run) × (run_of n (w.runs ++ r ∷ []) ≡ Some x) = some_run-push n w.runs r refl in
-    inr (with_run r w, (n, e, refl), told_of n (with_run r w) found.0 found.1)
+    inr (with_run r w, (n, e, refl), answered_of n (with_run r w) found.0 found.1)
 
 pub make_comes_by : (w : Workspace) (ask : RunAsk) (now : ℕ) (o : Option Run) → Comes (make_run o w ask now) w (IsMade w ask now)
-make_comes_by w ask now (Some r) = inl (plainly_told r w)
+make_comes_by w ask now (Some r) = inl (plainly_answered r w)
 make_comes_by w ask now None = chosen (nat_lt (open_runs w.runs) max_open_runs)
   where
     chosen : (b : Bool) → Comes (cond b (numbered_run (number_left w.next_run) w ask now) (effect (refused OverLimit) (Some w))) w (IsMade w ask now)
@@ -94,7 +94,7 @@ step_comes w n action r (Some status) there leads =
     inr (
       with_report n action status w,
       record { run = r; status = status; there = there; leads = leads; is = refl },
-      told_of n (with_report n action status w) (f r) (run_of-map f (λ x. refl) n w.runs ∙ ap (option_map f) there),
+      answered_of n (with_report n action status w) (f r) (run_of-map f (λ x. refl) n w.runs ∙ ap (option_map f) there),
     )
 
 pub report_comes : (w : Workspace) (n : ℕ) (action : RunAction) → Comes (report (run_of n w.runs) n action w) w (IsReported w n action)
@@ -104,6 +104,6 @@ report_comes w n action = by_run (run_of n w.runs) refl
     by_run None e = inl (plainly_not_found w)
     by_run (Some r) e = chosen (is_last action r.action)
       where
-        chosen : (b : Bool) → Comes (cond b (told_already r w) (by_step (next_status r.plan_only w.settings.runs.auto_apply r.status action) n action w)) w (IsReported w n action)
-        chosen true = inl (plainly_told r w)
+        chosen : (b : Bool) → Comes (cond b (run_shown_already r w) (by_step (next_status r.plan_only w.settings.runs.auto_apply r.status action) n action w)) w (IsReported w n action)
+        chosen true = inl (plainly_answered r w)
         chosen false = step_comes w n action r (next_status r.plan_only w.settings.runs.auto_apply r.status action) e refl

@@ -250,7 +250,7 @@ following_texts_are_accepted head text id now w writer low high follows =
 asked_are : (ask : SettingsAsk) (before : Option Settings) → AreAsked ask (kept_before before) (settings_for ask before)
 asked_are ask before = record {
   runs = refl;
-  given = λ keep e. ap (λ (o : Option ℕ). kept_for o (kept_before before)) e;
+  given = λ retention e. ap (λ (o : Option ℕ). kept_for o (kept_before before)) e;
   not_given = λ e. ap (λ (o : Option ℕ). kept_for o (kept_before before)) e;
 }
 

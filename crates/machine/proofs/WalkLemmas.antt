@@ -37,8 +37,8 @@ size_of xs = by_test (nat_lt 50 (length xs)) refl
         let few : length xs ≤ 50 = omega (arith, ltb-false 50 (length xs) t) in
         record { no_more = subst (λ (l : List _). length l ≤ 50) (sym (take_all 50 xs few)) few; no_fewer = λ e. absurd (let none : ⊥ = cc (sym t ∙ e) in none) }
 
-module _ {P X : Type 0} (page : P → Listing X) (place : X → P) (all : P → List X) (is : (from : P) → page from ≡ listing_of (all from))
-    (goes : (from : P) (x : X) → slice_get (all from) 49 ≡ Some x → all (place x) ≡ drop 50 (all from)) where
+module _ {P X : Type 0} (page : P → Listing X) (cursor : X → P) (all : P → List X) (is : (from : P) → page from ≡ listing_of (all from))
+    (goes : (from : P) (x : X) → slice_get (all from) 49 ≡ Some x → all (cursor x) ≡ drop 50 (all from)) where
   more_of : (from : P) → (page from).more ≡ nat_lt 50 (length (all from))
   more_of from = ap (λ (l : Listing X). l.more) (is from)
 
@@ -50,12 +50,12 @@ module _ {P X : Type 0} (page : P → Listing X) (place : X → P) (all : P → 
   last_at from x more at = ap last_item (items_at from) ∙ last_of_first 49 (all from) (omega (arith, more)) ∙ at
 
   abbrev Walk : P → Type 0
-  Walk from = (pages : List (Listing X)) × ArePages page place from pages
+  Walk from = (pages : List (Listing X)) × ArePages page cursor from pages
 
-  one_more : (from : P) (x : X) → (page from).more ≡ true → last_item (page from).items ≡ Some x → (pages : List (Listing X)) → ArePages page place (place x) pages
-      → ArePages page place from (page from ∷ pages)
+  one_more : (from : P) (x : X) → (page from).more ≡ true → last_item (page from).items ≡ Some x → (pages : List (Listing X)) → ArePages page cursor (cursor x) pages
+      → ArePages page cursor from (page from ∷ pages)
   one_more from x more last [] are = absurd are
-  one_more from x more last (q ∷ ps) are = (refl, more, subst (λ (o : Option X). IsSomeAnd o (λ y. ArePages page place (place y) (q ∷ ps))) (sym last) are)
+  one_more from x more last (q ∷ ps) are = (refl, more, subst (λ (o : Option X). IsSomeAnd o (λ y. ArePages page cursor (cursor y) (q ∷ ps))) (sym last) are)
 
   walk : (n : ℕ) (from : P) → length (all from) ≤ n → Walk from
   walk zero from le = (page from ∷ [], (refl, more_of from ∙ ap (λ (k : ℕ). nat_lt 50 k) (let none : length (all from) ≡ 0 = omega (arith, le) in none)))
@@ -66,11 +66,11 @@ module _ {P X : Type 0} (page : P → Listing X) (place : X → P) (all : P → 
       by_more true t on =
           let more : 50 < length (all from) = ltb-true 50 (length (all from)) t in
           let found : (x : X) × (slice_get (all from) 49 ≡ Some x) = there_at 49 (all from) (omega (arith, more)) in
-          let left : length (all (place found.0)) ≡ length (all from) - 50 = ap (λ (l : List X). length l) (goes from found.0 found.1) ∙ length-drop 50 (all from) in
-          let rest : Walk (place found.0) = on (place found.0) (omega (arith, left, le, more)) in
+          let left : length (all (cursor found.0)) ≡ length (all from) - 50 = ap (λ (l : List X). length l) (goes from found.0 found.1) ∙ length-drop 50 (all from) in
+          let rest : Walk (cursor found.0) = on (cursor found.0) (omega (arith, left, le, more)) in
           (page from ∷ rest.0, one_more from found.0 (more_of from ∙ t) (last_at from found.0 more found.1) rest.0 rest.1)
 
-  seen : (pages : List (Listing X)) (from : P) → ArePages page place from pages → items_of pages ≡ all from
+  seen : (pages : List (Listing X)) (from : P) → ArePages page cursor from pages → items_of pages ≡ all from
   seen [] from are = absurd are
   seen (p ∷ []) from are =
       let no_more : nat_lt 50 (length (all from)) ≡ false = sym (more_of from) ∙ ap (λ (l : Listing X). l.more) (sym are.0) ∙ are.1 in
@@ -85,12 +85,12 @@ module _ {P X : Type 0} (page : P → Listing X) (place : X → P) (all : P → 
       let longer : 50 < length (all from) = ltb-true 50 (length (all from)) more in
       let found : (x : X) × (slice_get (all from) 49 ≡ Some x) = there_at 49 (all from) (omega (arith, longer)) in
       let last : last_item p.items ≡ Some found.0 = ap (λ (l : Listing X). last_item l.items) are.0 ∙ last_at from found.0 longer found.1 in
-      let next : ArePages page place (place found.0) (q ∷ ps) = subst (λ (o : Option X). IsSomeAnd o (λ x. ArePages page place (place x) (q ∷ ps))) last are.2 in
+      let next : ArePages page cursor (cursor found.0) (q ∷ ps) = subst (λ (o : Option X). IsSomeAnd o (λ x. ArePages page cursor (cursor x) (q ∷ ps))) last are.2 in
       ap (λ (l : List X). l ++ items_of (q ∷ ps)) (ap (λ (l : Listing X). l.items) are.0 ∙ items_at from)
-      ∙ ap (λ (l : List X). take 50 (all from) ++ l) (seen (q ∷ ps) (place found.0) next ∙ goes from found.0 found.1)
+      ∙ ap (λ (l : List X). take 50 (all from) ++ l) (seen (q ∷ ps) (cursor found.0) next ∙ goes from found.0 found.1)
       ∙ take-append-drop 50 (all from)
 
-  pub shows_all : (from : P) → ShowsAll page place from (all from)
+  pub shows_all : (from : P) → ShowsAll page cursor from (all from)
   shows_all from =
       let whole : Walk from = walk (length (all from)) from (omega arith) in
       record {

@@ -1,7 +1,7 @@
 -- Custody, as laws of the rules: who writes, how long a lock holds, what becomes of versions, and that repeated acts change nothing.
 use Rattle.std.specs.Prelude.{◌≡◌, ◌≤◌, ◌⊎◌, ◌+◌, ℕ, Bool, false, List, [], Option, Some, None, IsSome, ⊤}
 use Rattle.basis.specs.Names.{run_id}
-use Rattle.basis.specs.declared.acts.Look.TheVariants as look
+use Rattle.basis.specs.declared.acts.Query.TheVariants as query
 use Rattle.basis.specs.declared.rows.StateHead.{StateHead}
 use Rattle.basis.specs.declared.runs.RunStatus.{RunStatus}
 use Rattle.basis.specs.declared.runs.RunStatus.TheVariants.{Applying}
@@ -11,7 +11,7 @@ use Rattle.machine.specs.Rules.{Outcome, refused, held, done, no_state, state, w
 use Rattle.machine.specs.Units.{version_of}
 use Rattle.machine.specs.Workspaces.{newest, holder_status, open_runs}
 use Rattle.machine.specs.declared.acts.Act.{Act}
-use Rattle.machine.specs.declared.acts.Act.TheVariants.{Look, DeleteWorkspace, UpdateState, PurgeState, Unlock, ForceUnlock, MakeRun}
+use Rattle.machine.specs.declared.acts.Act.TheVariants.{Query, DeleteWorkspace, UpdateState, PurgeState, Unlock, ForceUnlock, MakeRun}
 use Rattle.basis.specs.declared.rows.Holder.{Holder}
 use Rattle.basis.specs.declared.rows.Holder.TheVariants.{Nobody, Lock, Run}
 use Rattle.machine.specs.declared.records.Version.{Version}
@@ -41,8 +41,8 @@ abbrev pub RefusalsChangeNothing : Type 0
 RefusalsChangeNothing = (act : Act) (now : ℕ) (s : Seen) → IsRefusal (rules act now s).answer → (rules act now s).left ≡ standing s
 
 -- a refusal that names a holder names the workspace's holder
-abbrev pub RefusalsTellTheHolder : Type 0
-RefusalsTellTheHolder = (act : Act) (now : ℕ) (w : Workspace) (holder : Holder) → (rules act now (there w)).answer ≡ held holder → holder ≡ w.holder
+abbrev pub RefusalsNameTheHolder : Type 0
+RefusalsNameTheHolder = (act : Act) (now : ℕ) (w : Workspace) (holder : Holder) → (rules act now (there w)).answer ≡ held holder → holder ≡ w.holder
 
 -- an act that writes: an update or a purge that carries this ID
 abbrev pub WritesWith : Act → Option (List ℕ) → Type 0
@@ -105,13 +105,13 @@ WorkspacesBeginAnew = (act : Act) (now : ℕ) (room : Bool) (v : Workspace) → 
 abbrev pub WhatIsPostedIsRead : Type 0
 WhatIsPostedIsRead = (head : StateHead) (text : List ℕ) (id : Option (List ℕ)) (now later : ℕ) (w v : Workspace)
     → (rules (UpdateState head text id) now (there w)).answer ≡ done → (rules (UpdateState head text id) now (there w)).left ≡ Some v
-    → (rules (Look look.State) later (there v)).answer ≡ state text
+    → (rules (Query query.State) later (there v)).answer ≡ state text
 
 -- after a purge GET finds no state
 abbrev pub NothingIsReadOfAPurge : Type 0
 NothingIsReadOfAPurge = (id : Option (List ℕ)) (now later : ℕ) (w v : Workspace)
     → (rules (PurgeState id) now (there w)).answer ≡ done → (rules (PurgeState id) now (there w)).left ≡ Some v
-    → (rules (Look look.State) later (there v)).answer ≡ no_state
+    → (rules (Query query.State) later (there v)).answer ≡ no_state
 
 -- no version is added: the next number is unchanged, and so is every version that is left
 pub record KeepsVersions (w v : Workspace) : Type 0 where

@@ -112,7 +112,7 @@ pub record AreRuns (holder : Holder) (next_run : ℕ) (runs : List Run) : Type 0
 
 -- the laws of the versions of a workspace that keeps at most `most`
 pub record AreVersions (most next_version : ℕ) (versions : List Version) : Type 0 where
-  pub keep : IsRetention most
+  pub retention : IsRetention most
   pub next : IsNext next_version
   pub rise : Rises 0 (map (λ (v : Version). v.number) versions) next_version
   pub each : AllByRecursion IsVersion versions

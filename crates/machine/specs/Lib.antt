@@ -18,7 +18,7 @@ pub mod Units
 pub mod Named
 pub mod Tokens
 pub mod Removal
-pub mod Keeping
+pub mod StoreCalls
 pub mod Paging
 pub mod Custody
 pub mod Versions

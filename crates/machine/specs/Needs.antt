@@ -1,9 +1,9 @@
 -- What an act needs of its workspace besides the workspace's own row. A store reads nothing else.
 use Rattle.std.specs.Prelude.{ℕ, Bool, true, false, List, Option, Some, None, is_none, option_copied}
-use Rattle.basis.specs.declared.acts.Look.{Look as AnyLook}
-use Rattle.basis.specs.declared.acts.Look.TheVariants as look
+use Rattle.basis.specs.declared.acts.Query.{Query as AnyQuery}
+use Rattle.basis.specs.declared.acts.Query.TheVariants as query
 use Rattle.machine.specs.declared.acts.Act.{Act}
-use Rattle.machine.specs.declared.acts.Act.TheVariants.{Look, PutWorkspace, DeleteWorkspace, UpdateState, PurgeState, Lock, Unlock, ForceUnlock, MakeRun, ReportRun}
+use Rattle.machine.specs.declared.acts.Act.TheVariants.{Query, PutWorkspace, DeleteWorkspace, UpdateState, PurgeState, Lock, Unlock, ForceUnlock, MakeRun, ReportRun}
 use Rattle.machine.specs.declared.acts.Needs.{Needs}
 use Rattle.machine.specs.declared.acts.Staying.{Staying}
 use Rattle.machine.specs.declared.acts.Staying.TheVariants.{StayAll, MakeRoom, StayAtMost}
@@ -35,21 +35,21 @@ abbrev pub nothing : Needed
 nothing = record { makes = false; retention = false; holder_status = false; newest = false; text = None; outgoing = StayAll; version = None; run = None; key = None; waiting = false; open_runs = false }
 
 -- a read-only act needs what it shows
-abbrev pub needs_of_look : AnyLook → Needed
-needs_of_look look.Workspace = record nothing { retention = true; newest = true }
-needs_of_look look.State = record nothing { newest = true }
-needs_of_look (look.Version n) = record nothing { version = Some n }
-needs_of_look (look.Versions after) = nothing
-needs_of_look (look.Run n) = record nothing { run = Some n }
-needs_of_look (look.Runs after) = nothing
+abbrev pub needs_of_query : AnyQuery → Needed
+needs_of_query query.Workspace = record nothing { retention = true; newest = true }
+needs_of_query query.State = record nothing { newest = true }
+needs_of_query (query.Version n) = record nothing { version = Some n }
+needs_of_query (query.Versions after) = nothing
+needs_of_query (query.Run n) = record nothing { run = Some n }
+needs_of_query (query.Runs after) = nothing
 
 -- a PUT that does not set the number of versions removes none, and the workspace keeps as many as before
 abbrev pub staying_for : Option ℕ → Staying
 staying_for None = StayAll
-staying_for (Some keep) = StayAtMost keep
+staying_for (Some retention) = StayAtMost retention
 
 abbrev pub needs : Act → Needed
-needs (Look what) = needs_of_look what
+needs (Query what) = needs_of_query what
 needs (PutWorkspace ask) = record nothing { makes = true; retention = is_none ask.retention; newest = true; outgoing = staying_for ask.retention }
 needs DeleteWorkspace = record nothing { open_runs = true }
 needs (UpdateState head text id) = record nothing { retention = true; holder_status = true; newest = true; text = Some text; outgoing = MakeRoom }

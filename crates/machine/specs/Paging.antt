@@ -49,9 +49,9 @@ last_item (x ∷ y ∷ xs) = last_item (y ∷ xs)
 -- pages, one after the other, from a place on: as long as a page says that more follow, the next one is asked for from the place of its
 -- last item
 abbrev pub ArePages : {P X : Type 0} → (P → Listing X) → (X → P) → P → List (Listing X) → Type 0
-ArePages page place from [] = ⊥
-ArePages page place from (p ∷ []) = (p ≡ page from) × (p.more ≡ false)
-ArePages page place from (p ∷ q ∷ ps) = (p ≡ page from) × (p.more ≡ true) × IsSomeAnd (last_item p.items) (λ x. ArePages page place (place x) (q ∷ ps))
+ArePages page cursor from [] = ⊥
+ArePages page cursor from (p ∷ []) = (p ≡ page from) × (p.more ≡ false)
+ArePages page cursor from (p ∷ q ∷ ps) = (p ≡ page from) × (p.more ≡ true) × IsSomeAnd (last_item p.items) (λ x. ArePages page cursor (cursor x) (q ∷ ps))
 
 -- the items of all pages
 abbrev pub items_of : {X : Type 0} → List (Listing X) → List X
@@ -60,11 +60,11 @@ items_of (p ∷ ps) = p.items ++ items_of ps
 
 -- Pages show a list: a reader that asks for the next page while more follow comes to an end. It has then seen the whole list, each item
 -- once, in order.
-pub record ShowsAll {P X : Type 0} (page : P → Listing X) (place : X → P) (from : P) (all : List X) : Type 0 where
+pub record ShowsAll {P X : Type 0} (page : P → Listing X) (cursor : X → P) (from : P) (all : List X) : Type 0 where
   pub sizes : (at : P) → IsPage (page at)
   pub pages : List (Listing X)
-  pub ends : ArePages page place from pages
-  pub seen : (any : List (Listing X)) → ArePages page place from any → items_of any ≡ all
+  pub ends : ArePages page cursor from pages
+  pub seen : (any : List (Listing X)) → ArePages page cursor from any → items_of any ≡ all
 
 -- pages show the lists of workspaces, of versions and of runs, from any place on
 abbrev pub WorkspacesAreShown : Type 0

@@ -92,7 +92,7 @@ pub record RunIsMade (ask : RunAsk) (now : ℕ) (w : Workspace) : Type 0 where
   pub after : Workspace
   pub left : (rules (MakeRun ask) now (there w)).left ≡ Some after
   pub stands : run_of w.next_run after.runs ≡ Some run
-  pub told : (rules (MakeRun ask) now (there w)).answer ≡ the_run run
+  pub reported : (rules (MakeRun ask) now (there w)).answer ≡ the_run run
 
 -- a run is created if fewer than 100 are open, a number is left, and no run has its key
 abbrev pub HundredRunsAreLetIn : Type 0

@@ -18,7 +18,7 @@ IsRunAsk ask = IfSome ask.key (λ key. IsTrue (has_length 1 64 key)) × (length 
 
 -- the range of the number of versions that a workspace keeps
 abbrev pub IsRetention : ℕ → Type 0
-IsRetention keep = (1 ≤ keep) × (keep ≤ MAX_KEPT)
+IsRetention retention = (1 ≤ retention) × (retention ≤ MAX_KEPT)
 
 -- the settings that a PUT asks for are in range
 abbrev pub IsSettingsAsk : SettingsAsk → Type 0

@@ -5,8 +5,8 @@ use Rattle.basis.specs.Numbers.{within}
 use Rattle.basis.specs.declared.numbers.TheConstants.{MAX_NUMBER, FIRST_KEPT}
 use Rattle.basis.specs.declared.refusals.Refusal.{Refusal}
 use Rattle.basis.specs.declared.refusals.Refusal.TheVariants.{NotFound, OtherLineage, OldSerial, OverLimit, WrongState, HeldByRun, OpenRuns, Locked}
-use Rattle.basis.specs.declared.acts.Look.{Look as AnyLook}
-use Rattle.basis.specs.declared.acts.Look.TheVariants as look
+use Rattle.basis.specs.declared.acts.Query.{Query as AnyQuery}
+use Rattle.basis.specs.declared.acts.Query.TheVariants as query
 use Rattle.basis.specs.declared.rows.Settings.{Settings}
 use Rattle.basis.specs.declared.rows.SettingsAsk.{SettingsAsk}
 use Rattle.basis.specs.declared.rows.StateHead.{StateHead}
@@ -29,7 +29,7 @@ use Rattle.machine.specs.Writing.{may_write}
 use Rattle.machine.specs.Settling.{settled}
 use Rattle.machine.specs.Succession.{Succession, first, same, other_lineage, old_serial, next, succession}
 use Rattle.machine.specs.declared.acts.Act.{Act}
-use Rattle.machine.specs.declared.acts.Act.TheVariants.{Look, PutWorkspace, DeleteWorkspace, UpdateState, PurgeState, Lock as LockAct, Unlock, ForceUnlock, MakeRun, ReportRun}
+use Rattle.machine.specs.declared.acts.Act.TheVariants.{Query, PutWorkspace, DeleteWorkspace, UpdateState, PurgeState, Lock as LockAct, Unlock, ForceUnlock, MakeRun, ReportRun}
 use Rattle.machine.specs.declared.acts.Shown.{Shown}
 use Rattle.basis.specs.declared.rows.Holder.{Holder}
 use Rattle.basis.specs.declared.rows.Holder.TheVariants.{Nobody, Lock, Run as HoldingRun}
@@ -138,7 +138,7 @@ with_settings w settings = record w { settings = settings; versions = last_of se
 
 -- whether keeping only this many versions would remove one while the workspace has a holder
 abbrev pub takes_held : ℕ → Workspace → Bool
-takes_held keep w = not (is_nobody w.holder) && nat_lt keep (length w.versions)
+takes_held retention w = not (is_nobody w.holder) && nat_lt retention (length w.versions)
 
 -- PUT of an existing workspace sets its settings, but is refused if this would remove a version while the workspace has a holder
 abbrev pub put : Settings → Workspace → Ruling
@@ -204,12 +204,12 @@ run_answer None = refused NotFound
 run_answer (Some r) = the_run r
 
 -- an accepted change: the workspace settles, and the answer shows a run as it is after that
-abbrev pub told_with : ℕ → Workspace → Ruling
-told_with n w = effect (run_answer (run_of n (settled w).runs)) (Some (settled w))
+abbrev pub run_shown_with : ℕ → Workspace → Ruling
+run_shown_with n w = effect (run_answer (run_of n (settled w).runs)) (Some (settled w))
 
 -- nothing changes, and the answer shows the run as it is
-abbrev pub told_already : Run → Workspace → Ruling
-told_already r w = effect (the_run r) (Some w)
+abbrev pub run_shown_already : Run → Workspace → Ruling
+run_shown_already r w = effect (the_run r) (Some w)
 
 -- a run at its creation: a plan-only run is planning, and a queued run is pending
 abbrev pub new_run : ℕ → RunAsk → ℕ → Run
@@ -221,11 +221,11 @@ with_run r w = record w { next_run = r.number + 1; runs = w.runs ++ r ∷ [] }
 
 abbrev pub numbered_run : Option ℕ → Workspace → RunAsk → ℕ → Ruling
 numbered_run None w ask now = effect (refused OverLimit) (Some w)
-numbered_run (Some number) w ask now = told_with number (with_run (new_run number ask now) w)
+numbered_run (Some number) w ask now = run_shown_with number (with_run (new_run number ask now) w)
 
 -- the creation of a run: if a run has the key, the answer shows it, before any limit is tested
 abbrev pub make_run : Option Run → Workspace → RunAsk → ℕ → Ruling
-make_run (Some r) w ask now = told_already r w
+make_run (Some r) w ask now = run_shown_already r w
 make_run None w ask now =
     cond (nat_lt (open_runs w.runs) max_open_runs) (numbered_run (number_left w.next_run) w ask now) (effect (refused OverLimit) (Some w))
 
@@ -243,21 +243,21 @@ with_report n action status w = record w { holder = cond (frees n status w.holde
 
 abbrev pub by_step : Option RunStatus → ℕ → RunAction → Workspace → Ruling
 by_step None n action w = effect (refused WrongState) (Some w)
-by_step (Some status) n action w = told_with n (with_report n action status w)
+by_step (Some status) n action w = run_shown_with n (with_report n action status w)
 
 -- an action on a run: the action that it took last is accepted again; auto-apply is as the workspace's settings are now
 abbrev pub report : Option Run → ℕ → RunAction → Workspace → Ruling
 report None n action w = effect (refused NotFound) (Some w)
-report (Some r) n action w = cond (is_last action r.action) (told_already r w) (by_step (next_status r.plan_only w.settings.runs.auto_apply r.status action) n action w)
+report (Some r) n action w = cond (is_last action r.action) (run_shown_already r w) (by_step (next_status r.plan_only w.settings.runs.auto_apply r.status action) n action w)
 
 -- the answer to a read-only act
-abbrev pub told : AnyLook → Workspace → Outcome
-told look.Workspace w = workspace (shown_of w)
-told look.State w = state_answer (newest w.versions)
-told (look.Version n) w = version_answer (version_of n w.versions)
-told (look.Versions after) w = versions (versions_listed after w.versions)
-told (look.Run n) w = run_answer (run_of n w.runs)
-told (look.Runs after) w = runs (runs_listed after w.runs)
+abbrev pub query_answer : AnyQuery → Workspace → Outcome
+query_answer query.Workspace w = workspace (shown_of w)
+query_answer query.State w = state_answer (newest w.versions)
+query_answer (query.Version n) w = version_answer (version_of n w.versions)
+query_answer (query.Versions after) w = versions (versions_listed after w.versions)
+query_answer (query.Run n) w = run_answer (run_of n w.runs)
+query_answer (query.Runs after) w = runs (runs_listed after w.runs)
 
 -- PUT creates a missing workspace if there is room; any other act does not find it
 abbrev pub rules_missing : Act → Bool → Ruling
@@ -266,7 +266,7 @@ rules_missing act room = effect (refused NotFound) None
 
 abbrev pub rules_there : Act → ℕ → Workspace → Ruling
 rules_there (PutWorkspace ask) now w = put (settings_for ask (Some w.settings)) w
-rules_there (Look what) now w = effect (told what w) (Some w)
+rules_there (Query what) now w = effect (query_answer what w) (Some w)
 rules_there (UpdateState head text id) now w = update w head text id now
 rules_there (PurgeState id) now w = purge (may_write w.holder (holder_status w.holder w.runs) id) w
 rules_there (LockAct id text) now w = lock w.holder id text w

@@ -94,9 +94,9 @@ token_revoked name (Some o) = cond (is_some (get o.tokens name)) (effect Done (S
 abbrev pub tokens_listed : List (List ℕ × Token) → List TokenRow
 tokens_listed es = map (λ (e : List ℕ × Token). token_row e.0 e.1) es
 
-abbrev pub tokens_told : Option Organization → AdminAnswer
-tokens_told None = Absent
-tokens_told (Some o) = Tokens (tokens_listed (entries o.tokens))
+abbrev pub token_list_answer : Option Organization → AdminAnswer
+token_list_answer None = Absent
+token_list_answer (Some o) = Tokens (tokens_listed (entries o.tokens))
 
 -- the list of all organizations: exactly those that exist, in the order of their names' bytes, each with its number of workspaces and its
 -- limit
@@ -107,12 +107,12 @@ abbrev pub Ascend : List OrgRow → Type 0
 Ascend [] = ⊤
 Ascend (row ∷ rows) = AllByRecursion (λ (later : OrgRow). is_lt (name_cmp row.name later.name) ≡ true) rows × Ascend rows
 
-abbrev pub TellsOrganization : (List ℕ → Option Organization) → OrgRow → Type 0
-TellsOrganization records row = IsSomeAnd (records row.name) (λ o. (row.workspaces ≡ count_of o) × (row.limit ≡ o.limit))
+abbrev pub ShowsOrganization : (List ℕ → Option Organization) → OrgRow → Type 0
+ShowsOrganization records row = IsSomeAnd (records row.name) (λ o. (row.workspaces ≡ count_of o) × (row.limit ≡ o.limit))
 
 pub record AreOrganizations (records : List ℕ → Option Organization) (rows : List OrgRow) : Type 0 where
   pub ascend : Ascend rows
-  pub told : AllByRecursion (TellsOrganization records) rows
+  pub reported : AllByRecursion (ShowsOrganization records) rows
   pub whole : (org : List ℕ) (o : Organization) → records org ≡ Some o → list_any (is_row_of org) rows ≡ true
 
 abbrev pub ListsOrganizations : (List ℕ → Option Organization) → AdminAnswer → Type 0

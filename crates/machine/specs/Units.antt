@@ -54,11 +54,11 @@ if_needed false part = None
 abbrev pub settings_unit : Bool → Settings → Settings
 settings_unit needed s = record s { retention = cond needed s.retention FIRST_KEPT }
 
--- the greatest number of the versions to be removed from a workspace that keeps `keep`; a version that is added counts as one of those
+-- the greatest number of the versions to be removed from a workspace that keeps `retention`; a version that is added counts as one of those
 abbrev pub outgoing_by : Staying → ℕ → List Version → Option ℕ
-outgoing_by StayAll keep versions = None
-outgoing_by MakeRoom keep versions = outgoing (keep - 1) versions
-outgoing_by (StayAtMost staying) keep versions = outgoing staying versions
+outgoing_by StayAll retention versions = None
+outgoing_by MakeRoom retention versions = outgoing (retention - 1) versions
+outgoing_by (StayAtMost staying) retention versions = outgoing staying versions
 
 abbrev pub newest_unit : Option (List ℕ) → Version → Newest
 newest_unit text v = record { number = v.number; serial = v.serial; lineage = v.lineage; is_same = is_text text v.text }

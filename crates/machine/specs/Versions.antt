@@ -74,7 +74,7 @@ FollowingTextsAreAccepted = (head : StateHead) (text : List ℕ) (id : Option (L
 -- the settings that a PUT asks for: those of runs as asked, and as many versions as asked, or as before if no number is given
 pub record AreAsked (ask : SettingsAsk) (before : ℕ) (settings : Settings) : Type 0 where
   pub runs : settings.runs ≡ ask.runs
-  pub given : (keep : ℕ) → ask.retention ≡ Some keep → settings.retention ≡ keep
+  pub given : (retention : ℕ) → ask.retention ≡ Some retention → settings.retention ≡ retention
   pub not_given : ask.retention ≡ None → settings.retention ≡ before
 
 -- after an accepted PUT the settings are those asked for, and of the versions the newest are left, as many as the workspace then keeps

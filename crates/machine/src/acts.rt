@@ -3,7 +3,7 @@
 use crate::records::Version;
 use crate::texts::StateText;
 use basis::{
-    Bytes, Holder, HolderId, KeepCount, Limit, LockId, Look, Moment, Number, Refusal, RunAction,
+    Bytes, Holder, HolderId, KeepCount, Limit, LockId, Moment, Number, Query, Refusal, RunAction,
     RunAsk, RunRow, RunStatus, Serial, Settings, SettingsAsk, StateHead, Text,
 };
 
@@ -11,7 +11,7 @@ use basis::{
 #[derive(Drop)]
 pub enum Act {
     /// Reads something of the workspace, and changes nothing.
-    Look(Look),
+    Query(Query),
     /// Creates the workspace, or sets its settings if it exists.
     PutWorkspace(SettingsAsk),
     /// Deletes the workspace, with its versions and runs.

@@ -3,33 +3,33 @@ ghost use Rattle.std.specs.Prelude.{◌≡◌, ℕ, List, IfOk};
 ghost use Rattle.machine.specs.Units.{unit_of};
 ghost use Rattle.machine.specs.Records.{seen_in};
 ghost use Rattle.machine.specs.Laws.{IsLawfulOrganization};
-ghost use Rattle.machine.specs.Inner.Decisions.{AsksInRange, decision_of, decision_missing, decided_look};
+ghost use Rattle.machine.specs.Inner.Decisions.{AsksInRange, decision_of, decision_missing, decided_query};
 ghost use Rattle.machine.specs.Meaning.{Meets};
 ghost use Rattle.machine.specs.declared.records.Organization.{Organization as AnyOrganization};
 ghost use Rattle.machine.specs.declared.acts.Unit.TheVariants.{Present};
 
 use crate::acts::{Act, Answer, Decision, Unit, WorkspaceUnit};
 use crate::locks::{decide_force, decide_lock, decide_unlock};
-use crate::outcomes::tell;
+use crate::outcomes::answer_only;
 use crate::runs::{decide_make, decide_read_run, decide_report};
 use crate::states::{decide_purge, decide_read, decide_read_version, decide_update};
 use crate::workspaces::{decide_delete, decide_making, decide_put, decide_show};
-use basis::{Down, Look, Moment, Refusal};
+use basis::{Down, Moment, Query, Refusal};
 
 /// The greatest number of open runs of a workspace.
 pub const MAX_OPEN_RUNS: usize = 100;
 
 // The answer to a read-only act: nothing changes.
-fn decide_look(unit: &WorkspaceUnit, look: Look) -> Result<Decision, Down>
-    ensures { IfOk result (λ decision. decision ≡ decided_look look unit.now) }
+fn decide_query(unit: &WorkspaceUnit, query: Query) -> Result<Decision, Down>
+    ensures { IfOk result (λ decision. decision ≡ decided_query query unit.now) }
 {
-    match look {
-        Look::Workspace => decide_show(unit),
-        Look::State => Ok(decide_read(&unit.newest)),
-        Look::Version(n) => Ok(decide_read_version(unit.has_version, n)),
-        Look::Versions(after) => Ok(tell(Answer::Versions(after))),
-        Look::Run(_) => decide_read_run(&unit.asked_run),
-        Look::Runs(after) => Ok(tell(Answer::Runs(after))),
+    match query {
+        Query::Workspace => decide_show(unit),
+        Query::State => Ok(decide_read(&unit.newest)),
+        Query::Version(n) => Ok(decide_read_version(unit.has_version, n)),
+        Query::Versions(after) => Ok(answer_only(Answer::Versions(after))),
+        Query::Run(_) => decide_read_run(&unit.asked_run),
+        Query::Runs(after) => Ok(answer_only(Answer::Runs(after))),
     }
 }
 
@@ -38,7 +38,7 @@ fn decide_present(unit: &WorkspaceUnit, act: &Act, now: Moment) -> Result<Decisi
     ensures range { AsksInRange act.now }
 {
     match act {
-        Act::Look(look) => decide_look(unit, *look),
+        Act::Query(query) => decide_query(unit, *query),
         Act::PutWorkspace(ask) => decide_put(unit, *ask),
         Act::DeleteWorkspace => Ok(decide_delete(unit)),
         Act::UpdateState {
@@ -61,7 +61,7 @@ fn decide_missing(act: &Act, has_room: bool) -> Decision
 {
     match act {
         Act::PutWorkspace(ask) => decide_making(*ask, has_room),
-        Act::Look(_) => Decision::Refused(Refusal::NotFound),
+        Act::Query(_) => Decision::Refused(Refusal::NotFound),
         Act::DeleteWorkspace => Decision::Refused(Refusal::NotFound),
         Act::UpdateState { .. } => Decision::Refused(Refusal::NotFound),
         Act::PurgeState { .. } => Decision::Refused(Refusal::NotFound),

@@ -29,7 +29,7 @@ impl NameMap<Workspace> {
             self.remove(name);
             return Ok(());
         }
-        match self.place_of(name) {
+        match self.index_of(name) {
             Ok(i) => self.entries[i].value.change(alloc, change),
             Err(_) => match &change.edit {
                 Edit::Make(settings) => {

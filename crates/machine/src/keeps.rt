@@ -3,9 +3,9 @@ ghost use Rattle.std.specs.Prelude.{◌≡◌, ◌≢◌, ℕ, List, Option, Som
 ghost use Rattle.std.specs.FinMap.{get};
 ghost use Rattle.machine.specs.Effects.{effect};
 ghost use Rattle.machine.specs.Laws.{AreLawful};
-ghost use Rattle.machine.specs.Keeping.{Looks, Lasts};
+ghost use Rattle.machine.specs.StoreCalls.{Unchanged, Lasts};
 ghost use Rattle.machine.specs.Showing.{workspaces_after, versions_after, runs_after};
-ghost use Rattle.machine.specs.Tokens.{asker_of, org_added, org_limited, token_added, token_revoked, token_of, tokens_told, ListsOrganizations};
+ghost use Rattle.machine.specs.Tokens.{asker_of, org_added, org_limited, token_added, token_revoked, token_of, token_list_answer, ListsOrganizations};
 ghost use Rattle.machine.specs.Removal.{org_removed};
 ghost use Rattle.machine.specs.Records.{workspace_in, seen_in, placed};
 ghost use Rattle.machine.specs.Changes.{changed_by, IsDue};
@@ -95,12 +95,12 @@ pub trait Keep {
         org: &OrgName,
         digest: &[u8; 32],
     ) -> Result<Option<TokenRow>, Down>
-        ensures looks { Looks rows clean sound keyed shielded self.old self.new }
+        ensures unchanged { Unchanged rows clean sound keyed shielded self.old self.new }
         ensures ok { clean self.new → sound self.old → IfOk result (λ row. row ≡ asker_of (rows self.old org.now) digest.now) };
 
     /// What a decision on the act needs of the workspace. The organization has to exist.
     fn unit(&mut self, alloc: Global, org: &OrgName, ws: &WsName, act: &Act) -> Result<Unit, Down>
-        ensures looks { Looks rows clean sound keyed shielded self.old self.new }
+        ensures unchanged { Unchanged rows clean sound keyed shielded self.old self.new }
         ensures ok { clean self.new → sound self.old → IfOk result (λ unit. (o : AnyOrganization) → rows self.old org.now ≡ Some o
             → unit ≡ unit_of o ws.now act.now) };
 
@@ -112,7 +112,7 @@ pub trait Keep {
         ws: &WsName,
         n: Number,
     ) -> Result<Option<Bytes>, Down>
-        ensures looks { Looks rows clean sound keyed shielded self.old self.new }
+        ensures unchanged { Unchanged rows clean sound keyed shielded self.old self.new }
         ensures ok { clean self.new → sound self.old → IfOk result (λ text. text ≡ version_text n (workspace_in (rows self.old org.now) ws.now)) };
 
     /// The organization's workspaces whose names start with the prefix and come after `after`, in the order of
@@ -124,7 +124,7 @@ pub trait Keep {
         after: Option<&WsName>,
         prefix: &WsPrefix,
     ) -> Result<Listing<WsRow>, Down>
-        ensures looks { Looks rows clean sound keyed shielded self.old self.new }
+        ensures unchanged { Unchanged rows clean sound keyed shielded self.old self.new }
         ensures ok { clean self.new → sound self.old → IfOk result (λ list. list ≡ workspaces_after (option_copied after.entry) prefix.now (rows self.old org.now)) };
 
     /// A workspace's versions with numbers greater than `after`, in the order of their numbers: at most 50, and
@@ -136,7 +136,7 @@ pub trait Keep {
         ws: &WsName,
         after: u64,
     ) -> Result<Listing<VersionRow>, Down>
-        ensures looks { Looks rows clean sound keyed shielded self.old self.new }
+        ensures unchanged { Unchanged rows clean sound keyed shielded self.old self.new }
         ensures ok { clean self.new → sound self.old → IfOk result (λ list. list ≡ versions_after after (workspace_in (rows self.old org.now) ws.now)) };
 
     /// A workspace's runs with numbers greater than `after`, in the order of their numbers: at most 50, and
@@ -148,7 +148,7 @@ pub trait Keep {
         ws: &WsName,
         after: u64,
     ) -> Result<Listing<RunRow>, Down>
-        ensures looks { Looks rows clean sound keyed shielded self.old self.new }
+        ensures unchanged { Unchanged rows clean sound keyed shielded self.old self.new }
         ensures ok { clean self.new → sound self.old → IfOk result (λ list. list ≡ runs_after after (workspace_in (rows self.old org.now) ws.now)) };
 
     /// Changes a workspace, in one transaction. The organization has to exist, and the change has to be due.
@@ -200,7 +200,7 @@ pub trait Keep {
 
     /// All organizations, in the order of their names' bytes.
     fn org_list(&mut self, alloc: Global) -> Result<AdminAnswer, Down>
-        ensures looks { Looks rows clean sound keyed shielded self.old self.new }
+        ensures unchanged { Unchanged rows clean sound keyed shielded self.old self.new }
         ensures ok { clean self.new → sound self.old → IfOk result (ListsOrganizations (rows self.old)) };
 
     /// Adds a token to an organization, with its expiry and the prefix of its workspaces.
@@ -232,6 +232,6 @@ pub trait Keep {
 
     /// The tokens of an organization, in the order of their names' bytes.
     fn token_list(&mut self, alloc: Global, org: &OrgName) -> Result<AdminAnswer, Down>
-        ensures looks { Looks rows clean sound keyed shielded self.old self.new }
-        ensures ok { clean self.new → sound self.old → IfOk result (λ answer. answer ≡ tokens_told (rows self.old org.now)) };
+        ensures unchanged { Unchanged rows clean sound keyed shielded self.old self.new }
+        ensures ok { clean self.new → sound self.old → IfOk result (λ answer. answer ≡ token_list_answer (rows self.old org.now)) };
 }

@@ -6,7 +6,7 @@ ghost use Rattle.machine.specs.Tokens.{AskersAskByTheirTokens};
 ghost use Rattle.machine.specs.Paging.{WorkspacePagesFollow, VersionPagesFollow, RunPagesFollow, WorkspacesAreShown, VersionsAreShown, RunsAreShown};
 ghost use Rattle.machine.specs.Queue.{OneRunIsActive, PlanOnlyRunsStayOut, RunsStartInOrder, RunsStay, ActionsComeAgain, KeyedCreationsComeAgain, HundredRunsAreLetIn, NoMoreRunsAreLetIn};
 ghost use Rattle.machine.specs.Versions.{NewestVersionsFollow, KeptVersionsFollow, AcceptedTextsStand, FollowingTextsAreAccepted, PutsLeaveWhatTheyAsk, PutsMakeWhatTheyAsk};
-ghost use Rattle.machine.specs.Custody.{AcceptedActsComeAgain, HeldVersionsChangeByTheId, HoldsUntilReleased, LockedWorkspacesStay, NothingIsReadOfAPurge, NumbersRise, RefusalsChangeNothing, RefusalsTellTheHolder, RepeatsChangeNothing, VersionsChangeByTheId, WhatIsPostedIsRead, WorkspacesBeginAnew, WorkspacesGoByDelete, WritesCarryTheId};
+ghost use Rattle.machine.specs.Custody.{AcceptedActsComeAgain, HeldVersionsChangeByTheId, HoldsUntilReleased, LockedWorkspacesStay, NothingIsReadOfAPurge, NumbersRise, RefusalsChangeNothing, RefusalsNameTheHolder, RepeatsChangeNothing, VersionsChangeByTheId, WhatIsPostedIsRead, WorkspacesBeginAnew, WorkspacesGoByDelete, WritesCarryTheId};
 
 /// A refusal leaves the workspace as it is.
 pub fn refusals_change_nothing()
@@ -14,8 +14,8 @@ pub fn refusals_change_nothing()
 {}
 
 /// A refusal that names a holder names the workspace's holder.
-pub fn refusals_tell_the_holder()
-    ensures { RefusalsTellTheHolder }
+pub fn refusals_name_the_holder()
+    ensures { RefusalsNameTheHolder }
 {}
 
 /// An accepted update or purge carried the holder's ID, or none if the workspace has no holder. If a run is

@@ -32,7 +32,7 @@ pub use laws::{
     held_versions_change_by_the_id, holds_until_released, hundred_runs_are_let_in,
     keyed_creations_come_again, locked_workspaces_stay, nothing_is_read_of_a_purge, numbers_rise,
     one_run_is_active, pages_follow, plan_only_runs_stay_out, puts_leave_what_they_ask,
-    refusals_change_nothing, refusals_tell_the_holder, repeats_change_nothing, runs_start_in_order,
+    refusals_change_nothing, refusals_name_the_holder, repeats_change_nothing, runs_start_in_order,
     runs_stay, same_things_are_equal_records, settles_once, versions_change_by_the_id,
     versions_follow, what_is_posted_is_read, workspaces_begin_anew, workspaces_go_by_delete,
     writes_carry_the_id,

@@ -55,7 +55,7 @@ impl<T> NameMap<T> {
     pub fn get(&self, name: &str) -> Option<&T>
         ensures { option_copied result ≡ map.get self.now name.now }
     {
-        match self.place_of(name) {
+        match self.index_of(name) {
             Ok(i) => Some(&self.entries[i].value),
             Err(_) => None,
         }
@@ -68,7 +68,7 @@ impl<T> NameMap<T> {
         ensures ok { OnOk result (self.new ≡ map.insert self.old name value) }
         ensures err { OnErr result (self.new ≡ self.old) }
     {
-        match self.place_of(name.as_str()) {
+        match self.index_of(name.as_str()) {
             Ok(i) => self.entries[i].value = value,
             Err(i) => self.entries.insert(i, Entry { name, value })?,
         }
@@ -82,7 +82,7 @@ impl<T> NameMap<T> {
         ensures removed { self.new ≡ map.remove self.old name.now }
         ensures there { result ≡ is_some (map.get self.old name.now) }
     {
-        match self.place_of(name) {
+        match self.index_of(name) {
             Ok(i) => {
                 self.entries.remove(i);
                 true
@@ -99,7 +99,7 @@ impl<T> NameMap<T> {
     }
 
     /// The index of the name's entry, or the index at which it would be inserted.
-    pub(crate) fn place_of(&self, name: &str) -> Result<usize, usize>
+    pub(crate) fn index_of(&self, name: &str) -> Result<usize, usize>
         ensures found { IfOk result (λ i. IsAt name.now (map.entries self.now) i) }
         ensures absent { IfErr result (λ i. IsGapFor name.now (map.entries self.now) i) }
     {

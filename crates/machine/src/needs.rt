@@ -1,9 +1,9 @@
 //! What a decision on an act needs of the workspace, besides the workspace's row.
 ghost use Rattle.std.specs.Prelude.{◌≡◌, option_copied};
-ghost use Rattle.machine.specs.Needs.{needs, needs_of_look, nothing, staying_for, needed_of};
+ghost use Rattle.machine.specs.Needs.{needs, needs_of_query, nothing, staying_for, needed_of};
 
 use crate::acts::{Act, Needs, Staying};
-use basis::{KeepCount, Look, RunAsk, Text};
+use basis::{KeepCount, Query, RunAsk, Text};
 
 /// Only the workspace's row is needed.
 fn nothing<'a>() -> Needs<'a>
@@ -24,28 +24,28 @@ fn nothing<'a>() -> Needs<'a>
     }
 }
 
-fn needs_of_look<'a>(look: Look) -> Needs<'a>
-    ensures { needed_of result ≡ needs_of_look look }
+fn needs_of_query<'a>(query: Query) -> Needs<'a>
+    ensures { needed_of result ≡ needs_of_query query }
 {
-    match look {
-        Look::Workspace => Needs {
+    match query {
+        Query::Workspace => Needs {
             retention: true,
             newest: true,
             ..nothing()
         },
-        Look::State => Needs {
+        Query::State => Needs {
             newest: true,
             ..nothing()
         },
-        Look::Version(number) => Needs {
+        Query::Version(number) => Needs {
             version: Some(number),
             ..nothing()
         },
-        Look::Run(number) => Needs {
+        Query::Run(number) => Needs {
             run: Some(number),
             ..nothing()
         },
-        Look::Versions(_) | Look::Runs(_) => nothing(),
+        Query::Versions(_) | Query::Runs(_) => nothing(),
     }
 }
 
@@ -74,7 +74,7 @@ impl Act {
         ensures { needed_of result ≡ needs self.now }
     {
         match self {
-            Act::Look(look) => needs_of_look(*look),
+            Act::Query(query) => needs_of_query(*query),
             Act::PutWorkspace(ask) => Needs {
                 makes: true,
                 retention: ask.retention.is_none(),

@@ -7,7 +7,7 @@ ghost use Rattle.machine.specs.Effects.{effect};
 ghost use Rattle.machine.specs.Records.{placed};
 ghost use Rattle.machine.specs.Removal.{is_in_use, org_removed};
 ghost use Rattle.basis.specs.Names.{is_prefix};
-ghost use Rattle.machine.specs.Tokens.{token_with, row_with, asker_of, has_digest, new_organization, org_added, org_limited, token_added, token_revoked, token_of, tokens_told};
+ghost use Rattle.machine.specs.Tokens.{token_with, row_with, asker_of, has_digest, new_organization, org_added, org_limited, token_added, token_revoked, token_of, token_list_answer};
 ghost use Rattle.machine.specs.Changes.{changed_by};
 ghost use Rattle.machine.specs.Ranges.{IsMoment};
 ghost use Rattle.machine.specs.Units.{unit_of};
@@ -34,7 +34,7 @@ impl NameMap<Organization> {
         ensures others { (o : List ℕ) → o ≢ org.now → map.get self.new o ≡ map.get self.old o }
         ensures err { OnErr result (self.new ≡ self.old) }
     {
-        match self.place_of(org) {
+        match self.index_of(org) {
             Ok(i) => self.entries[i].value.workspaces.apply(alloc, ws, change),
             Err(_) => Ok(()),
         }
@@ -63,7 +63,7 @@ impl NameMap<Organization> {
         ensures own { effect result (map.get self.new org.now) ≡ org_limited limit (map.get self.old org.now) }
         ensures others { (o : List ℕ) → o ≢ org.now → map.get self.new o ≡ map.get self.old o }
     {
-        match self.place_of(org) {
+        match self.index_of(org) {
             Ok(i) => {
                 self.entries[i].value.limit = limit;
                 AdminAnswer::Done
@@ -90,7 +90,7 @@ impl NameMap<Organization> {
         ensures own { effect result (map.get self.new org.now) ≡ token_revoked name.now (map.get self.old org.now) }
         ensures others { (o : List ℕ) → o ≢ org.now → map.get self.new o ≡ map.get self.old o }
     {
-        match self.place_of(org) {
+        match self.index_of(org) {
             Ok(i) => self.entries[i].value.revoke(name),
             Err(_) => AdminAnswer::Absent,
         }
@@ -106,7 +106,7 @@ impl NameMap<Organization> {
         ensures others { (o : List ℕ) → o ≢ org.now → map.get self.new o ≡ map.get self.old o }
         ensures err { OnErr result (self.new ≡ self.old) }
     {
-        match self.place_of(org) {
+        match self.index_of(org) {
             Ok(i) => self.entries[i].value.add_token(name, token),
             Err(_) => Ok(AdminAnswer::Absent),
         }
@@ -131,7 +131,7 @@ impl Organization {
     }
 
     pub(crate) fn token_list(&self, alloc: Global) -> Result<AdminAnswer, Down>
-        ensures { IfOk result (λ answer. answer ≡ tokens_told (Some self.now)) }
+        ensures { IfOk result (λ answer. answer ≡ token_list_answer (Some self.now)) }
     {
         let rows = list_tokens(alloc, self.tokens.entries())?;
         Ok(AdminAnswer::Tokens(rows))

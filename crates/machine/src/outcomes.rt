@@ -27,7 +27,7 @@ pub(crate) fn accept_again() -> Decision
 }
 
 // A read-only answer: nothing changes.
-pub(crate) fn tell(answer: Answer) -> Decision
+pub(crate) fn answer_only(answer: Answer) -> Decision
     ensures { result ≡ Accepted answer None }
 {
     Decision::Accepted {

@@ -6,7 +6,7 @@ ghost use Rattle.machine.specs.Succession.{lineages_differ};
 ghost use Rattle.basis.specs.declared.rows.Holder.TheVariants.{Run as HoldingRun};
 
 use crate::acts::{Answer, Decision, Edit, Newest, WorkspaceUnit};
-use crate::outcomes::{accept, accept_again, tell};
+use crate::outcomes::{accept, accept_again, answer_only};
 use crate::records::Version;
 use crate::texts::StateText;
 use basis::{Down, Holder, LockId, Moment, Number, Refusal, RunStatus, StateHead, Text, is_run_id};
@@ -150,7 +150,7 @@ pub(crate) fn decide_read_version(has_version: bool, n: Number) -> Decision
     ensures { result ≡ decided_version_read has_version n }
 {
     if has_version {
-        tell(Answer::State(n))
+        answer_only(Answer::State(n))
     } else {
         Decision::Refused(Refusal::NotFound)
     }

@@ -12,7 +12,7 @@ ghost use Rattle.machine.specs.declared.acts.Edit.TheVariants.{Make};
 ghost use Rattle.machine.specs.declared.acts.Decision.TheVariants.{Accepted};
 
 use crate::acts::{Answer, Decision, Edit, Newest, Shown, WorkspaceUnit};
-use crate::outcomes::{accept, tell};
+use crate::outcomes::{accept, answer_only};
 use basis::numbers::MAX_KEPT;
 use basis::{Down, Holder, HolderId, KeepCount, Number, Refusal, Settings, SettingsAsk};
 
@@ -113,7 +113,7 @@ pub(crate) fn decide_show(unit: &WorkspaceUnit) -> Result<Decision, Down>
     ensures { IfOk result (λ decision. decision ≡ Accepted (ShownWorkspace (shown_as unit.now.settings unit.now)) None) }
 {
     let shown = shown(&unit.settings, unit)?;
-    Ok(tell(Answer::Workspace(shown)))
+    Ok(answer_only(Answer::Workspace(shown)))
 }
 
 // The workspace is deleted if none of its runs is open.

@@ -41,14 +41,14 @@ module _ (key : List ℕ) (twin : ℕ) where
       go : (b c l : Bool) → is_page key twin x ≡ b → few x ≡ c → l ≡ (b && c) → find (is_page key twin) (cond (not l) (x ∷ lasts) lasts) ≡ None
           → (find (is_page key twin) lasts ≡ None → (lasts ≡ others) × ((y : Kept PageRow) → find (is_page key twin) xs ≡ Some y → few y ≡ true))
           → (cond (not l) (x ∷ lasts) lasts ≡ cond (not b) (x ∷ others) others) × ((y : Kept PageRow) → cond b (Some x) (find (is_page key twin) xs) ≡ Some y → few y ≡ true)
-      go true true true is in_few told gone more = ((more gone).0, λ y found. let same : x ≡ y = cc in subst (λ z. few z ≡ true) same in_few)
-      go true true false is in_few told gone more = absurd (let no_one : ⊥ = cc in no_one)
-      go true false true is in_few told gone more = absurd (let no_one : ⊥ = cc in no_one)
-      go true false false is in_few told gone more =
+      go true true true is in_few reported gone more = ((more gone).0, λ y found. let same : x ≡ y = cc in subst (λ z. few z ≡ true) same in_few)
+      go true true false is in_few reported gone more = absurd (let no_one : ⊥ = cc in no_one)
+      go true false true is in_few reported gone more = absurd (let no_one : ⊥ = cc in no_one)
+      go true false false is in_few reported gone more =
           let stays : ◌≡◌ {A = Option (Kept PageRow)} (Some x) None = subst (λ b. cond b (Some x) (find (is_page key twin) lasts) ≡ None) is gone in
           absurd (let no_one : ⊥ = cc in no_one)
-      go false c true is in_few told gone more = absurd (let no_one : ⊥ = cc in no_one)
-      go false c false is in_few told gone more =
+      go false c true is in_few reported gone more = absurd (let no_one : ⊥ = cc in no_one)
+      go false c false is in_few reported gone more =
           let rest = more (subst (λ b. cond b (Some x) (find (is_page key twin) lasts) ≡ None) is gone) in
           (ap (λ l. x ∷ l) rest.0, rest.1)
 
@@ -59,9 +59,9 @@ module _ (key : List ℕ) (twin : ℕ) where
     where
       go : (b c l : Bool) → l ≡ (b && c) → is_some (cond l (Some x) (find (is_last key twin) xs)) ≡ true → (is_some (find (is_last key twin) xs) ≡ true → is_some (find (is_page key twin) xs) ≡ true)
           → is_some (cond b (Some x) (find (is_page key twin) xs)) ≡ true
-      go true c l told any more = refl
-      go false c true told any more = absurd (let no_one : ⊥ = cc in no_one)
-      go false c false told any more = more any
+      go true c l reported any more = refl
+      go false c true reported any more = absurd (let no_one : ⊥ = cc in no_one)
+      go false c false reported any more = more any
 
 pub none_if : {X : Type 0} (o : Option X) → is_some o ≡ false → o ≡ None
 none_if None e = refl
@@ -102,23 +102,23 @@ module _ (key : List ℕ) (twin : ℕ) (t : Tables) where
 
 -- ---- states
 
--- a write, and a look behind it
-looked_behind : (f : Tables → Tables) (a b c : State) → Moves AnyRows f a b → LeavesAsIs b c → Moves AnyRows f a c
-looked_behind f a b c moved look = record {
-  rows = λ t holds any. subst (λ (d : Database). Holds d (f t)) (sym look.now) (moved.rows t holds tt);
-  others = λ t holds any. subst (λ (d : Database). LeavesForeign a.now d) (sym look.now) (moved.others t holds tt);
+-- a write, and a query behind it
+queried_behind : (f : Tables → Tables) (a b c : State) → Moves AnyRows f a b → LeavesAsIs b c → Moves AnyRows f a c
+queried_behind f a b c moved unchanged = record {
+  rows = λ t holds any. subst (λ (d : Database). Holds d (f t)) (sym unchanged.now) (moved.rows t holds tt);
+  others = λ t holds any. subst (λ (d : Database). LeavesForeign a.now d) (sym unchanged.now) (moved.others t holds tt);
   was_open = moved.was_open;
-  is_open = look.is_open moved.is_open;
-  committed = look.committed ∙ moved.committed;
-  inside = subst IsTrue (sym look.mode) moved.inside;
+  is_open = unchanged.is_open moved.is_open;
+  committed = unchanged.committed ∙ moved.committed;
+  inside = subst IsTrue (sym unchanged.mode) moved.inside;
 }
 
 module _ (key : List ℕ) (twin : ℕ) (a b c : State) (moved : Moves AnyRows (last_removed key twin) a b) where
-  -- a look behind the write found no page of the name: the page is released
+  -- a query behind the write found no page of the name: the page is released
   pub gone_by : {X E : Type 0} (result : Result X E) → IfOk result (λ _. (t : Tables) → Holds b.now t → page_uses key twin t ≡ None) × (OnOk result (LeavesAsIs b c) × OnErr result (KeepsCommit b c))
       → OnOk result (Moves AnyRows (page_released key twin) a c) × OnErr result (KeepsCommit a c)
   gone_by (Ok x) seen =
-      let all = looked_behind (last_removed key twin) a b c moved seen.1.0 in (
+      let all = queried_behind (last_removed key twin) a b c moved seen.1.0 in (
         record {
           rows = λ t holds any. subst (Holds c.now) (none_left_is key twin t (seen.0 (last_removed key twin t) (moved.rows t holds tt))) (all.rows t holds tt);
           others = all.others;
@@ -147,7 +147,7 @@ releases_there key twin a b (Ok x) moved there = λ t u before after.
     by_uses t u is (Some uses) e some = (subst (λ v. ReleasesPage key twin (pages_in t) (pages_in v)) is (release_is key twin t uses e), λ sound. subst HasSoundPages is (release_keeps key twin t sound))
 releases_there key twin a b (Err e) moved there = tt
 
--- what is said of the rows behind a write that did nothing, and of those behind a look, is said of those before, and of those behind
+-- what is said of the rows behind a write that did nothing, and of those behind a query, is said of those before, and of those behind
 pub said_before : {X E : Type 0} (P : Tables → Tables → Type 0) (a b c : State) (result : Result X E) → ((t : Tables) → Holds a.now t → Holds b.now t) → OnOk result ((t u : Tables) → Holds b.now t → Holds c.now u → P t u)
     → OnOk result ((t u : Tables) → Holds a.now t → Holds c.now u → P t u)
 said_before P a b c (Ok x) still said = λ t u before after. said t u (still t before) after
@@ -155,5 +155,5 @@ said_before P a b c (Err e) still said = tt
 
 pub spared_before : {X E : Type 0} (a b c : State) (result : Result X E) → ((t u : Tables) → Holds a.now t → Holds b.now u → NamedAreThere u) → OnOk result (LeavesAsIs b c)
     → OnOk result ((t u : Tables) → Holds a.now t → Holds c.now u → NamedAreThere u)
-spared_before a b c (Ok x) spares look = λ t u before after. spares t u before (subst (λ (d : Database). Holds d u) look.now after)
-spared_before a b c (Err e) spares look = tt
+spared_before a b c (Ok x) spares unchanged = λ t u before after. spares t u before (subst (λ (d : Database). Holds d u) unchanged.now after)
+spared_before a b c (Err e) spares unchanged = tt

@@ -65,10 +65,10 @@ module _ (t : Tables) where
 
   -- the row that is found, with what is found for it
   pub one_row : (o : Option (Kept PageRow)) (page : ReadRow) (row : Unhashed) → Some page ≡ option_map page_row o → row ≡ unhashed_of page t → Some row ≡ option_map (unhashed_row t) o
-  one_row None page row is told = absurd (let none : ⊥ = cc in none)
-  one_row (Some x) page row is told =
+  one_row None page row is reported = absurd (let none : ⊥ = cc in none)
+  one_row (Some x) page row is reported =
       let same : page ≡ page_row x = cc in
-      ap (λ (r : Unhashed). Some r) (told ∙ ap (λ (p : ReadRow). unhashed_of p t) same)
+      ap (λ (r : Unhashed). Some r) (reported ∙ ap (λ (p : ReadRow). unhashed_of p t) same)
 
 module _ (key_of : List ℕ → List ℕ) (t : Tables) where
   abbrev pub behind_heads : Option ℤ → List PageHead

@@ -50,7 +50,7 @@ free_least key (suc left) n t m above below = go (page_uses key n t) refl below 
 pub record FreeSoFar (key : List ℕ) (twin : ℕ) (old new : State) : Type 0 where
   pub so_far : HasCleanDisk new → HasCleanDisk old
   pub shield : old.IsShielded → new.IsShielded
-  pub looks : HasCleanDisk new → LeavesAsIs old new
+  pub unchanged : HasCleanDisk new → LeavesAsIs old new
   pub left : HasCleanDisk new → (t : Tables) → Holds old.now t → free_from key (twin_limit - twin) twin t ≡ free_twin key t
 
 pub free_begin : (key : List ℕ) (t : Tables) → free_from key (twin_limit - 0) 0 t ≡ free_twin key t

@@ -4,7 +4,7 @@ pub mod Examples
 pub mod FirstPages
 pub mod FreeTwins
 pub mod KeyedPages
-pub mod Looking
+pub mod Sequences
 pub mod PageLaws
 pub mod PageReads
 pub mod PageTexts

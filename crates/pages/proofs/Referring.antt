@@ -29,7 +29,7 @@ use Rattle.statements.specs.Calls.{Wrote}
 use Rattle.statements.specs.Steps.{LeavesAsIs}
 use Rattle.pages.specs.Rows.{is_page}
 use Rattle.pages.specs.Pages.{Page, pages_in, NamedAreThere}
-use Rattle.pages.proofs.Looking.{still_holds}
+use Rattle.pages.proofs.Sequences.{still_holds}
 use Rattle.pages.proofs.PageTexts.{set_page_uses_query, set_page_uses_means, remove_page_query, remove_page_means, remove_last_page_query, remove_last_page_means}
 use Rattle.pages.proofs.PageWrites.{blob_number}
 
@@ -139,5 +139,5 @@ spared_by old new text params (Err e) wrote sound = tt
 -- so it is behind queries
 pub spared_behind : {X E : Type 0} (a b c : State) (result : Result X E) → LeavesAsIs a b → OnOk result ((t u : Tables) → Holds b.now t → Holds c.now u → NamedAreThere u)
     → OnOk result ((t u : Tables) → Holds a.now t → Holds c.now u → NamedAreThere u)
-spared_behind a b c (Ok x) look spares = λ t u before after. spares t u (still_holds a b look t before) after
-spared_behind a b c (Err e) look spares = tt
+spared_behind a b c (Ok x) unchanged spares = λ t u before after. spares t u (still_holds a b unchanged t before) after
+spared_behind a b c (Err e) unchanged spares = tt

@@ -76,7 +76,7 @@ PutsBy key page old new result =
 pub record PutsUnder {S E : Type 0} (g : Ghosts S) (key page : List ℕ) (old new : Transaction S) (result : Result PageId E) : Type 0 where
   pub steps : Steps g (page_put key page) old new result
   pub named : IfOk result (λ id. (id.key ≡ key) × (id.twin < 2 ^ 63))
-  pub tells : HasCleanDisk (state g new.conn.now) → IfOk result (λ id. (t : Tables) → Holds (state g old.conn.now).now t → id.twin ≡ twin_for key page t)
+  pub reports : HasCleanDisk (state g new.conn.now) → IfOk result (λ id. (t : Tables) → Holds (state g old.conn.now).now t → id.twin ≡ twin_for key page t)
   pub puts : PutsBy key page (state g old.conn.now) (state g new.conn.now) result
 
 -- a page is released, in a transaction

@@ -2,7 +2,7 @@
 ghost use Rattle.std.specs.Prelude.{◌≡◌, ◌<◌, ◌^◌};
 ghost use Rattle.sqlite.specs.Held.{state};
 ghost use Rattle.sqlite.specs.State.{Survives};
-ghost use Rattle.statements.specs.Steps.{AnyRows, Equals, Writes, Tells, Reads, Queries};
+ghost use Rattle.statements.specs.Steps.{AnyRows, Equals, Writes, Reports, Reads, Queries};
 ghost use Rattle.pages.specs.Rows.{page_added, page_used, page_removed, last_removed, has_last, page_bytes, page_uses, equal_page, first_page, first_twin};
 ghost use Rattle.pages.specs.Pages.{SparesNamed};
 ghost use Rattle.pages.specs.Inner.Calls.{IsPageUse, IsFirstPage};
@@ -87,7 +87,7 @@ pub(crate) fn remove_last<'v, S: Alter>(
     twin: Twin,
 ) -> Result<bool, Error>
     ensures writes { Writes S.Store AnyRows (last_removed key.now twin) tx.old tx.new result }
-    ensures found { Tells (Equals (has_last key.now twin)) (state S.Store tx.old.conn.now) (state S.Store tx.new.conn.now) result }
+    ensures found { Reports (Equals (has_last key.now twin)) (state S.Store tx.old.conn.now) (state S.Store tx.new.conn.now) result }
     ensures spares { SparesNamed (state S.Store tx.old.conn.now) (state S.Store tx.new.conn.now) result }
 {
     let twin = twin.signed();

@@ -9,7 +9,7 @@ ghost use Rattle.statements.specs.Tables.{Tables, Holds};
 ghost use Rattle.pages.specs.Rows.{page_added, page_used, page_bytes, page_uses, IsPageName};
 ghost use Rattle.pages.specs.Puts.{free_twin, twin_found, twin_for, put_found, page_put, lessened, released_found, page_released, is_bytes_of};
 ghost use Rattle.pages.specs.Pages.{IsKeyFor, PutsUnder, ReleasesBy, SparesNamed, Gets};
-ghost use Rattle.pages.specs.Inner.Calls.{SeesInside, TellsBy, put_with, twin_with, alike};
+ghost use Rattle.pages.specs.Inner.Calls.{SeesInside, ReportsBy, put_with, twin_with, alike};
 
 use crate::keys::PageKey;
 use crate::rows::{
@@ -94,7 +94,7 @@ fn use_again<S: Alter>(
 /// Adds a page under the least free twin number.
 fn add_new<S: Alter>(tx: &mut Transaction<'_, S>, key: &[u8], page: &[u8]) -> Result<Twin, Error>
     ensures steps { Steps S.Store (λ t. page_added key.now (free_twin key.now t) page.now t) tx.old tx.new result }
-    ensures twin { TellsBy (free_twin key.now) (state S.Store tx.old.conn.now) (state S.Store tx.new.conn.now) result }
+    ensures twin { ReportsBy (free_twin key.now) (state S.Store tx.old.conn.now) (state S.Store tx.new.conn.now) result }
 {
     let twin = free(tx, key)?;
     add(tx, key, twin, page)?;
@@ -118,7 +118,7 @@ fn put_beside<S: Alter>(
     page: &[u8],
 ) -> Result<Twin, Error>
     ensures steps { Steps S.Store (put_found key.now page.now found) tx.old tx.new result }
-    ensures twin { TellsBy (twin_found key.now found) (state S.Store tx.old.conn.now) (state S.Store tx.new.conn.now) result }
+    ensures twin { ReportsBy (twin_found key.now found) (state S.Store tx.old.conn.now) (state S.Store tx.new.conn.now) result }
 {
     match found {
         Some(found) => use_again(tx, key, found),
@@ -129,7 +129,7 @@ fn put_beside<S: Alter>(
 /// Adds a use of a page, or the page, if other pages have its key.
 fn put_among<S: Alter>(tx: &mut Transaction<'_, S>, key: &[u8], page: &[u8]) -> Result<Twin, Error>
     ensures steps { Steps S.Store (page_put key.now page.now) tx.old tx.new result }
-    ensures twin { TellsBy (twin_for key.now page.now) (state S.Store tx.old.conn.now) (state S.Store tx.new.conn.now) result }
+    ensures twin { ReportsBy (twin_for key.now page.now) (state S.Store tx.old.conn.now) (state S.Store tx.new.conn.now) result }
 {
     let found = equal(tx, key, page)?;
     put_beside(tx, key, found, page)
@@ -143,7 +143,7 @@ fn put_with<S: Alter>(
     page: &[u8],
 ) -> Result<Twin, Error>
     ensures steps { Steps S.Store (put_with key.now page.now first) tx.old tx.new result }
-    ensures twin { TellsBy (twin_with key.now page.now first) (state S.Store tx.old.conn.now) (state S.Store tx.new.conn.now) result }
+    ensures twin { ReportsBy (twin_with key.now page.now first) (state S.Store tx.old.conn.now) (state S.Store tx.new.conn.now) result }
 {
     match first {
         None => add_first(tx, key, page),
@@ -155,7 +155,7 @@ fn put_with<S: Alter>(
 /// since most pages are new.
 fn put_under<S: Alter>(tx: &mut Transaction<'_, S>, key: &[u8], page: &[u8]) -> Result<Twin, Error>
     ensures steps { Steps S.Store (page_put key.now page.now) tx.old tx.new result }
-    ensures twin { TellsBy (twin_for key.now page.now) (state S.Store tx.old.conn.now) (state S.Store tx.new.conn.now) result }
+    ensures twin { ReportsBy (twin_for key.now page.now) (state S.Store tx.old.conn.now) (state S.Store tx.new.conn.now) result }
 {
     let first = first_twin(tx, key)?;
     put_with(tx, key, first, page)

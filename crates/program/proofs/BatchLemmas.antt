@@ -6,7 +6,7 @@ use Rattle.serve.specs.declared.steps.Admin.{Admin}
 use Rattle.serve.specs.declared.steps.Admin.TheVariants.{OrgAdd, OrgLimit, OrgRemove, OrgList, TokenAdd, TokenList, TokenRevoke}
 use Rattle.program.specs.Batches.{Ends, AreCommands}
 use Rattle.program.specs.Outcomes.{Stream, Errors, stream, error_stream, IsSaid, Opens, Closes, RefusesToOpen, opening_of, CarriesEach, CarriesLines, CarriesAll, AnswersCommand, AnswersLine, AnswersList, AnswersTokens, EndsBatch}
-use Rattle.program.specs.Streams.{Told}
+use Rattle.program.specs.Streams.{Reported}
 use Rattle.program.specs.declared.exits.Exit.{Exit}
 use Rattle.program.specs.declared.exits.Exit.TheVariants as exit
 use Rattle.program.specs.declared.environment.Files as files
@@ -68,25 +68,25 @@ command_ends (TokenRevoke org name) e output h = line_ends e output h
 
 module _ {K F : Type 0} (k : keep.Ghosts K) (f : files.Ghosts F K) where
   -- the commands that are left are the one at this place and those behind it
-  pub carries_left : (commands : List Admin) (i : ℕ) (command : Admin) (place : ℕ) (old new : K) (e : Exit) (out out' : Option (List ℕ)) (err err' : Told) → i < length commands → command ≡ get_or commands i command
-      → CarriesEach k f (command ∷ drop (i + 1) commands) place old new e out out' err err' → CarriesEach k f (drop i commands) place old new e out out' err err'
-  carries_left commands i command place old new e out out' err err' within is carries =
-      subst (λ (cs : List Admin). CarriesEach k f cs place old new e out out' err err') (sym (drop_more commands i command within ∙ ap (λ (c : Admin). c ∷ drop (i + 1) commands) (sym is))) carries
+  pub carries_left : (commands : List Admin) (i : ℕ) (command : Admin) (command_index : ℕ) (old new : K) (e : Exit) (out out' : Option (List ℕ)) (err err' : Reported) → i < length commands → command ≡ get_or commands i command
+      → CarriesEach k f (command ∷ drop (i + 1) commands) command_index old new e out out' err err' → CarriesEach k f (drop i commands) command_index old new e out out' err err'
+  carries_left commands i command command_index old new e out out' err err' within is carries =
+      subst (λ (cs : List Admin). CarriesEach k f cs command_index old new e out out' err err') (sym (drop_more commands i command within ∙ ap (λ (c : Admin). c ∷ drop (i + 1) commands) (sym is))) carries
 
   -- a store is opened at a path, commands are carried out on it, and it is closed
-  pub carries_lines : (path : List ℕ) (first : Admin) (commands : List Admin) (old mid new : F) (store start end closed : K) (e : Exit) (out heard last : Option (List ℕ)) (before noted told after : Told)
+  pub carries_lines : (path : List ℕ) (first : Admin) (commands : List Admin) (old mid new : F) (store start end closed : K) (e : Exit) (out heard last : Option (List ℕ)) (before noted reported after : Reported)
       → Opens k f path (opening_of first) old mid store (error_stream before noted) → heard ≡ out → start ≡ store → closed ≡ end
-      → CarriesEach k f commands 1 start end e heard last noted told → Closes k f path mid new closed (error_stream told after)
+      → CarriesEach k f commands 1 start end e heard last noted reported → Closes k f path mid new closed (error_stream reported after)
       → CarriesLines k f path first commands old new e (stream out last) (error_stream before after)
-  carries_lines path first commands old mid new store start end closed e out heard last before noted told after opens same begins ends carries closes = record {
+  carries_lines path first commands old mid new store start end closed e out heard last before noted reported after opens same begins ends carries closes = record {
     before = store;
     after = end;
     worked = mid;
     noted = noted;
-    told = told;
+    reported = reported;
     opens = opens;
-    carries = subst (λ (o : Option (List ℕ)). CarriesEach k f commands 1 store end e o last noted told) same (subst (λ (s : K). CarriesEach k f commands 1 s end e heard last noted told) begins carries);
-    closes = subst (λ (s : K). Closes k f path mid new s (error_stream told after)) ends closes;
+    carries = subst (λ (o : Option (List ℕ)). CarriesEach k f commands 1 store end e o last noted reported) same (subst (λ (s : K). CarriesEach k f commands 1 s end e heard last noted reported) begins carries);
+    closes = subst (λ (s : K). Closes k f path mid new s (error_stream reported after)) ends closes;
     others = λ other kept differs held. closes.others other kept differs (opens.others other kept differs held);
   }
 
@@ -99,7 +99,7 @@ module _ {K F : Type 0} (k : keep.Ghosts K) (f : files.Ghosts F K) where
       subst (λ (c : Admin). CarriesLines k f path c (command ∷ commands) old new e output errors ⊎ RefusesToOpen k f path (opening_of c) old new e output errors) is h
 
   -- no command
-  pub carries_none : (path : List ℕ) (commands : List Admin) (old : F) (output : Option (List ℕ)) (errors : Told) → length commands < 1 → CarriesAll k f path commands old old exit.Done (stream output output) (error_stream errors errors)
+  pub carries_none : (path : List ℕ) (commands : List Admin) (old : F) (output : Option (List ℕ)) (errors : Reported) → length commands < 1 → CarriesAll k f path commands old old exit.Done (stream output output) (error_stream errors errors)
   carries_none path [] old output errors below = (refl, refl, refl, refl)
   carries_none path (command ∷ commands) old output errors below = absurd (omega (arith, below))
 
@@ -109,5 +109,5 @@ refusal_ends result old new (inl h) = said EndsBatch exit.Down result old new (�
 refusal_ends result old new (inr h) = said EndsBatch exit.Schema result old new (λ h. tt) tt h
 
 -- whether a line that is not a command follows is known
-pub batch_known : (input : Option (List ℕ)) (commands : List Admin) (is_bad told : Bool) → is_bad ≡ told → IfSome input (λ bytes. AreCommands bytes commands is_bad) → IfSome input (λ bytes. AreCommands bytes commands told)
-batch_known input commands is_bad told is h = subst (λ (b : Bool). IfSome input (λ bytes. AreCommands bytes commands b)) is h
+pub batch_known : (input : Option (List ℕ)) (commands : List Admin) (is_bad reported : Bool) → is_bad ≡ reported → IfSome input (λ bytes. AreCommands bytes commands is_bad) → IfSome input (λ bytes. AreCommands bytes commands reported)
+batch_known input commands is_bad reported is h = subst (λ (b : Bool). IfSome input (λ bytes. AreCommands bytes commands b)) is h

@@ -6,7 +6,7 @@ use Rattle.std.specs.Str.{bytes_eq}
 use Rattle.std.proofs.lemmas.Slice.Eq.{bytes_eq-Decides}
 use Rattle.basis.specs.declared.memory.Down.{Down}
 use Rattle.machine.specs.Effects.{Effect, effect}
-use Rattle.machine.specs.Keeping.{Looks}
+use Rattle.machine.specs.StoreCalls.{Unchanged}
 use Rattle.machine.specs.Tokens.{AreOrganizations, ListsOrganizations, is_row_of}
 use Rattle.machine.specs.declared.keeps.AdminAnswer.{AdminAnswer}
 use Rattle.machine.specs.declared.keeps.AdminAnswer.TheVariants.{Done, Exists, Absent, InUse, Organizations, Tokens}
@@ -20,8 +20,8 @@ use Rattle.program.specs.declared.reasons.Cause.{Cause}
 use Rattle.program.specs.declared.reasons.Cause.TheVariants.{Unfinished}
 use Rattle.program.specs.Moves.{org_copied, copied_into, Arrives, AllAreCopied, SomeAreCopied, IsFilled, lists_none, CopiesBetween}
 use Rattle.program.specs.declared.environment.Opening.TheVariants.{Target}
-use Rattle.program.specs.Outcomes.{Stream, Errors, stream, error_stream, IsSaid, filled_ending, TellsCause, TellsWord, Refuses, RefusesToOpen, RefusesSecond, OpensSound, OpensBoth, Closes, ClosesBoth, CopiesOver, IsCopied, IsCompacted}
-use Rattle.program.specs.Streams.{Told}
+use Rattle.program.specs.Outcomes.{Stream, Errors, stream, error_stream, IsSaid, filled_ending, ReportsCause, ReportsWord, Refuses, RefusesToOpen, RefusesSecond, OpensSound, OpensBoth, Closes, ClosesBoth, CopiesOver, IsCopied, IsCompacted}
+use Rattle.program.specs.Streams.{Reported}
 use Rattle.program.proofs.MoveLemmas.{copied_none, copied_left}
 use Rattle.program.proofs.EnvironmentLemmas.{same_records}
 
@@ -51,10 +51,10 @@ all_listed from old new rows are some all org = by_record (from org) refl
     by_record None is = by_cases is (some org)
 
 -- the same by the answer that has the list
-pub by_list : {T : Type 0} (from old new : Records) (told : AdminAnswer) (rows : List OrgRow) (result : Result T Down) → told ≡ Organizations rows
-    → SomeAreCopied from old new × OnOk result (AllByRecursion (λ row. Arrives from old new row.name) rows) → SomeAreCopied from old new × OnOk result (ListsOrganizations from told → AllAreCopied from old new)
-by_list from old new told rows (Ok done) is copies = (copies.0, λ lists. all_listed from old new rows (subst (ListsOrganizations from) is lists) copies.0 copies.1)
-by_list from old new told rows (Err refused) is copies = (copies.0, tt)
+pub by_list : {T : Type 0} (from old new : Records) (reported : AdminAnswer) (rows : List OrgRow) (result : Result T Down) → reported ≡ Organizations rows
+    → SomeAreCopied from old new × OnOk result (AllByRecursion (λ row. Arrives from old new row.name) rows) → SomeAreCopied from old new × OnOk result (ListsOrganizations from reported → AllAreCopied from old new)
+by_list from old new reported rows (Ok done) is copies = (copies.0, λ lists. all_listed from old new rows (subst (ListsOrganizations from) is lists) copies.0 copies.1)
+by_list from old new reported rows (Err refused) is copies = (copies.0, tt)
 
 -- an answer by the rule, and the record that it says
 arrives : (from old new : Records) (org : List ℕ) (answer : AdminAnswer) → effect answer (new org) ≡ org_copied (from org) (old org) → Arrives from old new org
@@ -81,7 +81,7 @@ module _ {K : Type 0} (k : keep.Ghosts K) where
   -- what became of the records, told otherwise
   pub copies_as : (Q R : Records → Records → Records → Type 0) (a b x y : K) → ((from old new : Records) → Q from old new → R from old new) → CopiesBetween k Q a b x y → CopiesBetween k R a b x y
   copies_as Q R a b x y means copies = record {
-    look = copies.look;
+    unchanged = copies.unchanged;
     so_far = copies.so_far;
     shield = copies.shield;
     kept = copies.kept;
@@ -90,45 +90,45 @@ module _ {K : Type 0} (k : keep.Ghosts K) where
   }
 
   -- the target is looked at first, and more is known of its records then
-  pub copies_behind : (Q R : Records → Records → Records → Type 0) (a b x y z : K) → Looks k.rows k.clean k.sound k.keyed k.shielded x y
+  pub copies_behind : (Q R : Records → Records → Records → Type 0) (a b x y z : K) → Unchanged k.rows k.clean k.sound k.keyed k.shielded x y
       → (k.clean y → k.sound x → (from new : Records) → Q from (k.rows x) new → R from (k.rows x) new) → CopiesBetween k Q a b y z → CopiesBetween k R a b x z
-  copies_behind Q R a b x y z looks means copies = record {
-    look = copies.look;
-    so_far = λ clean. looks.so_far (copies.so_far clean);
-    shield = λ shielded. copies.shield (looks.shield shielded);
-    kept = λ clean sound clean_source sound_source. copies.kept clean (looks.kept (copies.so_far clean) sound) clean_source sound_source;
+  copies_behind Q R a b x y z unchanged means copies = record {
+    unchanged = copies.unchanged;
+    so_far = λ clean. unchanged.so_far (copies.so_far clean);
+    shield = λ shielded. copies.shield (unchanged.shield shielded);
+    kept = λ clean sound clean_source sound_source. copies.kept clean (unchanged.kept (copies.so_far clean) sound) clean_source sound_source;
     keys = λ clean sound clean_source sound_source keyed.
         let before = copies.so_far clean in
-        copies.keys clean (looks.kept before sound) clean_source sound_source (looks.keys before sound keyed);
+        copies.keys clean (unchanged.kept before sound) clean_source sound_source (unchanged.keys before sound keyed);
     model = λ clean sound clean_source sound_source. means (copies.so_far clean) sound (k.rows a) (k.rows z)
-        (subst (λ (rows : Records). Q (k.rows a) rows (k.rows z)) (same_records (k.rows y) (k.rows x) (looks.same (copies.so_far clean)))
-        (copies.model clean (looks.kept (copies.so_far clean) sound) clean_source sound_source));
+        (subst (λ (rows : Records). Q (k.rows a) rows (k.rows z)) (same_records (k.rows y) (k.rows x) (unchanged.same (copies.so_far clean)))
+        (copies.model clean (unchanged.kept (copies.so_far clean) sound) clean_source sound_source));
   }
 
   -- the target is looked at behind the copies
-  pub copies_looked : (Q : Records → Records → Records → Type 0) (a b x y z : K) → CopiesBetween k Q a b x y → Looks k.rows k.clean k.sound k.keyed k.shielded y z → CopiesBetween k Q a b x z
-  copies_looked Q a b x y z copies looks = record {
-    look = copies.look;
-    so_far = λ clean. copies.so_far (looks.so_far clean);
-    shield = λ shielded. looks.shield (copies.shield shielded);
-    kept = λ clean sound clean_source sound_source. looks.kept clean (copies.kept (looks.so_far clean) sound clean_source sound_source);
+  pub copies_checked : (Q : Records → Records → Records → Type 0) (a b x y z : K) → CopiesBetween k Q a b x y → Unchanged k.rows k.clean k.sound k.keyed k.shielded y z → CopiesBetween k Q a b x z
+  copies_checked Q a b x y z copies unchanged = record {
+    unchanged = copies.unchanged;
+    so_far = λ clean. copies.so_far (unchanged.so_far clean);
+    shield = λ shielded. unchanged.shield (copies.shield shielded);
+    kept = λ clean sound clean_source sound_source. unchanged.kept clean (copies.kept (unchanged.so_far clean) sound clean_source sound_source);
     keys = λ clean sound clean_source sound_source keyed.
-        let before = looks.so_far clean in
-        looks.keys clean (copies.kept before sound clean_source sound_source) (copies.keys before sound clean_source sound_source keyed);
-    model = λ clean sound clean_source sound_source. subst (λ (rows : Records). Q (k.rows a) (k.rows x) rows) (sym (same_records (k.rows z) (k.rows y) (looks.same clean)))
-        (copies.model (looks.so_far clean) sound clean_source sound_source);
+        let before = unchanged.so_far clean in
+        unchanged.keys clean (copies.kept before sound clean_source sound_source) (copies.keys before sound clean_source sound_source keyed);
+    model = λ clean sound clean_source sound_source. subst (λ (rows : Records). Q (k.rows a) (k.rows x) rows) (sym (same_records (k.rows z) (k.rows y) (unchanged.same clean)))
+        (copies.model (unchanged.so_far clean) sound clean_source sound_source);
   }
 
   -- the target is looked at, and nothing is copied
-  pub copies_none : (R : Records → Records → Records → Type 0) (a x y : K) → Looks k.rows k.clean k.sound k.keyed k.shielded x y
+  pub copies_none : (R : Records → Records → Records → Type 0) (a x y : K) → Unchanged k.rows k.clean k.sound k.keyed k.shielded x y
       → (k.clean y → k.sound x → ((org : List ℕ) → k.rows y org ≡ k.rows x org) → (from : Records) → R from (k.rows x) (k.rows y)) → CopiesBetween k R a a x y
-  copies_none R a x y looks means = record {
-    look = record { so_far = λ clean. clean; kept = λ clean sound. sound; keys = λ clean sound keyed. keyed; shield = λ shielded. shielded; same = λ clean org. refl };
-    so_far = looks.so_far;
-    shield = looks.shield;
-    kept = λ clean sound clean_source sound_source. looks.kept clean sound;
-    keys = λ clean sound clean_source sound_source. looks.keys clean sound;
-    model = λ clean sound clean_source sound_source. means clean sound (looks.same clean) (k.rows a);
+  copies_none R a x y unchanged means = record {
+    unchanged = record { so_far = λ clean. clean; kept = λ clean sound. sound; keys = λ clean sound keyed. keyed; shield = λ shielded. shielded; same = λ clean org. refl };
+    so_far = unchanged.so_far;
+    shield = unchanged.shield;
+    kept = λ clean sound clean_source sound_source. unchanged.kept clean sound;
+    keys = λ clean sound clean_source sound_source. unchanged.keys clean sound;
+    model = λ clean sound clean_source sound_source. means clean sound (unchanged.same clean) (k.rows a);
   }
 
 -- ---- a target that has to be without organizations
@@ -138,7 +138,7 @@ there_by records org P None is so = absurd so
 there_by records org P (Some o) is so = (o, is)
 
 -- a list with one
-some_listed : (records : Records) (told : AdminAnswer) → ListsOrganizations records told → lists_none told ≡ false → (org : List ℕ) × (there : Organization) × (records org ≡ Some there)
+some_listed : (records : Records) (reported : AdminAnswer) → ListsOrganizations records reported → lists_none reported ≡ false → (org : List ℕ) × (there : Organization) × (records org ≡ Some there)
 some_listed records Done are e = absurd are
 some_listed records Exists are e = absurd are
 some_listed records Absent are e = absurd are
@@ -146,11 +146,11 @@ some_listed records InUse are e = absurd are
 some_listed records (Tokens rows) are e = absurd are
 some_listed records (Organizations []) are e = absurd (let no : ⊥ = cc in no)
 some_listed records (Organizations (row ∷ rows)) are e =
-    let found = there_by records row.name _ (records row.name) refl are.told.0 in (row.name, found.0, found.1)
+    let found = there_by records row.name _ (records row.name) refl are.reported.0 in (row.name, found.0, found.1)
 
 -- where some were listed nothing was copied
-pub is_left : (from old new : Records) (told : AdminAnswer) → ListsOrganizations old told → lists_none told ≡ false → ((org : List ℕ) → new org ≡ old org) → IsFilled from old new false
-is_left from old new told are e same = (same, some_listed old told are e)
+pub is_left : (from old new : Records) (reported : AdminAnswer) → ListsOrganizations old reported → lists_none reported ≡ false → ((org : List ℕ) → new org ≡ old org) → IsFilled from old new false
+is_left from old new reported are e same = (same, some_listed old reported are e)
 
 pub some_stay : (from old new : Records) → ((org : List ℕ) → new org ≡ old org) → SomeAreCopied from old new
 some_stay from old new same org = inl (same org)
@@ -160,17 +160,17 @@ some_stay from old new same org = inl (same org)
 -- an answer is told as it is, and where there is none `refused down`, with its cause
 pub copied : (Fails : Cause → Type 0) (org : List ℕ) (from old new : Records) (e : Exit) (output : Stream) (errors : Errors) (result : Result AdminAnswer Down)
     → IfOk result (λ answer. effect answer (new org) ≡ org_copied (from org) (old org)) → ((other : List ℕ) → other ≢ org → new other ≡ old other) → OnErr result (Stays old new)
-    → IfOk result (λ answer. TellsWord answer e output × (errors.new ≡ errors.old)) → OnErr result ((why : Cause) × Fails why × Refuses why e output errors) → IsCopied Fails org from old new e output errors
-copied Fails org from old new e output errors (Ok answer) own others stays tells down = inl (answer, own, others, tells.0, tells.1)
-copied Fails org from old new e output errors (Err d) own others stays tells down = inr (stays, down)
+    → IfOk result (λ answer. ReportsWord answer e output × (errors.new ≡ errors.old)) → OnErr result ((why : Cause) × Fails why × Refuses why e output errors) → IsCopied Fails org from old new e output errors
+copied Fails org from old new e output errors (Ok answer) own others stays reports down = inl (answer, own, others, reports.0, reports.1)
+copied Fails org from old new e output errors (Err d) own others stays reports down = inr (stays, down)
 
 pub compacted : (from old new : Records) (e : Exit) (output : Stream) (errors : Errors) (result : Result Bool Down) → SomeAreCopied from old new → IfOk result (IsFilled from old new)
     → IfOk result (λ is_filled. IsSaid (filled_ending is_filled) e output.old output.new × (errors.new ≡ errors.old)) → OnErr result (Refuses Unfinished e output errors) → IsCompacted from old new e output errors
-compacted from old new e output errors (Ok is_filled) some filled tells down = inl (is_filled, filled, tells.0, tells.1)
-compacted from old new e output errors (Err d) some filled tells down = inr (some, down)
+compacted from old new e output errors (Ok is_filled) some filled reports down = inl (is_filled, filled, reports.0, reports.1)
+compacted from old new e output errors (Err d) some filled reports down = inr (some, down)
 
 -- the only cause of a copy that isn't finished
-pub unfinished : (P : Type 0) (errors : Errors) → P ⊎ TellsCause Unfinished errors → P ⊎ ((why : Cause) × (why ≡ Unfinished) × TellsCause why errors)
+pub unfinished : (P : Type 0) (errors : Errors) → P ⊎ ReportsCause Unfinished errors → P ⊎ ((why : Cause) × (why ≡ Unfinished) × ReportsCause why errors)
 unfinished P errors (inl p) = inl p
 unfinished P errors (inr h) = inr (Unfinished, refl, h)
 
@@ -178,16 +178,16 @@ unfinished P errors (inr h) = inr (Unfinished, refl, h)
 
 module _ {K F : Type 0} (k : keep.Ghosts K) (f : files.Ghosts F K) where
   -- the second of two paths isn't opened, and the first is closed again
-  pub refuses_second : (from to : List ℕ) (old opened unopened new : F) (source : K) (e : Exit) (out said : Option (List ℕ)) (before noted told after : Told) → from ≢ to
-      → OpensSound k f from old opened source (error_stream before noted) → RefusesToOpen k f to Target opened unopened e (stream out said) (error_stream noted told) → Closes k f from unopened new source (error_stream told after)
+  pub refuses_second : (from to : List ℕ) (old opened unopened new : F) (source : K) (e : Exit) (out said : Option (List ℕ)) (before noted reported after : Reported) → from ≢ to
+      → OpensSound k f from old opened source (error_stream before noted) → RefusesToOpen k f to Target opened unopened e (stream out said) (error_stream noted reported) → Closes k f from unopened new source (error_stream reported after)
       → RefusesSecond k f from to old new e (stream out said) (error_stream before after)
-  refuses_second from to old opened unopened new source e out said before noted told after differ first second closes = record {
+  refuses_second from to old opened unopened new source e out said before noted reported after differ first second closes = record {
     differ = differ;
     source = source;
     opened = opened;
     unopened = unopened;
     noted = noted;
-    told = told;
+    reported = reported;
     first = first;
     second = second;
     closes = closes;
@@ -195,25 +195,25 @@ module _ {K F : Type 0} (k : keep.Ghosts K) (f : files.Ghosts F K) where
   }
 
   -- stores are opened at two paths, it is copied from one to the other, and they are closed
-  pub copies_over : (from to : List ℕ) (Becomes : K → Records → Records → Records → Errors → Type 0) (Fails : K → Cause → Type 0) (old worked new : F) (source source' target target' : K) (before noted told after : Told)
+  pub copies_over : (from to : List ℕ) (Becomes : K → Records → Records → Records → Errors → Type 0) (Fails : K → Cause → Type 0) (old worked new : F) (source source' target target' : K) (before noted reported after : Reported)
       → OpensBoth k f from to old worked source target (error_stream before noted)
-      → CopiesBetween k (λ s o n. Becomes target' s o n (error_stream noted told)) source source' target target'
-      → (told ≡ noted) ⊎ ((why : Cause) × Fails target' why × TellsCause why (error_stream noted told))
-      → ClosesBoth k f from to worked new source' target' (error_stream told after)
+      → CopiesBetween k (λ s o n. Becomes target' s o n (error_stream noted reported)) source source' target target'
+      → (reported ≡ noted) ⊎ ((why : Cause) × Fails target' why × ReportsCause why (error_stream noted reported))
+      → ClosesBoth k f from to worked new source' target' (error_stream reported after)
       → CopiesOver k f from to Becomes Fails old new (error_stream before after)
-  copies_over from to Becomes Fails old worked new source source' target target' before noted told after opens copies why closes = record {
+  copies_over from to Becomes Fails old worked new source source' target target' before noted reported after opens copies why closes = record {
     source_before = source;
     source_after = source';
     target_before = target;
     target_after = target';
     worked = worked;
     noted = noted;
-    told = told;
+    reported = reported;
     opens = opens;
     copies = copies;
-    ours = λ clean sound clean_source ours. subst (λ (rows : Records). Becomes target' rows (k.rows target) (k.rows target') (error_stream noted told))
-        (same_records (k.rows source) (k.rows opens.first.opened) (opens.first.look.same (copies.look.so_far clean_source)))
-        (copies.model clean sound clean_source (opens.first.sound_ours (copies.look.so_far clean_source) ours).1);
+    ours = λ clean sound clean_source ours. subst (λ (rows : Records). Becomes target' rows (k.rows target) (k.rows target') (error_stream noted reported))
+        (same_records (k.rows source) (k.rows opens.first.opened) (opens.first.unchanged.same (copies.unchanged.so_far clean_source)))
+        (copies.model clean sound clean_source (opens.first.sound_ours (copies.unchanged.so_far clean_source) ours).1);
     why = why;
     closes = closes;
     left_source = closes.first.left;

@@ -12,8 +12,8 @@ use Rattle.wire.specs.declared.devices.Inlet as inlet
 use Rattle.wire.specs.declared.devices.Outlet as outlet
 use Rattle.serve.specs.Asks.{Ask, silent, refused, requests, commands, owner_of}
 use Rattle.docs.specs.Bodies.{error_text}
-use Rattle.serve.specs.Doors.{told_row, turned_row, unserved_row, IsToldAtDoor, ExchangesWith}
-use Rattle.serve.specs.Exchanges.{Exchanges, IsAnswered, ChangesAsTold}
+use Rattle.serve.specs.Doors.{reported_row, turned_row, unserved_row, IsReportedAtDoor, ExchangesWith}
+use Rattle.serve.specs.Exchanges.{Exchanges, IsAnswered, ChangesAsLogged}
 use Rattle.serve.specs.declared.doors.Door.{Door}
 use Rattle.serve.specs.declared.doors.Door.TheVariants.{Closed, Open}
 use Rattle.serve.specs.Logs.{silent_row, with_answer, request_row, row_of_ask}
@@ -29,7 +29,7 @@ use Rattle.program.specs.declared.environment.Files as files
 use Rattle.program.specs.declared.reasons.Cause.{Cause}
 use Rattle.program.specs.Logs.{end_word, row_text, with_log, Logs, Line, log_text, ChangeByLines}
 use Rattle.program.specs.Serving.{State, AnswersOne, AnswersNext, AnswersAll, EndsEarly}
-use Rattle.program.specs.Streams.{Told}
+use Rattle.program.specs.Streams.{Reported}
 use Rattle.program.proofs.ServingLemmas.{after_reply_lasts, after_reply_rows}
 
 -- a log where it is asked for, and else nothing
@@ -45,10 +45,10 @@ pub grows_then : (logs : Bool) (a b c : Option (List ℕ)) → Grows logs a b �
 grows_then true a b c first more = (first.0 ++ more.0, Appends-trans a b c first.0 more.0 first.1 more.1)
 grows_then false a b c first more = subst (λ (o : Option (List ℕ)). o ≡ a) (sym more) first
 
-grows_one : (logs is_told : Bool) (text : List ℕ) (old new : Option (List ℕ)) → Logs logs is_told text old new → Grows logs old new
+grows_one : (logs is_logged : Bool) (text : List ℕ) (old new : Option (List ℕ)) → Logs logs is_logged text old new → Grows logs old new
 grows_one true true text old new h = (text, h)
 grows_one true false text old new h = (h.0, h.3)
-grows_one false is_told text old new h = h.0
+grows_one false is_logged text old new h = h.0
 
 -- the log stands behind the line
 pub heard_log : (logs : Bool) (line : List ℕ) (old heard new : Option (List ℕ)) → Appends old heard line → Grows logs heard new → (log : List ℕ) × Appends old new (with_log logs line log)
@@ -57,107 +57,107 @@ heard_log false line old heard new first same = ([], subst (λ (o : Option (List
 
 -- of each exchange something is told
 served_row : (r : Option Organization) (ask : Ask) (awaited : Bool) (at : ℕ) (answer : Answer) (row : Option LogRow)
-    → (step r ask).answer ≡ replies awaited at answer → row ≡ row_of_ask r ask → (told : LogRow) × (row ≡ Some told)
+    → (step r ask).answer ≡ replies awaited at answer → row ≡ row_of_ask r ask → (reported : LogRow) × (row ≡ Some reported)
 served_row r silent awaited at answer row said is = absurd (let none : ⊥ = cc in none)
 served_row r (refused when due refusal is_head) awaited at answer row said is = (with_answer (refusing refusal r).answer (silent_row when), is)
 served_row r (requests when due asked content_md5 body) awaited at answer row said is = (request_row r when asked content_md5 body, is)
 served_row r (commands when command) awaited at answer row said is = absurd (no_reply command _ awaited at answer said)
 
 answered_row : (now : ℕ) (received : List ℕ) (old new : List ℕ → Option Organization) (awaited : Bool) (text : List ℕ) (row : Option LogRow) (is_down : Bool)
-    → IsAnswered now received old new awaited text row is_down → (told : LogRow) × (row ≡ Some told)
+    → IsAnswered now received old new awaited text row is_down → (reported : LogRow) × (row ≡ Some reported)
 answered_row now received old new awaited text row false served = served_row (record_for old (owner_of served.ask)) served.ask awaited now served.answer row served.said served.logged
-answered_row now received old new awaited text row true down = (down.1.told, down.1.tells)
+answered_row now received old new awaited text row true down = (down.1.reported, down.1.reports)
 
 exchange_row : {T : Type 0} (now : ℕ) (received : List ℕ) (left : Option (List ℕ)) (old new : List ℕ → Option Organization) (before after : Option (List ℕ)) (is_down : Bool) (row : Option LogRow) (res : Result T LinkFault)
-    → Exchanges now received left old new before after is_down row res → (told : LogRow) × (row ≡ Some told)
-exchange_row now received left old new before after is_down row (Ok done) told = answered_row now received old new told.0 told.1 row is_down told.2
-exchange_row now received left old new before after is_down row (Err Ended) told = (silent_row now, told.1)
-exchange_row now received left old new before after is_down row (Err Read) told = (silent_row now, told.1)
-exchange_row now received left old new before after is_down row (Err Continue) told = (silent_row now, told.1)
-exchange_row now received left old new before after is_down row (Err Write) told = answered_row now received old new told.0 (told.1 ++ told.2) row is_down told.4
+    → Exchanges now received left old new before after is_down row res → (reported : LogRow) × (row ≡ Some reported)
+exchange_row now received left old new before after is_down row (Ok done) reported = answered_row now received old new reported.0 reported.1 row is_down reported.2
+exchange_row now received left old new before after is_down row (Err Ended) reported = (silent_row now, reported.1)
+exchange_row now received left old new before after is_down row (Err Read) reported = (silent_row now, reported.1)
+exchange_row now received left old new before after is_down row (Err Continue) reported = (silent_row now, reported.1)
+exchange_row now received left old new before after is_down row (Err Write) reported = answered_row now received old new reported.0 (reported.1 ++ reported.2) row is_down reported.4
 
-told_row_there : (digest : List ℕ) (now : ℕ) (message : Message) (old new : List ℕ → Option Organization) (text : List ℕ) (row : Option LogRow) (is_down : Bool)
-    → IsToldAtDoor digest now message old new text row is_down → (told : LogRow) × (row ≡ Some told)
-told_row_there digest now message old new text row false (inl done) = (told_row now done.command done.answer, done.logged)
-told_row_there digest now message old new text row false (inr away) = (turned_row now (refused_answer away.refusal (error_text away.refusal) (is_head message)), away.logged)
-told_row_there digest now message old new text row true down = (unserved_row now down.command, down.logged)
+reported_row_there : (digest : List ℕ) (now : ℕ) (message : Message) (old new : List ℕ → Option Organization) (text : List ℕ) (row : Option LogRow) (is_down : Bool)
+    → IsReportedAtDoor digest now message old new text row is_down → (reported : LogRow) × (row ≡ Some reported)
+reported_row_there digest now message old new text row false (inl done) = (reported_row now done.command done.answer, done.logged)
+reported_row_there digest now message old new text row false (inr away) = (turned_row now (refused_answer away.refusal (error_text away.refusal) (is_head message)), away.logged)
+reported_row_there digest now message old new text row true down = (unserved_row now down.command, down.logged)
 
 row_there : {T : Type 0} (door : Door) (now : ℕ) (received : List ℕ) (left : Option (List ℕ)) (old new : List ℕ → Option Organization) (before after : Option (List ℕ)) (is_down : Bool) (row : Option LogRow) (res : Result T LinkFault)
-    → ExchangesWith door now received left old new before after is_down row res → (told : LogRow) × (row ≡ Some told)
-row_there Closed now received left old new before after is_down row res told = exchange_row now received left old new before after is_down row res told
-row_there (Open digest) now received left old new before after is_down row res (inl told) = exchange_row now received left old new before after is_down row res told.1
-row_there (Open digest) now received left old new before after is_down row (Ok done) (inr told) = told_row_there digest now told.0 old new told.3.0 row is_down told.3.1
-row_there (Open digest) now received left old new before after is_down row (Err Write) (inr told) = told_row_there digest now told.0 old new (told.3.0 ++ told.3.1) row is_down told.3.3
-row_there (Open digest) now received left old new before after is_down row (Err Ended) (inr told) = absurd told.3
-row_there (Open digest) now received left old new before after is_down row (Err Read) (inr told) = absurd told.3
-row_there (Open digest) now received left old new before after is_down row (Err Continue) (inr told) = absurd told.3
+    → ExchangesWith door now received left old new before after is_down row res → (reported : LogRow) × (row ≡ Some reported)
+row_there Closed now received left old new before after is_down row res reported = exchange_row now received left old new before after is_down row res reported
+row_there (Open digest) now received left old new before after is_down row res (inl reported) = exchange_row now received left old new before after is_down row res reported.1
+row_there (Open digest) now received left old new before after is_down row (Ok done) (inr reported) = reported_row_there digest now reported.0 old new reported.3.0 row is_down reported.3.1
+row_there (Open digest) now received left old new before after is_down row (Err Write) (inr reported) = reported_row_there digest now reported.0 old new (reported.3.0 ++ reported.3.1) row is_down reported.3.3
+row_there (Open digest) now received left old new before after is_down row (Err Ended) (inr reported) = absurd reported.3
+row_there (Open digest) now received left old new before after is_down row (Err Read) (inr reported) = absurd reported.3
+row_there (Open digest) now received left old new before after is_down row (Err Continue) (inr reported) = absurd reported.3
 
 module _ {K N R W : Type 0} (k : keep.Ghosts K) (n : connections.Ghosts N R W) (i : inlet.Ghosts R) (o : outlet.Ghosts W) where
-  line_of : (terms : Terms) → terms.logs ≡ true → (place at : ℕ) (is_down : Bool) (reader : R) (writer : W) (network network' : N) (store store' : K) (errors errors' : Told) (output output' : Option (List ℕ))
-      → AnswersOne k n i o terms place at is_down true reader writer network network' store store' errors errors' output output' → k.clean store' → k.sound store
-      → (line : Line) × Appends output output' (log_line place (end_word line.ended) line.row) × ChangesAsTold line.row (k.rows store) (k.rows store')
-  line_of terms logged place at is_down reader writer network network' store store' errors errors' output output' one clean sound =
+  line_of : (terms : Terms) → terms.logs ≡ true → (connection at : ℕ) (is_down : Bool) (reader : R) (writer : W) (network network' : N) (store store' : K) (errors errors' : Reported) (output output' : Option (List ℕ))
+      → AnswersOne k n i o terms connection at is_down true reader writer network network' store store' errors errors' output output' → k.clean store' → k.sound store
+      → (line : Line) × Appends output output' (log_line connection (end_word line.ended) line.row) × ChangesAsLogged line.row (k.rows store) (k.rows store')
+  line_of terms logged connection at is_down reader writer network network' store store' errors errors' output output' one clean sound =
       let exchanged = one.exchanges clean sound in
-      let told = row_there terms.door at exchanged.0 (i.left one.read) (k.rows store) (k.rows store') (o.written writer) (o.written one.written) is_down one.row one.result exchanged.2 in (
-        record { ended = one.result; row = told.0 },
-        subst (λ (row : Option LogRow). Appends output output' (row_text place one.result row)) told.1 (subst (λ (logs : Bool). Logs logs true (row_text place one.result one.row) output output') logged one.logged),
-        subst (λ (row : Option LogRow). IfSome row (λ r. ChangesAsTold r (k.rows store) (k.rows store'))) told.1 (one.changes clean sound),
+      let reported = row_there terms.door at exchanged.0 (i.left one.read) (k.rows store) (k.rows store') (o.written writer) (o.written one.written) is_down one.row one.result exchanged.2 in (
+        record { ended = one.result; row = reported.0 },
+        subst (λ (row : Option LogRow). Appends output output' (row_text connection one.result row)) reported.1 (subst (λ (logs : Bool). Logs logs true (row_text connection one.result one.row) output output') logged one.logged),
+        subst (λ (row : Option LogRow). IfSome row (λ r. ChangesAsLogged r (k.rows store) (k.rows store'))) reported.1 (one.changes clean sound),
       )
 
 module _ {K F N C R W : Type 0} (k : keep.Ghosts K) (f : files.Ghosts F K) (n : connections.Ghosts N R W) (c : clock.Ghosts C) (i : inlet.Ghosts R) (o : outlet.Ghosts W) where
-  pub grows_all : (terms : Terms) (place : ℕ) (moments : List ℕ) (old new : State N C K) → AnswersAll k f n c i o terms place moments old new → Grows terms.logs old.output new.output
-  grows_all terms place [] old new same = grows_none terms.logs old.output new.output (ap (λ (s : State N C K). s.output) same)
-  grows_all terms place (at ∷ moments) old new all =
+  pub grows_all : (terms : Terms) (connection : ℕ) (moments : List ℕ) (old new : State N C K) → AnswersAll k f n c i o terms connection moments old new → Grows terms.logs old.output new.output
+  grows_all terms connection [] old new same = grows_none terms.logs old.output new.output (ap (λ (s : State N C K). s.output) same)
+  grows_all terms connection (at ∷ moments) old new all =
       let one = all.1.answers.answers in
-      grows_then terms.logs old.output all.0.output new.output (grows_one terms.logs true (row_text place one.result one.row) old.output all.0.output one.logged) (grows_all terms (suc place) moments all.0 new all.2)
+      grows_then terms.logs old.output all.0.output new.output (grows_one terms.logs true (row_text connection one.result one.row) old.output all.0.output one.logged) (grows_all terms (suc connection) moments all.0 new all.2)
 
-  pub grows_early : (terms : Terms) (place : ℕ) (last new : State N C K) (why : Cause) → EndsEarly k f n c i o terms place last new why → Grows terms.logs last.output new.output
-  grows_early terms place last new why (inl none) = grows_none terms.logs last.output new.output none.3
-  grows_early terms place last new why (inr (inl shut)) =
+  pub grows_early : (terms : Terms) (connection : ℕ) (last new : State N C K) (why : Cause) → EndsEarly k f n c i o terms connection last new why → Grows terms.logs last.output new.output
+  grows_early terms connection last new why (inl none) = grows_none terms.logs last.output new.output none.3
+  grows_early terms connection last new why (inr (inl shut)) =
       let one = shut.2.answers.answers in
-      grows_one terms.logs shut.1 (row_text place one.result one.row) last.output new.output one.logged
-  grows_early terms place last new why (inr (inr untold)) =
-      let one = untold.1.answers.answers in
-      grows_one terms.logs false (row_text place one.result one.row) last.output new.output one.logged
+      grows_one terms.logs shut.1 (row_text connection one.result one.row) last.output new.output one.logged
+  grows_early terms connection last new why (inr (inr unreported)) =
+      let one = unreported.1.answers.answers in
+      grows_one terms.logs false (row_text connection one.result one.row) last.output new.output one.logged
 
-  clean_next : (terms : Terms) (place at : ℕ) (is_shut is_told : Bool) (old new : State N C K) → AnswersNext k f n c i o terms place at is_shut is_told old new → k.clean new.store → k.clean old.store
-  clean_next terms place at is_shut is_told old new one clean = one.answers.answers.lasts.so_far ((after_reply_lasts k f one.is_down one.store is_shut new.store one.after_reply).so_far clean)
+  clean_next : (terms : Terms) (connection at : ℕ) (is_shut is_logged : Bool) (old new : State N C K) → AnswersNext k f n c i o terms connection at is_shut is_logged old new → k.clean new.store → k.clean old.store
+  clean_next terms connection at is_shut is_logged old new one clean = one.answers.answers.lasts.so_far ((after_reply_lasts k f one.is_down one.store is_shut new.store one.after_reply).so_far clean)
 
-  clean_all : (terms : Terms) (place : ℕ) (moments : List ℕ) (old new : State N C K) → AnswersAll k f n c i o terms place moments old new → k.clean new.store → k.clean old.store
-  clean_all terms place [] old new same clean = subst (λ (s : State N C K). k.clean s.store) same clean
-  clean_all terms place (at ∷ moments) old new all clean =
-      clean_next terms place at false true old all.0 all.1 (clean_all terms (suc place) moments all.0 new all.2 clean)
+  clean_all : (terms : Terms) (connection : ℕ) (moments : List ℕ) (old new : State N C K) → AnswersAll k f n c i o terms connection moments old new → k.clean new.store → k.clean old.store
+  clean_all terms connection [] old new same clean = subst (λ (s : State N C K). k.clean s.store) same clean
+  clean_all terms connection (at ∷ moments) old new all clean =
+      clean_next terms connection at false true old all.0 all.1 (clean_all terms (suc connection) moments all.0 new all.2 clean)
 
-  sound_next : (terms : Terms) (place at : ℕ) (is_shut is_told : Bool) (old new : State N C K) → AnswersNext k f n c i o terms place at is_shut is_told old new → k.clean new.store → k.sound old.store → k.sound new.store
-  sound_next terms place at is_shut is_told old new one clean sound =
+  sound_next : (terms : Terms) (connection at : ℕ) (is_shut is_logged : Bool) (old new : State N C K) → AnswersNext k f n c i o terms connection at is_shut is_logged old new → k.clean new.store → k.sound old.store → k.sound new.store
+  sound_next terms connection at is_shut is_logged old new one clean sound =
       (after_reply_lasts k f one.is_down one.store is_shut new.store one.after_reply).kept clean (one.answers.answers.lasts.kept ((after_reply_lasts k f one.is_down one.store is_shut new.store one.after_reply).so_far clean) sound)
 
-  line_next : (terms : Terms) → terms.logs ≡ true → (place at : ℕ) (old new : State N C K) → AnswersNext k f n c i o terms place at false true old new → k.clean new.store → k.sound old.store
-      → (line : Line) × Appends old.output new.output (log_line place (end_word line.ended) line.row) × ChangesAsTold line.row (k.rows old.store) (k.rows new.store)
-  line_next terms logged place at old new one clean sound =
+  line_next : (terms : Terms) → terms.logs ≡ true → (connection at : ℕ) (old new : State N C K) → AnswersNext k f n c i o terms connection at false true old new → k.clean new.store → k.sound old.store
+      → (line : Line) × Appends old.output new.output (log_line connection (end_word line.ended) line.row) × ChangesAsLogged line.row (k.rows old.store) (k.rows new.store)
+  line_next terms logged connection at old new one clean sound =
       let answers = one.answers in
       let before = (after_reply_lasts k f one.is_down one.store false new.store one.after_reply).so_far clean in
-      let line = line_of k n i o terms logged place at one.is_down answers.reader answers.writer answers.network new.network old.store one.store old.errors new.errors old.output new.output answers.answers
+      let line = line_of k n i o terms logged connection at one.is_down answers.reader answers.writer answers.network new.network old.store one.store old.errors new.errors old.output new.output answers.answers
       before sound in (
         line.0,
         line.1,
-        subst (λ (rows : List ℕ → Option Organization). ChangesAsTold line.0.row (k.rows old.store) rows) (sym (after_reply_rows k f one.is_down one.store false new.store one.after_reply clean (answers.answers.lasts.kept before sound))) line.2,
+        subst (λ (rows : List ℕ → Option Organization). ChangesAsLogged line.0.row (k.rows old.store) rows) (sym (after_reply_rows k f one.is_down one.store false new.store one.after_reply clean (answers.answers.lasts.kept before sound))) line.2,
       )
 
-  pub tells_changes : (terms : Terms) → terms.logs ≡ true → (place : ℕ) (moments : List ℕ) (old new : State N C K) → AnswersAll k f n c i o terms place moments old new → k.clean new.store → k.sound old.store
-      → (lines : List Line) × (length lines ≡ length moments) × Appends old.output new.output (log_text place lines) × ChangeByLines lines (k.rows old.store) (k.rows new.store)
-  tells_changes terms logged place [] old new same clean sound = (
+  pub reports_changes : (terms : Terms) → terms.logs ≡ true → (connection : ℕ) (moments : List ℕ) (old new : State N C K) → AnswersAll k f n c i o terms connection moments old new → k.clean new.store → k.sound old.store
+      → (lines : List Line) × (length lines ≡ length moments) × Appends old.output new.output (log_text connection lines) × ChangeByLines lines (k.rows old.store) (k.rows new.store)
+  reports_changes terms logged connection [] old new same clean sound = (
     [],
     refl,
     subst (λ (s : State N C K). Appends old.output s.output []) (sym same) (Appends-nil old.output),
     λ org. ap (λ (s : State N C K). k.rows s.store org) same,
   )
-  tells_changes terms logged place (at ∷ moments) old new all clean sound =
-      let before = clean_all terms (suc place) moments all.0 new all.2 clean in
-      let line = line_next terms logged place at old all.0 all.1 before sound in
-      let more = tells_changes terms logged (suc place) moments all.0 new all.2 clean (sound_next terms place at false true old all.0 all.1 before sound) in (
+  reports_changes terms logged connection (at ∷ moments) old new all clean sound =
+      let before = clean_all terms (suc connection) moments all.0 new all.2 clean in
+      let line = line_next terms logged connection at old all.0 all.1 before sound in
+      let more = reports_changes terms logged (suc connection) moments all.0 new all.2 clean (sound_next terms connection at false true old all.0 all.1 before sound) in (
         line.0 ∷ more.0,
         ap suc more.1,
-        Appends-trans old.output all.0.output new.output (log_line place (end_word line.0.ended) line.0.row) (log_text (suc place) more.0) line.1 more.2,
+        Appends-trans old.output all.0.output new.output (log_line connection (end_word line.0.ended) line.0.row) (log_text (suc connection) more.0) line.1 more.2,
         (k.rows all.0.store, line.2, more.3),
       )

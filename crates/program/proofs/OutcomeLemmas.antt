@@ -14,7 +14,7 @@ use Rattle.machine.specs.declared.keeps.Keep as keep
 use Rattle.program.specs.Outcomes.{Stream, Errors, stream, error_stream, Gets, Says, IsSaid, ReplaysFrames, RefusesToOpen, ServesAt, AnswersCommand, AnswersFaults}
 use Rattle.program.specs.Replies.{AnswersFrames, printed, bad_frame_text, answer_line}
 use Rattle.program.specs.Serving.{Listens, listening_line}
-use Rattle.program.specs.Streams.{Told, GetsWhole}
+use Rattle.program.specs.Streams.{Reported, GetsAll}
 
 -- whatever allows an ending whose line is said, and one whose streams took not all
 pub said : (P : Exit → Type 0) (e result : Exit) (old new : Option (List ℕ)) → (Says e (stream old new) → P e) → P Unprinted → IsSaid e result old new → P result
@@ -26,7 +26,7 @@ pub said_behind : (e result : Exit) (old mid new : Option (List ℕ)) → mid �
 said_behind e result old mid new same is = subst (λ (o : Option (List ℕ)). IsSaid e result o new) same is
 
 pub replayed : (input : Option (List ℕ)) (replies : List (List ℕ)) (bad : Option ℕ) (result : Exit) (output : Stream) (errors : Errors) → IfSome input (λ bytes. AnswersFrames bytes replies bad) → Gets output (printed replies)
-    → (bad ≡ None → result ≡ Done) → IfSome bad (λ frame. ((result ≡ BadFrame) × GetsWhole errors.old errors.new (bad_frame_text frame)) ⊎ (result ≡ Unprinted)) → ReplaysFrames input result output errors
+    → (bad ≡ None → result ≡ Done) → IfSome bad (λ frame. ((result ≡ BadFrame) × GetsAll errors.old errors.new (bad_frame_text frame)) ⊎ (result ≡ Unprinted)) → ReplaysFrames input result output errors
 replayed input replies None result output errors answers out done bad =
     subst (λ (e : Exit). ReplaysFrames input e output errors) (sym (done refl)) (whole input answers)
   where
@@ -39,7 +39,7 @@ replayed input replies (Some frame) result output errors answers out done (inl h
   where
     to_bad : (known : Option (List ℕ)) → IfSome known (λ bytes. AnswersFrames bytes replies (Some frame)) → ReplaysFrames known BadFrame output errors
     to_bad None a = tt
-    to_bad (Some bytes) a = (a.0, replies, a.1, a.2, out, subst (λ (n : ℕ). GetsWhole errors.old errors.new (bad_frame_text n)) a.3 h.1)
+    to_bad (Some bytes) a = (a.0, replies, a.1, a.2, out, subst (λ (n : ℕ). GetsAll errors.old errors.new (bad_frame_text n)) a.3 h.1)
 
 -- what was told before, and then the last line
 pub served : (logs : Bool) (exit result : Exit) (old mid new : Option (List ℕ)) → Listens logs exit old mid → (exit ≡ Down → IsSaid Down result mid new) → (exit ≢ Down → (result ≡ exit) × (new ≡ mid)) → ServesAt logs result (stream old new)
@@ -60,8 +60,8 @@ served logs Down result old mid new listens down other = go listens (down refl)
     go : Listens logs Down old mid → IsSaid Down result mid new → ServesAt logs result (stream old new)
     go heard (inr h) = subst (λ (e : Exit). ServesAt logs e (stream old new)) (sym h) tt
     go (inl same) (inl h) = subst (λ (e : Exit). ServesAt logs e (stream old new)) (sym h.0) (inl (subst (λ (o : Option (List ℕ)). Appends o new (answer_line (ending_line Down))) same h.1))
-    go (inr told) (inl h) = subst (λ (e : Exit). ServesAt logs e (stream old new)) (sym h.0)
-        (inr (told.0, told.1, Appends-trans old mid new (with_log logs (listening_line told.0) told.1) (answer_line (ending_line Down)) told.2 h.1))
+    go (inr reported) (inl h) = subst (λ (e : Exit). ServesAt logs e (stream old new)) (sym h.0)
+        (inr (reported.0, reported.1, Appends-trans old mid new (with_log logs (listening_line reported.0) reported.1) (answer_line (ending_line Down)) reported.2 h.1))
 
 -- `refused down` and `refused schema` answer each command
 pub command_refused : (command : Admin) (e result : Exit) (old new : Option (List ℕ)) → (e ≡ Down) ⊎ (e ≡ Schema) → IsSaid e result old new → AnswersCommand command result (stream old new)
@@ -87,7 +87,7 @@ command_refused command e result old new (inr h) is = by_schema command (subst (
     by_schema (TokenRevoke org name) is = said (λ (x : Exit). AnswersCommand (TokenRevoke org name) x (stream old new)) Schema result old new (λ h. h) tt is
 
 -- which of the two a refusal to open is
-pub refused_by : {K F : Type 0} (k : keep.Ghosts K) (f : files.Ghosts F K) (path : List ℕ) (opening : Opening) (was is : F) (e : Exit) (old new : Option (List ℕ)) (before after : Told)
+pub refused_by : {K F : Type 0} (k : keep.Ghosts K) (f : files.Ghosts F K) (path : List ℕ) (opening : Opening) (was is : F) (e : Exit) (old new : Option (List ℕ)) (before after : Reported)
     → RefusesToOpen k f path opening was is e (stream old new) (error_stream before after) → IsSaid Down e old new ⊎ IsSaid Schema e old new
 refused_by k f path opening was is e old new before after (stays, left, inl h) = inl h.2.0
 refused_by k f path opening was is e old new before after (stays, left, inr (inl h)) = inl h.2

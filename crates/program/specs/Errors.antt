@@ -5,8 +5,8 @@ use Rattle.serve.specs.declared.exchanges.LinkFault.TheVariants.{Ended, Read, Co
 use Rattle.program.specs.declared.reasons.Cause.{Cause}
 use Rattle.program.specs.declared.reasons.Cause.TheVariants.{InUse, NotPermitted, NoFile, NoFolder, NoTargetFolder, Missing, LogAlone, NoTables, Journal, Corrupt, Unsound, NoRoom, NoMemory, Disk, Store, Unfinished, Shut, Halted, Unknown, Input, PortTaken, PortNotPermitted, Port, Accept, Clock, Log, Faults, SourceFaults, Encoding, NoNull}
 use Rattle.program.specs.declared.reasons.OtherSchema.{OtherSchema}
-use Rattle.program.specs.declared.reasons.OtherSchema.TheVariants.{Version, Untold}
-use Rattle.program.specs.Streams.{Told, Tells}
+use Rattle.program.specs.declared.reasons.OtherSchema.TheVariants.{Version, Unversioned}
+use Rattle.program.specs.Streams.{Reported, Reports}
 
 -- the text for a link fault
 abbrev pub fault_text : LinkFault → List ℕ
@@ -17,22 +17,22 @@ fault_text Write = codes "the reply could not be sent completely"
 
 -- a line about the connection of this number, from 1
 abbrev pub connection_line : ℕ → List ℕ → List ℕ
-connection_line place text = codes "custody: connection " ++ decimal place ++ codes ": " ++ text ++ 10 ∷ []
+connection_line connection text = codes "custody: connection " ++ decimal connection ++ codes ": " ++ text ++ 10 ∷ []
 
 -- the line about a connection that got the 503 of a failed allocation or store (`true`); otherwise there is none
 abbrev pub down_line : ℕ → Bool → List ℕ
-down_line place true = connection_line place (codes "out of memory or the store failed; replied 503")
-down_line place false = []
+down_line connection true = connection_line connection (codes "out of memory or the store failed; replied 503")
+down_line connection false = []
 
 -- the line about a connection that ended in a link fault; otherwise there is none
 abbrev pub fault_line : {T : Type 0} → ℕ → Result T LinkFault → List ℕ
-fault_line place (Ok done) = []
-fault_line place (Err fault) = connection_line place (fault_text fault)
+fault_line connection (Ok done) = []
+fault_line connection (Err fault) = connection_line connection (fault_text fault)
 
 -- the error stream gets the lines about the connection of this number: the line about the 503 exactly if that was the reply, then the line
 -- about the link fault exactly if there was one
-abbrev pub GetsConnectionLines : {T : Type 0} → ℕ → Bool → Result T LinkFault → Told → Told → Type 0
-GetsConnectionLines place is_down result old new = Tells old new (down_line place is_down ++ fault_line place result)
+abbrev pub GetsConnectionLines : {T : Type 0} → ℕ → Bool → Result T LinkFault → Reported → Reported → Type 0
+GetsConnectionLines connection is_down result old new = Reports old new (down_line connection is_down ++ fault_line connection result)
 
 -- the line for a WAL that stays beside its file
 abbrev pub log_line : List ℕ
@@ -102,4 +102,4 @@ version_line version = codes "custody: the file has version " ++ (decimal versio
 -- the line for each cause of `refused schema`
 abbrev pub other_line : OtherSchema → List ℕ
 other_line (Version version) = version_line version
-other_line Untold = codes "custody: the file has tables with this schema's names, but no schema version\n"
+other_line Unversioned = codes "custody: the file has tables with this schema's names, but no schema version\n"

@@ -6,7 +6,7 @@ use Rattle.docs.specs.declared.logs.LogRow.{LogRow}
 use Rattle.machine.specs.declared.records.Organization.{Organization}
 use Rattle.serve.specs.declared.exchanges.LinkFault.{LinkFault}
 use Rattle.serve.specs.declared.exchanges.LinkFault.TheVariants.{Ended, Read, Continue, Write}
-use Rattle.serve.specs.Exchanges.{ChangesAsTold}
+use Rattle.serve.specs.Exchanges.{ChangesAsLogged}
 use Rattle.serve.specs.Service.{Stays}
 use Rattle.program.specs.Streams.{GetsFront}
 
@@ -20,20 +20,20 @@ end_word (Err Write) = codes "write"
 
 -- the line for the connection of this number, whose exchange ended in this way; none if there is nothing to report
 abbrev pub row_text : {T : Type 0} → ℕ → Result T LinkFault → Option LogRow → List ℕ
-row_text place result None = []
-row_text place result (Some row) = log_line place (end_word result) row
+row_text connection result None = []
+row_text connection result (Some row) = log_line connection (end_word result) row
 
 -- whether the line names an act; only if a whole message was read
-abbrev pub tells_act : Option LogRow → Bool
-tells_act None = false
-tells_act (Some row) = is_some row.act
+abbrev pub names_act : Option LogRow → Bool
+names_act None = false
+names_act (Some row) = is_some row.act
 
 -- standard output gets the text if the log is on: the whole of it if the result says that it was taken, otherwise a front of it. If the log is
 -- off, it gets nothing, and nothing failed
 abbrev pub Logs : Bool → Bool → List ℕ → Option (List ℕ) → Option (List ℕ) → Type 0
 Logs true true text old new = Appends old new text
 Logs true false text old new = GetsFront old new text
-Logs false is_told text old new = (new ≡ old) × (is_told ≡ true)
+Logs false is_logged text old new = (new ≡ old) × (is_logged ≡ true)
 
 -- a line, then the log if it is on
 abbrev pub with_log : Bool → List ℕ → List ℕ → List ℕ
@@ -47,11 +47,11 @@ pub record Line : Type 0 where
 
 -- the lines for connections numbered from this one on
 abbrev pub log_text : ℕ → List Line → List ℕ
-log_text place [] = []
-log_text place (line ∷ lines) = log_line place (end_word line.ended) line.row ++ log_text (suc place) lines
+log_text connection [] = []
+log_text connection (line ∷ lines) = log_line connection (end_word line.ended) line.row ++ log_text (suc connection) lines
 
 -- before each line, only the record of the organization that it names has changed, and none if it reports a refusal; new versions and runs are
 -- those that it reports
 abbrev pub ChangeByLines : List Line → (List ℕ → Option Organization) → (List ℕ → Option Organization) → Type 0
 ChangeByLines [] old new = Stays old new
-ChangeByLines (line ∷ lines) old new = (mid : List ℕ → Option Organization) × ChangesAsTold line.row old mid × ChangeByLines lines mid new
+ChangeByLines (line ∷ lines) old new = (mid : List ℕ → Option Organization) × ChangesAsLogged line.row old mid × ChangeByLines lines mid new

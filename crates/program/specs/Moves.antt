@@ -1,7 +1,7 @@
 -- What happens to organizations that are copied from one store to another.
 use Rattle.std.specs.Prelude.{◌≡◌, ◌⊎◌, ◌++◌, ℕ, List, [], ◌∷◌, Bool, true, false, Option, Some, None}
 use Rattle.machine.specs.Effects.{effect}
-use Rattle.machine.specs.Keeping.{Looks}
+use Rattle.machine.specs.StoreCalls.{Unchanged}
 use Rattle.machine.specs.declared.keeps.Keep as keep
 use Rattle.machine.specs.Tokens.{Managed}
 use Rattle.machine.specs.declared.keeps.AdminAnswer.{AdminAnswer}
@@ -57,7 +57,7 @@ lists_none (Tokens rows) = false
 module _ {K : Type 0} (k : keep.Ghosts K) where
   -- an organization, or all, were copied from one store to another, with this effect on the records. Those of the source are unchanged
   pub record CopiesBetween (Becomes : (from old new : List ℕ → Option Organization) → Type 0) (source_before source_after target_before target_after : K) : Type 0 where
-    pub look : Looks k.rows k.clean k.sound k.keyed k.shielded source_before source_after
+    pub unchanged : Unchanged k.rows k.clean k.sound k.keyed k.shielded source_before source_after
     pub so_far : k.clean target_after → k.clean target_before
     pub shield : k.shielded target_before → k.shielded target_after
     pub kept : k.clean target_after → k.sound target_before → k.clean source_after → k.sound source_before → k.sound target_after

@@ -4,7 +4,7 @@
 use Rattle.std.specs.Prelude.{◌≡◌, ◌≢◌, ◌<◌, ◌⊎◌, ◌+◌, ◌++◌, ℕ, suc, Bool, List, [], ◌∷◌, ⊤, Option, Some, None, IfSome, Result, Ok, Err, IfOk, true, false, length, is_some}
 use Rattle.std.specs.Io.KnownBytes.{Appends}
 use Rattle.basis.specs.declared.memory.Down.{Down}
-use Rattle.machine.specs.Keeping.{Looks, Lasts}
+use Rattle.machine.specs.StoreCalls.{Unchanged, Lasts}
 use Rattle.machine.specs.declared.keeps.Keep as keep
 use Rattle.machine.specs.declared.keeps.OrgRow.{OrgRow}
 use Rattle.machine.specs.declared.keeps.TokenRow.{TokenRow}
@@ -31,16 +31,16 @@ use Rattle.program.specs.Logs.{with_log}
 use Rattle.program.specs.declared.environment.Files as files
 use Rattle.program.specs.declared.environment.Opening.{Opening}
 use Rattle.program.specs.declared.environment.Opening.TheVariants as opening
-use Rattle.program.specs.declared.totals.Looked.{Looked}
+use Rattle.program.specs.declared.totals.Findings.{Findings}
 use Rattle.program.specs.declared.totals.Totals.{Totals}
 use Rattle.program.specs.Totals.{sound_text, version_text}
-use Rattle.command_line.specs.Orders.{Asked, carries, adds_token, looks_over, copies, compacts, serves, carries_all, replays, tells_version}
+use Rattle.command_line.specs.Orders.{Asked, carries, adds_token, checks_file, copies, compacts, serves, carries_all, replays, reports_version}
 use Rattle.program.specs.Moves.{org_copied, IsFilled, SomeAreCopied, CopiesBetween}
 use Rattle.program.specs.Paths.{AllStay, OthersStay, OthersStayBut, LeavesVacant, makes}
 use Rattle.program.specs.Replies.{printed, bad_frame_text, answer_line, fault_lines, AreReplies, Replays}
 use Rattle.program.specs.Secrets.{secret_in}
 use Rattle.program.specs.Serving.{listening_line, Serves, state, AnswersAtPort}
-use Rattle.program.specs.Streams.{Told, GetsWhole, Tells}
+use Rattle.program.specs.Streams.{Reported, GetsAll, Reports}
 use Rattle.program.specs.declared.environment.Clock as clock
 use Rattle.program.specs.declared.environment.Connections as connections
 use Rattle.command_line.specs.declared.timeouts.Timeouts.{Timeouts}
@@ -65,15 +65,15 @@ Gets stream text = Appends stream.old stream.new text
 
 -- the error stream: its contents, and how many calls on it have failed, before and after
 pub record Errors : Type 0 where
-  pub old : Told
-  pub new : Told
+  pub old : Reported
+  pub new : Reported
 
-abbrev pub error_stream : Told → Told → Errors
+abbrev pub error_stream : Reported → Reported → Errors
 error_stream before after = record { old = before; new = after }
 
 -- the whole of a text that is not empty
 abbrev pub GetsSome : Errors → Type 0
-GetsSome errors = (text : List ℕ) × (0 < length text) × GetsWhole errors.old errors.new text
+GetsSome errors = (text : List ℕ) × (0 < length text) × GetsAll errors.old errors.new text
 
 -- the line of an exit
 abbrev pub Says : Exit → Stream → Type 0
@@ -138,48 +138,48 @@ AnswersCommand (TokenList org) e output = AnswersTokens e output
 AnswersCommand (TokenRevoke org name) e output = AnswersLine e output
 
 -- the word of an answer is printed; a list has no word
-abbrev pub TellsWord : AdminAnswer → Exit → Stream → Type 0
-TellsWord answer.Done e output = IsSaid exit.Done e output.old output.new
-TellsWord answer.Exists e output = IsSaid exit.Exists e output.old output.new
-TellsWord answer.Absent e output = IsSaid exit.Absent e output.old output.new
-TellsWord answer.InUse e output = IsSaid exit.InUse e output.old output.new
-TellsWord (answer.Organizations rows) e output = ⊤
-TellsWord (answer.Tokens rows) e output = ⊤
+abbrev pub ReportsWord : AdminAnswer → Exit → Stream → Type 0
+ReportsWord answer.Done e output = IsSaid exit.Done e output.old output.new
+ReportsWord answer.Exists e output = IsSaid exit.Exists e output.old output.new
+ReportsWord answer.Absent e output = IsSaid exit.Absent e output.old output.new
+ReportsWord answer.InUse e output = IsSaid exit.InUse e output.old output.new
+ReportsWord (answer.Organizations rows) e output = ⊤
+ReportsWord (answer.Tokens rows) e output = ⊤
 
 -- the lines of a list are printed
-abbrev pub TellsList : AdminAnswer → Exit → Stream → Type 0
-TellsList (answer.Organizations rows) e output = ((e ≡ exit.Done) × Gets output (org_lines rows)) ⊎ (e ≡ exit.Unprinted)
-TellsList word e output = ⊤
+abbrev pub ReportsList : AdminAnswer → Exit → Stream → Type 0
+ReportsList (answer.Organizations rows) e output = ((e ≡ exit.Done) × Gets output (org_lines rows)) ⊎ (e ≡ exit.Unprinted)
+ReportsList word e output = ⊤
 
 -- the lines of an organization's tokens are printed, or that the organization does not exist
-abbrev pub TellsTokens : AdminAnswer → Exit → Stream → Type 0
-TellsTokens (answer.Tokens rows) e output = ((e ≡ exit.Done) × Gets output (token_lines rows)) ⊎ (e ≡ exit.Unprinted)
-TellsTokens answer.Absent e output = IsSaid exit.Absent e output.old output.new
-TellsTokens other e output = ⊤
+abbrev pub ReportsTokens : AdminAnswer → Exit → Stream → Type 0
+ReportsTokens (answer.Tokens rows) e output = ((e ≡ exit.Done) × Gets output (token_lines rows)) ⊎ (e ≡ exit.Unprinted)
+ReportsTokens answer.Absent e output = IsSaid exit.Absent e output.old output.new
+ReportsTokens other e output = ⊤
 
 -- the answer to an operator's command is printed
-abbrev pub TellsAnswer : Admin → AdminAnswer → Exit → Stream → Type 0
-TellsAnswer OrgList answer e output = TellsList answer e output
-TellsAnswer (OrgAdd org limit) answer e output = TellsWord answer e output
-TellsAnswer (OrgLimit org limit) answer e output = TellsWord answer e output
-TellsAnswer (OrgRemove org is_forced) answer e output = TellsWord answer e output
-TellsAnswer (TokenAdd org name role secret bounds) answer e output = TellsWord answer e output
-TellsAnswer (TokenList org) answer e output = TellsTokens answer e output
-TellsAnswer (TokenRevoke org name) answer e output = TellsWord answer e output
+abbrev pub ReportsAnswer : Admin → AdminAnswer → Exit → Stream → Type 0
+ReportsAnswer OrgList answer e output = ReportsList answer e output
+ReportsAnswer (OrgAdd org limit) answer e output = ReportsWord answer e output
+ReportsAnswer (OrgLimit org limit) answer e output = ReportsWord answer e output
+ReportsAnswer (OrgRemove org is_forced) answer e output = ReportsWord answer e output
+ReportsAnswer (TokenAdd org name role secret bounds) answer e output = ReportsWord answer e output
+ReportsAnswer (TokenList org) answer e output = ReportsTokens answer e output
+ReportsAnswer (TokenRevoke org name) answer e output = ReportsWord answer e output
 
 -- the error stream gets the cause of `refused down`
-abbrev pub TellsCause : Cause → Errors → Type 0
-TellsCause why errors = Tells errors.old errors.new (cause_line why)
+abbrev pub ReportsCause : Cause → Errors → Type 0
+ReportsCause why errors = Reports errors.old errors.new (cause_line why)
 
 -- `refused down` is printed, and the error stream gets the cause
 abbrev pub Refuses : Cause → Exit → Stream → Errors → Type 0
-Refuses why e output errors = IsSaid exit.Down e output.old output.new × TellsCause why errors
+Refuses why e output errors = IsSaid exit.Down e output.old output.new × ReportsCause why errors
 
 -- an operator's command was carried out: each record is what the machine leaves, and its answer, by the records before, was printed. Or an
 -- allocation or the store failed, this cause was reported, and no record is seen to have changed
 abbrev pub IsOperated : (Cause → Type 0) → Admin → (List ℕ → Option Organization) → (List ℕ → Option Organization) → Exit → Stream → Errors → Type 0
 IsOperated Fails command old new e output errors =
-    ((answer : AdminAnswer) × (at : ℕ) × CarriesOut (commands at command) old new × IsAdminAnswer old command answer × TellsAnswer command answer e output × (errors.new ≡ errors.old))
+    ((answer : AdminAnswer) × (at : ℕ) × CarriesOut (commands at command) old new × IsAdminAnswer old command answer × ReportsAnswer command answer e output × (errors.new ≡ errors.old))
     ⊎ (Stays old new × ((why : Cause) × Fails why × Refuses why e output errors))
 
 -- an organization was copied: its record is what the rule says by the records before, and the answer was printed. Or an allocation or a store
@@ -187,7 +187,7 @@ IsOperated Fails command old new e output errors =
 abbrev pub IsCopied : (Cause → Type 0) → List ℕ → (from old new : List ℕ → Option Organization) → Exit → Stream → Errors → Type 0
 IsCopied Fails org from old new e output errors =
     ((answer : AdminAnswer) × (effect answer (new org) ≡ org_copied (from org) (old org)) × ((other : List ℕ) → other ≢ org → new other ≡ old other)
-    × TellsWord answer e output × (errors.new ≡ errors.old))
+    × ReportsWord answer e output × (errors.new ≡ errors.old))
     ⊎ (Stays old new × ((why : Cause) × Fails why × Refuses why e output errors))
 
 -- every organization was copied to an empty target, and `ok` was printed. Or the target had some, none was copied, and that was printed. Or an
@@ -231,24 +231,24 @@ AnswersFaults exit.Unprinted output = ⊤
 AnswersFaults e output = ⊥
 
 -- these faults are printed, one line each; if there is none, `ok` and these numbers
-abbrev pub TellsFaults : List (List ℕ) → Totals → Exit → Stream → Type 0
-TellsFaults [] totals e output = ((e ≡ exit.Done) × Gets output (sound_text totals)) ⊎ (e ≡ exit.Unprinted)
-TellsFaults (fault ∷ faults) totals e output = ((e ≡ exit.Faults) × Gets output (fault_lines (fault ∷ faults))) ⊎ (e ≡ exit.Unprinted)
+abbrev pub ReportsFaults : List (List ℕ) → Totals → Exit → Stream → Type 0
+ReportsFaults [] totals e output = ((e ≡ exit.Done) × Gets output (sound_text totals)) ⊎ (e ≡ exit.Unprinted)
+ReportsFaults (fault ∷ faults) totals e output = ((e ≡ exit.Faults) × Gets output (fault_lines (fault ∷ faults))) ⊎ (e ≡ exit.Unprinted)
 
 -- what a check of the tables found is printed; or that an allocation or the store failed
-abbrev pub TellsFound : Result Looked Down → Exit → Stream → Errors → Type 0
-TellsFound (Ok looked) e output errors = TellsFaults looked.faults looked.totals e output × (errors.new ≡ errors.old)
-TellsFound (Err refused) e output errors = Refuses cause.Store e output errors
+abbrev pub ReportsFound : Result Findings Down → Exit → Stream → Errors → Type 0
+ReportsFound (Ok findings) e output errors = ReportsFaults findings.faults findings.totals e output × (errors.new ≡ errors.old)
+ReportsFound (Err refused) e output errors = Refuses cause.Store e output errors
 
 -- the error stream gets the line of this cause, which says what is not done, and one line per fault
-abbrev pub TellsEach : Cause → List (List ℕ) → Errors → Type 0
-TellsEach why [] errors = ⊥
-TellsEach why (fault ∷ faults) errors = Tells errors.old errors.new (cause_line why ++ fault_lines (fault ∷ faults))
+abbrev pub ReportsEach : Cause → List (List ℕ) → Errors → Type 0
+ReportsEach why [] errors = ⊥
+ReportsEach why (fault ∷ faults) errors = Reports errors.old errors.new (cause_line why ++ fault_lines (fault ∷ faults))
 
 -- a check found faults, or an allocation or the store failed: the error stream says so
-abbrev pub TellsUnsound : Cause → Result Looked Down → Errors → Type 0
-TellsUnsound why (Ok looked) errors = TellsEach why looked.faults errors
-TellsUnsound why (Err refused) errors = TellsCause cause.Store errors
+abbrev pub ReportsUnsound : Cause → Result Findings Down → Errors → Type 0
+ReportsUnsound why (Ok findings) errors = ReportsEach why findings.faults errors
+ReportsUnsound why (Err refused) errors = ReportsCause cause.Store errors
 
 -- connections are served on the port that is printed, followed by the log if it is on (`true`)
 abbrev pub ServesAt : Bool → Exit → Stream → Type 0
@@ -280,45 +280,45 @@ EndsBatch e = ⊤
 -- operator's commands for a file, one per line. If a line is not a command, `refused usage`, and on the error stream the number of that line
 abbrev pub AnswersBatch : Option (List ℕ) → Exit → Stream → Errors → Type 0
 AnswersBatch input exit.Usage output errors =
-    Says exit.Usage output × (batch : List Admin) × IfSome input (λ bytes. AreCommands bytes batch true) × Tells errors.old errors.new (bad_line_text (length batch + 1))
+    Says exit.Usage output × (batch : List Admin) × IfSome input (λ bytes. AreCommands bytes batch true) × Reports errors.old errors.new (bad_line_text (length batch + 1))
 AnswersBatch input e output errors = EndsBatch e
 
 -- the replies to the frames before a bad one, and on the error stream the number of the bad one, from 1
 abbrev pub ReplaysToBad : List ℕ → Stream → Errors → Type 0
 ReplaysToBad bytes output errors =
-    (steps : List Step) × (replies : List (List ℕ)) × AreFrames bytes steps true × AreReplies steps replies × Gets output (printed replies) × GetsWhole errors.old errors.new (bad_frame_text (length steps + 1))
+    (steps : List Step) × (replies : List (List ℕ)) × AreFrames bytes steps true × AreReplies steps replies × Gets output (printed replies) × GetsAll errors.old errors.new (bad_frame_text (length steps + 1))
 
 -- frames are replayed over an empty database in memory
 abbrev pub ReplaysFrames : Option (List ℕ) → Exit → Stream → Errors → Type 0
 ReplaysFrames input exit.Done output errors = IfSome input (λ bytes. Replays bytes false output.old output.new)
 ReplaysFrames input exit.BadFrame output errors = IfSome input (λ bytes. ReplaysToBad bytes output errors)
-ReplaysFrames input exit.Down output errors = Says exit.Down output × TellsCause cause.Input errors
+ReplaysFrames input exit.Down output errors = Says exit.Down output × ReportsCause cause.Input errors
 ReplaysFrames input exit.Unprinted output errors = ⊤
 ReplaysFrames input e output errors = ⊥
 
 -- the version of the program and the newest version of the schema are printed
-abbrev pub TellsVersion : ℕ → Exit → Stream → Type 0
-TellsVersion schema exit.Done output = Gets output (version_text schema)
-TellsVersion schema exit.Unprinted output = ⊤
-TellsVersion schema e output = ⊥
+abbrev pub ReportsVersion : ℕ → Exit → Stream → Type 0
+ReportsVersion schema exit.Done output = Gets output (version_text schema)
+ReportsVersion schema exit.Unprinted output = ⊤
+ReportsVersion schema e output = ⊥
 
 -- the command is carried out, or it is printed why not; this is the newest version of the schema
 abbrev pub Does : ℕ → Asked → Option (List ℕ) → Exit → Stream → Errors → Type 0
 Does schema (carries db command) input e output errors = AnswersCommand command e output
 Does schema (adds_token db org name role bounds) input e output errors = AddsToken input e output errors
-Does schema (looks_over db) input e output errors = AnswersFaults e output
+Does schema (checks_file db) input e output errors = AnswersFaults e output
 Does schema (copies from to org) input e output errors = AnswersLine e output
 Does schema (compacts from to) input e output errors = AnswersFilled e output
 Does schema (serves db port count timeouts logs checks operates) input e output errors = ServesBehind operates logs input e output errors
 Does schema (carries_all db) input e output errors = AnswersBatch input e output errors
 Does schema replays input e output errors = ReplaysFrames input e output errors
-Does schema tells_version input e output errors = TellsVersion schema e output
+Does schema reports_version input e output errors = ReportsVersion schema e output
 
 -- words without a command to carry out: they ask for help, whose text goes to the error stream; or they are not valid; or an allocation failed
 abbrev pub RefusesWords : List (List ℕ) → Exit → Stream → Errors → Type 0
 RefusesWords words exit.Done output errors = AskForHelp words × (output.new ≡ output.old) × GetsSome errors
 RefusesWords words exit.Usage output errors = (AreNoCommand words ⊎ (asked_in words ≡ None)) × RefusesUsage exit.Usage output errors
-RefusesWords words exit.Down output errors = Says exit.Down output × TellsCause cause.NoMemory errors
+RefusesWords words exit.Down output errors = Says exit.Down output × ReportsCause cause.NoMemory errors
 RefusesWords words exit.Unprinted output errors = ⊤
 RefusesWords words e output errors = ⊥
 
@@ -328,14 +328,14 @@ PrintsFor schema words input e output errors =
     ((asked : Asked) × (asked_in words ≡ Some asked) × Does schema asked input e output errors) ⊎ RefusesWords words e output errors
 
 -- if a stream did not take everything, the error stream says so; otherwise it gets nothing more
-abbrev pub TellsEnd : Exit → Errors → Type 0
-TellsEnd exit.Unprinted errors = Tells errors.old errors.new unprinted_line
-TellsEnd e errors = errors.new ≡ errors.old
+abbrev pub ReportsEnd : Exit → Errors → Type 0
+ReportsEnd exit.Unprinted errors = Reports errors.old errors.new unprinted_line
+ReportsEnd e errors = errors.new ≡ errors.old
 
 -- and after that, on the error stream, that a stream did not take everything, if one did not
 abbrev pub Prints : ℕ → List (List ℕ) → Option (List ℕ) → Exit → Stream → Errors → Type 0
 Prints schema words input e output errors =
-    (told : Told) × PrintsFor schema words input e output (error_stream errors.old told) × TellsEnd e (error_stream told errors.new)
+    (reported : Reported) × PrintsFor schema words input e output (error_stream errors.old reported) × ReportsEnd e (error_stream reported errors.new)
 
 -- the input is known, and this is its secret
 abbrev pub IsSecretOf : Option (List ℕ) → List ℕ → Type 0
@@ -347,22 +347,22 @@ IsDoor true input door = (secret : List ℕ) × IsSecretOf input secret × (door
 IsDoor false input door = door ≡ Closed
 
 -- the error stream says that others may read the file, exactly if they may
-abbrev pub TellsOfReaders : Bool → Errors → Type 0
-TellsOfReaders true errors = Tells errors.old errors.new readers_line
-TellsOfReaders false errors = errors.new ≡ errors.old
+abbrev pub ReportsOfReaders : Bool → Errors → Type 0
+ReportsOfReaders true errors = Reports errors.old errors.new readers_line
+ReportsOfReaders false errors = errors.new ≡ errors.old
 
 -- the error stream says that a file was created, exactly if there was none at its path
-abbrev pub TellsOfNew : Bool → Errors → Type 0
-TellsOfNew true errors = Tells errors.old errors.new new_line
-TellsOfNew false errors = errors.new ≡ errors.old
+abbrev pub ReportsOfNew : Bool → Errors → Type 0
+ReportsOfNew true errors = Reports errors.old errors.new new_line
+ReportsOfNew false errors = errors.new ≡ errors.old
 
 -- both lines, in this order
-abbrev pub TellsOfFile : Bool → Bool → Errors → Type 0
-TellsOfFile is_new others_may_read errors = (mid : Told) × TellsOfNew is_new (error_stream errors.old mid) × TellsOfReaders others_may_read (error_stream mid errors.new)
+abbrev pub ReportsOfFile : Bool → Bool → Errors → Type 0
+ReportsOfFile is_new others_may_read errors = (mid : Reported) × ReportsOfNew is_new (error_stream errors.old mid) × ReportsOfReaders others_may_read (error_stream mid errors.new)
 
 -- the WAL of a file is copied into it, or the error stream says that it stays beside it
-abbrev pub TellsOfLog : Type 0 → Errors → Type 0
-TellsOfLog IsCopied errors = (IsCopied × (errors.new ≡ errors.old)) ⊎ Tells errors.old errors.new log_line
+abbrev pub ReportsOfLog : Type 0 → Errors → Type 0
+ReportsOfLog IsCopied errors = (IsCopied × (errors.new ≡ errors.old)) ⊎ Reports errors.old errors.new log_line
 
 -- the cause, with `NoFolder` as `NoTargetFolder` if the path came with `--to`
 abbrev pub seen_at : Opening → Cause → Cause
@@ -400,8 +400,8 @@ module _ {K F : Type 0} (k : keep.Ghosts K) (f : files.Ghosts F K) where
   RefusesToOpen path opening old new e output errors =
       AllStay f.holds old new × LeavesVacant f.vacant (makes opening) path old new
       × (((why : Cause) × f.refuses old path (fault.Down why) × Refuses (seen_at opening why) e output errors)
-      ⊎ (((bytes : ℕ) × f.refuses old path (fault.Memory bytes) × IsSaid exit.Down e output.old output.new × Tells errors.old errors.new (memory_line bytes))
-      ⊎ ((other : OtherSchema) × f.refuses old path (fault.Schema other) × IsSaid exit.Schema e output.old output.new × Tells errors.old errors.new (other_line other))))
+      ⊎ (((bytes : ℕ) × f.refuses old path (fault.Memory bytes) × IsSaid exit.Down e output.old output.new × Reports errors.old errors.new (memory_line bytes))
+      ⊎ ((other : OtherSchema) × f.refuses old path (fault.Schema other) × IsSaid exit.Schema e output.old output.new × Reports errors.old errors.new (other_line other))))
 
   -- a store was opened at a path, and its file reported on. Nothing changed at other paths. If no database may be created, one with our tables
   -- was there
@@ -414,29 +414,29 @@ module _ {K F : Type 0} (k : keep.Ghosts K) (f : files.Ghosts F K) where
     pub is_new : Bool
     pub sought : f.lacks old path is_new
     pub others_may_read : Bool
-    pub looked : f.reads old path others_may_read
-    pub tells : TellsOfFile is_new others_may_read errors
+    pub findings : f.reads old path others_may_read
+    pub reports : ReportsOfFile is_new others_may_read errors
 
   -- a store was closed at a path. Nothing changed at other paths
   pub record Closes (path : List ℕ) (old new : F) (store : K) (errors : Errors) : Type 0 where
     pub left : f.holds new path store
     pub others : OthersStay f.holds path old new
     pub vacancies : LeavesVacant f.vacant true path old new
-    pub log : TellsOfLog (f.copied new path store) errors
+    pub log : ReportsOfLog (f.copied new path store) errors
 
   -- an operator's command was carried out on the store at a path. What it left is there now, and nothing else changed
   pub record Operates (path : List ℕ) (command : Admin) (old new : F) (e : Exit) (output : Stream) (errors : Errors) : Type 0 where
     pub before : K
     pub after : K
     pub worked : F
-    pub noted : Told
-    pub told : Told
+    pub noted : Reported
+    pub reported : Reported
     pub opens : Opens path (opening_of command) old worked before (error_stream errors.old noted)
     pub lasts : Lasts k.clean k.sound k.keyed k.shielded before after
     pub model : k.clean after → k.sound before
-        → IsOperated (HasFailed after) command (k.rows before) (k.rows after) e output (error_stream noted told)
-    pub why : (told ≡ noted) ⊎ ((why : Cause) × HasFailed after why × TellsCause why (error_stream noted told))
-    pub closes : Closes path worked new after (error_stream told errors.new)
+        → IsOperated (HasFailed after) command (k.rows before) (k.rows after) e output (error_stream noted reported)
+    pub why : (reported ≡ noted) ⊎ ((why : Cause) × HasFailed after why × ReportsCause why (error_stream noted reported))
+    pub closes : Closes path worked new after (error_stream reported errors.new)
     pub others : OthersStay f.holds path old new
 
   abbrev pub OperatesAt : List ℕ → Admin → F → F → Exit → Stream → Errors → Type 0
@@ -446,8 +446,8 @@ module _ {K F : Type 0} (k : keep.Ghosts K) (f : files.Ghosts F K) where
   abbrev pub AddsTokenAt : List ℕ → (List ℕ → Admin) → Option (List ℕ) → F → F → Exit → Stream → Errors → Type 0
   AddsTokenAt path adding input old new e output errors =
       ((secret : List ℕ) × IsSecretOf input secret × OperatesAt path (adding secret) old new e output errors)
-      ⊎ ((new ≡ old) × ((HasNoSecret input × RefusesUsage e output errors × Tells errors.old errors.new secret_line)
-      ⊎ (RefusesDown e output × TellsCause cause.Input errors)))
+      ⊎ ((new ≡ old) × ((HasNoSecret input × RefusesUsage e output errors × Reports errors.old errors.new secret_line)
+      ⊎ (RefusesDown e output × ReportsCause cause.Input errors)))
 
   -- a command was carried out on a store, and its answer was printed; or an allocation or the store failed, and this was reported
   pub record CarriesOne (command : Admin) (old new : K) (e : Exit) (output : Stream) (errors : Errors) : Type 0 where
@@ -457,12 +457,12 @@ module _ {K F : Type 0} (k : keep.Ghosts K) (f : files.Ghosts F K) where
 
   -- commands were carried out in order, those of the lines numbered from this one on, up to the first that did not end with status 0. The
   -- error stream gets the number of its line, and no later command was carried out
-  abbrev pub CarriesEach : List Admin → ℕ → K → K → Exit → Option (List ℕ) → Option (List ℕ) → Told → Told → Type 0
+  abbrev pub CarriesEach : List Admin → ℕ → K → K → Exit → Option (List ℕ) → Option (List ℕ) → Reported → Reported → Type 0
   CarriesEach [] line old new e out out' err err' = (new ≡ old) × (e ≡ exit.Done) × (out' ≡ out) × (err' ≡ err)
   CarriesEach (command ∷ batch) line old new e out out' err err' =
-      ((mid : K) × (heard : Option (List ℕ)) × (noted : Told)
+      ((mid : K) × (heard : Option (List ℕ)) × (noted : Reported)
       × CarriesOne command old mid exit.Done (stream out heard) (error_stream err noted) × CarriesEach batch (suc line) mid new e heard out' noted err')
-      ⊎ ((e ≢ exit.Done) × (noted : Told) × CarriesOne command old new e (stream out out') (error_stream err noted) × Tells noted err' (stopped_text line))
+      ⊎ ((e ≢ exit.Done) × (noted : Reported) × CarriesOne command old new e (stream out out') (error_stream err noted) × Reports noted err' (stopped_text line))
 
   -- these commands were carried out on the store at a path, which was opened once. What they left is there now, and nothing else changed. The
   -- first command decides whether a database may be created
@@ -470,11 +470,11 @@ module _ {K F : Type 0} (k : keep.Ghosts K) (f : files.Ghosts F K) where
     pub before : K
     pub after : K
     pub worked : F
-    pub noted : Told
-    pub told : Told
+    pub noted : Reported
+    pub reported : Reported
     pub opens : Opens path (opening_of first) old worked before (error_stream errors.old noted)
-    pub carries : CarriesEach batch 1 before after e output.old output.new noted told
-    pub closes : Closes path worked new after (error_stream told errors.new)
+    pub carries : CarriesEach batch 1 before after e output.old output.new noted reported
+    pub closes : Closes path worked new after (error_stream reported errors.new)
     pub others : OthersStay f.holds path old new
 
   -- the same, or the store at the path is not opened; without a command nothing is done
@@ -488,47 +488,47 @@ module _ {K F : Type 0} (k : keep.Ghosts K) (f : files.Ghosts F K) where
   CarriesAllAt path input old new e output errors =
       ((batch : List Admin) × IfSome input (λ bytes. AreCommands bytes batch false) × CarriesAll path batch old new e output errors)
       ⊎ ((new ≡ old) × (((batch : List Admin) × IfSome input (λ bytes. AreCommands bytes batch true)
-      × IsSaid exit.Usage e output.old output.new × Tells errors.old errors.new (bad_line_text (length batch + 1)))
-      ⊎ (RefusesDown e output × TellsCause cause.Input errors)))
+      × IsSaid exit.Usage e output.old output.new × Reports errors.old errors.new (bad_line_text (length batch + 1)))
+      ⊎ (RefusesDown e output × ReportsCause cause.Input errors)))
 
   -- the tables of a store were checked, and this is reported of what was found. If there was no fault and the store `is_ours`, it is sound and
   -- keyed. Each record is as before
-  pub record LooksFor (IsTold : Result Looked Down → Errors → Type 0) (before after : K) (errors : Errors) : Type 0 where
-    pub look : Looks k.rows k.clean k.sound k.keyed k.shielded before after
-    pub result : Result Looked Down
+  pub record ChecksStore (IsReported : Result Findings Down → Errors → Type 0) (before after : K) (errors : Errors) : Type 0 where
+    pub unchanged : Unchanged k.rows k.clean k.sound k.keyed k.shielded before after
+    pub result : Result Findings Down
     pub finds : f.finds before result after
-    pub sound : IfOk result (λ looked. looked.faults ≡ [] → k.clean after → f.is_ours before → k.sound before × k.keyed before)
-    pub says : IsTold result errors
+    pub sound : IfOk result (λ findings. findings.faults ≡ [] → k.clean after → f.is_ours before → k.sound before × k.keyed before)
+    pub says : IsReported result errors
 
   -- the store at a path was checked, which created no file. What the check left is there now, each record as before, and nothing else changed
-  pub record LooksOver (path : List ℕ) (IsTold : Result Looked Down → Errors → Type 0) (old new : F) (errors : Errors) : Type 0 where
+  pub record ChecksFile (path : List ℕ) (IsReported : Result Findings Down → Errors → Type 0) (old new : F) (errors : Errors) : Type 0 where
     pub before : K
     pub after : K
     pub worked : F
-    pub noted : Told
-    pub told : Told
+    pub noted : Reported
+    pub reported : Reported
     pub opens : Opens path opening.Existing old worked before (error_stream errors.old noted)
-    pub looks : LooksFor IsTold before after (error_stream noted told)
-    pub closes : Closes path worked new after (error_stream told errors.new)
+    pub unchanged : ChecksStore IsReported before after (error_stream noted reported)
+    pub closes : Closes path worked new after (error_stream reported errors.new)
     pub others : OthersStay f.holds path old new
 
   -- the store at a path is checked, and the result is printed
-  abbrev pub LooksAt : List ℕ → F → F → Exit → Stream → Errors → Type 0
-  LooksAt path old new e output errors =
-      LooksOver path (λ found told. TellsFound found e output told) old new errors ⊎ RefusesToOpen path opening.Existing old new e output errors
+  abbrev pub ChecksAt : List ℕ → F → F → Exit → Stream → Errors → Type 0
+  ChecksAt path old new e output errors =
+      ChecksFile path (λ found reported. ReportsFound found e output reported) old new errors ⊎ RefusesToOpen path opening.Existing old new e output errors
 
   -- the store at a path has faults, or its check fails, so nothing more is done, with this cause
   abbrev pub RefusesUnsound : List ℕ → Cause → F → F → Exit → Stream → Errors → Type 0
-  RefusesUnsound path why old new e output errors = LooksOver path (TellsUnsound why) old new errors × IsSaid exit.Down e output.old output.new
+  RefusesUnsound path why old new e output errors = ChecksFile path (ReportsUnsound why) old new errors × IsSaid exit.Down e output.old output.new
 
   -- a store was opened at a path, which created no file, and a check of its tables found no fault. So it is sound and keyed, if it `is_ours`
   pub record OpensSound (path : List ℕ) (old new : F) (store : K) (errors : Errors) : Type 0 where
     pub opened : K
     pub opens : Opens path opening.Existing old new opened errors
-    pub look : Looks k.rows k.clean k.sound k.keyed k.shielded opened store
-    pub looked : Looked
-    pub finds : f.finds opened (Ok looked) store
-    pub none : looked.faults ≡ []
+    pub unchanged : Unchanged k.rows k.clean k.sound k.keyed k.shielded opened store
+    pub findings : Findings
+    pub finds : f.finds opened (Ok findings) store
+    pub none : findings.faults ≡ []
     pub sound_ours : k.clean store → f.is_ours opened → k.sound opened × k.sound store
     pub keyed_ours : k.clean store → f.is_ours opened → k.keyed opened × k.keyed store
 
@@ -541,14 +541,14 @@ module _ {K F : Type 0} (k : keep.Ghosts K) (f : files.Ghosts F K) where
   pub record OpensBoth (from to : List ℕ) (old new : F) (source target : K) (errors : Errors) : Type 0 where
     pub differ : from ≢ to
     pub mid : F
-    pub noted : Told
+    pub noted : Reported
     pub first : OpensSound from old mid source (error_stream errors.old noted)
     pub second : Opens to opening.Target mid new target (error_stream noted errors.new)
 
   -- they were closed there, the second one first
   pub record ClosesBoth (from to : List ℕ) (old new : F) (source target : K) (errors : Errors) : Type 0 where
     pub mid : F
-    pub noted : Told
+    pub noted : Reported
     pub second : Closes to old mid target (error_stream errors.old noted)
     pub first : Closes from mid new source (error_stream noted errors.new)
 
@@ -559,11 +559,11 @@ module _ {K F : Type 0} (k : keep.Ghosts K) (f : files.Ghosts F K) where
     pub source : K
     pub opened : F
     pub unopened : F
-    pub noted : Told
-    pub told : Told
+    pub noted : Reported
+    pub reported : Reported
     pub first : OpensSound from old opened source (error_stream errors.old noted)
-    pub second : RefusesToOpen to opening.Target opened unopened e output (error_stream noted told)
-    pub closes : Closes from unopened new source (error_stream told errors.new)
+    pub second : RefusesToOpen to opening.Target opened unopened e output (error_stream noted reported)
+    pub closes : Closes from unopened new source (error_stream reported errors.new)
     pub others : OthersStay f.holds from old new
 
   -- one of two stores is not opened; or the paths are the same, and nothing is opened
@@ -580,14 +580,14 @@ module _ {K F : Type 0} (k : keep.Ghosts K) (f : files.Ghosts F K) where
     pub target_before : K
     pub target_after : K
     pub worked : F
-    pub noted : Told
-    pub told : Told
+    pub noted : Reported
+    pub reported : Reported
     pub opens : OpensBoth from to old worked source_before target_before (error_stream errors.old noted)
-    pub copies : CopiesBetween k (λ source before after. Becomes target_after source before after (error_stream noted told)) source_before source_after target_before target_after
+    pub copies : CopiesBetween k (λ source before after. Becomes target_after source before after (error_stream noted reported)) source_before source_after target_before target_after
     pub ours : k.clean target_after → k.sound target_before → k.clean source_after → f.is_ours opens.first.opened
-        → Becomes target_after (k.rows opens.first.opened) (k.rows target_before) (k.rows target_after) (error_stream noted told)
-    pub why : (told ≡ noted) ⊎ ((why : Cause) × Fails target_after why × TellsCause why (error_stream noted told))
-    pub closes : ClosesBoth from to worked new source_after target_after (error_stream told errors.new)
+        → Becomes target_after (k.rows opens.first.opened) (k.rows target_before) (k.rows target_after) (error_stream noted reported)
+    pub why : (reported ≡ noted) ⊎ ((why : Cause) × Fails target_after why × ReportsCause why (error_stream noted reported))
+    pub closes : ClosesBoth from to worked new source_after target_after (error_stream reported errors.new)
     pub left_source : f.holds new from source_after
     pub left_target : f.holds new to target_after
     pub others : OthersStayBut f.holds from to old new
@@ -595,13 +595,13 @@ module _ {K F : Type 0} (k : keep.Ghosts K) (f : files.Ghosts F K) where
   -- an organization is copied from the store at one path to the store at another
   abbrev pub CopiesAt : List ℕ → List ℕ → List ℕ → F → F → Exit → Stream → Errors → Type 0
   CopiesAt from to org old new e output errors =
-      CopiesOver from to (λ left source before after told. IsCopied (HasFailed left) org source before after e output told) HasFailed old new errors
+      CopiesOver from to (λ left source before after reported. IsCopied (HasFailed left) org source before after e output reported) HasFailed old new errors
       ⊎ RefusesBoth from to old new e output errors
 
   -- every organization is copied in this way
   abbrev pub CompactsAt : List ℕ → List ℕ → F → F → Exit → Stream → Errors → Type 0
   CompactsAt from to old new e output errors =
-      CopiesOver from to (λ left source before after told. IsCompacted source before after e output told) (λ left why. why ≡ cause.Unfinished) old new errors
+      CopiesOver from to (λ left source before after reported. IsCompacted source before after e output reported) (λ left why. why ≡ cause.Unfinished) old new errors
       ⊎ RefusesBoth from to old new e output errors
 
 -- the program's environment besides its streams: files, network and clock
@@ -628,15 +628,15 @@ module _ {K F N C R W : Type 0} (k : keep.Ghosts K) (f : files.Ghosts F K) (n : 
     pub before : K
     pub after : K
     pub worked : F
-    pub noted : Told
+    pub noted : Reported
     pub opens : Opens k f path opening.Created old.files worked before (error_stream errors.old noted)
     pub lasts : Lasts k.clean k.sound k.keyed k.shielded before after
     pub serves : k.clean after → k.sound before → Serves terms.door count (k.rows before) (k.rows after)
     pub served : Exit
-    pub told : Option (List ℕ)
-    pub lines : Told
-    pub answers : AnswersAtPort k f n c i o port terms count (state old.network old.clock before noted output.old) (state new.network new.clock after lines told) served
-    pub says : SaysServed served e told output.new
+    pub reported : Option (List ℕ)
+    pub lines : Reported
+    pub answers : AnswersAtPort k f n c i o port terms count (state old.network old.clock before noted output.old) (state new.network new.clock after lines reported) served
+    pub says : SaysServed served e reported output.new
     pub closes : Closes k f path worked new.files after (error_stream lines errors.new)
     pub others : OthersStay f.holds path old.files new.files
 
@@ -646,7 +646,7 @@ module _ {K F N C R W : Type 0} (k : keep.Ghosts K) (f : files.Ghosts F K) (n : 
     pub before : K
     pub after : K
     pub worked : F
-    pub noted : Told
+    pub noted : Reported
     pub opens : OpensSound k f path old.files worked before (error_stream errors.old noted)
     pub lasts : Lasts k.clean k.sound k.keyed k.shielded before after
     pub serves : k.clean after → k.sound before → Serves terms.door count (k.rows before) (k.rows after)
@@ -654,10 +654,10 @@ module _ {K F N C R W : Type 0} (k : keep.Ghosts K) (f : files.Ghosts F K) (n : 
     pub keyed_ours : k.clean after → f.is_ours opens.opened → k.keyed opens.opened × k.keyed after
     pub serves_ours : k.clean after → f.is_ours opens.opened → Serves terms.door count (k.rows opens.opened) (k.rows after)
     pub served : Exit
-    pub told : Option (List ℕ)
-    pub lines : Told
-    pub answers : AnswersAtPort k f n c i o port terms count (state old.network old.clock before noted output.old) (state new.network new.clock after lines told) served
-    pub says : SaysServed served e told output.new
+    pub reported : Option (List ℕ)
+    pub lines : Reported
+    pub answers : AnswersAtPort k f n c i o port terms count (state old.network old.clock before noted output.old) (state new.network new.clock after lines reported) served
+    pub says : SaysServed served e reported output.new
     pub closes : Closes k f path worked new.files after (error_stream lines errors.new)
     pub others : OthersStay f.holds path old.files new.files
 
@@ -675,22 +675,22 @@ module _ {K F N C R W : Type 0} (k : keep.Ghosts K) (f : files.Ghosts F K) (n : 
   abbrev pub ServesWithDoor : Bool → Bool → List ℕ → ℕ → Timeouts → Bool → ℕ → Option (List ℕ) → Environment F N C → Environment F N C → Exit → Stream → Errors → Type 0
   ServesWithDoor operates checks path port timeouts logs count input old new e output errors =
       ((door : Door) × IsDoor operates input door × ServesAsAsked checks path port (record { timeouts = timeouts; logs = logs; door = door }) count old new e output errors)
-      ⊎ ((operates ≡ true) × (new ≡ old) × ((HasNoSecret input × RefusesUsage e output errors × Tells errors.old errors.new secret_line)
-      ⊎ (RefusesDown e output × TellsCause cause.Input errors)))
+      ⊎ ((operates ≡ true) × (new ≡ old) × ((HasNoSecret input × RefusesUsage e output errors × Reports errors.old errors.new secret_line)
+      ⊎ (RefusesDown e output × ReportsCause cause.Input errors)))
 
   -- the command is carried out on the store at its path, and on nothing else
   abbrev pub Leaves : Asked → Option (List ℕ) → Environment F N C → Environment F N C → Exit → Stream → Errors → Type 0
   Leaves (carries db command) input old new e output errors = OperatesAt k f db command old.files new.files e output errors × IsAlone old new
   Leaves (adds_token db org name role bounds) input old new e output errors =
       AddsTokenAt k f db (λ secret. TokenAdd org name role secret bounds) input old.files new.files e output errors × IsAlone old new
-  Leaves (looks_over db) input old new e output errors = LooksAt k f db old.files new.files e output errors × IsAlone old new
+  Leaves (checks_file db) input old new e output errors = ChecksAt k f db old.files new.files e output errors × IsAlone old new
   Leaves (copies from to org) input old new e output errors = CopiesAt k f from to org old.files new.files e output errors × IsAlone old new
   Leaves (compacts from to) input old new e output errors = CompactsAt k f from to old.files new.files e output errors × IsAlone old new
   Leaves (serves db port count timeouts logs checks operates) input old new e output errors =
       ServesWithDoor operates checks db port timeouts logs count input old new e output errors
   Leaves (carries_all db) input old new e output errors = CarriesAllAt k f db input old.files new.files e output errors × IsAlone old new
   Leaves replays input old new e output errors = new ≡ old
-  Leaves tells_version input old new e output errors = new ≡ old
+  Leaves reports_version input old new e output errors = new ≡ old
 
   -- the program for these words, before it reports that a stream did not take everything
   pub record RunsOver (words : List (List ℕ)) (input : Option (List ℕ)) (old new : Environment F N C) (e : Exit) (output : Stream) (errors : Errors) : Type 0 where
@@ -700,6 +700,6 @@ module _ {K F N C R W : Type 0} (k : keep.Ghosts K) (f : files.Ghosts F K) (n : 
 
   -- the program for these words: how it exits, what is printed, and its environment before and after
   pub record Runs (words : List (List ℕ)) (input : Option (List ℕ)) (old new : Environment F N C) (e : Exit) (output : Stream) (errors : Errors) : Type 0 where
-    pub told : Told
-    pub runs : RunsOver words input old new e output (error_stream errors.old told)
-    pub ends : TellsEnd e (error_stream told errors.new)
+    pub reported : Reported
+    pub runs : RunsOver words input old new e output (error_stream errors.old reported)
+    pub ends : ReportsEnd e (error_stream reported errors.new)

@@ -7,7 +7,7 @@ use Rattle.serve.specs.declared.steps.Step.{Step}
 use Rattle.machine.specs.declared.records.Organization.{Organization}
 use Rattle.serve.specs.Asks.{Ask, Owner}
 use Rattle.serve.specs.Service.{AreAsked}
-use Rattle.serve.specs.Runs.{AreOwnReplies, ListsAreTold}
+use Rattle.serve.specs.Runs.{AreOwnReplies, ListsAreReported}
 use Rattle.program.specs.Frames.{AreFrames}
 
 -- `reply LEN`, a line feed (10), the bytes of the reply and a line feed
@@ -39,7 +39,7 @@ no_records org = None
 pub record AreReplies (steps : List Step) (replies : List (List ℕ)) : Type 0 where
   pub one_each : length replies ≡ length steps
   pub own : (asked : List Ask) → AreAsked steps asked → (owner : Owner) → AreOwnReplies asked no_records replies owner
-  pub lists : (asked : List Ask) → AreAsked steps asked → ListsAreTold no_records asked replies
+  pub lists : (asked : List Ask) → AreAsked steps asked → ListsAreReported no_records asked replies
 
 -- the replies to the frames of the bytes, and the number of the bad frame after them, from 1
 abbrev pub AnswersFrames : List ℕ → List (List ℕ) → Option ℕ → Type 0

@@ -5,21 +5,21 @@ use Rattle.basis.specs.declared.memory.Down.{Down}
 use Rattle.docs.specs.declared.logs.LogRow.{LogRow}
 use Rattle.machine.specs.declared.keeps.Keep as keep
 use Rattle.machine.specs.declared.records.Organization.{Organization}
-use Rattle.machine.specs.Keeping.{Looks, Lasts}
+use Rattle.machine.specs.StoreCalls.{Unchanged, Lasts}
 use Rattle.serve.specs.declared.exchanges.LinkFault.{LinkFault}
 use Rattle.serve.specs.declared.steps.Step.{Step}
 use Rattle.serve.specs.declared.steps.Step.TheVariants.{Request, Command}
 use Rattle.serve.specs.Asks.{Ask}
 use Rattle.serve.specs.Doors.{ExchangesWith}
-use Rattle.serve.specs.Exchanges.{ChangesAsTold}
+use Rattle.serve.specs.Exchanges.{ChangesAsLogged}
 use Rattle.serve.specs.declared.doors.Door.{Door}
 use Rattle.serve.specs.declared.doors.Door.TheVariants.{Closed, Open}
 use Rattle.serve.specs.Service.{AreAsked}
 use Rattle.serve.specs.Runs.{IsOwnRecord}
 use Rattle.program.specs.Errors.{GetsConnectionLines, cause_line}
-use Rattle.program.specs.Streams.{Told, Tells}
+use Rattle.program.specs.Streams.{Reported, Reports}
 use Rattle.program.specs.Checkpoints.{Checkpoints}
-use Rattle.program.specs.Logs.{row_text, tells_act, with_log, Logs, Line, log_text, ChangeByLines}
+use Rattle.program.specs.Logs.{row_text, names_act, with_log, Logs, Line, log_text, ChangeByLines}
 use Rattle.program.specs.declared.reasons.Cause.{Cause}
 use Rattle.program.specs.declared.reasons.Cause.TheVariants as cause
 use Rattle.program.specs.declared.exits.Exit.{Exit}
@@ -56,24 +56,24 @@ pub record State (N C K : Type 0) : Type 0 where
   pub network : N
   pub clock : C
   pub store : K
-  pub errors : Told
+  pub errors : Reported
   pub output : Option (List ℕ)
 
-abbrev pub state : {N C K : Type 0} → N → C → K → Told → Option (List ℕ) → State N C K
+abbrev pub state : {N C K : Type 0} → N → C → K → Reported → Option (List ℕ) → State N C K
 state network clock store errors output = record { network = network; clock = clock; store = store; errors = errors; output = output }
 
 -- no connection is accepted with these timeouts, or the clock has no time for it, for this cause: the network and the clock before and after
 abbrev pub AcceptsNone : {N C R W : Type 0} → connections.Ghosts N R W → clock.Ghosts C → Timeouts → N → N → C → C → Cause → Type 0
 AcceptsNone {N} {C} {R} {W} n c timeouts network network' clock clock' why =
     ((refused : Down) × n.accepts network timeouts (Err refused) network' × (clock' ≡ clock) × (why ≡ cause.Accept))
-    ⊎ ((reader : R) × (writer : W) × n.accepts network timeouts (Ok (reader, writer)) network' × c.tells clock None clock' × (why ≡ cause.Clock))
+    ⊎ ((reader : R) × (writer : W) × n.accepts network timeouts (Ok (reader, writer)) network' × c.reports clock None clock' × (why ≡ cause.Clock))
 
 module _ {K N R W : Type 0} (k : keep.Ghosts K) (n : connections.Ghosts N R W) (i : inlet.Ghosts R) (o : outlet.Ghosts W) where
   -- the connection of this number, with these two sides, is answered by one exchange at this time. Whether it got the 503 of a failed
   -- allocation or store, which the error stream reports; its line in the log, if the log is on, and whether that was taken; its end, as one
   -- whose message was read completely if the line names an act. The network, the store, and the contents of the error stream and standard
   -- output, before and after
-  pub record AnswersOne (terms : Terms) (place at : ℕ) (is_down is_told : Bool) (reader : R) (writer : W) (network network' : N) (store store' : K) (errors errors' : Told) (output output' : Option (List ℕ)) : Type 0 where
+  pub record AnswersOne (terms : Terms) (connection at : ℕ) (is_down is_logged : Bool) (reader : R) (writer : W) (network network' : N) (store store' : K) (errors errors' : Reported) (output output' : Option (List ℕ)) : Type 0 where
     pub read : R
     pub written : W
     pub result : Result (Unit {0}) LinkFault
@@ -81,50 +81,50 @@ module _ {K N R W : Type 0} (k : keep.Ghosts K) (n : connections.Ghosts N R W) (
     pub lasts : Lasts k.clean k.sound k.keyed k.shielded store store'
     pub exchanges : k.clean store' → k.sound store → (received : List ℕ) × Consumes (i.left reader) (i.left read) received
         × ExchangesWith terms.door at received (i.left read) (k.rows store) (k.rows store') (o.written writer) (o.written written) is_down row result
-    pub changes : k.clean store' → k.sound store → IfSome row (λ told. ChangesAsTold told (k.rows store) (k.rows store'))
-    pub lines : GetsConnectionLines place is_down result errors errors'
-    pub logged : Logs terms.logs is_told (row_text place result row) output output'
-    pub ends : n.ends network read written (tells_act row) network'
+    pub changes : k.clean store' → k.sound store → IfSome row (λ reported. ChangesAsLogged reported (k.rows store) (k.rows store'))
+    pub lines : GetsConnectionLines connection is_down result errors errors'
+    pub logged : Logs terms.logs is_logged (row_text connection result row) output output'
+    pub ends : n.ends network read written (names_act row) network'
 
 module _ {K F : Type 0} (k : keep.Ghosts K) (f : files.Ghosts F K) where
   -- after the 503, the files are asked whether a disk error has closed the store, and say so or not, or have no memory for it, which counts as
   -- not. After another reply they are not asked, and checkpoint a long WAL
   abbrev pub AfterReply : Bool → K → Bool → K → Type 0
-  AfterReply true old is_shut new = (said : Result Bool Down) × f.shuts old said new × Looks k.rows k.clean k.sound k.keyed k.shielded old new × MatchResult said (λ told. is_shut ≡ told) (λ down. is_shut ≡ false)
+  AfterReply true old is_shut new = (said : Result Bool Down) × f.shuts old said new × Unchanged k.rows k.clean k.sound k.keyed k.shielded old new × MatchResult said (λ reported. is_shut ≡ reported) (λ down. is_shut ≡ false)
   AfterReply false old is_shut new = (is_shut ≡ false) × f.checkpoints old new × Checkpoints k.rows k.clean k.sound k.keyed k.shielded old new
 
 module _ {K N C R W : Type 0} (k : keep.Ghosts K) (n : connections.Ghosts N R W) (c : clock.Ghosts C) (i : inlet.Ghosts R) (o : outlet.Ghosts W) where
   -- a connection is accepted with the timeouts of these terms, the clock gives this time, and the connection is answered as the one of this
   -- number
-  pub record Answers (terms : Terms) (place at : ℕ) (is_down is_told : Bool) (old new : State N C K) : Type 0 where
+  pub record Answers (terms : Terms) (connection at : ℕ) (is_down is_logged : Bool) (old new : State N C K) : Type 0 where
     pub reader : R
     pub writer : W
     pub network : N
     pub accepts : n.accepts old.network terms.timeouts (Ok (reader, writer)) network
-    pub tells : c.tells old.clock (Some at) new.clock
-    pub answers : AnswersOne k n i o terms place at is_down is_told reader writer network new.network old.store new.store old.errors new.errors old.output new.output
+    pub reports : c.reports old.clock (Some at) new.clock
+    pub answers : AnswersOne k n i o terms connection at is_down is_logged reader writer network new.network old.store new.store old.errors new.errors old.output new.output
 
 module _ {K F N C R W : Type 0} (k : keep.Ghosts K) (f : files.Ghosts F K) (n : connections.Ghosts N R W) (c : clock.Ghosts C) (i : inlet.Ghosts R) (o : outlet.Ghosts W) where
   -- a connection is answered in this way, and then the store is looked after; whether a disk error has closed it is then known
-  pub record AnswersNext (terms : Terms) (place at : ℕ) (is_shut is_told : Bool) (old new : State N C K) : Type 0 where
+  pub record AnswersNext (terms : Terms) (connection at : ℕ) (is_shut is_logged : Bool) (old new : State N C K) : Type 0 where
     pub is_down : Bool
     pub store : K
-    pub answers : Answers k n c i o terms place at is_down is_told old (state new.network new.clock store new.errors new.output)
+    pub answers : Answers k n c i o terms connection at is_down is_logged old (state new.network new.clock store new.errors new.output)
     pub after_reply : AfterReply k f is_down store is_shut new.store
 
   -- connections are answered in order, one at each of these times, each on these terms, numbered from this one on. After none of them was the
   -- store closed, and every line of the log was taken
   abbrev pub AnswersAll : Terms → ℕ → List ℕ → State N C K → State N C K → Type 0
-  AnswersAll terms place [] old new = new ≡ old
-  AnswersAll terms place (at ∷ moments) old new = (mid : State N C K) × AnswersNext terms place at false true old mid × AnswersAll terms (suc place) moments mid new
+  AnswersAll terms connection [] old new = new ≡ old
+  AnswersAll terms connection (at ∷ moments) old new = (mid : State N C K) × AnswersNext terms connection at false true old mid × AnswersAll terms (suc connection) moments mid new
 
   -- no further connection is accepted, for this cause: an accept or the clock failed; or one more was answered, that of this number, and a
   -- disk error has closed the store, or it has not and the log's line was not taken
   abbrev pub EndsEarly : Terms → ℕ → State N C K → State N C K → Cause → Type 0
-  EndsEarly terms place last new why =
+  EndsEarly terms connection last new why =
       (AcceptsNone n c terms.timeouts last.network new.network last.clock new.clock why × (new.store ≡ last.store) × (new.errors ≡ last.errors) × (new.output ≡ last.output))
-      ⊎ (((at : ℕ) × (is_told : Bool) × AnswersNext terms place at true is_told last new × (why ≡ cause.Shut))
-      ⊎ ((at : ℕ) × AnswersNext terms place at false false last new × (why ≡ cause.Log)))
+      ⊎ (((at : ℕ) × (is_logged : Bool) × AnswersNext terms connection at true is_logged last new × (why ≡ cause.Shut))
+      ⊎ ((at : ℕ) × AnswersNext terms connection at false false last new × (why ≡ cause.Log)))
 
   -- the line with the port is printed, then this many connections are answered; or fewer, because no further one is accepted, and the error
   -- stream gets the cause; or none, because the line could not be printed
@@ -135,7 +135,7 @@ module _ {K F N C R W : Type 0} (k : keep.Ghosts K) (f : files.Ghosts F K) (n : 
   AnswersCount port terms count old new exit.Down =
       (heard : Option (List ℕ)) × Appends old.output heard (listening_line port)
       × (moments : List ℕ) × (last : State N C K) × (length moments < count) × AnswersAll terms 1 moments (state old.network old.clock old.store old.errors heard) last
-      × (why : Cause) × (errors : Told) × EndsEarly terms (suc (length moments)) last (state new.network new.clock new.store errors new.output) why × Tells errors new.errors (cause_line why)
+      × (why : Cause) × (errors : Reported) × EndsEarly terms (suc (length moments)) last (state new.network new.clock new.store errors new.output) why × Reports errors new.errors (cause_line why)
   AnswersCount port terms count old new exit.Unprinted = (new.network ≡ old.network) × (new.clock ≡ old.clock) × (new.store ≡ old.store) × (new.errors ≡ old.errors)
   AnswersCount port terms count old new other = ⊥
 
@@ -146,14 +146,14 @@ module _ {K F N C R W : Type 0} (k : keep.Ghosts K) (f : files.Ghosts F K) (n : 
       ((bound : N) × (given : ℕ) × n.binds old.network (127 ∷ 0 ∷ 0 ∷ 1 ∷ []) port (Ok given) bound
       × AnswersCount given terms count (state bound old.clock old.store old.errors old.output) new e × ListensAt given terms.logs e old.output new.output)
       ⊎ ((why : Cause) × n.binds old.network (127 ∷ 0 ∷ 0 ∷ 1 ∷ []) port (Err why) new.network
-      × (new.clock ≡ old.clock) × (new.store ≡ old.store) × Tells old.errors new.errors (cause_line why) × (e ≡ exit.Down) × (new.output ≡ old.output))
+      × (new.clock ≡ old.clock) × (new.store ≡ old.store) × Reports old.errors new.errors (cause_line why) × (e ≡ exit.Down) × (new.output ≡ old.output))
 
   -- the log has one line for each answered connection, in order. Between two lines, only the record of the organization that the later line
   -- names changes
-  abbrev pub LogTellsChanges : Type 0
-  LogTellsChanges = (terms : Terms) → terms.logs ≡ true → (place : ℕ) (moments : List ℕ) (old new : State N C K)
-      → AnswersAll terms place moments old new → k.clean new.store → k.sound old.store
-      → (lines : List Line) × (length lines ≡ length moments) × Appends old.output new.output (log_text place lines) × ChangeByLines lines (k.rows old.store) (k.rows new.store)
+  abbrev pub LogReportsChanges : Type 0
+  LogReportsChanges = (terms : Terms) → terms.logs ≡ true → (connection : ℕ) (moments : List ℕ) (old new : State N C K)
+      → AnswersAll terms connection moments old new → k.clean new.store → k.sound old.store
+      → (lines : List Line) × (length lines ≡ length moments) × Appends old.output new.output (log_text connection lines) × ChangeByLines lines (k.rows old.store) (k.rows new.store)
 
 -- every step is a request
 abbrev pub AreRequests : List Step → Type 0

@@ -3,12 +3,12 @@ use Rattle.std.specs.Prelude.{◌≡◌, ◌⊎◌, ◌++◌, ◌+◌, ◌^◌, 
 use Rattle.std.specs.Io.KnownBytes.{Appends}
 
 -- the stream's contents, if they are known, and how many calls on it have failed
-pub record Told : Type 0 where
+pub record Reported : Type 0 where
   pub bytes : Option (List ℕ)
   pub failures : ℕ
 
-abbrev pub as_told : Option (List ℕ) → ℕ → Told
-as_told bytes failures = record { bytes = bytes; failures = failures }
+abbrev pub as_reported : Option (List ℕ) → ℕ → Reported
+as_reported bytes failures = record { bytes = bytes; failures = failures }
 
 -- one more; it is counted up to 2⁶⁴ - 1
 unfoldable pub one_more : ℕ → ℕ
@@ -24,18 +24,18 @@ abbrev pub GetsFront : Option (List ℕ) → Option (List ℕ) → List ℕ → 
 GetsFront old new text = (front : List ℕ) × (rest : List ℕ) × (text ≡ front ++ rest) × Appends old new front
 
 -- no call on the error stream failed, and it got the whole text
-abbrev pub GetsWhole : Told → Told → List ℕ → Type 0
-GetsWhole old new text = Appends old.bytes new.bytes text × (new.failures ≡ old.failures)
+abbrev pub GetsAll : Reported → Reported → List ℕ → Type 0
+GetsAll old new text = Appends old.bytes new.bytes text × (new.failures ≡ old.failures)
 
 -- a call on the error stream failed, and it got the text, or a front of it
-abbrev pub GetsPart : Told → Told → List ℕ → Type 0
+abbrev pub GetsPart : Reported → Reported → List ℕ → Type 0
 GetsPart old new text = GetsFront old.bytes new.bytes text × (new.failures ≡ one_more old.failures)
 
 -- the error stream gets the whole text, unless a call on it failed
-abbrev pub Tells : Told → Told → List ℕ → Type 0
-Tells old new text = GetsWhole old new text ⊎ GetsPart old new text
+abbrev pub Reports : Reported → Reported → List ℕ → Type 0
+Reports old new text = GetsAll old new text ⊎ GetsPart old new text
 
 -- the same, where the result says whether a call failed
-abbrev pub TellsBy : {T E : Type 0} → Told → Told → List ℕ → Result T E → Type 0
-TellsBy old new text (Ok done) = GetsWhole old new text
-TellsBy old new text (Err fault) = GetsPart old new text
+abbrev pub ReportsBy : {T E : Type 0} → Reported → Reported → List ℕ → Result T E → Type 0
+ReportsBy old new text (Ok done) = GetsAll old new text
+ReportsBy old new text (Err fault) = GetsPart old new text

@@ -5,7 +5,7 @@ ghost use Rattle.program.specs.Outcomes.{stream, error_stream, EndsBatch, Answer
 
 use crate::batches::{Batch, read_batch};
 use crate::environment::Files;
-use crate::errors::tell_at;
+use crate::errors::report_at;
 use crate::exits::Exit;
 use crate::openings::{close_after, open_one};
 use crate::operating::{opening_of, operate_on};
@@ -35,12 +35,12 @@ fn carry_each<K: Keep, F: Files<K>, O: Write, E: ErrorStream>(
     errors: &mut E,
 ) -> Exit
     ensures ends { EndsBatch result }
-    ensures each { CarriesEach K.Keep F.Files commands.now 1 service.old.keep service.new.keep result (O.contents output.old) (O.contents output.new) (E.told errors.old) (E.told errors.new) }
+    ensures each { CarriesEach K.Keep F.Files commands.now 1 service.old.keep service.new.keep result (O.contents output.old) (O.contents output.new) (E.reported errors.old) (E.reported errors.new) }
 {
-    for (place, command) in commands.iter().enumerate() {
+    for (command_index, command) in commands.iter().enumerate() {
         let exit = operate_on(alloc, files, service, command, output, errors);
         if exit != Exit::Done {
-            tell_at(errors, STOPPED, place + 1);
+            report_at(errors, STOPPED, command_index + 1);
             return exit;
         }
     }
@@ -58,8 +58,8 @@ fn carry_lines<K: Keep, F: Files<K>, O: Write, E: ErrorStream>(
     errors: &mut E,
 ) -> Exit
     ensures ends { EndsBatch result }
-    ensures carries { CarriesLines K.Keep F.Files db.now first.now commands.now files.old files.new result (stream (O.contents output.old) (O.contents output.new)) (error_stream (E.told errors.old) (E.told errors.new))
-        ⊎ RefusesToOpen K.Keep F.Files db.now (opening_of first.now) files.old files.new result (stream (O.contents output.old) (O.contents output.new)) (error_stream (E.told errors.old) (E.told errors.new)) }
+    ensures carries { CarriesLines K.Keep F.Files db.now first.now commands.now files.old files.new result (stream (O.contents output.old) (O.contents output.new)) (error_stream (E.reported errors.old) (E.reported errors.new))
+        ⊎ RefusesToOpen K.Keep F.Files db.now (opening_of first.now) files.old files.new result (stream (O.contents output.old) (O.contents output.new)) (error_stream (E.reported errors.old) (E.reported errors.new)) }
 {
     let store = match open_one(files, db, opening_of(first), output, errors) {
         Ok(store) => store,
@@ -80,7 +80,7 @@ fn carry_all<K: Keep, F: Files<K>, O: Write, E: ErrorStream>(
     errors: &mut E,
 ) -> Exit
     ensures ends { EndsBatch result }
-    ensures carries { CarriesAll K.Keep F.Files db.now commands.now files.old files.new result (stream (O.contents output.old) (O.contents output.new)) (error_stream (E.told errors.old) (E.told errors.new)) }
+    ensures carries { CarriesAll K.Keep F.Files db.now commands.now files.old files.new result (stream (O.contents output.old) (O.contents output.new)) (error_stream (E.reported errors.old) (E.reported errors.new)) }
 {
     match commands {
         [] => Exit::Done,
@@ -106,14 +106,14 @@ pub fn read_and_carry<K: Keep, F: Files<K>, I: Read, O: Write, E: ErrorStream>(
     output: &mut O,
     errors: &mut E,
 ) -> Exit
-    ensures line { AnswersBatch (I.remaining input.old) result (stream (O.contents output.old) (O.contents output.new)) (error_stream (E.told errors.old) (E.told errors.new)) }
-    ensures carries { CarriesAllAt K.Keep F.Files db.now (I.remaining input.old) files.old files.new result (stream (O.contents output.old) (O.contents output.new)) (error_stream (E.told errors.old) (E.told errors.new)) }
+    ensures line { AnswersBatch (I.remaining input.old) result (stream (O.contents output.old) (O.contents output.new)) (error_stream (E.reported errors.old) (E.reported errors.new)) }
+    ensures carries { CarriesAllAt K.Keep F.Files db.now (I.remaining input.old) files.old files.new result (stream (O.contents output.old) (O.contents output.new)) (error_stream (E.reported errors.old) (E.reported errors.new)) }
 {
     let Ok(batch) = input_batch(alloc, input) else {
         return refuse(output, errors, Cause::Input);
     };
     if batch.is_bad {
-        tell_at(errors, BAD_LINE, batch.commands.len() + 1);
+        report_at(errors, BAD_LINE, batch.commands.len() + 1);
         return say(output, Exit::Usage);
     }
     carry_all(alloc, files, db, batch.commands.as_slice(), output, errors)

@@ -2,12 +2,12 @@
 ghost use Rattle.std.specs.Prelude.{◌≡◌, ◌⊎◌, IfOk, IfErr, OnOk, OnErr};
 ghost use Rattle.std.specs.List.{AllByRecursion};
 ghost use Rattle.machine.specs.Tokens.{ListsOrganizations};
-ghost use Rattle.machine.specs.Keeping.{Looks};
+ghost use Rattle.machine.specs.StoreCalls.{Unchanged};
 ghost use Rattle.program.specs.Moves.{Arrives, AllAreCopied, SomeAreCopied, IsFilled, lists_none, CopiesBetween};
-ghost use Rattle.program.specs.Outcomes.{stream, error_stream, AnswersLine, AnswersFilled, filled_ending, IsSaid, CopiesAt, CompactsAt, TellsWord, TellsCause, Refuses, HasFailed, OpensSound, RefusesSource, OpensBoth, RefusesBoth};
+ghost use Rattle.program.specs.Outcomes.{stream, error_stream, AnswersLine, AnswersFilled, filled_ending, IsSaid, CopiesAt, CompactsAt, ReportsWord, ReportsCause, Refuses, HasFailed, OpensSound, RefusesSource, OpensBoth, RefusesBoth};
 ghost use Rattle.program.specs.declared.reasons.Cause.{Cause as AnyCause};
 
-use crate::checking::look_first;
+use crate::checking::check_first;
 use crate::environment::{Files, Opening};
 use crate::exits::Exit;
 use crate::openings::{close_after, close_both, open_one};
@@ -28,14 +28,14 @@ fn open_sound<K: Keep, F: Files<K>, O: Write, E: ErrorStream>(
     output: &mut O,
     errors: &mut E,
 ) -> Result<K, Exit>
-    ensures opened { IfOk result (λ store. OpensSound K.Keep F.Files path.now files.old files.new store (error_stream (E.told errors.old) (E.told errors.new)) × (O.contents output.new ≡ O.contents output.old)) }
-    ensures refused { IfErr result (λ exit. RefusesSource K.Keep F.Files path.now files.old files.new exit (stream (O.contents output.old) (O.contents output.new)) (error_stream (E.told errors.old) (E.told errors.new))) }
+    ensures opened { IfOk result (λ store. OpensSound K.Keep F.Files path.now files.old files.new store (error_stream (E.reported errors.old) (E.reported errors.new)) × (O.contents output.new ≡ O.contents output.old)) }
+    ensures refused { IfErr result (λ exit. RefusesSource K.Keep F.Files path.now files.old files.new exit (stream (O.contents output.old) (O.contents output.new)) (error_stream (E.reported errors.old) (E.reported errors.new))) }
 {
     let mut store = match open_one(files, path, Opening::Existing, output, errors) {
         Ok(store) => store,
         Err(exit) => return Err(exit),
     };
-    if look_first(alloc, files, &mut store, Cause::SourceFaults, errors) {
+    if check_first(alloc, files, &mut store, Cause::SourceFaults, errors) {
         return Ok(store);
     }
     close_after(files, path, store, errors);
@@ -52,8 +52,8 @@ fn open_both<K: Keep, F: Files<K>, O: Write, E: ErrorStream>(
     output: &mut O,
     errors: &mut E,
 ) -> Result<(K, K), Exit>
-    ensures opened { IfOk result (λ stores. OpensBoth K.Keep F.Files from.now to.now files.old files.new stores.0 stores.1 (error_stream (E.told errors.old) (E.told errors.new)) × (O.contents output.new ≡ O.contents output.old)) }
-    ensures refused { IfErr result (λ exit. RefusesBoth K.Keep F.Files from.now to.now files.old files.new exit (stream (O.contents output.old) (O.contents output.new)) (error_stream (E.told errors.old) (E.told errors.new))) }
+    ensures opened { IfOk result (λ stores. OpensBoth K.Keep F.Files from.now to.now files.old files.new stores.0 stores.1 (error_stream (E.reported errors.old) (E.reported errors.new)) × (O.contents output.new ≡ O.contents output.old)) }
+    ensures refused { IfErr result (λ exit. RefusesBoth K.Keep F.Files from.now to.now files.old files.new exit (stream (O.contents output.old) (O.contents output.new)) (error_stream (E.reported errors.old) (E.reported errors.new))) }
 {
     if from == to {
         return Err(refuse(output, errors, Cause::InUse));
@@ -79,10 +79,10 @@ fn say_copied<K: Keep, F: Files<K>, O: Write, E: ErrorStream>(
     answered: &Result<AdminAnswer, Down>,
 ) -> Exit
     ensures line { AnswersLine result (stream (O.contents output.old) (O.contents output.new)) }
-    ensures looks { Looks K.rows K.clean K.sound K.keyed K.shielded target.old target.new }
-    ensures tells { IfOk answered.now (λ answer. TellsWord answer result (stream (O.contents output.old) (O.contents output.new)) × (E.told errors.new ≡ E.told errors.old)) }
-    ensures down { OnErr answered.now ((why : AnyCause) × HasFailed K.Keep F.Files target.new why × Refuses why result (stream (O.contents output.old) (O.contents output.new)) (error_stream (E.told errors.old) (E.told errors.new))) }
-    ensures why { (E.told errors.new ≡ E.told errors.old) ⊎ ((why : AnyCause) × HasFailed K.Keep F.Files target.new why × TellsCause why (error_stream (E.told errors.old) (E.told errors.new))) }
+    ensures unchanged { Unchanged K.rows K.clean K.sound K.keyed K.shielded target.old target.new }
+    ensures reports { IfOk answered.now (λ answer. ReportsWord answer result (stream (O.contents output.old) (O.contents output.new)) × (E.reported errors.new ≡ E.reported errors.old)) }
+    ensures down { OnErr answered.now ((why : AnyCause) × HasFailed K.Keep F.Files target.new why × Refuses why result (stream (O.contents output.old) (O.contents output.new)) (error_stream (E.reported errors.old) (E.reported errors.new))) }
+    ensures why { (E.reported errors.new ≡ E.reported errors.old) ⊎ ((why : AnyCause) × HasFailed K.Keep F.Files target.new why × ReportsCause why (error_stream (E.reported errors.old) (E.reported errors.new))) }
 {
     match answered {
         Ok(answer) => say_word(output, answer),
@@ -104,7 +104,7 @@ pub fn copy_one<K: Keep, F: Files<K>, O: Write, E: ErrorStream>(
     errors: &mut E,
 ) -> Exit
     ensures line { AnswersLine result (stream (O.contents output.old) (O.contents output.new)) }
-    ensures copies { CopiesAt K.Keep F.Files from.now to.now org.now files.old files.new result (stream (O.contents output.old) (O.contents output.new)) (error_stream (E.told errors.old) (E.told errors.new)) }
+    ensures copies { CopiesAt K.Keep F.Files from.now to.now org.now files.old files.new result (stream (O.contents output.old) (O.contents output.new)) (error_stream (E.reported errors.old) (E.reported errors.new)) }
 {
     let (mut source, mut target) = match open_both(alloc, files, from, to, output, errors) {
         Ok(stores) => stores,
@@ -216,9 +216,9 @@ fn say_filled<O: Write, E: ErrorStream>(
     filled: &Result<bool, Down>,
 ) -> Exit
     ensures line { AnswersFilled result (stream (O.contents output.old) (O.contents output.new)) }
-    ensures tells { IfOk filled.now (λ is_filled. IsSaid (filled_ending is_filled) result (O.contents output.old) (O.contents output.new) × (E.told errors.new ≡ E.told errors.old)) }
-    ensures down { OnErr filled.now (Refuses Cause.Unfinished result (stream (O.contents output.old) (O.contents output.new)) (error_stream (E.told errors.old) (E.told errors.new))) }
-    ensures why { (E.told errors.new ≡ E.told errors.old) ⊎ TellsCause Cause.Unfinished (error_stream (E.told errors.old) (E.told errors.new)) }
+    ensures reports { IfOk filled.now (λ is_filled. IsSaid (filled_ending is_filled) result (O.contents output.old) (O.contents output.new) × (E.reported errors.new ≡ E.reported errors.old)) }
+    ensures down { OnErr filled.now (Refuses Cause.Unfinished result (stream (O.contents output.old) (O.contents output.new)) (error_stream (E.reported errors.old) (E.reported errors.new))) }
+    ensures why { (E.reported errors.new ≡ E.reported errors.old) ⊎ ReportsCause Cause.Unfinished (error_stream (E.reported errors.old) (E.reported errors.new)) }
 {
     match filled {
         Ok(true) => say(output, Exit::Done),
@@ -237,7 +237,7 @@ pub fn compact<K: Keep, F: Files<K>, O: Write, E: ErrorStream>(
     errors: &mut E,
 ) -> Exit
     ensures line { AnswersFilled result (stream (O.contents output.old) (O.contents output.new)) }
-    ensures copies { CompactsAt K.Keep F.Files from.now to.now files.old files.new result (stream (O.contents output.old) (O.contents output.new)) (error_stream (E.told errors.old) (E.told errors.new)) }
+    ensures copies { CompactsAt K.Keep F.Files from.now to.now files.old files.new result (stream (O.contents output.old) (O.contents output.new)) (error_stream (E.reported errors.old) (E.reported errors.new)) }
 {
     let (mut source, mut target) = match open_both(alloc, files, from, to, output, errors) {
         Ok(stores) => stores,

@@ -6,15 +6,15 @@ ghost use Rattle.command_line.specs.declared.timeouts.Timeouts.{Timeouts as AnyT
 ghost use Rattle.program.specs.declared.reasons.Cause.{Cause as AnyCause};
 ghost use Rattle.program.specs.declared.reasons.OpenFault.{OpenFault as AnyFault};
 ghost use Rattle.machine.specs.Effects.{effect};
-ghost use Rattle.machine.specs.Keeping.{Looks, LastsWhere};
+ghost use Rattle.machine.specs.StoreCalls.{Unchanged, LastsWhere};
 ghost use Rattle.program.specs.Moves.{org_copied};
 ghost use Rattle.program.specs.Paths.{AllStay, OthersStay, LeavesVacant, makes};
-ghost use Rattle.program.specs.declared.totals.Looked.{Looked as AnyLooked};
+ghost use Rattle.program.specs.declared.totals.Findings.{Findings as AnyFindings};
 ghost use Rattle.program.specs.Replies.{AreReplies};
 ghost use Rattle.program.specs.Checkpoints.{Checkpoints};
 
 use crate::reasons::{Cause, OpenFault};
-use crate::totals::Looked;
+use crate::totals::Findings;
 use basis::{Bytes, Down, Moment, OrgName};
 use command_line::timeouts::Timeouts;
 use machine::{AdminAnswer, Keep};
@@ -63,9 +63,9 @@ pub trait Files<K: Keep> {
     // What copies the log of a store into its file where it is long: the store before and after.
     ghost checkpoints: { K → K → Type 0 };
 
-    // What a look over the tables of a store finds: the store before, a line for each fault and how many rows there are, the
+    // What a check over the tables of a store finds: the store before, a line for each fault and how many rows there are, the
     // store after.
-    ghost finds: { K → Result AnyLooked AnyDown → K → Type 0 };
+    ghost finds: { K → Result AnyFindings AnyDown → K → Type 0 };
 
     // The newest version of the schema, which a database is made of.
     ghost newest: { ℕ };
@@ -99,8 +99,8 @@ pub trait Files<K: Keep> {
 
     /// Whether a disk error has closed a store, so that every call fails. Fails itself if an allocation fails.
     fn is_shut(&self, store: &mut K) -> Result<bool, Down>
-        ensures told { shuts store.old result store.new }
-        ensures looks { Looks K.rows K.clean K.sound K.keyed K.shielded store.old store.new };
+        ensures reported { shuts store.old result store.new }
+        ensures unchanged { Unchanged K.rows K.clean K.sound K.keyed K.shielded store.old store.new };
 
     /// Checkpoints a long WAL: copies it into its file, so that the next change does not have to. No record of a sound store
     /// changes. Fails if an allocation or the store fails.
@@ -110,10 +110,10 @@ pub trait Files<K: Keep> {
 
     /// Checks the tables of a store. Returns one line per fault, without its line feed, at most 50, and the numbers of rows. If
     /// there is no fault, the store is sound and keyed. Fails if an allocation or the store fails.
-    fn check(&self, alloc: Global, store: &mut K) -> Result<Looked, Down>
+    fn check(&self, alloc: Global, store: &mut K) -> Result<Findings, Down>
         ensures found { finds store.old result store.new }
-        ensures looks { Looks K.rows K.clean K.sound K.keyed K.shielded store.old store.new }
-        ensures sound { IfOk result (λ looked. looked.faults ≡ [] → K.clean store.new → is_ours store.old → K.sound store.old × K.keyed store.old) };
+        ensures unchanged { Unchanged K.rows K.clean K.sound K.keyed K.shielded store.old store.new }
+        ensures sound { IfOk result (λ findings. findings.faults ≡ [] → K.clean store.new → is_ours store.old → K.sound store.old × K.keyed store.old) };
 
     /// Copies an organization from one store to another, in one transaction of the target. The records of other organizations do
     /// not change in either. Fails if an allocation or a store fails.
@@ -124,7 +124,7 @@ pub trait Files<K: Keep> {
         from: &mut K,
         to: &mut K,
     ) -> Result<AdminAnswer, Down>
-        ensures source { Looks K.rows K.clean K.sound K.keyed K.shielded from.old from.new }
+        ensures source { Unchanged K.rows K.clean K.sound K.keyed K.shielded from.old from.new }
         ensures lasts { LastsWhere (K.clean from.new × K.sound from.old) K.clean K.sound K.keyed K.shielded to.old to.new }
         ensures own { K.clean to.new → K.sound to.old → K.clean from.new → K.sound from.old → IfOk result (λ answer. effect answer (K.rows to.new org.now) ≡ org_copied (K.rows from.old org.now) (K.rows to.old org.now)) }
         ensures others { K.clean to.new → K.sound to.old → K.clean from.new → K.sound from.old → (o : List ℕ) → o ≢ org.now → K.rows to.new o ≡ K.rows to.old o }
@@ -168,18 +168,18 @@ pub trait Connections {
         ensures sound { IfOk result (λ sides. (Self.Reader.broken sides.0 ≡ false) × (Self.Writer.broken sides.1 ≡ false)) }
         ensures accepted { accepts self.old timeouts.now result self.new };
 
-    /// Closes a connection: at once if its whole message was read (`was_whole`). Otherwise the peer gets time to read its reply,
+    /// Closes a connection: at once if its whole message was read (`was_read`). Otherwise the peer gets time to read its reply,
     /// and what it still sends is dropped.
-    fn finish(&mut self, reader: Self::Reader, writer: Self::Writer, was_whole: bool)
-        ensures { ends self.old reader writer was_whole self.new };
+    fn finish(&mut self, reader: Self::Reader, writer: Self::Writer, was_read: bool)
+        ensures { ends self.old reader writer was_read self.new };
 }
 
 /// The clock.
 pub trait Clock {
     // What tells a moment, or none: the clock before and after.
-    ghost tells: { Self → Option ℕ → Self → Type 0 };
+    ghost reports: { Self → Option ℕ → Self → Type 0 };
 
     /// The current time, in seconds since 1970, unless it cannot be read or is out of range.
     fn now(&mut self) -> Option<Moment>
-        ensures { tells self.old result self.new };
+        ensures { reports self.old result self.new };
 }

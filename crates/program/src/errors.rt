@@ -2,7 +2,7 @@
 ghost use Rattle.std.specs.Prelude.{◌++◌, ◌∷◌, [], List, ℕ, codes, decimal};
 ghost use Rattle.program.specs.Errors.{connection_line, cause_line, memory_line, other_line, version_line, version_end};
 ghost use Rattle.program.specs.Replies.{bad_frame_text, fault_lines};
-ghost use Rattle.program.specs.Streams.{Told, Tells, TellsBy};
+ghost use Rattle.program.specs.Streams.{Reported, Reports, ReportsBy};
 
 use crate::reasons::{Cause, OtherSchema};
 use crate::streams::ErrorStream;
@@ -12,7 +12,7 @@ use std::io;
 
 /// Writes a text. Stops at the first call that fails.
 fn write_text<E: ErrorStream>(errors: &mut E, text: &[u8]) -> io::Result<()>
-    ensures { TellsBy (E.told errors.old) (E.told errors.new) text.now result }
+    ensures { ReportsBy (E.reported errors.old) (E.reported errors.new) text.now result }
 {
     let mut rest = text;
     'writing: while !rest.is_empty() {
@@ -26,7 +26,7 @@ fn write_text<E: ErrorStream>(errors: &mut E, text: &[u8]) -> io::Result<()>
 
 /// Flushes the stream if every write succeeded.
 pub fn send_on<E: ErrorStream>(errors: &mut E, written: io::Result<()>) -> io::Result<()>
-    ensures { (before : Told) (text : List ℕ) → TellsBy before (E.told errors.old) text written → TellsBy before (E.told errors.new) text result }
+    ensures { (before : Reported) (text : List ℕ) → ReportsBy before (E.reported errors.old) text written → ReportsBy before (E.reported errors.new) text result }
 {
     match written {
         Ok(()) => errors.flush(),
@@ -35,7 +35,7 @@ pub fn send_on<E: ErrorStream>(errors: &mut E, written: io::Result<()>) -> io::R
 }
 
 fn write_ended<E: ErrorStream>(errors: &mut E, text: &str) -> io::Result<()>
-    ensures { TellsBy (E.told errors.old) (E.told errors.new) (text.now ++ 10 ∷ []) result }
+    ensures { ReportsBy (E.reported errors.old) (E.reported errors.new) (text.now ++ 10 ∷ []) result }
 {
     match write_text(errors, text.as_bytes()) {
         Ok(()) => write_text(errors, b"\n"),
@@ -43,8 +43,8 @@ fn write_ended<E: ErrorStream>(errors: &mut E, text: &str) -> io::Result<()>
     }
 }
 
-fn write_told<E: ErrorStream>(errors: &mut E, text: &str) -> io::Result<()>
-    ensures { TellsBy (E.told errors.old) (E.told errors.new) (codes ": " ++ text.now ++ 10 ∷ []) result }
+fn write_message<E: ErrorStream>(errors: &mut E, text: &str) -> io::Result<()>
+    ensures { ReportsBy (E.reported errors.old) (E.reported errors.new) (codes ": " ++ text.now ++ 10 ∷ []) result }
 {
     match write_text(errors, b": ") {
         Ok(()) => write_ended(errors, text),
@@ -52,45 +52,45 @@ fn write_told<E: ErrorStream>(errors: &mut E, text: &str) -> io::Result<()>
     }
 }
 
-fn write_placed<E: ErrorStream>(errors: &mut E, place: u64, text: &str) -> io::Result<()>
-    ensures { TellsBy (E.told errors.old) (E.told errors.new) (decimal place ++ codes ": " ++ text.now ++ 10 ∷ []) result }
+fn write_numbered<E: ErrorStream>(errors: &mut E, connection: u64, text: &str) -> io::Result<()>
+    ensures { ReportsBy (E.reported errors.old) (E.reported errors.new) (decimal connection ++ codes ": " ++ text.now ++ 10 ∷ []) result }
 {
     let mut buffer = Buffer::new();
-    let digits = buffer.format(place);
+    let digits = buffer.format(connection);
     match write_text(errors, digits.as_bytes()) {
-        Ok(()) => write_told(errors, text),
+        Ok(()) => write_message(errors, text),
         Err(error) => Err(error),
     }
 }
 
 /// Writes a line about the connection with this number.
-pub fn write_line<E: ErrorStream>(errors: &mut E, place: u64, text: &str) -> io::Result<()>
-    ensures { TellsBy (E.told errors.old) (E.told errors.new) (connection_line place text.now) result }
+pub fn write_line<E: ErrorStream>(errors: &mut E, connection: u64, text: &str) -> io::Result<()>
+    ensures { ReportsBy (E.reported errors.old) (E.reported errors.new) (connection_line connection text.now) result }
 {
     match write_text(errors, b"custody: connection ") {
-        Ok(()) => write_placed(errors, place, text),
+        Ok(()) => write_numbered(errors, connection, text),
         Err(error) => Err(error),
     }
 }
 
 /// Writes a text and flushes it. Stops at the first call that fails.
 pub fn note<E: ErrorStream>(errors: &mut E, text: &str) -> io::Result<()>
-    ensures by { TellsBy (E.told errors.old) (E.told errors.new) text.now result }
-    ensures told { Tells (E.told errors.old) (E.told errors.new) text.now }
+    ensures by { ReportsBy (E.reported errors.old) (E.reported errors.new) text.now result }
+    ensures reported { Reports (E.reported errors.old) (E.reported errors.new) text.now }
 {
     let written = write_text(errors, text.as_bytes());
     send_on(errors, written)
 }
 
 /// Reports why an allocation, the store, the input or the network failed.
-pub fn tell_cause<E: ErrorStream>(errors: &mut E, cause: Cause)
-    ensures { Tells (E.told errors.old) (E.told errors.new) (cause_line cause) }
+pub fn report_cause<E: ErrorStream>(errors: &mut E, cause: Cause)
+    ensures { Reports (E.reported errors.old) (E.reported errors.new) (cause_line cause) }
 {
     let _ = note(errors, cause.line());
 }
 
 fn write_faults<E: ErrorStream>(errors: &mut E, faults: &[Text]) -> io::Result<()>
-    ensures { TellsBy (E.told errors.old) (E.told errors.new) (fault_lines faults.now) result }
+    ensures { ReportsBy (E.reported errors.old) (E.reported errors.new) (fault_lines faults.now) result }
 {
     for fault in faults {
         match write_ended(errors, fault.as_str()) {
@@ -102,7 +102,7 @@ fn write_faults<E: ErrorStream>(errors: &mut E, faults: &[Text]) -> io::Result<(
 }
 
 fn note_faults<E: ErrorStream>(errors: &mut E, cause: Cause, faults: &[Text]) -> io::Result<()>
-    ensures { TellsBy (E.told errors.old) (E.told errors.new) (cause_line cause ++ fault_lines faults.now) result }
+    ensures { ReportsBy (E.reported errors.old) (E.reported errors.new) (cause_line cause ++ fault_lines faults.now) result }
 {
     match write_text(errors, cause.line().as_bytes()) {
         Ok(()) => write_faults(errors, faults),
@@ -111,15 +111,15 @@ fn note_faults<E: ErrorStream>(errors: &mut E, cause: Cause, faults: &[Text]) ->
 }
 
 /// Reports what the command did not do because the file's tables have faults, then one line per fault.
-pub fn tell_faults<E: ErrorStream>(errors: &mut E, cause: Cause, faults: &[Text])
-    ensures { Tells (E.told errors.old) (E.told errors.new) (cause_line cause ++ fault_lines faults.now) }
+pub fn report_faults<E: ErrorStream>(errors: &mut E, cause: Cause, faults: &[Text])
+    ensures { Reports (E.reported errors.old) (E.reported errors.new) (cause_line cause ++ fault_lines faults.now) }
 {
     let written = note_faults(errors, cause, faults);
     let _ = send_on(errors, written);
 }
 
 fn write_frame<E: ErrorStream>(errors: &mut E, frame: usize) -> io::Result<()>
-    ensures { TellsBy (E.told errors.old) (E.told errors.new) (decimal frame ++ 10 ∷ []) result }
+    ensures { ReportsBy (E.reported errors.old) (E.reported errors.new) (decimal frame ++ 10 ∷ []) result }
 {
     let mut buffer = Buffer::new();
     let digits = buffer.format(frame);
@@ -128,7 +128,7 @@ fn write_frame<E: ErrorStream>(errors: &mut E, frame: usize) -> io::Result<()>
 
 /// Reports the frame that does not parse, by its number (from 1).
 pub fn note_bad_frame<E: ErrorStream>(errors: &mut E, frame: usize) -> io::Result<()>
-    ensures { TellsBy (E.told errors.old) (E.told errors.new) (bad_frame_text frame) result }
+    ensures { ReportsBy (E.reported errors.old) (E.reported errors.new) (bad_frame_text frame) result }
 {
     match write_text(errors, b"custody: bad frame ") {
         Ok(()) => write_frame(errors, frame),
@@ -137,7 +137,7 @@ pub fn note_bad_frame<E: ErrorStream>(errors: &mut E, frame: usize) -> io::Resul
 }
 
 fn note_at<E: ErrorStream>(errors: &mut E, mark: &str, line: usize) -> io::Result<()>
-    ensures { TellsBy (E.told errors.old) (E.told errors.new) (mark.now ++ (decimal line ++ 10 ∷ [])) result }
+    ensures { ReportsBy (E.reported errors.old) (E.reported errors.new) (mark.now ++ (decimal line ++ 10 ∷ [])) result }
 {
     match write_text(errors, mark.as_bytes()) {
         Ok(()) => write_frame(errors, line),
@@ -146,15 +146,15 @@ fn note_at<E: ErrorStream>(errors: &mut E, mark: &str, line: usize) -> io::Resul
 }
 
 /// Writes a text and the number of a line of the input.
-pub fn tell_at<E: ErrorStream>(errors: &mut E, mark: &str, line: usize)
-    ensures { Tells (E.told errors.old) (E.told errors.new) (mark.now ++ (decimal line ++ 10 ∷ [])) }
+pub fn report_at<E: ErrorStream>(errors: &mut E, mark: &str, line: usize)
+    ensures { Reports (E.reported errors.old) (E.reported errors.new) (mark.now ++ (decimal line ++ 10 ∷ [])) }
 {
     let written = note_at(errors, mark, line);
     let _ = send_on(errors, written);
 }
 
 fn note_memory<E: ErrorStream>(errors: &mut E, bytes: u64) -> io::Result<()>
-    ensures { TellsBy (E.told errors.old) (E.told errors.new) (memory_line bytes) result }
+    ensures { ReportsBy (E.reported errors.old) (E.reported errors.new) (memory_line bytes) result }
 {
     match write_text(errors, b"custody: out of memory while opening the file of ") {
         Ok(()) => write_bytes(errors, bytes),
@@ -163,7 +163,7 @@ fn note_memory<E: ErrorStream>(errors: &mut E, bytes: u64) -> io::Result<()>
 }
 
 fn write_bytes<E: ErrorStream>(errors: &mut E, bytes: u64) -> io::Result<()>
-    ensures { TellsBy (E.told errors.old) (E.told errors.new) (decimal bytes ++ codes " bytes\n") result }
+    ensures { ReportsBy (E.reported errors.old) (E.reported errors.new) (decimal bytes ++ codes " bytes\n") result }
 {
     let mut buffer = Buffer::new();
     let digits = buffer.format(bytes);
@@ -174,8 +174,8 @@ fn write_bytes<E: ErrorStream>(errors: &mut E, bytes: u64) -> io::Result<()>
 }
 
 /// Reports that there was not enough memory to open a file of this many bytes.
-pub fn tell_memory<E: ErrorStream>(errors: &mut E, bytes: u64)
-    ensures { Tells (E.told errors.old) (E.told errors.new) (memory_line bytes) }
+pub fn report_memory<E: ErrorStream>(errors: &mut E, bytes: u64)
+    ensures { Reports (E.reported errors.old) (E.reported errors.new) (memory_line bytes) }
 {
     let written = note_memory(errors, bytes);
     let _ = send_on(errors, written);
@@ -186,7 +186,7 @@ const UNTOLD: &str =
     "custody: the file has tables with this schema's names, but no schema version\n";
 
 fn write_version<E: ErrorStream>(errors: &mut E, version: u64) -> io::Result<()>
-    ensures { TellsBy (E.told errors.old) (E.told errors.new) (decimal version ++ version_end) result }
+    ensures { ReportsBy (E.reported errors.old) (E.reported errors.new) (decimal version ++ version_end) result }
 {
     let mut buffer = Buffer::new();
     let digits = buffer.format(version);
@@ -200,7 +200,7 @@ fn write_version<E: ErrorStream>(errors: &mut E, version: u64) -> io::Result<()>
 }
 
 fn note_version<E: ErrorStream>(errors: &mut E, version: u64) -> io::Result<()>
-    ensures { TellsBy (E.told errors.old) (E.told errors.new) (version_line version) result }
+    ensures { ReportsBy (E.reported errors.old) (E.reported errors.new) (version_line version) result }
 {
     match write_text(errors, b"custody: the file has version ") {
         Ok(()) => write_version(errors, version),
@@ -208,25 +208,25 @@ fn note_version<E: ErrorStream>(errors: &mut E, version: u64) -> io::Result<()>
     }
 }
 
-fn tell_version<E: ErrorStream>(errors: &mut E, version: u64)
-    ensures { Tells (E.told errors.old) (E.told errors.new) (version_line version) }
+fn report_version<E: ErrorStream>(errors: &mut E, version: u64)
+    ensures { Reports (E.reported errors.old) (E.reported errors.new) (version_line version) }
 {
     let written = note_version(errors, version);
     let _ = send_on(errors, written);
 }
 
 /// Reports what a file of another schema contains.
-pub fn tell_other<E: ErrorStream>(errors: &mut E, other: OtherSchema)
-    ensures { Tells (E.told errors.old) (E.told errors.new) (other_line other) }
+pub fn report_other<E: ErrorStream>(errors: &mut E, other: OtherSchema)
+    ensures { Reports (E.reported errors.old) (E.reported errors.new) (other_line other) }
 {
     match other {
-        OtherSchema::Version(version) => tell_version(errors, version),
-        OtherSchema::Untold => tell_untold(errors),
+        OtherSchema::Version(version) => report_version(errors, version),
+        OtherSchema::Unversioned => report_unversioned(errors),
     }
 }
 
-fn tell_untold<E: ErrorStream>(errors: &mut E)
-    ensures { Tells (E.told errors.old) (E.told errors.new) (other_line OtherSchema.Untold) }
+fn report_unversioned<E: ErrorStream>(errors: &mut E)
+    ensures { Reports (E.reported errors.old) (E.reported errors.new) (other_line OtherSchema.Unversioned) }
 {
     let _ = note(errors, UNTOLD);
 }

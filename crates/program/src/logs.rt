@@ -3,7 +3,7 @@ ghost use Rattle.std.specs.Prelude.{◌≡◌, OnOk};
 ghost use Rattle.std.specs.Io.KnownBytes.{Appends};
 ghost use Rattle.docs.specs.Logs.{log_line};
 ghost use Rattle.wire.specs.Links.{Writes};
-ghost use Rattle.program.specs.Logs.{end_word, row_text, tells_act, Logs};
+ghost use Rattle.program.specs.Logs.{end_word, row_text, names_act, Logs};
 ghost use Rattle.program.specs.Streams.{GetsFront};
 
 use basis::Down;
@@ -27,8 +27,8 @@ fn end_word(ended: Result<(), LinkFault>) -> &'static str
 }
 
 /// Whether an exchange's line names an act.
-pub fn tells_act(row: &Option<LogRow>) -> bool
-    ensures { result ≡ tells_act row.now }
+pub fn names_act(row: &Option<LogRow>) -> bool
+    ensures { result ≡ names_act row.now }
 {
     match row {
         Some(row) => row.act.is_some(),
@@ -75,14 +75,14 @@ fn send_line<O: Write>(output: &mut O, line: &[u8]) -> Result<(), Down>
 fn write_line<O: Write>(
     alloc: Global,
     output: &mut O,
-    place: u64,
+    connection: u64,
     end: &str,
     row: &LogRow,
 ) -> Result<(), Down>
-    ensures whole { OnOk result (Appends (O.contents output.old) (O.contents output.new) (log_line place end.now row.now)) }
-    ensures front { GetsFront (O.contents output.old) (O.contents output.new) (log_line place end.now row.now) }
+    ensures whole { OnOk result (Appends (O.contents output.old) (O.contents output.new) (log_line connection end.now row.now)) }
+    ensures front { GetsFront (O.contents output.old) (O.contents output.new) (log_line connection end.now row.now) }
 {
-    match write_log_line(alloc, place, end, row) {
+    match write_log_line(alloc, connection, end, row) {
         Ok(line) => send_line(output, line.as_slice()),
         Err(_) => Err(Down),
     }
@@ -93,15 +93,15 @@ fn write_line<O: Write>(
 fn write_row<O: Write>(
     alloc: Global,
     output: &mut O,
-    place: u64,
+    connection: u64,
     ended: Result<(), LinkFault>,
     row: &Option<LogRow>,
 ) -> Result<(), Down>
-    ensures whole { OnOk result (Appends (O.contents output.old) (O.contents output.new) (row_text place ended row.now)) }
-    ensures front { GetsFront (O.contents output.old) (O.contents output.new) (row_text place ended row.now) }
+    ensures whole { OnOk result (Appends (O.contents output.old) (O.contents output.new) (row_text connection ended row.now)) }
+    ensures front { GetsFront (O.contents output.old) (O.contents output.new) (row_text connection ended row.now) }
 {
     match row {
-        Some(row) => write_line(alloc, output, place, end_word(ended), row),
+        Some(row) => write_line(alloc, output, connection, end_word(ended), row),
         None => Ok(()),
     }
 }
@@ -111,16 +111,16 @@ pub fn log_row<O: Write>(
     alloc: Global,
     output: &mut O,
     logs: bool,
-    place: u64,
+    connection: u64,
     ended: Result<(), LinkFault>,
     row: &Option<LogRow>,
 ) -> bool
-    ensures { Logs logs result (row_text place ended row.now) (O.contents output.old) (O.contents output.new) }
+    ensures { Logs logs result (row_text connection ended row.now) (O.contents output.old) (O.contents output.new) }
 {
     if !logs {
         return true;
     }
-    match write_row(alloc, output, place, ended, row) {
+    match write_row(alloc, output, connection, ended, row) {
         Ok(()) => true,
         Err(_) => false,
     }

@@ -1,11 +1,11 @@
 //! Files that are opened and closed, and what is told of them.
 ghost use Rattle.std.specs.Prelude.{◌≡◌, IfOk, IfErr};
 ghost use Rattle.program.specs.Errors.{other_line, memory_line};
-ghost use Rattle.program.specs.Streams.{Tells};
-ghost use Rattle.program.specs.Outcomes.{stream, error_stream, IsSaid, TellsOfNew, TellsOfReaders, TellsOfFile, RefusesToOpen, Opens, Closes, ClosesBoth, seen_at};
+ghost use Rattle.program.specs.Streams.{Reports};
+ghost use Rattle.program.specs.Outcomes.{stream, error_stream, IsSaid, ReportsOfNew, ReportsOfReaders, ReportsOfFile, RefusesToOpen, Opens, Closes, ClosesBoth, seen_at};
 
 use crate::environment::{Files, Opening};
-use crate::errors::{note, tell_memory, tell_other};
+use crate::errors::{note, report_memory, report_other};
 use crate::exits::Exit;
 use crate::reasons::{Cause, OpenFault, OtherSchema};
 use crate::replies::{refuse, say};
@@ -24,27 +24,27 @@ const OTHERS_READ: &str =
 /// The line for a file that was created.
 const NEW_FILE: &str = "custody: there was no file at the path; a new one was created\n";
 
-fn tell_of_readers<E: ErrorStream>(errors: &mut E, others_may_read: bool)
-    ensures { TellsOfReaders others_may_read (error_stream (E.told errors.old) (E.told errors.new)) }
+fn report_of_readers<E: ErrorStream>(errors: &mut E, others_may_read: bool)
+    ensures { ReportsOfReaders others_may_read (error_stream (E.reported errors.old) (E.reported errors.new)) }
 {
     if others_may_read {
         let _ = note(errors, OTHERS_READ);
     }
 }
 
-fn tell_of_new<E: ErrorStream>(errors: &mut E, is_new: bool)
-    ensures { TellsOfNew is_new (error_stream (E.told errors.old) (E.told errors.new)) }
+fn report_of_new<E: ErrorStream>(errors: &mut E, is_new: bool)
+    ensures { ReportsOfNew is_new (error_stream (E.reported errors.old) (E.reported errors.new)) }
 {
     if is_new {
         let _ = note(errors, NEW_FILE);
     }
 }
 
-fn tell_of_file<E: ErrorStream>(errors: &mut E, is_new: bool, others_may_read: bool)
-    ensures { TellsOfFile is_new others_may_read (error_stream (E.told errors.old) (E.told errors.new)) }
+fn report_of_file<E: ErrorStream>(errors: &mut E, is_new: bool, others_may_read: bool)
+    ensures { ReportsOfFile is_new others_may_read (error_stream (E.reported errors.old) (E.reported errors.new)) }
 {
-    tell_of_new(errors, is_new);
-    tell_of_readers(errors, others_may_read);
+    report_of_new(errors, is_new);
+    report_of_readers(errors, others_may_read);
 }
 
 /// The cause, with `NoFolder` as `NoTargetFolder` if the path came with `--to`.
@@ -63,17 +63,17 @@ fn refuse_other<O: Write, E: ErrorStream>(
     other: OtherSchema,
 ) -> Exit
     ensures schema { IsSaid Exit.Schema result (O.contents output.old) (O.contents output.new) }
-    ensures why { Tells (E.told errors.old) (E.told errors.new) (other_line other) }
+    ensures why { Reports (E.reported errors.old) (E.reported errors.new) (other_line other) }
 {
-    tell_other(errors, other);
+    report_other(errors, other);
     say(output, Exit::Schema)
 }
 
 fn refuse_memory<O: Write, E: ErrorStream>(output: &mut O, errors: &mut E, bytes: u64) -> Exit
     ensures said { IsSaid Exit.Down result (O.contents output.old) (O.contents output.new) }
-    ensures why { Tells (E.told errors.old) (E.told errors.new) (memory_line bytes) }
+    ensures why { Reports (E.reported errors.old) (E.reported errors.new) (memory_line bytes) }
 {
-    tell_memory(errors, bytes);
+    report_memory(errors, bytes);
     say(output, Exit::Down)
 }
 
@@ -85,14 +85,14 @@ pub fn open_one<K: Keep, F: Files<K>, O: Write, E: ErrorStream>(
     output: &mut O,
     errors: &mut E,
 ) -> Result<K, Exit>
-    ensures opened { IfOk result (λ store. Opens K.Keep F.Files path.now opening files.old files.new store (error_stream (E.told errors.old) (E.told errors.new)) × (O.contents output.new ≡ O.contents output.old)) }
-    ensures refused { IfErr result (λ exit. RefusesToOpen K.Keep F.Files path.now opening files.old files.new exit (stream (O.contents output.old) (O.contents output.new)) (error_stream (E.told errors.old) (E.told errors.new))) }
+    ensures opened { IfOk result (λ store. Opens K.Keep F.Files path.now opening files.old files.new store (error_stream (E.reported errors.old) (E.reported errors.new)) × (O.contents output.new ≡ O.contents output.old)) }
+    ensures refused { IfErr result (λ exit. RefusesToOpen K.Keep F.Files path.now opening files.old files.new exit (stream (O.contents output.old) (O.contents output.new)) (error_stream (E.reported errors.old) (E.reported errors.new))) }
 {
     let is_new = files.is_absent(path);
     let others_may_read = files.others_may_read(path);
     match files.open(path, opening) {
         Ok(store) => {
-            tell_of_file(errors, is_new, others_may_read);
+            report_of_file(errors, is_new, others_may_read);
             Ok(store)
         }
         Err(OpenFault::Schema(other)) => Err(refuse_other(output, errors, other)),
@@ -108,7 +108,7 @@ pub fn close_after<K: Keep, F: Files<K>, E: ErrorStream>(
     store: K,
     errors: &mut E,
 )
-    ensures { Closes K.Keep F.Files path.now files.old files.new store (error_stream (E.told errors.old) (E.told errors.new)) }
+    ensures { Closes K.Keep F.Files path.now files.old files.new store (error_stream (E.reported errors.old) (E.reported errors.new)) }
 {
     if files.close(path, store).is_err() {
         let _ = note(errors, LOG_STAYS);
@@ -124,7 +124,7 @@ pub fn close_both<K: Keep, F: Files<K>, E: ErrorStream>(
     target: K,
     errors: &mut E,
 )
-    ensures { ClosesBoth K.Keep F.Files from.now to.now files.old files.new source target (error_stream (E.told errors.old) (E.told errors.new)) }
+    ensures { ClosesBoth K.Keep F.Files from.now to.now files.old files.new source target (error_stream (E.reported errors.old) (E.reported errors.new)) }
 {
     close_after(files, to, target, errors);
     close_after(files, from, source, errors);

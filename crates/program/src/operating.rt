@@ -2,9 +2,9 @@
 ghost use Rattle.std.specs.Prelude.{◌≡◌, ◌⊎◌, ◌<◌, IfOk, OnOk, IsErrOf, length};
 ghost use Rattle.program.specs.declared.reasons.Cause.{Cause as AnyCause};
 ghost use Rattle.command_line.specs.Orders.{with_secret};
-ghost use Rattle.machine.specs.Keeping.{Looks, Lasts};
-ghost use Rattle.program.specs.Streams.{Tells};
-ghost use Rattle.program.specs.Outcomes.{stream, error_stream, AnswersLine, AnswersList, AnswersTokens, TellsList, TellsTokens, TellsAnswer, IsOperated, AnswersCommand, HasSecret, HasNoSecret, IsSecretOf, AddsToken, OperatesAt, AddsTokenAt, TellsCause, opening_of, FailsAs, HasFailed};
+ghost use Rattle.machine.specs.StoreCalls.{Unchanged, Lasts};
+ghost use Rattle.program.specs.Streams.{Reports};
+ghost use Rattle.program.specs.Outcomes.{stream, error_stream, AnswersLine, AnswersList, AnswersTokens, ReportsList, ReportsTokens, ReportsAnswer, IsOperated, AnswersCommand, HasSecret, HasNoSecret, IsSecretOf, AddsToken, OperatesAt, AddsTokenAt, ReportsCause, opening_of, FailsAs, HasFailed};
 ghost use Rattle.program.specs.Inner.Outcomes.{IsSaidWhy};
 
 use crate::environment::{Files, Opening};
@@ -34,8 +34,8 @@ pub fn say_why<O: Write, E: ErrorStream>(
     exit: Exit,
     why: &str,
 ) -> Exit
-    ensures said { 0 < length why.now → IsSaidWhy exit result (stream (O.contents output.old) (O.contents output.new)) (error_stream (E.told errors.old) (E.told errors.new)) }
-    ensures told { Tells (E.told errors.old) (E.told errors.new) why.now }
+    ensures said { 0 < length why.now → IsSaidWhy exit result (stream (O.contents output.old) (O.contents output.new)) (error_stream (E.reported errors.old) (E.reported errors.new)) }
+    ensures reported { Reports (E.reported errors.old) (E.reported errors.new) why.now }
 {
     let noted = note(errors, why);
     let said = say(output, exit);
@@ -47,7 +47,7 @@ pub fn say_why<O: Write, E: ErrorStream>(
 
 fn say_list<O: Write>(output: &mut O, answer: &AdminAnswer) -> Exit
     ensures line { AnswersList result (stream (O.contents output.old) (O.contents output.new)) }
-    ensures tells { TellsList answer.now result (stream (O.contents output.old) (O.contents output.new)) }
+    ensures reports { ReportsList answer.now result (stream (O.contents output.old) (O.contents output.new)) }
 {
     match answer {
         AdminAnswer::Organizations(rows) => match print_organizations(output, rows.as_slice()) {
@@ -61,7 +61,7 @@ fn say_list<O: Write>(output: &mut O, answer: &AdminAnswer) -> Exit
 
 fn say_tokens<O: Write>(output: &mut O, answer: &AdminAnswer) -> Exit
     ensures line { AnswersTokens result (stream (O.contents output.old) (O.contents output.new)) }
-    ensures tells { TellsTokens answer.now result (stream (O.contents output.old) (O.contents output.new)) }
+    ensures reports { ReportsTokens answer.now result (stream (O.contents output.old) (O.contents output.new)) }
 {
     match answer {
         AdminAnswer::Tokens(rows) => match print_tokens(output, rows.as_slice()) {
@@ -76,7 +76,7 @@ fn say_tokens<O: Write>(output: &mut O, answer: &AdminAnswer) -> Exit
 
 fn say_answer<O: Write>(output: &mut O, command: &Admin, answer: &AdminAnswer) -> Exit
     ensures line { AnswersCommand command.now result (stream (O.contents output.old) (O.contents output.new)) }
-    ensures tells { TellsAnswer command.now answer.now result (stream (O.contents output.old) (O.contents output.new)) }
+    ensures reports { ReportsAnswer command.now answer.now result (stream (O.contents output.old) (O.contents output.new)) }
 {
     match command {
         Admin::OrgList => say_list(output, answer),
@@ -92,7 +92,7 @@ fn say_answer<O: Write>(output: &mut O, command: &Admin, answer: &AdminAnswer) -
 /// Why a store failed: a disk error closed it, so a change that was under way may have been made; or it is still open, and no
 /// record changed; or there was no memory to find out which.
 pub fn failure<K: Keep, F: Files<K>>(files: &F, store: &mut K) -> Cause
-    ensures looks { Looks K.rows K.clean K.sound K.keyed K.shielded store.old store.new }
+    ensures unchanged { Unchanged K.rows K.clean K.sound K.keyed K.shielded store.old store.new }
     ensures fails { FailsAs K.Keep F.Files store.old store.new result }
 {
     match files.is_shut(store) {
@@ -114,8 +114,8 @@ pub fn operate_on<K: Keep, F: Files<K>, O: Write, E: ErrorStream>(
 ) -> Exit
     ensures lasts { Lasts K.clean K.sound K.keyed K.shielded service.old.keep service.new.keep }
     ensures line { AnswersCommand command.now result (stream (O.contents output.old) (O.contents output.new)) }
-    ensures model { K.clean service.new.keep → K.sound service.old.keep → IsOperated (HasFailed K.Keep F.Files service.new.keep) command.now (K.rows service.old.keep) (K.rows service.new.keep) result (stream (O.contents output.old) (O.contents output.new)) (error_stream (E.told errors.old) (E.told errors.new)) }
-    ensures why { (E.told errors.new ≡ E.told errors.old) ⊎ ((why : AnyCause) × HasFailed K.Keep F.Files service.new.keep why × TellsCause why (error_stream (E.told errors.old) (E.told errors.new))) }
+    ensures model { K.clean service.new.keep → K.sound service.old.keep → IsOperated (HasFailed K.Keep F.Files service.new.keep) command.now (K.rows service.old.keep) (K.rows service.new.keep) result (stream (O.contents output.old) (O.contents output.new)) (error_stream (E.reported errors.old) (E.reported errors.new)) }
+    ensures why { (E.reported errors.new ≡ E.reported errors.old) ⊎ ((why : AnyCause) × HasFailed K.Keep F.Files service.new.keep why × ReportsCause why (error_stream (E.reported errors.old) (E.reported errors.new))) }
 {
     match service.admin(alloc, Moment::new(0).unwrap(), command) {
         Ok(answer) => say_answer(output, command, &answer),
@@ -137,8 +137,8 @@ fn operate<K: Keep, F: Files<K>, O: Write, E: ErrorStream>(
 ) -> (Exit, K)
     ensures lasts { Lasts K.clean K.sound K.keyed K.shielded keep result.1 }
     ensures line { AnswersCommand command.now result.0 (stream (O.contents output.old) (O.contents output.new)) }
-    ensures model { K.clean result.1 → K.sound keep → IsOperated (HasFailed K.Keep F.Files result.1) command.now (K.rows keep) (K.rows result.1) result.0 (stream (O.contents output.old) (O.contents output.new)) (error_stream (E.told errors.old) (E.told errors.new)) }
-    ensures why { (E.told errors.new ≡ E.told errors.old) ⊎ ((why : AnyCause) × HasFailed K.Keep F.Files result.1 why × TellsCause why (error_stream (E.told errors.old) (E.told errors.new))) }
+    ensures model { K.clean result.1 → K.sound keep → IsOperated (HasFailed K.Keep F.Files result.1) command.now (K.rows keep) (K.rows result.1) result.0 (stream (O.contents output.old) (O.contents output.new)) (error_stream (E.reported errors.old) (E.reported errors.new)) }
+    ensures why { (E.reported errors.new ≡ E.reported errors.old) ⊎ ((why : AnyCause) × HasFailed K.Keep F.Files result.1 why × ReportsCause why (error_stream (E.reported errors.old) (E.reported errors.new))) }
 {
     let mut service = Service::new(keep);
     let exit = operate_on(alloc, files, &mut service, command, output, errors);
@@ -166,7 +166,7 @@ pub fn carry_out<K: Keep, F: Files<K>, O: Write, E: ErrorStream>(
     errors: &mut E,
 ) -> Exit
     ensures line { AnswersCommand command.now result (stream (O.contents output.old) (O.contents output.new)) }
-    ensures operates { OperatesAt K.Keep F.Files db.now command.now files.old files.new result (stream (O.contents output.old) (O.contents output.new)) (error_stream (E.told errors.old) (E.told errors.new)) }
+    ensures operates { OperatesAt K.Keep F.Files db.now command.now files.old files.new result (stream (O.contents output.old) (O.contents output.new)) (error_stream (E.reported errors.old) (E.reported errors.new)) }
 {
     let store = match open_one(files, db, opening_of(command), output, errors) {
         Ok(store) => store,
@@ -187,7 +187,7 @@ fn add_token<K: Keep, F: Files<K>, O: Write, E: ErrorStream>(
     errors: &mut E,
 ) -> Exit
     ensures line { AnswersLine result (stream (O.contents output.old) (O.contents output.new)) }
-    ensures operates { OperatesAt K.Keep F.Files db.now (with_secret token secret) files.old files.new result (stream (O.contents output.old) (O.contents output.new)) (error_stream (E.told errors.old) (E.told errors.new)) }
+    ensures operates { OperatesAt K.Keep F.Files db.now (with_secret token secret) files.old files.new result (stream (O.contents output.old) (O.contents output.new)) (error_stream (E.reported errors.old) (E.reported errors.new)) }
 {
     let command = token.with_secret(secret);
     carry_out(alloc, files, db, &command, output, errors)
@@ -214,8 +214,8 @@ pub fn read_and_add<K: Keep, F: Files<K>, I: Read, O: Write, E: ErrorStream>(
     output: &mut O,
     errors: &mut E,
 ) -> Exit
-    ensures line { AddsToken (I.remaining input.old) result (stream (O.contents output.old) (O.contents output.new)) (error_stream (E.told errors.old) (E.told errors.new)) }
-    ensures adds { AddsTokenAt K.Keep F.Files db.now (with_secret token) (I.remaining input.old) files.old files.new result (stream (O.contents output.old) (O.contents output.new)) (error_stream (E.told errors.old) (E.told errors.new)) }
+    ensures line { AddsToken (I.remaining input.old) result (stream (O.contents output.old) (O.contents output.new)) (error_stream (E.reported errors.old) (E.reported errors.new)) }
+    ensures adds { AddsTokenAt K.Keep F.Files db.now (with_secret token) (I.remaining input.old) files.old files.new result (stream (O.contents output.old) (O.contents output.new)) (error_stream (E.reported errors.old) (E.reported errors.new)) }
 {
     match input_secret(alloc, input) {
         Ok(secret) => add_token(alloc, files, db, token, secret, output, errors),

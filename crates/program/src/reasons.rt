@@ -132,7 +132,7 @@ pub enum OtherSchema {
     /// It has this schema version, which is unknown here, or its tables are different.
     Version(u64),
     /// It has tables with our names, but no schema version.
-    Untold,
+    Unversioned,
 }
 
 /// Why a file was not opened.

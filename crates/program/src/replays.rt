@@ -4,7 +4,7 @@ ghost use Rattle.std.specs.Io.KnownBytes.{Appends};
 ghost use Rattle.program.specs.Replies.{printed, bad_frame_text, AreReplies, AnswersFrames};
 ghost use Rattle.program.specs.Exits.{status_of};
 ghost use Rattle.program.specs.Outcomes.{stream, error_stream, ReplaysFrames};
-ghost use Rattle.program.specs.Streams.{GetsWhole};
+ghost use Rattle.program.specs.Streams.{GetsAll};
 ghost use Rattle.program.specs.declared.exits.Exit.{Exit};
 
 use crate::environment::Files;
@@ -82,7 +82,7 @@ fn print_all<O: Write>(output: &mut O, replies: &[Bytes]) -> io::Result<()>
 
 fn end_at<E: ErrorStream>(errors: &mut E, bad_frame: Option<usize>) -> Exit
     ensures done { bad_frame ≡ None → result ≡ Exit.Done }
-    ensures bad { IfSome bad_frame (λ frame. ((result ≡ Exit.BadFrame) × GetsWhole (E.told errors.old) (E.told errors.new) (bad_frame_text frame)) ⊎ (result ≡ Exit.Unprinted)) }
+    ensures bad { IfSome bad_frame (λ frame. ((result ≡ Exit.BadFrame) × GetsAll (E.reported errors.old) (E.reported errors.new) (bad_frame_text frame)) ⊎ (result ≡ Exit.Unprinted)) }
 {
     match bad_frame {
         None => Exit::Done,
@@ -101,7 +101,7 @@ pub fn replay_frames<K: Keep, F: Files<K>, I: Read, O: Write, E: ErrorStream>(
     output: &mut O,
     errors: &mut E,
 ) -> Exit
-    ensures { ReplaysFrames (I.remaining input.old) result (stream (O.contents output.old) (O.contents output.new)) (error_stream (E.told errors.old) (E.told errors.new)) }
+    ensures { ReplaysFrames (I.remaining input.old) result (stream (O.contents output.old) (O.contents output.new)) (error_stream (E.reported errors.old) (E.reported errors.new)) }
 {
     let Ok(replay) = answer_input::<K, F, I>(alloc, files, input) else {
         return refuse(output, errors, Cause::Input);
@@ -120,7 +120,7 @@ pub fn run_frames<K: Keep, F: Files<K>, I: Read, O: Write, E: ErrorStream>(
     output: &mut O,
     errors: &mut E,
 ) -> u8
-    ensures { (exit : Exit) × (result ≡ status_of exit) × ReplaysFrames (I.remaining input.old) exit (stream (O.contents output.old) (O.contents output.new)) (error_stream (E.told errors.old) (E.told errors.new)) }
+    ensures { (exit : Exit) × (result ≡ status_of exit) × ReplaysFrames (I.remaining input.old) exit (stream (O.contents output.old) (O.contents output.new)) (error_stream (E.reported errors.old) (E.reported errors.new)) }
 {
     replay_frames::<K, F, I, O, E>(alloc, files, input, output, errors).status()
 }

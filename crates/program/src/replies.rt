@@ -3,12 +3,12 @@ ghost use Rattle.std.specs.Prelude.{OnOk};
 ghost use Rattle.std.specs.Io.KnownBytes.{Appends};
 ghost use Rattle.program.specs.Errors.{cause_line};
 ghost use Rattle.program.specs.Replies.{reply_frame, printed, answer_line, fault_lines};
-ghost use Rattle.program.specs.Streams.{Tells};
+ghost use Rattle.program.specs.Streams.{Reports};
 ghost use Rattle.program.specs.Totals.{sound_text, version_text};
-ghost use Rattle.program.specs.Outcomes.{stream, IsSaid, AnswersLine, TellsWord};
+ghost use Rattle.program.specs.Outcomes.{stream, IsSaid, AnswersLine, ReportsWord};
 ghost use Rattle.serve.specs.Service.{org_lines, token_lines};
 
-use crate::errors::tell_cause;
+use crate::errors::report_cause;
 use crate::exits::Exit;
 use crate::reasons::Cause;
 use crate::streams::ErrorStream;
@@ -99,18 +99,18 @@ pub fn say<O: Write>(output: &mut O, exit: Exit) -> Exit
 /// Prints the cause to the error stream and `refused down` to standard output.
 pub fn refuse<O: Write, E: ErrorStream>(output: &mut O, errors: &mut E, cause: Cause) -> Exit
     ensures said { IsSaid Exit.Down result (O.contents output.old) (O.contents output.new) }
-    ensures why { Tells (E.told errors.old) (E.told errors.new) (cause_line cause) }
+    ensures why { Reports (E.reported errors.old) (E.reported errors.new) (cause_line cause) }
 {
-    tell_cause(errors, cause);
+    report_cause(errors, cause);
     say(output, Exit::Down)
 }
 
 /// Prints the cause to the error stream and `refused usage` to standard output.
 pub fn refuse_usage<O: Write, E: ErrorStream>(output: &mut O, errors: &mut E, cause: Cause) -> Exit
     ensures said { IsSaid Exit.Usage result (O.contents output.old) (O.contents output.new) }
-    ensures why { Tells (E.told errors.old) (E.told errors.new) (cause_line cause) }
+    ensures why { Reports (E.reported errors.old) (E.reported errors.new) (cause_line cause) }
 {
-    tell_cause(errors, cause);
+    report_cause(errors, cause);
     say(output, Exit::Usage)
 }
 
@@ -133,7 +133,7 @@ pub fn print_tokens<O: Write>(output: &mut O, rows: &[TokenRow]) -> io::Result<(
 /// Prints the word of an answer, and returns how the program then ends. A list has no word.
 pub fn say_word<O: Write>(output: &mut O, answer: &AdminAnswer) -> Exit
     ensures line { AnswersLine result (stream (O.contents output.old) (O.contents output.new)) }
-    ensures tells { TellsWord answer.now result (stream (O.contents output.old) (O.contents output.new)) }
+    ensures reports { ReportsWord answer.now result (stream (O.contents output.old) (O.contents output.new)) }
 {
     match answer {
         AdminAnswer::Done => say(output, Exit::Done),

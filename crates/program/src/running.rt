@@ -3,7 +3,7 @@ ghost use Rattle.std.specs.Prelude.{◌≡◌, ◌<◌, ℕ, List, length, Optio
 ghost use Rattle.program.specs.Exits.{status_of};
 ghost use Rattle.command_line.specs.Orders.{said_by};
 ghost use Rattle.command_line.specs.Words.{words_bytes, IsWhy, AskForHelp, AreNoCommand};
-ghost use Rattle.program.specs.Outcomes.{stream, error_stream, Does, TellsVersion, RefusesWords, environment, Leaves, Runs, RunsOver, TellsEnd};
+ghost use Rattle.program.specs.Outcomes.{stream, error_stream, Does, ReportsVersion, RefusesWords, environment, Leaves, Runs, RunsOver, ReportsEnd};
 ghost use Rattle.program.specs.declared.exits.Exit.{Exit};
 
 use crate::carrying::read_and_carry;
@@ -28,7 +28,7 @@ const UNPRINTED: &str =
     "custody: not everything could be printed to standard output or standard error\n";
 
 fn say_version<O: Write>(output: &mut O, schema: u64) -> Exit
-    ensures { TellsVersion schema result (stream (O.contents output.old) (O.contents output.new)) }
+    ensures { ReportsVersion schema result (stream (O.contents output.old) (O.contents output.new)) }
 {
     match print_version(output, schema) {
         Ok(()) => Exit::Done,
@@ -46,8 +46,8 @@ fn run_order<K: Keep, F: Files<K>, N: Connections, C: Clock, I: Read, O: Write, 
     output: &mut O,
     errors: &mut E,
 ) -> Exit
-    ensures does { Does F.newest (said_by order.entry) (I.remaining input.old) result (stream (O.contents output.old) (O.contents output.new)) (error_stream (E.told errors.old) (E.told errors.new)) }
-    ensures leaves { Leaves K.Keep F.Files N.Connections C.Clock N.Reader.Inlet N.Writer.Outlet (said_by order.entry) (I.remaining input.old) (environment files.old network.old clock.old) (environment files.new network.new clock.new) result (stream (O.contents output.old) (O.contents output.new)) (error_stream (E.told errors.old) (E.told errors.new)) }
+    ensures does { Does F.newest (said_by order.entry) (I.remaining input.old) result (stream (O.contents output.old) (O.contents output.new)) (error_stream (E.reported errors.old) (E.reported errors.new)) }
+    ensures leaves { Leaves K.Keep F.Files N.Connections C.Clock N.Reader.Inlet N.Writer.Outlet (said_by order.entry) (I.remaining input.old) (environment files.old network.old clock.old) (environment files.new network.new clock.new) result (stream (O.contents output.old) (O.contents output.new)) (error_stream (E.reported errors.old) (E.reported errors.new)) }
 {
     match order {
         Order::Carry { db, command } => carry_out(alloc, files, db, &command, output, errors),
@@ -75,8 +75,8 @@ fn run_order<K: Keep, F: Files<K>, N: Connections, C: Clock, I: Read, O: Write, 
     }
 }
 
-fn tell_help<E: ErrorStream>(errors: &mut E, help: &str) -> Exit
-    ensures { (words : List (List ℕ)) (output : Option (List ℕ)) → AskForHelp words → 0 < length help.now → RefusesWords words result (stream output output) (error_stream (E.told errors.old) (E.told errors.new)) }
+fn report_help<E: ErrorStream>(errors: &mut E, help: &str) -> Exit
+    ensures { (words : List (List ℕ)) (output : Option (List ℕ)) → AskForHelp words → 0 < length help.now → RefusesWords words result (stream output output) (error_stream (E.reported errors.old) (E.reported errors.new)) }
 {
     match note(errors, help) {
         Ok(()) => Exit::Done,
@@ -85,16 +85,16 @@ fn tell_help<E: ErrorStream>(errors: &mut E, help: &str) -> Exit
 }
 
 fn refuse_error<O: Write, E: ErrorStream>(output: &mut O, errors: &mut E, text: &str) -> Exit
-    ensures { (words : List (List ℕ)) → AreNoCommand words → 0 < length text.now → RefusesWords words result (stream (O.contents output.old) (O.contents output.new)) (error_stream (E.told errors.old) (E.told errors.new)) }
+    ensures { (words : List (List ℕ)) → AreNoCommand words → 0 < length text.now → RefusesWords words result (stream (O.contents output.old) (O.contents output.new)) (error_stream (E.reported errors.old) (E.reported errors.new)) }
 {
     say_why(output, errors, Exit::Usage, text)
 }
 
 fn refuse_words<O: Write, E: ErrorStream>(output: &mut O, errors: &mut E, why: Unasked) -> Exit
-    ensures { (words : List (List ℕ)) → IsWhy words why → RefusesWords words result (stream (O.contents output.old) (O.contents output.new)) (error_stream (E.told errors.old) (E.told errors.new)) }
+    ensures { (words : List (List ℕ)) → IsWhy words why → RefusesWords words result (stream (O.contents output.old) (O.contents output.new)) (error_stream (E.reported errors.old) (E.reported errors.new)) }
 {
     match why {
-        Unasked::Help(help) => tell_help(errors, help.as_str()),
+        Unasked::Help(help) => report_help(errors, help.as_str()),
         Unasked::Words(text) => refuse_error(output, errors, text.as_str()),
         Unasked::Value(argument) => say_why(output, errors, Exit::Usage, argument.line()),
         Unasked::Down => refuse(output, errors, Cause::NoMemory),
@@ -111,7 +111,7 @@ fn run<K: Keep, F: Files<K>, N: Connections, C: Clock, I: Read, O: Write, E: Err
     output: &mut O,
     errors: &mut E,
 ) -> Exit
-    ensures { RunsOver K.Keep F.Files N.Connections C.Clock N.Reader.Inlet N.Writer.Outlet (words_bytes words.now) (I.remaining input.old) (environment files.old network.old clock.old) (environment files.new network.new clock.new) result (stream (O.contents output.old) (O.contents output.new)) (error_stream (E.told errors.old) (E.told errors.new)) }
+    ensures { RunsOver K.Keep F.Files N.Connections C.Clock N.Reader.Inlet N.Writer.Outlet (words_bytes words.now) (I.remaining input.old) (environment files.old network.old clock.old) (environment files.new network.new clock.new) result (stream (O.contents output.old) (O.contents output.new)) (error_stream (E.reported errors.old) (E.reported errors.new)) }
 {
     match read_words(alloc, words) {
         Ok(order) => run_order(alloc, files, network, clock, order, input, output, errors),
@@ -120,8 +120,8 @@ fn run<K: Keep, F: Files<K>, N: Connections, C: Clock, I: Read, O: Write, E: Err
 }
 
 // Where a stream took not all, the error stream is told so.
-fn tell_end<E: ErrorStream>(errors: &mut E, exit: Exit)
-    ensures { TellsEnd exit (error_stream (E.told errors.old) (E.told errors.new)) }
+fn report_end<E: ErrorStream>(errors: &mut E, exit: Exit)
+    ensures { ReportsEnd exit (error_stream (E.reported errors.old) (E.reported errors.new)) }
 {
     if exit == Exit::Unprinted {
         let _ = note(errors, UNPRINTED);
@@ -139,9 +139,9 @@ pub fn run_words<K: Keep, F: Files<K>, N: Connections, C: Clock, I: Read, O: Wri
     output: &mut O,
     errors: &mut E,
 ) -> u8
-    ensures { (exit : Exit) × (result ≡ status_of exit) × Runs K.Keep F.Files N.Connections C.Clock N.Reader.Inlet N.Writer.Outlet (words_bytes words.now) (I.remaining input.old) (environment files.old network.old clock.old) (environment files.new network.new clock.new) exit (stream (O.contents output.old) (O.contents output.new)) (error_stream (E.told errors.old) (E.told errors.new)) }
+    ensures { (exit : Exit) × (result ≡ status_of exit) × Runs K.Keep F.Files N.Connections C.Clock N.Reader.Inlet N.Writer.Outlet (words_bytes words.now) (I.remaining input.old) (environment files.old network.old clock.old) (environment files.new network.new clock.new) exit (stream (O.contents output.old) (O.contents output.new)) (error_stream (E.reported errors.old) (E.reported errors.new)) }
 {
     let exit = run(alloc, files, network, clock, words, input, output, errors);
-    tell_end(errors, exit);
+    report_end(errors, exit);
     exit.status()
 }

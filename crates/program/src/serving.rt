@@ -2,18 +2,18 @@
 
 ghost use Rattle.std.specs.Prelude.{◌≡◌, ◌++◌, ℕ, List, Ok, Some, IfOk, IfErr, IfSome, OnOk, true, false};
 ghost use Rattle.std.specs.Io.KnownBytes.{Appends, Consumes};
-ghost use Rattle.machine.specs.Keeping.{Lasts};
+ghost use Rattle.machine.specs.StoreCalls.{Lasts};
 ghost use Rattle.serve.specs.Doors.{ExchangesWith};
-ghost use Rattle.serve.specs.Exchanges.{ChangesAsTold};
+ghost use Rattle.serve.specs.Exchanges.{ChangesAsLogged};
 ghost use Rattle.program.specs.Errors.{GetsConnectionLines, fault_text, down_line, fault_line};
-ghost use Rattle.program.specs.Serving.{listening_line, ListensAt, Serves, state, AcceptsNone, AnswersOne, Answers, AfterReply, AnswersNext, EndsEarly, AnswersCount, LogTellsChanges};
-ghost use Rattle.program.specs.Streams.{TellsBy};
+ghost use Rattle.program.specs.Serving.{listening_line, ListensAt, Serves, state, AcceptsNone, AnswersOne, Answers, AfterReply, AnswersNext, EndsEarly, AnswersCount, LogReportsChanges};
+ghost use Rattle.program.specs.Streams.{ReportsBy};
 ghost use Rattle.program.specs.Inner.Serving.{TakesOne};
 
 use crate::environment::{Clock, Connections, Files};
-use crate::errors::{send_on, tell_cause, write_line};
+use crate::errors::{report_cause, send_on, write_line};
 use crate::exits::Exit;
-use crate::logs::{log_row, tells_act};
+use crate::logs::{log_row, names_act};
 use crate::reasons::Cause;
 use crate::streams::ErrorStream;
 use basis::Moment;
@@ -50,48 +50,53 @@ fn fault_text(fault: LinkFault) -> &'static str
 
 const DOWN: &str = "out of memory or the store failed; replied 503";
 
-fn tell_down<E: ErrorStream>(errors: &mut E, place: u64, is_down: bool) -> io::Result<()>
-    ensures { TellsBy (E.told errors.old) (E.told errors.new) (down_line place is_down) result }
+fn report_down<E: ErrorStream>(errors: &mut E, connection: u64, is_down: bool) -> io::Result<()>
+    ensures { ReportsBy (E.reported errors.old) (E.reported errors.new) (down_line connection is_down) result }
 {
     if is_down {
-        write_line(errors, place, DOWN)
+        write_line(errors, connection, DOWN)
     } else {
         Ok(())
     }
 }
 
-fn tell_fault<E: ErrorStream>(
+fn report_fault<E: ErrorStream>(
     errors: &mut E,
-    place: u64,
+    connection: u64,
     ended: Result<(), LinkFault>,
 ) -> io::Result<()>
-    ensures { TellsBy (E.told errors.old) (E.told errors.new) (fault_line place ended) result }
+    ensures { ReportsBy (E.reported errors.old) (E.reported errors.new) (fault_line connection ended) result }
 {
     match ended {
         Ok(()) => Ok(()),
-        Err(fault) => write_line(errors, place, fault_text(fault)),
+        Err(fault) => write_line(errors, connection, fault_text(fault)),
     }
 }
 
 fn write_lines<E: ErrorStream>(
     errors: &mut E,
-    place: u64,
+    connection: u64,
     ended: Result<(), LinkFault>,
     is_down: bool,
 ) -> io::Result<()>
-    ensures { TellsBy (E.told errors.old) (E.told errors.new) (down_line place is_down ++ fault_line place ended) result }
+    ensures { ReportsBy (E.reported errors.old) (E.reported errors.new) (down_line connection is_down ++ fault_line connection ended) result }
 {
-    match tell_down(errors, place, is_down) {
-        Ok(()) => tell_fault(errors, place, ended),
+    match report_down(errors, connection, is_down) {
+        Ok(()) => report_fault(errors, connection, ended),
         Err(error) => Err(error),
     }
 }
 
 // What is told of a connection on the error stream, where there is something to tell.
-fn tell<E: ErrorStream>(errors: &mut E, place: u64, ended: Result<(), LinkFault>, is_down: bool)
-    ensures { GetsConnectionLines place is_down ended (E.told errors.old) (E.told errors.new) }
+fn report<E: ErrorStream>(
+    errors: &mut E,
+    connection: u64,
+    ended: Result<(), LinkFault>,
+    is_down: bool,
+)
+    ensures { GetsConnectionLines connection is_down ended (E.reported errors.old) (E.reported errors.new) }
 {
-    let written = write_lines(errors, place, ended, is_down);
+    let written = write_lines(errors, connection, ended, is_down);
     let _ = send_on(errors, written);
 }
 
@@ -107,9 +112,9 @@ fn exchange_one<K: Keep, I: Inlet, O: Outlet>(
     requires writes { O.broken outlet.old ≡ false }
     ensures lasts { Lasts K.clean K.sound K.keyed K.shielded service.old.keep service.new.keep }
     ensures takes { K.clean service.new.keep → K.sound service.old.keep → TakesOne door.now (K.rows service.old.keep) (K.rows service.new.keep) }
-    ensures told { K.clean service.new.keep → K.sound service.old.keep → (received : List ℕ) × Consumes (I.left inlet.old) (I.left inlet.new) received
+    ensures reported { K.clean service.new.keep → K.sound service.old.keep → (received : List ℕ) × Consumes (I.left inlet.old) (I.left inlet.new) received
         × ExchangesWith door.now now received (I.left inlet.new) (K.rows service.old.keep) (K.rows service.new.keep) (O.written outlet.old) (O.written outlet.new) service.new.was_down service.new.row result }
-    ensures changes { K.clean service.new.keep → K.sound service.old.keep → IfSome service.new.row (λ row. ChangesAsTold row (K.rows service.old.keep) (K.rows service.new.keep)) }
+    ensures changes { K.clean service.new.keep → K.sound service.old.keep → IfSome service.new.row (λ row. ChangesAsLogged row (K.rows service.old.keep) (K.rows service.new.keep)) }
 {
     prove!(now.seconds() <= MAX_MOMENT);
     service.exchange_with(alloc, door, now, inlet, outlet)
@@ -124,7 +129,7 @@ fn serve_one<K: Keep, N: Connections, O: Write, E: ErrorStream>(
     reader: N::Reader,
     writer: N::Writer,
     terms: &Terms,
-    place: u64,
+    connection: u64,
     output: &mut O,
     errors: &mut E,
 ) -> bool
@@ -132,16 +137,16 @@ fn serve_one<K: Keep, N: Connections, O: Write, E: ErrorStream>(
     requires writes { N.Writer.broken writer ≡ false }
     ensures lasts { Lasts K.clean K.sound K.keyed K.shielded service.old.keep service.new.keep }
     ensures takes { K.clean service.new.keep → K.sound service.old.keep → TakesOne terms.now.door (K.rows service.old.keep) (K.rows service.new.keep) }
-    ensures answers { AnswersOne K.Keep N.Connections N.Reader.Inlet N.Writer.Outlet terms.now place now service.new.was_down result reader writer network.old network.new service.old.keep service.new.keep (E.told errors.old) (E.told errors.new) (O.contents output.old) (O.contents output.new) }
+    ensures answers { AnswersOne K.Keep N.Connections N.Reader.Inlet N.Writer.Outlet terms.now connection now service.new.was_down result reader writer network.old network.new service.old.keep service.new.keep (E.reported errors.old) (E.reported errors.new) (O.contents output.old) (O.contents output.new) }
 {
     let mut inlet = reader;
     let mut outlet = writer;
     let ended = exchange_one(alloc, service, &terms.door, now, &mut inlet, &mut outlet);
-    tell(errors, place, ended, service.was_down());
-    let is_told = log_row(alloc, output, terms.logs, place, ended, service.row());
-    let was_whole = tells_act(service.row());
-    network.finish(inlet, outlet, was_whole);
-    is_told
+    report(errors, connection, ended, service.was_down());
+    let is_logged = log_row(alloc, output, terms.logs, connection, ended, service.row());
+    let was_read = names_act(service.row());
+    network.finish(inlet, outlet, was_read);
+    is_logged
 }
 
 fn print_listening<O: Write>(output: &mut O, port: u16) -> io::Result<()>
@@ -157,7 +162,7 @@ fn accept<N: Connections, C: Clock>(
     clock: &mut C,
 ) -> Result<(N::Reader, N::Writer, Moment), Cause>
     ensures sound { IfOk result (λ found. (N.Reader.broken found.0 ≡ false) × (N.Writer.broken found.1 ≡ false)) }
-    ensures accepted { IfOk result (λ found. N.accepts network.old timeouts.now (Ok (found.0, found.1)) network.new × C.tells clock.old (Some found.2) clock.new) }
+    ensures accepted { IfOk result (λ found. N.accepts network.old timeouts.now (Ok (found.0, found.1)) network.new × C.reports clock.old (Some found.2) clock.new) }
     ensures refused { IfErr result (AcceptsNone N.Connections C.Clock timeouts.now network.old network.new clock.old clock.new) }
 {
     let (reader, writer) = match network.accept(timeouts) {
@@ -177,21 +182,21 @@ fn answer_next<K: Keep, N: Connections, C: Clock, O: Write, E: ErrorStream>(
     terms: &Terms,
     service: &mut Service<K>,
     clock: &mut C,
-    place: u64,
+    connection: u64,
     output: &mut O,
     errors: &mut E,
 ) -> Result<bool, Cause>
     ensures lasts { Lasts K.clean K.sound K.keyed K.shielded service.old.keep service.new.keep }
     ensures takes { K.clean service.new.keep → K.sound service.old.keep → TakesOne terms.now.door (K.rows service.old.keep) (K.rows service.new.keep) }
-    ensures answers { IfOk result (λ is_told. (at : ℕ) × Answers K.Keep N.Connections C.Clock N.Reader.Inlet N.Writer.Outlet terms.now place at service.new.was_down is_told (state network.old clock.old service.old.keep (E.told errors.old) (O.contents output.old)) (state network.new clock.new service.new.keep (E.told errors.new) (O.contents output.new))) }
-    ensures refused { IfErr result (λ cause. AcceptsNone N.Connections C.Clock terms.now.timeouts network.old network.new clock.old clock.new cause × (service.new.keep ≡ service.old.keep) × (E.told errors.new ≡ E.told errors.old) × (O.contents output.new ≡ O.contents output.old)) }
+    ensures answers { IfOk result (λ is_logged. (at : ℕ) × Answers K.Keep N.Connections C.Clock N.Reader.Inlet N.Writer.Outlet terms.now connection at service.new.was_down is_logged (state network.old clock.old service.old.keep (E.reported errors.old) (O.contents output.old)) (state network.new clock.new service.new.keep (E.reported errors.new) (O.contents output.new))) }
+    ensures refused { IfErr result (λ cause. AcceptsNone N.Connections C.Clock terms.now.timeouts network.old network.new clock.old clock.new cause × (service.new.keep ≡ service.old.keep) × (E.reported errors.new ≡ E.reported errors.old) × (O.contents output.new ≡ O.contents output.old)) }
 {
     let (reader, writer, now) = match accept(network, &terms.timeouts, clock) {
         Ok(found) => found,
         Err(cause) => return Err(cause),
     };
     Ok(serve_one(
-        alloc, service, now, network, reader, writer, terms, place, output, errors,
+        alloc, service, now, network, reader, writer, terms, connection, output, errors,
     ))
 }
 
@@ -218,22 +223,24 @@ fn serve_next<K: Keep, F: Files<K>, N: Connections, C: Clock, O: Write, E: Error
     terms: &Terms,
     service: &mut Service<K>,
     clock: &mut C,
-    place: u64,
+    connection: u64,
     output: &mut O,
     errors: &mut E,
 ) -> Result<(), Cause>
     ensures lasts { Lasts K.clean K.sound K.keyed K.shielded service.old.keep service.new.keep }
     ensures takes { K.clean service.new.keep → K.sound service.old.keep → TakesOne terms.now.door (K.rows service.old.keep) (K.rows service.new.keep) }
-    ensures answers { OnOk result ((at : ℕ) × AnswersNext K.Keep F.Files N.Connections C.Clock N.Reader.Inlet N.Writer.Outlet terms.now place at false true (state network.old clock.old service.old.keep (E.told errors.old) (O.contents output.old)) (state network.new clock.new service.new.keep (E.told errors.new) (O.contents output.new))) }
-    ensures refused { IfErr result (EndsEarly K.Keep F.Files N.Connections C.Clock N.Reader.Inlet N.Writer.Outlet terms.now place (state network.old clock.old service.old.keep (E.told errors.old) (O.contents output.old)) (state network.new clock.new service.new.keep (E.told errors.new) (O.contents output.new))) }
+    ensures answers { OnOk result ((at : ℕ) × AnswersNext K.Keep F.Files N.Connections C.Clock N.Reader.Inlet N.Writer.Outlet terms.now connection at false true (state network.old clock.old service.old.keep (E.reported errors.old) (O.contents output.old)) (state network.new clock.new service.new.keep (E.reported errors.new) (O.contents output.new))) }
+    ensures refused { IfErr result (EndsEarly K.Keep F.Files N.Connections C.Clock N.Reader.Inlet N.Writer.Outlet terms.now connection (state network.old clock.old service.old.keep (E.reported errors.old) (O.contents output.old)) (state network.new clock.new service.new.keep (E.reported errors.new) (O.contents output.new))) }
 {
-    let is_told = match answer_next(alloc, network, terms, service, clock, place, output, errors) {
-        Ok(is_told) => is_told,
+    let is_logged = match answer_next(
+        alloc, network, terms, service, clock, connection, output, errors,
+    ) {
+        Ok(is_logged) => is_logged,
         Err(cause) => return Err(cause),
     };
     if after_reply(files, service) {
         Err(Cause::Shut)
-    } else if is_told {
+    } else if is_logged {
         Ok(())
     } else {
         Err(Cause::Log)
@@ -259,13 +266,13 @@ pub fn serve_loop<K: Keep, F: Files<K>, N: Connections, C: Clock, O: Write, E: E
 ) -> Exit
     ensures lasts { Lasts K.clean K.sound K.keyed K.shielded service.old.keep service.new.keep }
     ensures serves { K.clean service.new.keep → K.sound service.old.keep → Serves terms.now.door count (K.rows service.old.keep) (K.rows service.new.keep) }
-    ensures answers { AnswersCount K.Keep F.Files N.Connections C.Clock N.Reader.Inlet N.Writer.Outlet port terms.now count (state network.old clock.old service.old.keep (E.told errors.old) (O.contents output.old)) (state network.new clock.new service.new.keep (E.told errors.new) (O.contents output.new)) result }
+    ensures answers { AnswersCount K.Keep F.Files N.Connections C.Clock N.Reader.Inlet N.Writer.Outlet port terms.now count (state network.old clock.old service.old.keep (E.reported errors.old) (O.contents output.old)) (state network.new clock.new service.new.keep (E.reported errors.new) (O.contents output.new)) result }
     ensures listens { ListensAt port terms.now.logs result (O.contents output.old) (O.contents output.new) }
 {
     if print_listening(output, port).is_err() {
         return Exit::Unprinted;
     }
-    'connections: for place in 0..count {
+    'connections: for connection in 0..count {
         match serve_next(
             alloc,
             files,
@@ -273,13 +280,13 @@ pub fn serve_loop<K: Keep, F: Files<K>, N: Connections, C: Clock, O: Write, E: E
             terms,
             service,
             clock,
-            place + 1,
+            connection + 1,
             output,
             errors,
         ) {
             Ok(()) => {}
             Err(cause) => {
-                tell_cause(errors, cause);
+                report_cause(errors, cause);
                 return Exit::Down;
             }
         }
@@ -289,6 +296,6 @@ pub fn serve_loop<K: Keep, F: Files<K>, N: Connections, C: Clock, O: Write, E: E
 
 /// The log has a line for each answered connection, in order. Between two lines, only the record of the organization that the
 /// later line names changes.
-pub fn log_tells_changes<K: Keep, F: Files<K>, N: Connections, C: Clock>()
-    ensures { LogTellsChanges K.Keep F.Files N.Connections C.Clock N.Reader.Inlet N.Writer.Outlet }
+pub fn log_reports_changes<K: Keep, F: Files<K>, N: Connections, C: Clock>()
+    ensures { LogReportsChanges K.Keep F.Files N.Connections C.Clock N.Reader.Inlet N.Writer.Outlet }
 {}

@@ -1,13 +1,13 @@
 //! The command `serve`: a file is opened, connections are answered from it, and it is closed.
 ghost use Rattle.std.specs.Prelude.{◌≡◌, ◌≢◌, ◌⊎◌, true, IfOk, OnOk, OnErr, IsErrOf};
-ghost use Rattle.machine.specs.Keeping.{Lasts};
+ghost use Rattle.machine.specs.StoreCalls.{Lasts};
 ghost use Rattle.program.specs.Outcomes.{stream, error_stream, IsSaid, ServesAt, ServesFrom, ServesChecked, ServesAsAsked, RefusesUnsound, RefusesToOpen, environment, IsAlone, SaysServed, HasNoSecret, IsDoor, HasDoor, ServesBehind, ServesWithDoor};
 ghost use Rattle.program.specs.Inner.Outcomes.{ServesOpened};
 ghost use Rattle.program.specs.Serving.{Listens, Serves, state, AnswersAtPort};
 
-use crate::checking::look_first;
+use crate::checking::check_first;
 use crate::environment::{Clock, Connections, Files, Opening};
-use crate::errors::tell_cause;
+use crate::errors::report_cause;
 use crate::exits::Exit;
 use crate::openings::{close_after, open_one};
 use crate::operating::{SECRET_FORM, input_secret, say_why};
@@ -38,14 +38,14 @@ fn serve_at<K: Keep, F: Files<K>, N: Connections, C: Clock, O: Write, E: ErrorSt
     ensures lasts { Lasts K.clean K.sound K.keyed K.shielded service.old.keep service.new.keep }
     ensures serves { K.clean service.new.keep → K.sound service.old.keep → Serves terms.now.door count (K.rows service.old.keep) (K.rows service.new.keep) }
     ensures listens { Listens terms.now.logs result (O.contents output.old) (O.contents output.new) }
-    ensures answers { AnswersAtPort K.Keep F.Files N.Connections C.Clock N.Reader.Inlet N.Writer.Outlet port terms.now count (state network.old clock.old service.old.keep (E.told errors.old) (O.contents output.old)) (state network.new clock.new service.new.keep (E.told errors.new) (O.contents output.new)) result }
+    ensures answers { AnswersAtPort K.Keep F.Files N.Connections C.Clock N.Reader.Inlet N.Writer.Outlet port terms.now count (state network.old clock.old service.old.keep (E.reported errors.old) (O.contents output.old)) (state network.new clock.new service.new.keep (E.reported errors.new) (O.contents output.new)) result }
 {
     match network.bind(Ipv4Addr::LOCALHOST, port) {
         Ok(given) => serve_loop(
             alloc, files, network, given, service, count, terms, clock, output, errors,
         ),
         Err(cause) => {
-            tell_cause(errors, cause);
+            report_cause(errors, cause);
             Exit::Down
         }
     }
@@ -77,7 +77,7 @@ fn serve_opened<K: Keep, F: Files<K>, N: Connections, C: Clock, O: Write, E: Err
     errors: &mut E,
 ) -> Exit
     ensures line { ServesAt terms.now.logs result (stream (O.contents output.old) (O.contents output.new)) }
-    ensures serves { ServesOpened K.Keep F.Files N.Connections C.Clock N.Reader.Inlet N.Writer.Outlet db.now port terms.now count keep (environment files.old network.old clock.old) (environment files.new network.new clock.new) result (stream (O.contents output.old) (O.contents output.new)) (error_stream (E.told errors.old) (E.told errors.new)) }
+    ensures serves { ServesOpened K.Keep F.Files N.Connections C.Clock N.Reader.Inlet N.Writer.Outlet db.now port terms.now count keep (environment files.old network.old clock.old) (environment files.new network.new clock.new) result (stream (O.contents output.old) (O.contents output.new)) (error_stream (E.reported errors.old) (E.reported errors.new)) }
 {
     let mut service = Service::new(keep);
     let exit = serve_at(
@@ -110,8 +110,8 @@ fn serve<K: Keep, F: Files<K>, N: Connections, C: Clock, O: Write, E: ErrorStrea
     errors: &mut E,
 ) -> Exit
     ensures line { ServesAt terms.now.logs result (stream (O.contents output.old) (O.contents output.new)) }
-    ensures serves { ServesFrom K.Keep F.Files N.Connections C.Clock N.Reader.Inlet N.Writer.Outlet db.now port terms.now count (environment files.old network.old clock.old) (environment files.new network.new clock.new) result (stream (O.contents output.old) (O.contents output.new)) (error_stream (E.told errors.old) (E.told errors.new))
-        ⊎ (RefusesToOpen K.Keep F.Files db.now Opening.Created files.old files.new result (stream (O.contents output.old) (O.contents output.new)) (error_stream (E.told errors.old) (E.told errors.new)) × IsAlone (environment files.old network.old clock.old) (environment files.new network.new clock.new)) }
+    ensures serves { ServesFrom K.Keep F.Files N.Connections C.Clock N.Reader.Inlet N.Writer.Outlet db.now port terms.now count (environment files.old network.old clock.old) (environment files.new network.new clock.new) result (stream (O.contents output.old) (O.contents output.new)) (error_stream (E.reported errors.old) (E.reported errors.new))
+        ⊎ (RefusesToOpen K.Keep F.Files db.now Opening.Created files.old files.new result (stream (O.contents output.old) (O.contents output.new)) (error_stream (E.reported errors.old) (E.reported errors.new)) × IsAlone (environment files.old network.old clock.old) (environment files.new network.new clock.new)) }
 {
     let keep = match open_one(files, db, Opening::Created, output, errors) {
         Ok(keep) => keep,
@@ -135,15 +135,15 @@ fn serve_checked<K: Keep, F: Files<K>, N: Connections, C: Clock, O: Write, E: Er
     errors: &mut E,
 ) -> Exit
     ensures line { ServesAt terms.now.logs result (stream (O.contents output.old) (O.contents output.new)) }
-    ensures serves { (ServesChecked K.Keep F.Files N.Connections C.Clock N.Reader.Inlet N.Writer.Outlet db.now port terms.now count (environment files.old network.old clock.old) (environment files.new network.new clock.new) result (stream (O.contents output.old) (O.contents output.new)) (error_stream (E.told errors.old) (E.told errors.new))
-        ⊎ (RefusesUnsound K.Keep F.Files db.now Cause.Faults files.old files.new result (stream (O.contents output.old) (O.contents output.new)) (error_stream (E.told errors.old) (E.told errors.new)) × IsAlone (environment files.old network.old clock.old) (environment files.new network.new clock.new)))
-        ⊎ (RefusesToOpen K.Keep F.Files db.now Opening.Existing files.old files.new result (stream (O.contents output.old) (O.contents output.new)) (error_stream (E.told errors.old) (E.told errors.new)) × IsAlone (environment files.old network.old clock.old) (environment files.new network.new clock.new)) }
+    ensures serves { (ServesChecked K.Keep F.Files N.Connections C.Clock N.Reader.Inlet N.Writer.Outlet db.now port terms.now count (environment files.old network.old clock.old) (environment files.new network.new clock.new) result (stream (O.contents output.old) (O.contents output.new)) (error_stream (E.reported errors.old) (E.reported errors.new))
+        ⊎ (RefusesUnsound K.Keep F.Files db.now Cause.Faults files.old files.new result (stream (O.contents output.old) (O.contents output.new)) (error_stream (E.reported errors.old) (E.reported errors.new)) × IsAlone (environment files.old network.old clock.old) (environment files.new network.new clock.new)))
+        ⊎ (RefusesToOpen K.Keep F.Files db.now Opening.Existing files.old files.new result (stream (O.contents output.old) (O.contents output.new)) (error_stream (E.reported errors.old) (E.reported errors.new)) × IsAlone (environment files.old network.old clock.old) (environment files.new network.new clock.new)) }
 {
     let mut keep = match open_one(files, db, Opening::Existing, output, errors) {
         Ok(keep) => keep,
         Err(exit) => return exit,
     };
-    if look_first(alloc, files, &mut keep, Cause::Faults, errors) {
+    if check_first(alloc, files, &mut keep, Cause::Faults, errors) {
         return serve_opened(
             alloc, files, network, clock, db, keep, port, count, terms, output, errors,
         );
@@ -167,7 +167,7 @@ fn serve_as_asked<K: Keep, F: Files<K>, N: Connections, C: Clock, O: Write, E: E
     errors: &mut E,
 ) -> Exit
     ensures line { ServesAt terms.now.logs result (stream (O.contents output.old) (O.contents output.new)) }
-    ensures serves { ServesAsAsked K.Keep F.Files N.Connections C.Clock N.Reader.Inlet N.Writer.Outlet checks db.now port terms.now count (environment files.old network.old clock.old) (environment files.new network.new clock.new) result (stream (O.contents output.old) (O.contents output.new)) (error_stream (E.told errors.old) (E.told errors.new)) }
+    ensures serves { ServesAsAsked K.Keep F.Files N.Connections C.Clock N.Reader.Inlet N.Writer.Outlet checks db.now port terms.now count (environment files.old network.old clock.old) (environment files.new network.new clock.new) result (stream (O.contents output.old) (O.contents output.new)) (error_stream (E.reported errors.old) (E.reported errors.new)) }
 {
     if checks {
         serve_checked(
@@ -232,8 +232,8 @@ pub fn serve_with_door<
     output: &mut O,
     errors: &mut E,
 ) -> Exit
-    ensures line { ServesBehind operates logs (I.remaining input.old) result (stream (O.contents output.old) (O.contents output.new)) (error_stream (E.told errors.old) (E.told errors.new)) }
-    ensures serves { ServesWithDoor K.Keep F.Files N.Connections C.Clock N.Reader.Inlet N.Writer.Outlet operates checks db.now port timeouts logs count (I.remaining input.old) (environment files.old network.old clock.old) (environment files.new network.new clock.new) result (stream (O.contents output.old) (O.contents output.new)) (error_stream (E.told errors.old) (E.told errors.new)) }
+    ensures line { ServesBehind operates logs (I.remaining input.old) result (stream (O.contents output.old) (O.contents output.new)) (error_stream (E.reported errors.old) (E.reported errors.new)) }
+    ensures serves { ServesWithDoor K.Keep F.Files N.Connections C.Clock N.Reader.Inlet N.Writer.Outlet operates checks db.now port timeouts logs count (I.remaining input.old) (environment files.old network.old clock.old) (environment files.new network.new clock.new) result (stream (O.contents output.old) (O.contents output.new)) (error_stream (E.reported errors.old) (E.reported errors.new)) }
 {
     match read_door(alloc, operates, input) {
         Ok(door) => {

@@ -2,7 +2,7 @@
 ghost use Rattle.std.specs.Prelude.{◌≡◌, ◌<◌, length, true, Ok, IfOk, is_err};
 ghost use Rattle.std.specs.Io.{WritesAtMost};
 ghost use Rattle.std.specs.Io.KnownBytes.{WriteAppends, Keeps};
-ghost use Rattle.program.specs.Streams.{Told, as_told, one_more, failures_after};
+ghost use Rattle.program.specs.Streams.{Reported, as_reported, one_more, failures_after};
 
 use std::io;
 use std::io::{ErrorKind, Write};
@@ -10,19 +10,19 @@ use std::io::{ErrorKind, Write};
 /// The stream for errors and for what an operator has to know.
 pub trait ErrorStream {
     // What it has, where that is known, and how many calls on it have failed.
-    ghost told: { Self → Told };
+    ghost reported: { Self → Reported };
 
     /// Takes at least one byte of a text that is not empty, or fails.
     fn write(&mut self, text: &[u8]) -> io::Result<usize>
         ensures bound { WritesAtMost result text.now }
-        ensures bytes { WriteAppends (told self.old).bytes (told self.new).bytes result text.now }
+        ensures bytes { WriteAppends (reported self.old).bytes (reported self.new).bytes result text.now }
         ensures some { IfOk result (λ count. 0 < length text.now → 0 < count) }
-        ensures failures { (told self.new).failures ≡ failures_after result (told self.old).failures };
+        ensures failures { (reported self.new).failures ≡ failures_after result (reported self.old).failures };
 
     /// Flushes a buffer.
     fn flush(&mut self) -> io::Result<()>
-        ensures bytes { Keeps (told self.old).bytes (told self.new).bytes }
-        ensures failures { (told self.new).failures ≡ failures_after result (told self.old).failures };
+        ensures bytes { Keeps (reported self.old).bytes (reported self.new).bytes }
+        ensures failures { (reported self.new).failures ≡ failures_after result (reported self.old).failures };
 }
 
 /// A writer's answer to a text of this length. Taking nothing of a text that is not empty is also a failure.
@@ -47,30 +47,30 @@ fn one_more(failures: u64) -> u64
 
 /// A writer of std, with the number of calls on it that failed.
 #[derive(Drop)]
-pub struct Counted<W: Write> {
+pub struct CountedErrors<W: Write> {
     writer: W,
     failures: u64,
 }
 
-impl<W: Write> Counted<W> {
-    pub fn new(writer: W) -> Counted<W>
-        ensures { ⟦<Counted<W> as ErrorStream>⟧.told result ≡ as_told (W.contents writer) 0 }
+impl<W: Write> CountedErrors<W> {
+    pub fn new(writer: W) -> CountedErrors<W>
+        ensures { ⟦<CountedErrors<W> as ErrorStream>⟧.reported result ≡ as_reported (W.contents writer) 0 }
     {
-        Counted {
+        CountedErrors {
             writer,
             failures: 0,
         }
     }
 
     pub fn into_inner(self) -> W
-        ensures { W.contents result ≡ (⟦<Counted<W> as ErrorStream>⟧.told self).bytes }
+        ensures { W.contents result ≡ (⟦<CountedErrors<W> as ErrorStream>⟧.reported self).bytes }
     {
         self.writer
     }
 }
 
-impl<W: Write> ErrorStream for Counted<W> {
-    ghost told = { λ s. as_told (W.contents s.writer) s.failures };
+impl<W: Write> ErrorStream for CountedErrors<W> {
+    ghost reported = { λ s. as_reported (W.contents s.writer) s.failures };
 
     fn write(&mut self, text: &[u8]) -> io::Result<usize> {
         match answer_to(self.writer.write(text), text.len()) {

@@ -1,4 +1,4 @@
-//! What a look over the tables of a file finds: faults, and how many rows there are.
+//! What a check over the tables of a file finds: faults, and how many rows there are.
 ghost use Rattle.program.specs.Totals.{newest_word, totals_line};
 ghost use Rattle.std.specs.Prelude.{OnOk};
 ghost use Rattle.std.specs.Io.KnownBytes.{Appends};
@@ -20,7 +20,7 @@ pub struct Totals {
 
 /// What a check of a file's tables finds.
 #[derive(Drop)]
-pub struct Looked {
+pub struct Findings {
     /// One line per fault, without its line feed, at most 50.
     pub faults: Items<Text>,
     pub totals: Totals,

@@ -7,12 +7,12 @@ use lib.Utf8.{encode}
 use Rattle.form_urlencoded.proofs.OnLiterals.{form_urlencoded_on_literals}
 use Rattle.basis.specs.declared.refusals.Allow.TheVariants.{States}
 use Rattle.basis.specs.declared.refusals.Refusal.TheVariants.{TwoTokens, NoToken, BadToken, BadQuery, NoRoute, NoMethod}
-use Rattle.basis.specs.declared.acts.Look.TheVariants.{State, Versions}
+use Rattle.basis.specs.declared.acts.Query.TheVariants.{State, Versions}
 use Rattle.basis.specs.declared.runs.RunAction.TheVariants.{Discard}
 use Rattle.wire.specs.declared.messages.Message.{Message}
 use Rattle.route.specs.declared.routes.AskedAct.TheVariants.{OfWorkspace}
 use Rattle.basis.specs.declared.acts.WsAct.{WsAct}
-use Rattle.basis.specs.declared.acts.WsAct.TheVariants.{Look, UpdateState, Unlock, ForceUnlock, ReportRun}
+use Rattle.basis.specs.declared.acts.WsAct.TheVariants.{Query, UpdateState, Unlock, ForceUnlock, ReportRun}
 use Rattle.route.specs.Asks.{Asking, refused, asks, asked_of, asked_made}
 use Rattle.route.specs.Tokens.{bearer_token_made}
 
@@ -29,7 +29,7 @@ net = codes "/v1/acme/state/net"
 abbrev asks_of : WsAct → Option (List ℕ) → List ℕ → Asking
 asks_of act lock_id secret = asks (asked_made (codes "acme") (OfWorkspace (codes "net") act) lock_id (bearer_token_made (codes "acme") secret))
 
-state_read : asked_of (message (codes "GET") net None reader []) ≡ asks_of (Look State) None (codes "readreadreadread")
+state_read : asked_of (message (codes "GET") net None reader []) ≡ asks_of (Query State) None (codes "readreadreadread")
 unfolding form_urlencoded_on_literals utf8_lossy utf8_valid_len chars is_utf8 encode
 state_read = refl
 
@@ -39,7 +39,7 @@ update_with_id : asked_of (message (codes "POST") net (Some (codes "ID=5f2c&acce
 unfolding form_urlencoded_on_literals utf8_lossy utf8_valid_len chars is_utf8 encode
 update_with_id = refl
 
-escaped_key : asked_of (message (codes "GET") net (Some (codes "access%5Ftoken=acme.readreadreadread")) None []) ≡ asks_of (Look State) None (codes "readreadreadread")
+escaped_key : asked_of (message (codes "GET") net (Some (codes "access%5Ftoken=acme.readreadreadread")) None []) ≡ asks_of (Query State) None (codes "readreadreadread")
 unfolding form_urlencoded_on_literals utf8_lossy utf8_valid_len chars is_utf8 encode
 escaped_key = refl
 
@@ -56,7 +56,7 @@ action : asked_of (message (codes "POST") (codes "/v1/acme/runs/net/2/actions/di
 unfolding form_urlencoded_on_literals utf8_lossy utf8_valid_len chars is_utf8 encode
 action = refl
 
-listed : asked_of (message (codes "GET") (codes "/v1/acme/versions/net") (Some (codes "after=51")) reader []) ≡ asks_of (Look (Versions 51)) None (codes "readreadreadread")
+listed : asked_of (message (codes "GET") (codes "/v1/acme/versions/net") (Some (codes "after=51")) reader []) ≡ asks_of (Query (Versions 51)) None (codes "readreadreadread")
 unfolding form_urlencoded_on_literals utf8_lossy utf8_valid_len chars is_utf8 encode
 listed = refl
 
@@ -93,7 +93,7 @@ another_scheme : asked_of (message (codes "GET") net None (Some (codes "Basic eD
 unfolding form_urlencoded_on_literals utf8_lossy utf8_valid_len chars is_utf8 encode
 another_scheme = refl
 
-small_letters : asked_of (message (codes "GET") net None (Some (codes "bearer acme.readreadreadread")) []) ≡ asks_of (Look State) None (codes "readreadreadread")
+small_letters : asked_of (message (codes "GET") net None (Some (codes "bearer acme.readreadreadread")) []) ≡ asks_of (Query State) None (codes "readreadreadread")
 unfolding form_urlencoded_on_literals utf8_lossy utf8_valid_len chars is_utf8 encode
 small_letters = refl
 

@@ -19,7 +19,7 @@ use Rattle.basis.specs.declared.acts.WsAct.{WsAct}
 use Rattle.basis.specs.declared.acts.WsAct.TheVariants.{ReportRun}
 use Rattle.route.specs.declared.routes.Kind.{Kind}
 use Rattle.route.specs.declared.routes.Kind.TheVariants.{ListsWorkspaces, IsWorkspace, IsState, ListsVersions, IsVersion, ListsRuns, IsRun, IsAction}
-use Rattle.basis.specs.declared.acts.Look.TheVariants.{Version as VersionLook, Versions as VersionsLook, Run as RunLook}
+use Rattle.basis.specs.declared.acts.Query.TheVariants.{Version as VersionQuery, Versions as VersionsQuery, Run as RunQuery}
 
 module _ (message : Message) (org : List ℕ) where
   -- the query and the token come behind
@@ -69,10 +69,10 @@ module _ (message : Message) (org : List ℕ) where
   by_kind ListsWorkspaces pairs = refl
   by_kind IsWorkspace pairs = on_one (ws_of (part_of (codes "ws") pairs)) Workspace _ (workspace_act message.method) (λ ws. refl)
   by_kind IsState pairs = on_one (ws_of (part_of (codes "ws") pairs)) State _ (state_act message.method (is_bodyless message.body)) (λ ws. refl)
-  by_kind ListsVersions pairs = on_one (ws_of (part_of (codes "ws") pairs)) AllVersions _ (got (VersionsLook 0) message.method) (λ ws. refl)
-  by_kind IsVersion pairs = numbered (ws_of (part_of (codes "ws") pairs)) (number_in pairs) Version _ (λ k. got (VersionLook k) message.method) (λ ws k. refl)
+  by_kind ListsVersions pairs = on_one (ws_of (part_of (codes "ws") pairs)) AllVersions _ (got (VersionsQuery 0) message.method) (λ ws. refl)
+  by_kind IsVersion pairs = numbered (ws_of (part_of (codes "ws") pairs)) (number_in pairs) Version _ (λ k. got (VersionQuery k) message.method) (λ ws k. refl)
   by_kind ListsRuns pairs = on_one (ws_of (part_of (codes "ws") pairs)) AllRuns _ (runs_act message.method) (λ ws. refl)
-  by_kind IsRun pairs = numbered (ws_of (part_of (codes "ws") pairs)) (number_in pairs) Run _ (λ k. got (RunLook k) message.method) (λ ws k. refl)
+  by_kind IsRun pairs = numbered (ws_of (part_of (codes "ws") pairs)) (number_in pairs) Run _ (λ k. got (RunQuery k) message.method) (λ ws k. refl)
   by_kind IsAction pairs =
       acted (ws_of (part_of (codes "ws") pairs)) (number_in pairs) (action_of (part_of (codes "action") pairs)) _ (λ k action. posted (ReportRun k action) message.method) (λ ws k action. refl)
 

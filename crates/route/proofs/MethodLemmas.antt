@@ -2,11 +2,11 @@
 use Rattle.std.proofs.Common.{◌≡◌, Bool, true, false, ◌||◌, if◌then◌else◌, Option, Some, None, refl, ap, ◌∙◌, codes}
 use Rattle.std.specs.Prelude.{bytes_eq, option_map}
 use Rattle.std.specs.Option.{is_some}
-use Rattle.basis.specs.declared.acts.Look.TheVariants.{Workspace as WorkspaceLook, State as StateLook, Version as VersionLook, Versions as VersionsLook, Run as RunLook, Runs as RunsLook}
+use Rattle.basis.specs.declared.acts.Query.TheVariants.{Workspace as WorkspaceQuery, State as StateQuery, Version as VersionQuery, Versions as VersionsQuery, Run as RunQuery, Runs as RunsQuery}
 use Rattle.route.specs.Acts.{workspace_act, unlock_of, state_act, runs_act, got, posted}
 use Rattle.route.specs.Methods.{MethodsAreListed}
 use Rattle.route.specs.declared.routes.AskedAct.TheVariants.{ListWorkspaces, OfWorkspace}
-use Rattle.basis.specs.declared.acts.WsAct.TheVariants.{Look, Put, Delete, UpdateState, PurgeState, Lock, MakeRun, ReportRun}
+use Rattle.basis.specs.declared.acts.WsAct.TheVariants.{Query, Put, Delete, UpdateState, PurgeState, Lock, MakeRun, ReportRun}
 use Rattle.route.specs.Paths.{AllWorkspaces, Workspace, State, AllVersions, Version, AllRuns, Run, Action}
 
 -- something is still there after it was put into more
@@ -52,16 +52,16 @@ pub methods_are_listed : MethodsAreListed
 methods_are_listed AllWorkspaces method bodyless = one (bytes_eq method (codes "GET")) (ListWorkspaces None)
 methods_are_listed (Workspace ws) method bodyless =
     mapped (OfWorkspace ws) (workspace_act method)
-    ∙ workspaces (bytes_eq method (codes "GET")) (bytes_eq method (codes "PUT")) (bytes_eq method (codes "DELETE")) (Look WorkspaceLook) Put Delete
+    ∙ workspaces (bytes_eq method (codes "GET")) (bytes_eq method (codes "PUT")) (bytes_eq method (codes "DELETE")) (Query WorkspaceQuery) Put Delete
 methods_are_listed (State ws) method bodyless =
     mapped (OfWorkspace ws) (state_act method bodyless)
     ∙ chosen (bytes_eq method (codes "GET")) (bytes_eq method (codes "POST")) (bytes_eq method (codes "PUT")) (bytes_eq method (codes "DELETE")) (bytes_eq method (codes "LOCK")) (bytes_eq method (codes "UNLOCK"))
-    (Look StateLook) UpdateState UpdateState PurgeState Lock (unlock_of bodyless)
+    (Query StateQuery) UpdateState UpdateState PurgeState Lock (unlock_of bodyless)
     ∙ listed (bytes_eq method (codes "GET")) (bytes_eq method (codes "POST")) (bytes_eq method (codes "PUT")) (bytes_eq method (codes "DELETE")) (bytes_eq method (codes "LOCK")) (bytes_eq method (codes "UNLOCK") || false)
-methods_are_listed (AllVersions ws) method bodyless = mapped (OfWorkspace ws) (got (VersionsLook 0) method) ∙ one (bytes_eq method (codes "GET")) (Look (VersionsLook 0))
-methods_are_listed (Version ws number) method bodyless = mapped (OfWorkspace ws) (got (VersionLook number) method) ∙ one (bytes_eq method (codes "GET")) (Look (VersionLook number))
+methods_are_listed (AllVersions ws) method bodyless = mapped (OfWorkspace ws) (got (VersionsQuery 0) method) ∙ one (bytes_eq method (codes "GET")) (Query (VersionsQuery 0))
+methods_are_listed (Version ws number) method bodyless = mapped (OfWorkspace ws) (got (VersionQuery number) method) ∙ one (bytes_eq method (codes "GET")) (Query (VersionQuery number))
 methods_are_listed (AllRuns ws) method bodyless =
     mapped (OfWorkspace ws) (runs_act method)
-    ∙ either (bytes_eq method (codes "GET")) (Look (RunsLook 0)) _ ∙ ap (λ x. bytes_eq method (codes "GET") || x) (one (bytes_eq method (codes "POST")) MakeRun)
-methods_are_listed (Run ws number) method bodyless = mapped (OfWorkspace ws) (got (RunLook number) method) ∙ one (bytes_eq method (codes "GET")) (Look (RunLook number))
+    ∙ either (bytes_eq method (codes "GET")) (Query (RunsQuery 0)) _ ∙ ap (λ x. bytes_eq method (codes "GET") || x) (one (bytes_eq method (codes "POST")) MakeRun)
+methods_are_listed (Run ws number) method bodyless = mapped (OfWorkspace ws) (got (RunQuery number) method) ∙ one (bytes_eq method (codes "GET")) (Query (RunQuery number))
 methods_are_listed (Action ws number action) method bodyless = mapped (OfWorkspace ws) (posted (ReportRun number action) method) ∙ one (bytes_eq method (codes "POST")) (ReportRun number action)

@@ -5,7 +5,7 @@ use Rattle.basis.specs.declared.refusals.Refusal.TheVariants.{NoRoute}
 use Rattle.wire.specs.declared.messages.Message.{Message}
 use Rattle.route.specs.declared.routes.Asked.{Asked}
 use Rattle.route.specs.declared.routes.AskedAct.{AskedAct}
-use Rattle.route.specs.declared.asks.Query.{Query}
+use Rattle.route.specs.declared.asks.UrlQuery.{UrlQuery}
 use Rattle.route.specs.declared.tokens.BearerToken.{BearerToken}
 use Rattle.basis.specs.Checks.{or_refused, and_then}
 use Rattle.route.specs.Paths.{OrgResource, resource_of}
@@ -34,7 +34,7 @@ asked_made org act lock_id token =
     record { caller = token.org; secret = token.secret; org = org; act = act; lock_id = lock_id }
 
 -- the query's ID, then where a list begins, then the token: its form, and its text
-abbrev pub with_query : Option (List ℕ) → List ℕ → AskedAct → Query → Result Asked Refusal
+abbrev pub with_query : Option (List ℕ) → List ℕ → AskedAct → UrlQuery → Result Asked Refusal
 with_query authorization org act found =
     and_then (lock_id_read found.id) (λ lock_id. and_then (after_read act found.after) (λ begun.
     and_then (bearer_token_read authorization found.token) (λ token. Ok (asked_made org begun lock_id token))))

@@ -8,12 +8,12 @@ use Rattle.basis.specs.Numbers.{whole_of, within}
 use Rattle.basis.specs.declared.numbers.TheConstants.{MAX_NUMBER}
 use Rattle.basis.specs.declared.refusals.Refusal.{Refusal}
 use Rattle.basis.specs.declared.refusals.Refusal.TheVariants.{BadQuery}
-use Rattle.basis.specs.declared.acts.Look.TheVariants.{Versions, Runs}
+use Rattle.basis.specs.declared.acts.Query.TheVariants.{Versions, Runs}
 use Rattle.route.specs.declared.routes.AskedAct.{AskedAct}
 use Rattle.route.specs.declared.routes.AskedAct.TheVariants.{ListWorkspaces, OfWorkspace}
 use Rattle.basis.specs.declared.acts.WsAct.{WsAct}
-use Rattle.basis.specs.declared.acts.WsAct.TheVariants.{Look}
-use Rattle.route.specs.declared.asks.Query.{Query}
+use Rattle.basis.specs.declared.acts.WsAct.TheVariants.{Query}
+use Rattle.route.specs.declared.asks.UrlQuery.{UrlQuery}
 use Rattle.basis.specs.Checks.{or_refused}
 
 -- the key of a bearer token (RFC 6750, section 2.3)
@@ -60,7 +60,7 @@ is_plain_query query =
     is_single (values token_key query) && is_single (values id_key query) && is_single (values after_key query)
 
 -- the values of the keys that have a use
-abbrev pub values_found : List ℕ → Query
+abbrev pub values_found : List ℕ → UrlQuery
 values_found query = record {
   token = first_value (values token_key query);
   id = first_value (values id_key query);
@@ -68,7 +68,7 @@ values_found query = record {
 }
 
 -- a query is read where none of these keys comes twice
-abbrev pub query_read : List ℕ → Result Query Refusal
+abbrev pub query_read : List ℕ → Result UrlQuery Refusal
 query_read query = if is_plain_query query then Ok (values_found query) else Err BadQuery
 
 -- a lock's ID, if one is given, has the syntax of one
@@ -90,8 +90,8 @@ listed_from name = ListWorkspaces (Some name)
 
 -- the act with the item after which its list begins; an act that lists nothing doesn't look at it
 abbrev pub ws_begun_after : WsAct → List ℕ → Option WsAct
-ws_begun_after (Look (Versions from)) text = option_map (λ after. Look (Versions after)) (number_after text)
-ws_begun_after (Look (Runs from)) text = option_map (λ after. Look (Runs after)) (number_after text)
+ws_begun_after (Query (Versions from)) text = option_map (λ after. Query (Versions after)) (number_after text)
+ws_begun_after (Query (Runs from)) text = option_map (λ after. Query (Runs after)) (number_after text)
 ws_begun_after act text = Some act
 
 -- the same of what is asked of the organization

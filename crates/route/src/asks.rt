@@ -12,7 +12,7 @@ ghost use Rattle.route.specs.Queries.{query_read, lock_id_read, after_read, name
 use crate::routes::{Asked, AskedAct, Found, Routes, act_named, read_org};
 use crate::tokens::read_bearer_token;
 use basis::numbers::{MAX_NUMBER, whole_number};
-use basis::{Bytes, LockId, Look, OrgName, Refusal, Text, Unfit, WsAct, WsName};
+use basis::{Bytes, LockId, OrgName, Query, Refusal, Text, Unfit, WsAct, WsName};
 use std::alloc::Global;
 use std::borrow::CowStr;
 use wire::Message;
@@ -60,7 +60,7 @@ fn with_query(
     authorization: &Option<Bytes>,
     org: OrgName,
     act: AskedAct,
-    found: Query,
+    found: UrlQuery,
 ) -> Result<Asked, Refusal>
     ensures { Follows result (with_query authorization.now org act found) }
 {
@@ -132,7 +132,7 @@ const AFTER_KEY: &str = "after";
 
 /// The values of the keys that have a use.
 #[derive(Drop)]
-pub struct Query {
+pub struct UrlQuery {
     /// `access_token`: a bearer token.
     pub token: Option<Text>,
     /// `ID`: the lock that the sender says it has.
@@ -142,10 +142,10 @@ pub struct Query {
 }
 
 /// The values of the keys that have a use; none of these keys comes twice.
-fn read_query(alloc: Global, query: &[u8]) -> Result<Query, Refusal>
+fn read_query(alloc: Global, query: &[u8]) -> Result<UrlQuery, Refusal>
     ensures { Follows result (query_read query.now) }
 {
-    let mut found = Query {
+    let mut found = UrlQuery {
         token: None,
         id: None,
         after: None,
@@ -164,7 +164,7 @@ fn read_query(alloc: Global, query: &[u8]) -> Result<Query, Refusal>
 // One more pair of the query, decoded.
 fn add_decoded_pair(
     alloc: Global,
-    found: &mut Query,
+    found: &mut UrlQuery,
     name: CowStr<'_>,
     value: CowStr<'_>,
 ) -> Result<(), Refusal>
@@ -175,7 +175,7 @@ fn add_decoded_pair(
 }
 
 // One more pair of the query.
-fn add_pair(alloc: Global, found: &mut Query, name: &str, value: &str) -> Result<(), Refusal>
+fn add_pair(alloc: Global, found: &mut UrlQuery, name: &str, value: &str) -> Result<(), Refusal>
     ensures ok { OnOk result (AddsPair name.now value.now found.old found.new) }
     ensures twice { IfErr result (λ refusal. refusal ≢ Refusal.Unavailable → (refusal ≡ Refusal.BadQuery) × (has_room name.now value.now found.old ≡ false)) }
 {
@@ -242,13 +242,13 @@ fn ws_begun_after(act: WsAct, text: &str) -> Option<WsAct>
     ensures { result ≡ ws_begun_after act text.now }
 {
     match act {
-        WsAct::Look(Look::Versions(_)) => {
+        WsAct::Query(Query::Versions(_)) => {
             let after = number_after(text)?;
-            Some(WsAct::Look(Look::Versions(after)))
+            Some(WsAct::Query(Query::Versions(after)))
         }
-        WsAct::Look(Look::Runs(_)) => {
+        WsAct::Query(Query::Runs(_)) => {
             let after = number_after(text)?;
-            Some(WsAct::Look(Look::Runs(after)))
+            Some(WsAct::Query(Query::Runs(after)))
         }
         _ => Some(act),
     }

@@ -14,7 +14,7 @@ ghost use Rattle.route.specs.Acts.{listing_act, workspace_act, state_act, runs_a
 ghost use Rattle.route.specs.Tokens.{org_of};
 
 use basis::{
-    Allow, Down, LockId, Look, Number, OrgName, Refusal, Role, RunAction, Secret, Unfit, WsAct,
+    Allow, Down, LockId, Number, OrgName, Query, Refusal, Role, RunAction, Secret, Unfit, WsAct,
     WsName,
 };
 use matchit::{InsertError, Params, Router};
@@ -139,14 +139,14 @@ pub(crate) fn act_named(
         Kind::ListsWorkspaces => listing_act(method),
         Kind::IsWorkspace => on_ws(alloc, found, workspace_act(method)),
         Kind::IsState => on_ws(alloc, found, state_act(method, bodyless)),
-        Kind::ListsVersions => on_ws(alloc, found, got(method, Look::Versions(0))),
+        Kind::ListsVersions => on_ws(alloc, found, got(method, Query::Versions(0))),
         Kind::IsVersion => match number_in(found) {
-            Some(number) => on_ws(alloc, found, got(method, Look::Version(number))),
+            Some(number) => on_ws(alloc, found, got(method, Query::Version(number))),
             None => Err(Refusal::NoRoute),
         },
         Kind::ListsRuns => on_ws(alloc, found, runs_act(method)),
         Kind::IsRun => match number_in(found) {
-            Some(number) => on_ws(alloc, found, got(method, Look::Run(number))),
+            Some(number) => on_ws(alloc, found, got(method, Query::Run(number))),
             None => Err(Refusal::NoRoute),
         },
         Kind::IsAction => match action_in(found) {
@@ -192,7 +192,7 @@ fn workspace_act(method: &str) -> Result<WsAct, Refusal>
     ensures { result ≡ or_refused (NoMethod Workspaces) (workspace_act method.now) }
 {
     match method {
-        "GET" => Ok(WsAct::Look(Look::Workspace)),
+        "GET" => Ok(WsAct::Query(Query::Workspace)),
         "PUT" => Ok(WsAct::Put),
         "DELETE" => Ok(WsAct::Delete),
         _ => Err(Refusal::NoMethod(Allow::Workspaces)),
@@ -204,7 +204,7 @@ fn state_act(method: &str, bodyless: bool) -> Result<WsAct, Refusal>
     ensures { result ≡ or_refused (NoMethod States) (state_act method.now bodyless) }
 {
     match method {
-        "GET" => Ok(WsAct::Look(Look::State)),
+        "GET" => Ok(WsAct::Query(Query::State)),
         "POST" => Ok(WsAct::UpdateState),
         "PUT" => Ok(WsAct::UpdateState),
         "DELETE" => Ok(WsAct::PurgeState),
@@ -220,18 +220,18 @@ fn runs_act(method: &str) -> Result<WsAct, Refusal>
     ensures { result ≡ or_refused (NoMethod Runs) (runs_act method.now) }
 {
     match method {
-        "GET" => Ok(WsAct::Look(Look::Runs(0))),
+        "GET" => Ok(WsAct::Query(Query::Runs(0))),
         "POST" => Ok(WsAct::MakeRun),
         _ => Err(Refusal::NoMethod(Allow::Runs)),
     }
 }
 
 // Where GET is the only method.
-fn got(method: &str, look: Look) -> Result<WsAct, Refusal>
-    ensures { result ≡ or_refused (NoMethod Lists) (got look method.now) }
+fn got(method: &str, query: Query) -> Result<WsAct, Refusal>
+    ensures { result ≡ or_refused (NoMethod Lists) (got query method.now) }
 {
     match method {
-        "GET" => Ok(WsAct::Look(look)),
+        "GET" => Ok(WsAct::Query(query)),
         _ => Err(Refusal::NoMethod(Allow::Lists)),
     }
 }
@@ -251,7 +251,7 @@ pub(crate) fn least_role_on(act: WsAct) -> Role
     ensures { result ≡ least_role_on act }
 {
     match act {
-        WsAct::Look(_) => Role::Read,
+        WsAct::Query(_) => Role::Read,
         WsAct::Put => Role::Admin,
         WsAct::Delete => Role::Admin,
         WsAct::UpdateState => Role::Write,

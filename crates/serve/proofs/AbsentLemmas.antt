@@ -19,7 +19,7 @@ use Rattle.route.specs.declared.routes.AskedAct.{AskedAct}
 use Rattle.route.specs.declared.routes.AskedAct.TheVariants.{ListWorkspaces, OfWorkspace}
 use Rattle.basis.specs.declared.acts.WsAct.{WsAct}
 use Rattle.basis.specs.declared.acts.WsAct.TheVariants.{ReportRun}
-use Rattle.route.specs.declared.asks.Query.{Query}
+use Rattle.route.specs.declared.asks.UrlQuery.{UrlQuery}
 use Rattle.wire.specs.declared.messages.Message.{Message}
 use Rattle.wire.specs.Messages.{Reading, Reads, unfinished, whole}
 use Rattle.wire.specs.Messages as wire
@@ -178,7 +178,7 @@ begun_with ws act begun (Some text) e = by_act act (found_of BadQuery (begun_aft
 abbrev read_as : Asked → Result Asked Refusal
 read_as asked = Ok asked
 
-with_query_with : (authorization : Option (List ℕ)) (old_org org ws : List ℕ) (act : AskedAct) (found : Query) (asked : Asked) → with_query authorization old_org act found ≡ Ok asked
+with_query_with : (authorization : Option (List ℕ)) (old_org org ws : List ℕ) (act : AskedAct) (found : UrlQuery) (asked : Asked) → with_query authorization old_org act found ≡ Ok asked
     → with_query authorization org (renamed act ws) found ≡ Ok (record asked { org = org; act = renamed asked.act ws })
 with_query_with authorization old_org org ws act found asked e =
     let locked = passed (lock_id_read found.id) (λ lock_id. and_then (after_read act found.after) (λ begun. and_then (bearer_token_read authorization found.token) (λ token. Ok (asked_made old_org begun lock_id token)))) asked e in
@@ -301,7 +301,7 @@ own_request org = (bytes_eq-Decides org org).1 refl
 reply_at : (steps : List Step) (rows rows' : List ℕ → Option Organization) (texts : List (List ℕ)) (asked : List Ask) → AreAsked steps asked → ((org : List ℕ) → IsOwnMachine org asked rows rows' texts)
     → (a : AnsweredRequest steps texts) → IsSaidText (step (record_before rows a.asked.caller a.earlier) (requests a.at a.awaited a.asked a.content_md5 a.body)).answer a.text
 reply_at steps rows rows' texts asked are own a =
-    text_at a.asked.caller (rows a.asked.caller) steps asked texts a.place (Request a.at a.bytes) a.text a.earlier (requests a.at a.awaited a.asked a.content_md5 a.body) are (own a.asked.caller).own_replies a.came a.replied a.came_earlier a.asks
+    text_at a.asked.caller (rows a.asked.caller) steps asked texts a.index (Request a.at a.bytes) a.text a.earlier (requests a.at a.awaited a.asked a.content_md5 a.body) are (own a.asked.caller).own_replies a.came a.replied a.came_earlier a.asks
     (own_request a.asked.caller)
 
 -- where the machine answers the form of a request as it does the request, the reply is that to the form

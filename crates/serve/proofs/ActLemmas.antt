@@ -5,7 +5,7 @@ use Rattle.std.proofs.lemmas.Bool.{le-leb}
 use Rattle.basis.specs.Names.{is_free_id, has_length}
 use Rattle.basis.specs.declared.refusals.Refusal.{Refusal}
 use Rattle.basis.specs.declared.refusals.Refusal.TheVariants.{NotFound, BadState, BadLock, BadBody, Locked}
-use Rattle.basis.specs.declared.acts.Look.{Look as AnyLook}
+use Rattle.basis.specs.declared.acts.Query.{Query as AnyQuery}
 use Rattle.basis.specs.declared.rows.RunAsk.{RunAsk}
 use Rattle.basis.specs.declared.rows.SettingsAsk.{SettingsAsk}
 use Rattle.basis.specs.declared.rows.StateHead.{StateHead}
@@ -22,12 +22,12 @@ use Rattle.machine.specs.Records.{seen_by}
 use Rattle.machine.specs.Rules.{Outcome, refused, rules, report}
 use Rattle.machine.specs.Workspaces.{run_of}
 use Rattle.machine.specs.declared.acts.Act.{Act}
-use Rattle.machine.specs.declared.acts.Act.TheVariants.{Look as LookAct, PutWorkspace as PutAct, UpdateState as UpdateAct, PurgeState as PurgeAct, Lock as LockAct, Unlock as UnlockAct, ForceUnlock as ForceUnlockAct, DeleteWorkspace as DeleteAct, MakeRun as MakeRunAct, ReportRun as ReportRunAct}
+use Rattle.machine.specs.declared.acts.Act.TheVariants.{Query as QueryAct, PutWorkspace as PutAct, UpdateState as UpdateAct, PurgeState as PurgeAct, Lock as LockAct, Unlock as UnlockAct, ForceUnlock as ForceUnlockAct, DeleteWorkspace as DeleteAct, MakeRun as MakeRunAct, ReportRun as ReportRunAct}
 use Rattle.basis.specs.declared.rows.RunRow.{RunRow as Run}
 use Rattle.machine.specs.declared.records.Workspace.{Workspace}
-use Rattle.machine.proofs.LookLemmas.{all_looks}
+use Rattle.machine.proofs.QueryLemmas.{all_queries}
 use Rattle.basis.specs.declared.acts.WsAct.{WsAct}
-use Rattle.basis.specs.declared.acts.WsAct.TheVariants.{Look, Put, Delete, UpdateState, PurgeState, Lock, Unlock, ForceUnlock, MakeRun, ReportRun}
+use Rattle.basis.specs.declared.acts.WsAct.TheVariants.{Query, Put, Delete, UpdateState, PurgeState, Lock, Unlock, ForceUnlock, MakeRun, ReportRun}
 use Rattle.serve.specs.Book.{IsDoneOnce}
 use Rattle.serve.specs.Checks.{makes, is_there, spelt, act_of}
 
@@ -72,9 +72,9 @@ alone what id act range writes there misses = record { range = range; writes = w
 writes_none : (id given : Option (List ℕ)) → ⊥ → id ≡ given
 writes_none id given e = absurd e
 
-look_misses : (what : AnyLook) (now : ℕ) (room : Bool) (w : Option Workspace) → is_there (Look what) w ≡ false → Misses (LookAct what) now room w
-look_misses what now room None e = refl
-look_misses what now room (Some w) e = ap (λ (o : Outcome). effect o (Some w)) ((all_looks what w).lacks e)
+query_misses : (what : AnyQuery) (now : ℕ) (room : Bool) (w : Option Workspace) → is_there (Query what) w ≡ false → Misses (QueryAct what) now room w
+query_misses what now room None e = refl
+query_misses what now room (Some w) e = ap (λ (o : Outcome). effect o (Some w)) ((all_queries what w).lacks e)
 
 no_report : (o : Option Run) (n : ℕ) (action : RunAction) (w : Workspace) → is_some o ≡ false → report o n action w ≡ effect (refused NotFound) (Some w)
 no_report None n action w e = refl
@@ -122,7 +122,7 @@ ask_in_range body ask t =
     (key_within (get_member (codes "key") is.members) ask.key is.key, message_most (get_member (codes "message") is.members) ask.message is.message)
 
 all_spelt : (what : WsAct) (id : Option (List ℕ)) (body : List ℕ) → IsSpelt what id (act_of what id body)
-all_spelt (Look what) id body = record { range = tt; writes = writes_none id; misses = look_misses what }
+all_spelt (Query what) id body = record { range = tt; writes = writes_none id; misses = query_misses what }
 all_spelt Put id body =
     by_document Put id BadBody PutAct (settings_of body) body_apart (λ ask t. record { range = settings_in_range body ask t; writes = writes_none id; misses = λ now room w gone. made_anyway gone })
 all_spelt Delete id body = alone Delete id DeleteAct tt (writes_none id) (λ w. refl) (λ now room. refl)
@@ -159,7 +159,7 @@ pub once_is : (act : Act) → IsDoneOnce act → IsKeyed act ⊎ IsAction act
 once_is (MakeRunAct ask) once = let key = some_key ask.key once in inl (ask, key.0, refl, key.1)
 once_is (ReportRunAct n action) once = inr (n, action, refl)
 once_is (PutAct ask) once = absurd once
-once_is (LookAct what) once = absurd once
+once_is (QueryAct what) once = absurd once
 once_is DeleteAct once = absurd once
 once_is (UpdateAct head text id) once = absurd once
 once_is (PurgeAct id) once = absurd once

@@ -5,7 +5,7 @@ use Rattle.std.specs.Prelude.{codes}
 use Rattle.std.specs.List.{Contains}
 use Rattle.std.specs.Fmt.{digits}
 use Rattle.std.specs.Str.{chars, is_utf8}
-use Rattle.basis.specs.declared.acts.Look.TheVariants as look
+use Rattle.basis.specs.declared.acts.Query.TheVariants as query
 use Rattle.basis.specs.Names.{run_id}
 use Rattle.basis.specs.declared.rows.RunAsk.{RunAsk}
 use Rattle.basis.specs.declared.runs.RunStatus.{RunStatus}
@@ -25,12 +25,12 @@ use Rattle.machine.specs.declared.records.Version.{Version}
 use Rattle.machine.specs.declared.records.Workspace.{Workspace}
 use Rattle.route.specs.declared.routes.AskedAct.TheVariants.{OfWorkspace}
 use Rattle.basis.specs.declared.acts.WsAct.{WsAct}
-use Rattle.basis.specs.declared.acts.WsAct.TheVariants.{Look, Put, Delete, UpdateState, PurgeState, Lock, Unlock, MakeRun, ReportRun}
+use Rattle.basis.specs.declared.acts.WsAct.TheVariants.{Query, Put, Delete, UpdateState, PurgeState, Lock, Unlock, MakeRun, ReportRun}
 use Rattle.wire.specs.Replies.{empty_answer}
 use Rattle.serve.specs.declared.steps.Admin.TheVariants.{OrgRemove}
 use Rattle.serve.specs.Asks.{Ask, requests, commands}
 use Rattle.serve.specs.Custody.{ForcesRemoval}
-use Rattle.serve.specs.Steps.{replies, tells}
+use Rattle.serve.specs.Steps.{replies, reports}
 use Rattle.serve.specs.Book.{Entry, periods, is_held, is_lock, life, LosesVersion, IsApplying, IsRemovedByForce, LocksKeepOthersOut, RunsKeepOthersOut, NoIdWhereNobodyHolds, LocksEndByUnlock, OneRunAtATime, StartsRise, RepeatsLeaveIt, DoneOnceIsDone}
 use Rattle.serve.proofs.CustodyLemmas.{is_one}
 
@@ -80,7 +80,7 @@ abbrev unlocks : Entry
 unlocks = accepted (asks Unlock None) (locked_before 2) (record empty { released = Some x1; next_version = 2 })
 
 abbrev reads : Entry
-reads = accepted (asks (Look look.Workspace) None) (record empty { released = Some x1; next_version = 2 }) (record empty { released = Some x1; next_version = 2 })
+reads = accepted (asks (Query query.Workspace) None) (record empty { released = Some x1; next_version = 2 }) (record empty { released = Some x1; next_version = 2 })
 
 -- a period begins behind the step after which it holds, and ends with the first after which it doesn't
 period_of_a_lock : periods (is_held (is_lock x1)) (locks ∷ posts ∷ unlocks ∷ reads ∷ []) ≡ (posts ∷ unlocks ∷ []) ∷ []
@@ -181,7 +181,7 @@ version_gone_with_its_workspace law =
 
 -- or with its organization, without force
 abbrev removes : Bool → Workspace → Entry
-removes is_forced w = record { ask = commands 1_700_000_000 (OrgRemove (codes "acme") is_forced); said = tells Done; before = Some w; after = None }
+removes is_forced w = record { ask = commands 1_700_000_000 (OrgRemove (codes "acme") is_forced); said = reports Done; before = Some w; after = None }
 
 removal_beside_a_run : RunsKeepOthersOut net (removes false run_keeps_one ∷ []) → ⊥
 removal_beside_a_run law =
@@ -231,10 +231,10 @@ lock_ended_by_a_removal : LocksEndByUnlock net (removes false (locked_before 1) 
 lock_ended_by_a_removal law = (not_by_force (removes false (locked_before 1)) (λ forced. let none : ⊥ = cc forced in none) ((law x1).0.0 refl)).0
 
 -- two runs are active
-two_active_runs : OneRunAtATime net (accepted (asks (Look look.Workspace) None) (held_by 1 Planning (run 2 Planned ∷ [])) (held_by 1 Planning (run 2 Planned ∷ [])) ∷ []) → ⊥
+two_active_runs : OneRunAtATime net (accepted (asks (Query query.Workspace) None) (held_by 1 Planning (run 2 Planned ∷ [])) (held_by 1 Planning (run 2 Planned ∷ [])) ∷ []) → ⊥
 two_active_runs law = omega (arith, law.0)
 
-one_active_run : OneRunAtATime net (accepted (asks (Look look.Workspace) None) (held_by 1 Planning (run 2 Pending ∷ [])) (held_by 1 Planning (run 2 Pending ∷ [])) ∷ [])
+one_active_run : OneRunAtATime net (accepted (asks (Query query.Workspace) None) (held_by 1 Planning (run 2 Pending ∷ [])) (held_by 1 Planning (run 2 Pending ∷ [])) ∷ [])
 one_active_run = (omega arith, tt)
 
 -- run 2 starts before run 1

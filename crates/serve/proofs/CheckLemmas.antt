@@ -3,7 +3,7 @@ use Rattle.std.proofs.Common.{◌≡◌, ◌⊎◌, inl, inr, ℕ, ◌≤◌, �
 use Rattle.std.specs.Prelude.{if◌then◌else◌}
 use Rattle.std.proofs.lemmas.Bool.{lt-ltb, ltb-true}
 use Rattle.basis.specs.Checks.{or_refused, and_then}
-use Rattle.basis.specs.Roles.{is_before, counts_at}
+use Rattle.basis.specs.Roles.{is_before, is_valid_at}
 use Rattle.basis.specs.declared.refusals.Refusal.{Refusal}
 use Rattle.basis.specs.declared.refusals.Refusal.TheVariants.{BadToken, NotFound}
 use Rattle.basis.specs.declared.roles.Caller.{Caller}
@@ -127,12 +127,12 @@ checked_later r now later asked content_md5 body most = by_token (caller_of r (s
 
     by_token : (x : Option Token) → (at later x ≡ Err BadToken) ⊎ (at later x ≡ at now x)
     by_token None = inl refl
-    by_token (Some token) = by_end (counts_at later token.caller) refl
+    by_token (Some token) = by_end (is_valid_at later token.caller) refl
       where
         if_it_counts : Bool → Result Task Refusal
         if_it_counts b = and_then (or_refused BadToken (if b then Some token else None)) (after_caller r asked content_md5 body)
 
-        by_end : (b : Bool) → counts_at later token.caller ≡ b → (at later (Some token) ≡ Err BadToken) ⊎ (at later (Some token) ≡ at now (Some token))
+        by_end : (b : Bool) → is_valid_at later token.caller ≡ b → (at later (Some token) ≡ Err BadToken) ⊎ (at later (Some token) ≡ at now (Some token))
         by_end false c = inl (ap if_it_counts c)
         by_end true c = inr (ap if_it_counts (c ∙ sym (counted_before now later token.caller.until most c)))
 

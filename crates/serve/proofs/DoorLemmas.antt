@@ -29,15 +29,15 @@ use Rattle.wire.specs.declared.messages.WireFault.{WireFault}
 use Rattle.wire.specs.declared.messages.WireFault.TheVariants.{Refused, Down, Ended, Read, Continue}
 use Rattle.wire.proofs.ReadingLemmas.{reads_one}
 use Rattle.serve.specs.Asks.{commands, organization}
-use Rattle.serve.specs.Doors.{commanded, act_commanded, org_commanded, subject_of, told_row, unserved_row, IsToldAtDoor, ComeNotToDoor, PassesDoor, ExchangesOpen, ExchangesWith, BringsSecret, OnlyTheSecretOpens}
-use Rattle.serve.specs.Exchanges.{Exchanges, ChangesAtMostOne, OfNamed, Makes, ComesAsTold, ChangesAsTold}
+use Rattle.serve.specs.Doors.{commanded, act_commanded, org_commanded, subject_of, reported_row, unserved_row, IsReportedAtDoor, ComeNotToDoor, PassesDoor, ExchangesOpen, ExchangesWith, BringsSecret, OnlyTheSecretOpens}
+use Rattle.serve.specs.Exchanges.{Exchanges, ChangesAtMostOne, OfNamed, Makes, ComesAsLogged, ChangesAsLogged}
 use Rattle.serve.specs.Logs.{operator_row}
-use Rattle.serve.specs.Service.{is_head, is_own, after_ask, Carries, Stays, IsAdminAnswer, refusal_told}
+use Rattle.serve.specs.Service.{is_head, is_own, after_ask, Carries, Stays, IsAdminAnswer, reported_refusal}
 use Rattle.serve.specs.Steps.{command_step}
 use Rattle.serve.specs.Inner.Doors.{Operates, TurnsAway, OperatesOrNot, AnswersOpen, ReadsElsewhere}
 use Rattle.serve.specs.Inner.Replying.{AnswersTo}
 use Rattle.serve.specs.Inner.Taking.{IsCarriedOut}
-use Rattle.serve.specs.declared.commands.Told.{Told}
+use Rattle.serve.specs.declared.commands.CommandReport.{CommandReport}
 use Rattle.serve.specs.declared.doors.Door.{Door}
 use Rattle.serve.specs.declared.doors.Door.TheVariants.{Closed, Open}
 use Rattle.serve.specs.declared.doors.Operated.{Operated}
@@ -45,10 +45,10 @@ use Rattle.serve.specs.declared.exchanges.LinkFault.{LinkFault}
 use Rattle.serve.specs.declared.exchanges.LinkFault.TheVariants.{Ended as LinkEnded, Read as LinkRead, Continue as LinkContinue, Write as LinkWrite}
 use Rattle.serve.specs.declared.steps.Admin.{Admin}
 use Rattle.serve.specs.declared.steps.Admin.TheVariants.{OrgAdd, OrgLimit, OrgRemove, OrgList, TokenAdd, TokenList, TokenRevoke}
-use Rattle.serve.proofs.ExchangeLemmas.{MakesNothing, EndsBefore, exchanged_one, exchanged_told, carried_one, stayed_one, stayed_told}
+use Rattle.serve.proofs.ExchangeLemmas.{MakesNothing, EndsBefore, exchanged_one, exchanged_logged, carried_one, stayed_one, stayed_logged}
 use Rattle.serve.proofs.LawLemmas.{command_leaves}
 use Rattle.serve.proofs.RemovalLemmas.{Comes, command_comes}
-use Rattle.serve.proofs.ToldLemmas.{keeps_same, none_starts}
+use Rattle.serve.proofs.LoggedChanges.{keeps_same, none_starts}
 
 pub if_err : {T E : Type 0} {P Q : E → Type 0} (r : Result T E) → ((e : E) → P e → Q e) → IfErr r P → IfErr r Q
 if_err (Ok x) weaker h = tt
@@ -62,17 +62,17 @@ one_message m n a b e = cc
 -- what was read elsewhere doesn't come to the door
 elsewhere : (received : List ℕ) (left before between : Option (List ℕ)) (read : Result Message WireFault) → ReadsElsewhere read → (read ≡ Err Down → ⊥) → (read ≡ Err Continue → ⊥)
     → ReportsReceived received left before between read → ComeNotToDoor received
-elsewhere received left before between (Ok message) away down continued told other awaited comes =
-    let same : message ≡ other = one_message message other told.0 awaited (reads_one received (whole message told.0) (whole other awaited) told.1 comes.reads) in
+elsewhere received left before between (Ok message) away down continued reported other awaited comes =
+    let same : message ≡ other = one_message message other reported.0 awaited (reads_one received (whole message reported.0) (whole other awaited) reported.1 comes.reads) in
     both_ways (is_at_door other) (subst (λ (m : Message). is_at_door m ≡ false) same away) comes.at_door
-elsewhere received left before between (Err (Refused refusal head)) away down continued told other awaited comes =
-    let none : refused refusal head ≡ whole other awaited = reads_one received (refused refusal head) (whole other awaited) told.0 comes.reads in let no : ⊥ = cc in no
-elsewhere received left before between (Err Ended) away down continued told other awaited comes =
-    let none : unfinished ≡ whole other awaited = reads_one received unfinished (whole other awaited) told.0 comes.reads in let no : ⊥ = cc in no
-elsewhere received left before between (Err Read) away down continued told other awaited comes =
-    let none : unfinished ≡ whole other awaited = reads_one received unfinished (whole other awaited) told.0 comes.reads in let no : ⊥ = cc in no
-elsewhere received left before between (Err Down) away down continued told other awaited comes = down refl
-elsewhere received left before between (Err Continue) away down continued told other awaited comes = continued refl
+elsewhere received left before between (Err (Refused refusal head)) away down continued reported other awaited comes =
+    let none : refused refusal head ≡ whole other awaited = reads_one received (refused refusal head) (whole other awaited) reported.0 comes.reads in let no : ⊥ = cc in no
+elsewhere received left before between (Err Ended) away down continued reported other awaited comes =
+    let none : unfinished ≡ whole other awaited = reads_one received unfinished (whole other awaited) reported.0 comes.reads in let no : ⊥ = cc in no
+elsewhere received left before between (Err Read) away down continued reported other awaited comes =
+    let none : unfinished ≡ whole other awaited = reads_one received unfinished (whole other awaited) reported.0 comes.reads in let no : ⊥ = cc in no
+elsewhere received left before between (Err Down) away down continued reported other awaited comes = down refl
+elsewhere received left before between (Err Continue) away down continued reported other awaited comes = continued refl
 
 passes : {T : Type 0} (received : List ℕ) (is_down : Bool) (result : Result T LinkFault) → (is_down ≡ false → (result ≡ Err LinkContinue → ⊥) → ComeNotToDoor received) → PassesDoor received is_down result
 passes received false (Ok done) h = h refl (λ e. let none : ⊥ = cc in none)
@@ -90,41 +90,41 @@ passes received true (Err LinkContinue) h = tt
 pub passed : {T : Type 0} (digest : List ℕ) (now : ℕ) (read : Result Message WireFault) (old new : List ℕ → Option Organization) (b c : Option (List ℕ)) (is_down : Bool) (row : Option LogRow) (result : Result T LinkFault)
     → ReadsElsewhere read → (IsErrOf read Down → is_down ≡ true) → (IsErrOf read Continue → IsErrOf result LinkContinue)
     → AnswersTo now read old new b c is_down row result → AnswersOpen digest now read old new b c is_down row result
-passed digest now read old new b c is_down row result away down continued answers received left before told = inl (
+passed digest now read old new b c is_down row result away down continued answers received left before reported = inl (
   passes received is_down result (λ up written. elsewhere received left before b read away
       (λ e. both_ways is_down up (down e))
-      (λ e. written (continued e)) told),
-  answers received left before told,
+      (λ e. written (continued e)) reported),
+  answers received left before reported,
 )
 
 -- a message at the door is answered there
 pub at_door : {T : Type 0} (digest : List ℕ) (now : ℕ) (message : Message) (old new : List ℕ → Option Organization) (b c : Option (List ℕ)) (is_down : Bool) (row : Option LogRow) (text : List ℕ) (result : Result T LinkFault)
-    → is_at_door message ≡ true → IsToldAtDoor digest now message old new text row is_down → Writes b c text result → IfErr result (λ fault. fault ≡ LinkWrite)
+    → is_at_door message ≡ true → IsReportedAtDoor digest now message old new text row is_down → Writes b c text result → IfErr result (λ fault. fault ≡ LinkWrite)
     → AnswersOpen digest now (Ok message) old new b c is_down row result
-at_door digest now message old new b c is_down row text (Ok done) comes is writes fault received left before told =
-    inr (message, told.0, record { reads = told.1; at_door = comes }, (text, is, Appends-trans before b c (continue_if told.0) text told.2 writes))
-at_door {T = T} digest now message old new b c is_down row text (Err e) comes is writes fault received left before told =
+at_door digest now message old new b c is_down row text (Ok done) comes is writes fault received left before reported =
+    inr (message, reported.0, record { reads = reported.1; at_door = comes }, (text, is, Appends-trans before b c (continue_if reported.0) text reported.2 writes))
+at_door {T = T} digest now message old new b c is_down row text (Err e) comes is writes fault received left before reported =
     subst (λ (f : LinkFault). ExchangesOpen digest now received left old new before c is_down row {T = T} (Err f)) (sym fault)
     (inr (
       message,
-      told.0,
-      record { reads = told.1; at_door = comes },
-      (writes.0, writes.1, writes.2, subst (λ (x : List ℕ). IsToldAtDoor digest now message old new x row is_down) writes.3 is, Appends-trans before b c (continue_if told.0) writes.0 told.2 writes.4),
+      reported.0,
+      record { reads = reported.1; at_door = comes },
+      (writes.0, writes.1, writes.2, subst (λ (x : List ℕ). IsReportedAtDoor digest now message old new x row is_down) writes.3 is, Appends-trans before b c (continue_if reported.0) writes.0 reported.2 writes.4),
     ))
 
 -- ---- what is told
 
 -- a command that is carried out has its reply and its row
-pub carried_out : (at : ℕ) (command : Admin) (old new : List ℕ → Option Organization) (told : Told) (done : Operated) → IsCarriedOut command old new told
-    → done.reply ≡ text_answer told.refusal told.text
-    → done.row ≡ operator_row at (Some (act_commanded command)) (org_commanded command) (subject_of command told.refusal) (text_answer told.refusal told.text)
+pub carried_out : (at : ℕ) (command : Admin) (old new : List ℕ → Option Organization) (reported : CommandReport) (done : Operated) → IsCarriedOut command old new reported
+    → done.reply ≡ text_answer reported.refusal reported.text
+    → done.row ≡ operator_row at (Some (act_commanded command)) (org_commanded command) (subject_of command reported.refusal) (text_answer reported.refusal reported.text)
     → Operates at command old new done
-carried_out at command old new told done carried reply row = record {
+carried_out at command old new reported done carried reply row = record {
   answer = carried.answer;
   answered = carried.answered;
   carries = carried.carries at;
-  reply = reply ∙ ap₂ text_answer carried.tells.refusal carried.tells.text;
-  row = row ∙ ap₂ (λ (r : Option Refusal) (t : List ℕ). operator_row at (Some (act_commanded command)) (org_commanded command) (subject_of command r) (text_answer r t)) carried.tells.refusal carried.tells.text;
+  reply = reply ∙ ap₂ text_answer carried.reports.refusal carried.reports.text;
+  row = row ∙ ap₂ (λ (r : Option Refusal) (t : List ℕ). operator_row at (Some (act_commanded command)) (org_commanded command) (subject_of command r) (text_answer r t)) carried.reports.refusal carried.reports.text;
 }
 
 -- a message that is turned away changes nothing
@@ -136,9 +136,9 @@ turned digest at message rows refusal head (Ok done) same refuses known away =
 turned digest at message rows refusal head (Err e) same refuses known away = tt
 
 -- what was done at the door is told
-pub told_at_door : (digest : List ℕ) (now : ℕ) (message : Message) (old new : List ℕ → Option Organization) (done : Operated) (text : List ℕ)
-    → OperatesOrNot digest now message old new done → IsReplyText done.reply now text → IsToldAtDoor digest now message old new text (Some done.row) false
-told_at_door digest now message old new done text (inl (command, asks, operates)) is = inl (record {
+pub reported_at_door : (digest : List ℕ) (now : ℕ) (message : Message) (old new : List ℕ → Option Organization) (done : Operated) (text : List ℕ)
+    → OperatesOrNot digest now message old new done → IsReplyText done.reply now text → IsReportedAtDoor digest now message old new text (Some done.row) false
+reported_at_door digest now message old new done text (inl (command, asks, operates)) is = inl (record {
   command = command;
   asks = asks;
   carries = operates.carries;
@@ -147,7 +147,7 @@ told_at_door digest now message old new done text (inl (command, asks, operates)
   is = subst (λ (a : Answer). IsReplyText a now text) operates.reply is;
   logged = ap Some operates.row;
 })
-told_at_door digest now message old new done text (inr (refusal, refuses, stays, away)) is = inr (record {
+reported_at_door digest now message old new done text (inr (refusal, refuses, stays, away)) is = inr (record {
   refusal = refusal;
   refused = refuses;
   stays = stays;
@@ -161,8 +161,8 @@ told_at_door digest now message old new done text (inr (refusal, refuses, stays,
 abbrev StayOrGo : Option Organization → Option Organization → Type 0
 StayOrGo r after = (ws : List ℕ) → (workspace_in after ws ≡ workspace_in r ws) ⊎ (workspace_in after ws ≡ None)
 
-goes_as_told : (row : LogRow) (r after : Option Organization) → MakesNothing row → StayOrGo r after → ComesAsTold row r after
-goes_as_told row r after nothing stay = record {
+goes_as_logged : (row : LogRow) (r after : Option Organization) → MakesNothing row → StayOrGo r after → ComesAsLogged row r after
+goes_as_logged row r after nothing stay = record {
   version = subst (λ (o : Option ℕ). IfSome o (λ n. OfNamed row.workspace r after (Makes n))) (sym nothing.version) tt;
   run = subst (λ (o : Option ℕ). IfSome o (λ n. OfNamed row.workspace r after (Starts n))) (sym nothing.run) tt;
   versions = λ ws w v stood stands. inl (kept ws w v stood stands (stay ws));
@@ -207,8 +207,8 @@ not_own at (TokenList own) org apart = refl
 not_own at (TokenRevoke own name) org apart = apart_name org own (bytes_eq org own) refl apart
 
 -- a command that is refused changes nothing
-not_done : (answer said : AdminAnswer) → answer ≡ said → IsSome (refusal_told answer) → said ≢ Done
-not_done answer said is some done = let none : IsSome (refusal_told Done) = subst IsSome (ap refusal_told (is ∙ done)) some in let no : ⊥ = cc in no
+not_done : (answer said : AdminAnswer) → answer ≡ said → IsSome (reported_refusal answer) → said ≢ Done
+not_done answer said is some done = let none : IsSome (reported_refusal Done) = subst IsSome (ap reported_refusal (is ∙ done)) some in let no : ⊥ = cc in no
 
 own_leaves : (at : ℕ) (command : Admin) (old : List ℕ → Option Organization) (own org : List ℕ) (b : Bool) → bytes_eq org own ≡ b → (command_step (old own) command).answer ≢ Done
     → after_ask b (commands at command) (old org) ≡ old org
@@ -217,7 +217,7 @@ own_leaves at command old own org true e apart =
     subst (λ (name : List ℕ). (command_step (old name) command).left ≡ old name) (sym same) (command_leaves (old own) command apart)
 own_leaves at command old own org false e apart = refl
 
-refused_leaves : (at : ℕ) (command : Admin) (answer : AdminAnswer) (old : List ℕ → Option Organization) → IsAdminAnswer old command answer → IsSome (refusal_told answer)
+refused_leaves : (at : ℕ) (command : Admin) (answer : AdminAnswer) (old : List ℕ → Option Organization) → IsAdminAnswer old command answer → IsSome (reported_refusal answer)
     → (org : List ℕ) → after_ask (is_own (organization org) (commands at command)) (commands at command) (old org) ≡ old org
 refused_leaves at (OrgAdd own limit) answer old is some org = own_leaves at (OrgAdd own limit) old own org (bytes_eq org own) refl (not_done answer _ is some)
 refused_leaves at (OrgLimit own limit) answer old is some org = own_leaves at (OrgLimit own limit) old own org (bytes_eq org own) refl (not_done answer _ is some)
@@ -228,18 +228,18 @@ refused_leaves at (TokenList own) answer old is some org = refl
 refused_leaves at (TokenRevoke own name) answer old is some org = own_leaves at (TokenRevoke own name) old own org (bytes_eq org own) refl (not_done answer _ is some)
 
 -- a command changes what its row tells
-command_told : (now : ℕ) (command : Admin) (answer : AdminAnswer) (old new : List ℕ → Option Organization) → IsAdminAnswer old command answer → Carries (commands now command) old new
-    → ChangesAsTold (told_row now command answer) old new
-command_told now command answer old new answered carries = record {
+command_reported : (now : ℕ) (command : Admin) (answer : AdminAnswer) (old new : List ℕ → Option Organization) → IsAdminAnswer old command answer → Carries (commands now command) old new
+    → ChangesAsLogged (reported_row now command answer) old new
+command_reported now command answer old new answered carries = record {
   others = λ org apart. carries org ∙ ap (λ (b : Bool). after_ask b (commands now command) (old org)) (not_own now command org apart);
   refused = λ some org. carries org ∙ refused_leaves now command answer old answered some org;
-  own = λ org named. goes_as_told (told_row now command answer) (old org) (new org) (record { version = refl; run = refl })
+  own = λ org named. goes_as_logged (reported_row now command answer) (old org) (new org) (record { version = refl; run = refl })
       (subst (StayOrGo (old org)) (sym (carries org)) (moved now command (is_own (organization org) (commands now command)) (old org)));
   nobody = λ none. (refl, refl);
 }
 
-row_told : (row : Option LogRow) (told : LogRow) (old new : List ℕ → Option Organization) → row ≡ Some told → ChangesAsTold told old new → IfSome row (λ row. ChangesAsTold row old new)
-row_told row told old new is changes = subst (λ (r : Option LogRow). IfSome r (λ row. ChangesAsTold row old new)) (sym is) changes
+row_reported : (row : Option LogRow) (reported : LogRow) (old new : List ℕ → Option Organization) → row ≡ Some reported → ChangesAsLogged reported old new → IfSome row (λ row. ChangesAsLogged row old new)
+row_reported row reported old new is changes = subst (λ (r : Option LogRow). IfSome r (λ row. ChangesAsLogged row old new)) (sym is) changes
 
 unserved_makes_nothing : (now : ℕ) (command : Option Admin) → MakesNothing (unserved_row now command)
 unserved_makes_nothing now None = record { version = refl; run = refl }
@@ -247,13 +247,13 @@ unserved_makes_nothing now (Some command) = record { version = refl; run = refl 
 
 -- at the door, what changes is told
 changed_at_door : (digest : List ℕ) (now : ℕ) (message : Message) (old new : List ℕ → Option Organization) (text : List ℕ) (row : Option LogRow) (is_down : Bool)
-    → IsToldAtDoor digest now message old new text row is_down → IfSome row (λ told. ChangesAsTold told old new)
-changed_at_door digest now message old new text row false (inl done) = row_told row _ old new done.logged (command_told now done.command done.answer old new done.answered done.carries)
-changed_at_door digest now message old new text row false (inr away) = row_told row _ old new away.logged (stayed_told _ old new (record { version = refl; run = refl }) away.stays)
-changed_at_door digest now message old new text row true down = row_told row _ old new down.logged (stayed_told (unserved_row now down.command) old new (unserved_makes_nothing now down.command) down.stays)
+    → IsReportedAtDoor digest now message old new text row is_down → IfSome row (λ reported. ChangesAsLogged reported old new)
+changed_at_door digest now message old new text row false (inl done) = row_reported row _ old new done.logged (command_reported now done.command done.answer old new done.answered done.carries)
+changed_at_door digest now message old new text row false (inr away) = row_reported row _ old new away.logged (stayed_logged _ old new (record { version = refl; run = refl }) away.stays)
+changed_at_door digest now message old new text row true down = row_reported row _ old new down.logged (stayed_logged (unserved_row now down.command) old new (unserved_makes_nothing now down.command) down.stays)
 
 one_at_door : (digest : List ℕ) (now : ℕ) (message : Message) (old new : List ℕ → Option Organization) (text : List ℕ) (row : Option LogRow) (is_down : Bool)
-    → IsToldAtDoor digest now message old new text row is_down → ChangesAtMostOne old new
+    → IsReportedAtDoor digest now message old new text row is_down → ChangesAtMostOne old new
 one_at_door digest now message old new text row false (inl done) = carried_one (commands now done.command) old new done.carries
 one_at_door digest now message old new text row false (inr away) = stayed_one old new away.stays
 one_at_door digest now message old new text row true down = stayed_one old new down.stays
@@ -267,14 +267,14 @@ open_one digest left now received old new a c is_down row (Err LinkEnded) (inr h
 open_one digest left now received old new a c is_down row (Err LinkRead) (inr h) stays = absurd h.3
 open_one digest left now received old new a c is_down row (Err LinkContinue) (inr h) stays = absurd h.3
 
-pub open_told : {T : Type 0} (digest : List ℕ) (left : Option (List ℕ)) (now : ℕ) (received : List ℕ) (old new : List ℕ → Option Organization) (a c : Option (List ℕ)) (is_down : Bool) (row : Option LogRow) (result : Result T LinkFault)
-    → AreLawful old → ExchangesOpen digest now received left old new a c is_down row result → (EndsBefore result → Stays old new) → IfSome row (λ told. ChangesAsTold told old new)
-open_told digest left now received old new a c is_down row result lawful (inl h) stays = exchanged_told left now received old new a c is_down row result lawful h.1 stays
-open_told digest left now received old new a c is_down row (Ok done) lawful (inr h) stays = changed_at_door digest now h.0 old new h.3.0 row is_down h.3.1
-open_told digest left now received old new a c is_down row (Err LinkWrite) lawful (inr h) stays = changed_at_door digest now h.0 old new (h.3.0 ++ h.3.1) row is_down h.3.3
-open_told digest left now received old new a c is_down row (Err LinkEnded) lawful (inr h) stays = absurd h.3
-open_told digest left now received old new a c is_down row (Err LinkRead) lawful (inr h) stays = absurd h.3
-open_told digest left now received old new a c is_down row (Err LinkContinue) lawful (inr h) stays = absurd h.3
+pub open_reported : {T : Type 0} (digest : List ℕ) (left : Option (List ℕ)) (now : ℕ) (received : List ℕ) (old new : List ℕ → Option Organization) (a c : Option (List ℕ)) (is_down : Bool) (row : Option LogRow) (result : Result T LinkFault)
+    → AreLawful old → ExchangesOpen digest now received left old new a c is_down row result → (EndsBefore result → Stays old new) → IfSome row (λ reported. ChangesAsLogged reported old new)
+open_reported digest left now received old new a c is_down row result lawful (inl h) stays = exchanged_logged left now received old new a c is_down row result lawful h.1 stays
+open_reported digest left now received old new a c is_down row (Ok done) lawful (inr h) stays = changed_at_door digest now h.0 old new h.3.0 row is_down h.3.1
+open_reported digest left now received old new a c is_down row (Err LinkWrite) lawful (inr h) stays = changed_at_door digest now h.0 old new (h.3.0 ++ h.3.1) row is_down h.3.3
+open_reported digest left now received old new a c is_down row (Err LinkEnded) lawful (inr h) stays = absurd h.3
+open_reported digest left now received old new a c is_down row (Err LinkRead) lawful (inr h) stays = absurd h.3
+open_reported digest left now received old new a c is_down row (Err LinkContinue) lawful (inr h) stays = absurd h.3
 
 -- nothing was read, and the refusal is written
 pub refused_with : {T : Type 0} (door : Door) (left : Option (List ℕ)) (now : ℕ) (received : List ℕ) (rows : List ℕ → Option Organization) (a c : Option (List ℕ)) (row : Option LogRow) (result : Result T LinkFault)

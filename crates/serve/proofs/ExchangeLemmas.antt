@@ -21,17 +21,17 @@ use Rattle.serve.specs.Asks.{Ask, Owner, owner_of, organization, unattributed, o
 use Rattle.serve.specs.Asks as ask
 use Rattle.serve.specs.Steps.{Said, replies, refusing, request_step, step}
 use Rattle.serve.specs.Inner.Prepared.{IsPrepared}
-use Rattle.serve.specs.Inner.Replying.{without_body, PreparesFor, LogsFor, LogsDownFor, AnswersTo, due_reply, due_row, Settles}
+use Rattle.serve.specs.Inner.Replying.{without_body, PreparesFor, LogsFor, LogsDownFor, AnswersTo, due_reply, due_row, CommitsUnlessDown}
 use Rattle.serve.specs.Inner.Tracing.{as_unavailable}
 use Rattle.serve.specs.Service.{same_owner, record_for, asked_by, ask_of, Asks, Carries, Stays, said_to, IsSaidText, is_head, after_ask}
-use Rattle.serve.specs.Exchanges.{IsServed, IsUnavailableFor, IsAnswered, Exchanges, ChangesAtMostOne, ComesAsTold, ChangesAsTold}
+use Rattle.serve.specs.Exchanges.{IsServed, IsUnavailableFor, IsAnswered, Exchanges, ChangesAtMostOne, ComesAsLogged, ChangesAsLogged}
 use Rattle.serve.specs.declared.exchanges.LinkFault.{LinkFault}
 use Rattle.serve.specs.declared.exchanges.LinkFault.TheVariants.{Ended as LinkEnded, Read as LinkRead, Continue as LinkContinue, Write as LinkWrite}
 use Rattle.serve.specs.declared.messages.Prepared.{Prepared}
 use Rattle.basis.specs.declared.refusals.Refusal.{Refusal}
 use Rattle.serve.proofs.LawLemmas.{refusals_change_nothing}
 use Rattle.serve.proofs.RecordLemmas.{workspace_lawful}
-use Rattle.serve.proofs.ToldLemmas.{request_as_told, still_told}
+use Rattle.serve.proofs.LoggedChanges.{request_as_logged, still_logged}
 use Rattle.serve.proofs.TakenLemmas.{prepared_after, carries_after}
 
 -- what is prepared is what is said
@@ -98,27 +98,27 @@ down_makes_nothing : (now : ℕ) (old : List ℕ → Option Organization) (readi
 down_makes_nothing now old None row h = unavailable_makes_nothing row now h
 down_makes_nothing now old (Some reading) row h = row_makes_nothing (record_for old (owner_of (ask_of now reading))) (ask_of now reading) row h
 
-pub stayed_told : (row : LogRow) (old new : List ℕ → Option Organization) → MakesNothing row → Stays old new → ChangesAsTold row old new
-stayed_told row old new nothing stays = record {
+pub stayed_logged : (row : LogRow) (old new : List ℕ → Option Organization) → MakesNothing row → Stays old new → ChangesAsLogged row old new
+stayed_logged row old new nothing stays = record {
   others = λ org apart. stays org;
   refused = λ some. stays;
-  own = λ org named. subst (ComesAsTold row (old org)) (sym (stays org)) (still_told row (old org) nothing.version nothing.run);
+  own = λ org named. subst (ComesAsLogged row (old org)) (sym (stays org)) (still_logged row (old org) nothing.version nothing.run);
   nobody = λ none. (nothing.version, nothing.run);
 }
 
 -- what is asked changes what its row tells
-asked_told : (a : Ask) (row : LogRow) (old new : List ℕ → Option Organization) → AreLawful old → Some row ≡ row_of_ask (record_for old (owner_of a)) a → Carries a old new → ChangesAsTold row old new
-asked_told silent row old new lawful is carries = absurd (let none : ⊥ = cc in none)
-asked_told (ask.refused at awaited refusal is_head) row old new lawful is carries =
-    subst (λ (x : LogRow). ChangesAsTold x old new) (sym (same_Some row (with_answer (refusing refusal None).answer (silent_row at)) is))
-    (stayed_told (with_answer (refusing refusal None).answer (silent_row at)) old new (record { version = refl; run = refl }) carries)
-asked_told (requests at awaited asked content_md5 body) row old new lawful is carries =
+asked_reported : (a : Ask) (row : LogRow) (old new : List ℕ → Option Organization) → AreLawful old → Some row ≡ row_of_ask (record_for old (owner_of a)) a → Carries a old new → ChangesAsLogged row old new
+asked_reported silent row old new lawful is carries = absurd (let none : ⊥ = cc in none)
+asked_reported (ask.refused at awaited refusal is_head) row old new lawful is carries =
+    subst (λ (x : LogRow). ChangesAsLogged x old new) (sym (same_Some row (with_answer (refusing refusal None).answer (silent_row at)) is))
+    (stayed_logged (with_answer (refusing refusal None).answer (silent_row at)) old new (record { version = refl; run = refl }) carries)
+asked_reported (requests at awaited asked content_md5 body) row old new lawful is carries =
     let same : row ≡ request_row (old asked.caller) at asked content_md5 body = same_Some row (request_row (old asked.caller) at asked content_md5 body) is in
-    subst (λ (x : LogRow). ChangesAsTold x old new) (sym same) (record {
+    subst (λ (x : LogRow). ChangesAsLogged x old new) (sym same) (record {
       others = λ org apart. carries org ∙ other_stays org (bytes_eq org asked.caller) refl apart;
       refused = λ some org. carries org ∙ refused_stays (request_step (old asked.caller) at asked content_md5 body).answer.refusal refl some org (bytes_eq org asked.caller) refl;
-      own = λ org named. subst (λ (name : List ℕ). ComesAsTold (request_row (old asked.caller) at asked content_md5 body) (old name) (new name)) (same_Some asked.caller org named)
-          (request_as_told (old asked.caller) (new asked.caller) at asked content_md5 body (λ ws. workspace_lawful old asked.caller ws lawful) own_step);
+      own = λ org named. subst (λ (name : List ℕ). ComesAsLogged (request_row (old asked.caller) at asked content_md5 body) (old name) (new name)) (same_Some asked.caller org named)
+          (request_as_logged (old asked.caller) (new asked.caller) at asked content_md5 body (λ ws. workspace_lawful old asked.caller ws lawful) own_step);
       nobody = λ none. absurd (let not_none : ⊥ = cc in not_none);
     })
   where
@@ -137,12 +137,12 @@ asked_told (requests at awaited asked content_md5 body) row old new lawful is ca
         ∙ (refusals_change_nothing (old asked.caller) (requests at awaited asked content_md5 body)).0 awaited at _ refusal refl e
         ∙ ap old (sym ((bytes_eq-Decides org asked.caller).0 is))
     refused_stays (Some refusal) e some org false is = refl
-asked_told (commands at command) row old new lawful is carries = absurd (let none : ⊥ = cc in none)
+asked_reported (commands at command) row old new lawful is carries = absurd (let none : ⊥ = cc in none)
 
-answered_told : (now : ℕ) (received : List ℕ) (old new : List ℕ → Option Organization) (awaited : Bool) (text : List ℕ) (row : LogRow) (is_down : Bool) → AreLawful old → IsAnswered now received old new awaited text (Some row) is_down → ChangesAsTold row old new
-answered_told now received old new awaited text row false lawful served = asked_told served.ask row old new lawful served.logged served.carries
-answered_told now received old new awaited text row true lawful (reading, unavailable) =
-    stayed_told row old new (subst MakesNothing (sym (same_Some row unavailable.told unavailable.tells)) (down_makes_nothing now old reading unavailable.told unavailable.logged)) unavailable.stays
+answered_reported : (now : ℕ) (received : List ℕ) (old new : List ℕ → Option Organization) (awaited : Bool) (text : List ℕ) (row : LogRow) (is_down : Bool) → AreLawful old → IsAnswered now received old new awaited text (Some row) is_down → ChangesAsLogged row old new
+answered_reported now received old new awaited text row false lawful served = asked_reported served.ask row old new lawful served.logged served.carries
+answered_reported now received old new awaited text row true lawful (reading, unavailable) =
+    stayed_logged row old new (subst MakesNothing (sym (same_Some row unavailable.reported unavailable.reports)) (down_makes_nothing now old reading unavailable.reported unavailable.logged)) unavailable.stays
 
 -- what was read of what received is answered by this text
 abbrev pub AnswersRead : ℕ → Result Message WireFault → (List ℕ → Option Organization) → (List ℕ → Option Organization) → Bool → List ℕ → Option LogRow → Type 0
@@ -152,18 +152,18 @@ AnswersRead now read old new is_down text row = (received : List ℕ) (left befo
 -- memory or the store was refused, inside the reading or past it
 pub refused_read : (now : ℕ) (read : Result Message WireFault) (old new : List ℕ → Option Organization) (text : List ℕ) (row : LogRow)
     → Stays old new → IsReplyText (unavailable_answer (without_body read)) now text → LogsDownFor now old read row → AnswersRead now read old new true text (Some row)
-refused_read now (Ok message) old new text row stays is_text logs received left before after told = (
-  told.0,
-  told.2,
-  (Some (whole message told.0), record { stays = stays; reads = told.1; without_body = is_head message; shaped = (refl, refl); is = is_text; told = row; tells = refl; logged = logs told.0 }),
+refused_read now (Ok message) old new text row stays is_text logs received left before after reported = (
+  reported.0,
+  reported.2,
+  (Some (whole message reported.0), record { stays = stays; reads = reported.1; without_body = is_head message; shaped = (refl, refl); is = is_text; reported = row; reports = refl; logged = logs reported.0 }),
 )
-refused_read now (Err (Refused refusal head)) old new text row stays is_text logs received left before after told =
-    (false, told.1, (Some (refused refusal head), record { stays = stays; reads = told.0; without_body = head; shaped = (refl, refl); is = is_text; told = row; tells = refl; logged = logs }))
-refused_read now (Err Down) old new text row stays is_text logs received left before after told =
-    (false, told, (None, record { stays = stays; reads = tt; without_body = false; shaped = (refl, refl); is = is_text; told = row; tells = refl; logged = logs }))
-refused_read now (Err Ended) old new text row stays is_text logs received left before after told = absurd logs
-refused_read now (Err Read) old new text row stays is_text logs received left before after told = absurd logs
-refused_read now (Err Continue) old new text row stays is_text logs received left before after told = absurd logs
+refused_read now (Err (Refused refusal head)) old new text row stays is_text logs received left before after reported =
+    (false, reported.1, (Some (refused refusal head), record { stays = stays; reads = reported.0; without_body = head; shaped = (refl, refl); is = is_text; reported = row; reports = refl; logged = logs }))
+refused_read now (Err Down) old new text row stays is_text logs received left before after reported =
+    (false, reported, (None, record { stays = stays; reads = tt; without_body = false; shaped = (refl, refl); is = is_text; reported = row; reports = refl; logged = logs }))
+refused_read now (Err Ended) old new text row stays is_text logs received left before after reported = absurd logs
+refused_read now (Err Read) old new text row stays is_text logs received left before after reported = absurd logs
+refused_read now (Err Continue) old new text row stays is_text logs received left before after reported = absurd logs
 
 -- the row of a 503 in place of an answer: all of it had been read
 down_logged : (r : Option Organization) (a : Ask) (row : LogRow) → row_of_ask r a ≡ Some row → IsUnavailableRow r a (as_unavailable row)
@@ -183,45 +183,45 @@ stays_both old mid new first second = λ org. second org ∙ first org
 
 -- what was read is prepared, and its change is made, or isn't
 pub answered_read : (now : ℕ) (read : Result Message WireFault) (old mid new : List ℕ → Option Organization) (p : Prepared) (row : LogRow) (is_down : Bool) (text : List ℕ)
-    → Stays old mid → PreparesFor now old read p → LogsFor now old read row → Settles is_down p mid new
+    → Stays old mid → PreparesFor now old read p → LogsFor now old read row → CommitsUnlessDown is_down p mid new
     → IsReplyText (due_reply is_down (without_body read) p.reply) now text → AnswersRead now read old new is_down text (Some (due_row is_down row))
-answered_read now (Ok message) old mid new p row false text stays prepared logs settled is_text received left before after told =
-    let h = message_answered old mid new now told.0 message p stays (prepared told.0) settled in (
-      told.0,
-      told.2,
+answered_read now (Ok message) old mid new p row false text stays prepared logs committed is_text received left before after reported =
+    let h = message_answered old mid new now reported.0 message p stays (prepared reported.0) committed in (
+      reported.0,
+      reported.2,
       record {
-        ask = asked_by now told.0 message (asked_of message);
-        asks = record { reading = whole message told.0; reads = told.1; is = refl };
+        ask = asked_by now reported.0 message (asked_of message);
+        asks = record { reading = whole message reported.0; reads = reported.1; is = refl };
         carries = h.0;
         answer = p.reply;
         said = h.1;
         is = is_text;
-        logged = sym (logs told.0);
+        logged = sym (logs reported.0);
       },
     )
-answered_read now (Ok message) old mid new p row true text stays prepared logs settled is_text received left before after told =
-    refused_read now (Ok message) old new text (as_unavailable row) (stays_both old mid new stays settled) is_text
-    (λ due. let a : Ask = asked_by now due message (asked_of message) in down_logged (record_for old (owner_of a)) a row (logs due)) received left before after told
-answered_read now (Err (Refused refusal head)) old mid new p row false text stays prepared logs settled is_text received left before after told =
+answered_read now (Ok message) old mid new p row true text stays prepared logs committed is_text received left before after reported =
+    refused_read now (Ok message) old new text (as_unavailable row) (stays_both old mid new stays committed) is_text
+    (λ due. let a : Ask = asked_by now due message (asked_of message) in down_logged (record_for old (owner_of a)) a row (logs due)) received left before after reported
+answered_read now (Err (Refused refusal head)) old mid new p row false text stays prepared logs committed is_text received left before after reported =
     let a : Ask = ask.refused now false refusal head in (
       false,
-      told.1,
+      reported.1,
       record {
         ask = a;
-        asks = record { reading = refused refusal head; reads = told.0; is = refl };
-        carries = carries_after old mid new a stays (settled a prepared);
+        asks = record { reading = refused refusal head; reads = reported.0; is = refl };
+        carries = carries_after old mid new a stays (committed a prepared);
         answer = p.reply;
         said = ap (replies false now) (sym prepared.0);
         is = is_text;
         logged = sym logs;
       },
     )
-answered_read now (Err (Refused refusal head)) old mid new p row true text stays prepared logs settled is_text received left before after told =
-    refused_read now (Err (Refused refusal head)) old new text (as_unavailable row) (stays_both old mid new stays settled) is_text (down_logged None (ask.refused now false refusal head) row logs) received left before after told
-answered_read now (Err Down) old mid new p row is_down text stays prepared logs settled is_text received left before after told = absurd prepared
-answered_read now (Err Ended) old mid new p row is_down text stays prepared logs settled is_text received left before after told = absurd prepared
-answered_read now (Err Read) old mid new p row is_down text stays prepared logs settled is_text received left before after told = absurd prepared
-answered_read now (Err Continue) old mid new p row is_down text stays prepared logs settled is_text received left before after told = absurd prepared
+answered_read now (Err (Refused refusal head)) old mid new p row true text stays prepared logs committed is_text received left before after reported =
+    refused_read now (Err (Refused refusal head)) old new text (as_unavailable row) (stays_both old mid new stays committed) is_text (down_logged None (ask.refused now false refusal head) row logs) received left before after reported
+answered_read now (Err Down) old mid new p row is_down text stays prepared logs committed is_text received left before after reported = absurd prepared
+answered_read now (Err Ended) old mid new p row is_down text stays prepared logs committed is_text received left before after reported = absurd prepared
+answered_read now (Err Read) old mid new p row is_down text stays prepared logs committed is_text received left before after reported = absurd prepared
+answered_read now (Err Continue) old mid new p row is_down text stays prepared logs committed is_text received left before after reported = absurd prepared
 
 -- what is prepared is of something that is asked
 pub asks_something : (now : ℕ) (read : Result Message WireFault) (old mid : List ℕ → Option Organization) (p : Prepared) → Stays old mid → PreparesFor now old read p → (a : Ask) × IsPrepared mid a p
@@ -246,11 +246,11 @@ Received old new P = (received : List ℕ) × Consumes old new received × P rec
 pub replied : {T : Type 0} (now : ℕ) (read : Result Message WireFault) (old new : List ℕ → Option Organization) (is_down : Bool) (row : Option LogRow) (b c : Option (List ℕ)) (text : List ℕ) (result : Result T LinkFault)
     → AnswersRead now read old new is_down text row → Writes b c text result → IfErr result (λ fault. fault ≡ LinkWrite)
     → AnswersTo now read old new b c is_down row result
-replied now read old new is_down row b c text (Ok done) answers writes fault received left a told =
-    let r = answers received left a b told in
+replied now read old new is_down row b c text (Ok done) answers writes fault received left a reported =
+    let r = answers received left a b reported in
     (r.0, text, r.2, Appends-trans a b c (continue_if r.0) text r.1 writes)
-replied {T = T} now read old new is_down row b c text (Err e) answers writes fault received left a told =
-    let r = answers received left a b told in
+replied {T = T} now read old new is_down row b c text (Err e) answers writes fault received left a reported =
+    let r = answers received left a b reported in
     let is = subst (λ (x : List ℕ). IsAnswered now received old new r.0 x row is_down) writes.3 r.2 in
     subst (λ (f : LinkFault). Exchanges now received left old new a c is_down row {T = T} (Err f)) (sym fault)
     (r.0, writes.0, writes.1, writes.2, is, Appends-trans a b c (continue_if r.0) writes.0 r.1 writes.4)
@@ -270,13 +270,13 @@ pub no_reply : (now : ℕ) (read : Result Message WireFault) (old new : List ℕ
     → row ≡ silent_row now → fault ≢ LinkWrite
     → (fault ≡ LinkEnded → read ≡ Err Ended) → (fault ≡ LinkRead → read ≡ Err Read) → (fault ≡ LinkContinue → read ≡ Err Continue)
     → AnswersTo now read old new b b false (Some row) {T = Unit {0}} (Err fault)
-no_reply now read old new row b LinkEnded no_row write ended failed continued received left a told =
-    let r = subst (λ (r : Result Message WireFault). ReportsReceived received left a b r) (ended refl) told in (refl, ap Some no_row, r.0, r.1, r.2)
-no_reply now read old new row b LinkRead no_row write ended failed continued received left a told =
-    let r = subst (λ (r : Result Message WireFault). ReportsReceived received left a b r) (failed refl) told in (refl, ap Some no_row, r.0, r.1)
-no_reply now read old new row b LinkContinue no_row write ended failed continued received left a told =
-    let r = subst (λ (r : Result Message WireFault). ReportsReceived received left a b r) (continued refl) told in (refl, ap Some no_row, r.0, r.1)
-no_reply now read old new row b LinkWrite no_row write ended failed continued received left a told = absurd (write refl)
+no_reply now read old new row b LinkEnded no_row write ended failed continued received left a reported =
+    let r = subst (λ (r : Result Message WireFault). ReportsReceived received left a b r) (ended refl) reported in (refl, ap Some no_row, r.0, r.1, r.2)
+no_reply now read old new row b LinkRead no_row write ended failed continued received left a reported =
+    let r = subst (λ (r : Result Message WireFault). ReportsReceived received left a b r) (failed refl) reported in (refl, ap Some no_row, r.0, r.1)
+no_reply now read old new row b LinkContinue no_row write ended failed continued received left a reported =
+    let r = subst (λ (r : Result Message WireFault). ReportsReceived received left a b r) (continued refl) reported in (refl, ap Some no_row, r.0, r.1)
+no_reply now read old new row b LinkWrite no_row write ended failed continued received left a reported = absurd (write refl)
 
 -- where memory was refused inside the reading nothing is prepared
 pub not_prepared : (now : ℕ) (rows : List ℕ → Option Organization) (read : Result Message WireFault) (p : Prepared) → PreparesFor now rows read p → read ≡ Err Down → ⊥
@@ -295,44 +295,44 @@ exchanged_one left now received old new a c is_down row (Err LinkEnded) h stays 
 exchanged_one left now received old new a c is_down row (Err LinkRead) h stays = stayed_one old new (stays (inr (inl refl)))
 exchanged_one left now received old new a c is_down row (Err LinkContinue) h stays = stayed_one old new (stays (inr (inr refl)))
 
-silent_told : (row : Option LogRow) (now : ℕ) (old new : List ℕ → Option Organization) → row ≡ Some (silent_row now) → Stays old new → IfSome row (λ told. ChangesAsTold told old new)
-silent_told row now old new is stays =
-    subst (λ (r : Option LogRow). IfSome r (λ told. ChangesAsTold told old new)) (sym is) (stayed_told (silent_row now) old new (silent_makes_nothing (silent_row now) now refl) stays)
+silent_logged : (row : Option LogRow) (now : ℕ) (old new : List ℕ → Option Organization) → row ≡ Some (silent_row now) → Stays old new → IfSome row (λ reported. ChangesAsLogged reported old new)
+silent_logged row now old new is stays =
+    subst (λ (r : Option LogRow). IfSome r (λ reported. ChangesAsLogged reported old new)) (sym is) (stayed_logged (silent_row now) old new (silent_makes_nothing (silent_row now) now refl) stays)
 
-any_told : (now : ℕ) (received : List ℕ) (old new : List ℕ → Option Organization) (awaited : Bool) (text : List ℕ) (row : Option LogRow) (is_down : Bool)
-    → AreLawful old → IsAnswered now received old new awaited text row is_down → IfSome row (λ told. ChangesAsTold told old new)
-any_told now received old new awaited text None is_down lawful h = tt
-any_told now received old new awaited text (Some row) is_down lawful h = answered_told now received old new awaited text row is_down lawful h
+any_reported : (now : ℕ) (received : List ℕ) (old new : List ℕ → Option Organization) (awaited : Bool) (text : List ℕ) (row : Option LogRow) (is_down : Bool)
+    → AreLawful old → IsAnswered now received old new awaited text row is_down → IfSome row (λ reported. ChangesAsLogged reported old new)
+any_reported now received old new awaited text None is_down lawful h = tt
+any_reported now received old new awaited text (Some row) is_down lawful h = answered_reported now received old new awaited text row is_down lawful h
 
 -- what changed is what the row tells
-pub exchanged_told : {T : Type 0} (left : Option (List ℕ)) (now : ℕ) (received : List ℕ) (old new : List ℕ → Option Organization) (a c : Option (List ℕ)) (is_down : Bool) (row : Option LogRow) (result : Result T LinkFault)
-    → AreLawful old → Exchanges now received left old new a c is_down row result → (EndsBefore result → Stays old new) → IfSome row (λ told. ChangesAsTold told old new)
-exchanged_told left now received old new a c is_down row (Ok done) lawful h stays = any_told now received old new h.0 h.1 row is_down lawful h.2
-exchanged_told left now received old new a c is_down row (Err LinkWrite) lawful h stays = any_told now received old new h.0 (h.1 ++ h.2) row is_down lawful h.4
-exchanged_told left now received old new a c is_down row (Err LinkEnded) lawful h stays = silent_told row now old new h.1 (stays (inl refl))
-exchanged_told left now received old new a c is_down row (Err LinkRead) lawful h stays = silent_told row now old new h.1 (stays (inr (inl refl)))
-exchanged_told left now received old new a c is_down row (Err LinkContinue) lawful h stays = silent_told row now old new h.1 (stays (inr (inr refl)))
+pub exchanged_logged : {T : Type 0} (left : Option (List ℕ)) (now : ℕ) (received : List ℕ) (old new : List ℕ → Option Organization) (a c : Option (List ℕ)) (is_down : Bool) (row : Option LogRow) (result : Result T LinkFault)
+    → AreLawful old → Exchanges now received left old new a c is_down row result → (EndsBefore result → Stays old new) → IfSome row (λ reported. ChangesAsLogged reported old new)
+exchanged_logged left now received old new a c is_down row (Ok done) lawful h stays = any_reported now received old new h.0 h.1 row is_down lawful h.2
+exchanged_logged left now received old new a c is_down row (Err LinkWrite) lawful h stays = any_reported now received old new h.0 (h.1 ++ h.2) row is_down lawful h.4
+exchanged_logged left now received old new a c is_down row (Err LinkEnded) lawful h stays = silent_logged row now old new h.1 (stays (inl refl))
+exchanged_logged left now received old new a c is_down row (Err LinkRead) lawful h stays = silent_logged row now old new h.1 (stays (inr (inl refl)))
+exchanged_logged left now received old new a c is_down row (Err LinkContinue) lawful h stays = silent_logged row now old new h.1 (stays (inr (inr refl)))
 
 -- what was read of a whole input, as of what received
 of_input : (at : ℕ) (rows : List ℕ → Option Organization) (read : Result Message WireFault) (p : Prepared) (bytes : List ℕ) (a b : Option (List ℕ)) → PreparesFor at rows read p → ReportsInput bytes a b read → ReportsReceived bytes None a b read
-of_input at rows (Ok message) p bytes a b prepared told = told
-of_input at rows (Err (Refused refusal head)) p bytes a b prepared told = told
-of_input at rows (Err Down) p bytes a b prepared told = absurd prepared
-of_input at rows (Err Ended) p bytes a b prepared told = absurd prepared
-of_input at rows (Err Read) p bytes a b prepared told = absurd prepared
-of_input at rows (Err Continue) p bytes a b prepared told = absurd prepared
+of_input at rows (Ok message) p bytes a b prepared reported = reported
+of_input at rows (Err (Refused refusal head)) p bytes a b prepared reported = reported
+of_input at rows (Err Down) p bytes a b prepared reported = absurd prepared
+of_input at rows (Err Ended) p bytes a b prepared reported = absurd prepared
+of_input at rows (Err Read) p bytes a b prepared reported = absurd prepared
+of_input at rows (Err Continue) p bytes a b prepared reported = absurd prepared
 
 -- what was read of a whole input, where nothing was written before
 pub input_read : (left a b : Option (List ℕ)) (bytes : List ℕ) (read : Result Message WireFault) → left ≡ Some bytes → a ≡ Some [] → IfSome left (λ input. ReportsInput input a b read) → ReportsInput bytes (Some []) b read
-input_read left a b bytes read is none told =
-    subst (λ (before : Option (List ℕ)). ReportsInput bytes before b read) none (subst (λ (l : Option (List ℕ)). IfSome l (λ input. ReportsInput input a b read)) is told)
+input_read left a b bytes read is none reported =
+    subst (λ (before : Option (List ℕ)). ReportsInput bytes before b read) none (subst (λ (l : Option (List ℕ)). IfSome l (λ input. ReportsInput input a b read)) is reported)
 
 -- the text of the reply to a whole input, behind what was written before it
 pub input_answered : (at : ℕ) (read : Result Message WireFault) (old mid new : List ℕ → Option Organization) (p : Prepared) (row : LogRow) (bytes : List ℕ) (b : Option (List ℕ)) (text all : List ℕ)
-    → Stays old mid → PreparesFor at old read p → LogsFor at old read row → Settles false p mid new → IsReplyText p.reply at text
+    → Stays old mid → PreparesFor at old read p → LogsFor at old read row → CommitsUnlessDown false p mid new → IsReplyText p.reply at text
     → ReportsInput bytes (Some []) b read → Appends b (Some all) text
     → (a : Ask) × Asks at bytes a × Carries a old new × IsSaidText (said_to old a) all
-input_answered at read old mid new p row bytes b text all stays prepared logs settled is_text told appends =
-    let r = answered_read at read old mid new p row false text stays prepared logs settled is_text bytes None (Some []) b (of_input at old read p bytes (Some []) b prepared told) in
+input_answered at read old mid new p row bytes b text all stays prepared logs committed is_text reported appends =
+    let r = answered_read at read old mid new p row false text stays prepared logs committed is_text bytes None (Some []) b (of_input at old read p bytes (Some []) b prepared reported) in
     let served : IsServed at bytes old new r.0 text (Some row) = r.2 in
     (served.ask, served.asks, served.carries, subst (λ (s : Said). IsSaidText s all) (sym served.said) (text, served.is, Appends-trans (Some []) b (Some all) (continue_if r.0) text r.1 appends))

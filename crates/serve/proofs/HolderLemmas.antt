@@ -15,14 +15,14 @@ use Rattle.basis.specs.declared.rows.Holder.{Holder}
 use Rattle.machine.specs.declared.records.Token.{Token}
 use Rattle.machine.specs.declared.records.Workspace.{Workspace}
 use Rattle.machine.specs.declared.records.Organization.{Organization}
-use Rattle.machine.proofs.RefusalLemmas.{refusals_tell_the_holder, never_refused_as_locked, missing_tells_no_holder}
+use Rattle.machine.proofs.RefusalLemmas.{refusals_name_the_holder, never_refused_as_locked, missing_names_no_holder}
 use Rattle.route.specs.Policy.{allowed_by, least_role, need_of, is_admitted}
 use Rattle.route.specs.declared.routes.Asked.{Asked}
 use Rattle.route.specs.declared.routes.AskedAct.{AskedAct}
 use Rattle.route.specs.declared.routes.AskedAct.TheVariants.{ListWorkspaces, OfWorkspace}
 use Rattle.serve.specs.Checks.{task_of, require, while_it_counts, known_caller, may_do, admitted, is_in_reach, in_reach, is_found, found, fits, digest_checked, act_of, checked}
 use Rattle.serve.specs.Steps.{answer_to, holder_text, seen_at, carried}
-use Rattle.serve.specs.Custody.{NamesIn, LockedTellsTheHolder}
+use Rattle.serve.specs.Custody.{NamesIn, LockedNamesTheHolder}
 use Rattle.serve.specs.declared.checks.Task.{Task}
 use Rattle.serve.specs.declared.checks.Task.TheVariants.{ListAll, Carry}
 use Rattle.serve.proofs.ActLemmas.{act_other}
@@ -89,8 +89,8 @@ held_by org ws (versions list) e never = absurd (let none : ⊥ = cc in none)
 held_by org ws (runs list) e never = absurd (let none : ⊥ = cc in none)
 
 seen_holder : (s : Seen) (act : Act) (now : ℕ) (h : Holder) → (rules act now s).answer ≡ held h → (w : Workspace) × (s ≡ there w) × (h ≡ w.holder)
-seen_holder (missing room) act now h e = absurd (missing_tells_no_holder act room h e)
-seen_holder (there w) act now h e = (w, refl, refusals_tell_the_holder act now w h e)
+seen_holder (missing room) act now h e = absurd (missing_names_no_holder act room h e)
+seen_holder (there w) act now h e = (w, refl, refusals_name_the_holder act now w h e)
 
 carried_holder : (r : Option Organization) (now : ℕ) (asked : Asked) (content_md5 : Option (List ℕ)) (body : List ℕ) (x : Result Task Refusal) → checked r now asked content_md5 body ≡ x
     → (carried asked.caller now r x).answer.refusal ≡ Some Locked
@@ -109,5 +109,5 @@ carried_holder r now asked content_md5 body (Ok (Carry its_ws its_act)) e is =
       ap (λ (x : Outcome). (answer_to asked.caller its_ws x).body) h.1 ∙ ap (holder_text asked.caller its_ws) w.2,
     )
 
-pub locked_tells_the_holder : LockedTellsTheHolder
-locked_tells_the_holder r now asked content_md5 body is = carried_holder r now asked content_md5 body (checked r now asked content_md5 body) refl is
+pub locked_names_the_holder : LockedNamesTheHolder
+locked_names_the_holder r now asked content_md5 body is = carried_holder r now asked content_md5 body (checked r now asked content_md5 body) refl is

@@ -35,7 +35,7 @@ use Rattle.serve.specs.declared.checks.Task.TheVariants.{ListAll, Carry}
 use Rattle.serve.specs.Asks.{silent, requests, commands}
 use Rattle.serve.specs.Asks as ask
 use Rattle.serve.specs.Checks.{known_caller, may_do, admitted, is_in_reach, in_reach, require, makes, is_there, found, checked}
-use Rattle.serve.specs.Steps.{replies, tells, answer_to, seen_at, ruled_in, carried, request_step, command_step, command_said}
+use Rattle.serve.specs.Steps.{replies, reports, answer_to, seen_at, ruled_in, carried, request_step, command_step, command_said}
 use Rattle.serve.specs.Laws.{RefusedStepsChangeNothing, OutOfReachIsNotFound, renamed, NeedsWorkspace, OutOfReachIsAsAbsent, OutsideThePrefixIsNotFound, OutsideThePrefixIsAsAbsent}
 use Rattle.serve.proofs.CheckLemmas.{after_ok, after_err, after_names, after_reach, after_prefix, after_role, after_caller}
 use Rattle.serve.proofs.RecordLemmas.{placed_same, standing_at}
@@ -90,7 +90,7 @@ command_leaves (Some o) (TokenRevoke org name) apart = taken (is_some (get o.tok
     taken false apart = refl
 
 -- what is said to an operator is the word of the command, or a list
-said_is : (command : Admin) (a b : AdminAnswer) → command_said command a ≡ tells b → a ≡ b
+said_is : (command : Admin) (a b : AdminAnswer) → command_said command a ≡ reports b → a ≡ b
 said_is (OrgAdd org limit) a b e = cc
 said_is (OrgLimit org limit) a b e = cc
 said_is (OrgRemove org is_forced) a b e = cc

@@ -16,6 +16,6 @@ pub mod AbsentLemmas
 pub mod AbsentExamples
 pub mod TokenExamples
 pub mod LogLemmas
-pub mod ToldLemmas
+pub mod LoggedChanges
 pub mod DoorLemmas
-pub mod TellingLemmas
+pub mod LogInputs

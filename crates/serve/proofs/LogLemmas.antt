@@ -4,7 +4,7 @@ use Rattle.std.specs.Prelude.{if◌then◌else◌, option_map, ◌==◌}
 use Rattle.std.specs.Option.{option_map_or}
 use Rattle.std.specs.FinMap.{get}
 use Rattle.basis.specs.Checks.{or_refused, and_then}
-use Rattle.basis.specs.Roles.{counts_at}
+use Rattle.basis.specs.Roles.{is_valid_at}
 use Rattle.basis.specs.declared.refusals.Refusal.{Refusal}
 use Rattle.basis.specs.declared.refusals.Refusal.TheVariants.{Locked, BadToken, NotFound, Unavailable}
 use Rattle.basis.specs.declared.roles.Caller.{Caller}
@@ -39,9 +39,9 @@ use Rattle.route.specs.declared.routes.AskedAct.{AskedAct}
 use Rattle.basis.specs.declared.acts.WsAct.{WsAct}
 use Rattle.serve.specs.Checks.{while_it_counts, in_reach, is_found, found, act_of}
 use Rattle.serve.specs.Inner.Judging.{judged_task}
-use Rattle.serve.specs.Inner.Prepared.{found_counted, row_known, caller_known}
-use Rattle.serve.specs.Inner.Tracing.{told_by, edit_number, start_of, unless_held, trace_by, read_so_far, AreReadSoFar}
-use Rattle.serve.specs.Logs.{run_told, number_given, version_made, run_holding, run_started, trace_of, no_trace, traced, name_counted, token_named, id_spelt, task_read}
+use Rattle.serve.specs.Inner.Prepared.{found_valid_token, row_known, caller_known}
+use Rattle.serve.specs.Inner.Tracing.{run_shown_by, edit_number, start_of, unless_held, trace_by, read_so_far, AreReadSoFar}
+use Rattle.serve.specs.Logs.{run_shown, number_given, version_made, run_holding, run_started, trace_of, no_trace, traced, valid_token_name, token_named, id_spelt, task_read}
 use Rattle.serve.specs.Steps.{seen_at}
 use Rattle.serve.specs.declared.logs.RowFacts.{RowFacts}
 use Rattle.serve.specs.declared.logs.Trace.{Trace}
@@ -75,26 +75,26 @@ trace shown_run version run = record { shown_run = shown_run; version = version;
 traces : (a b c d e f : Option ℕ) → a ≡ b → c ≡ d → e ≡ f → trace a c e ≡ trace b d f
 traces a b c d e f x y z = ap (λ (q : Option ℕ). trace q c e) x ∙ (ap (λ (q : Option ℕ). trace b q e) y ∙ ap (trace b d) z)
 
-stays_traced : (w : Option Workspace) (o : Outcome) → trace_of w (effect o w) ≡ trace (run_told o) None None
-stays_traced w o = traces (run_told o) (run_told o) (version_made w w) None (run_started w w) None refl (made_same w) (started_same w)
+stays_traced : (w : Option Workspace) (o : Outcome) → trace_of w (effect o w) ≡ trace (run_shown o) None None
+stays_traced w o = traces (run_shown o) (run_shown o) (version_made w w) None (run_started w w) None refl (made_same w) (started_same w)
 
-refused_told : (refusal : Refusal) (h : Holder) → run_told (refused_by refusal h) ≡ None
-refused_told Locked h = refl
-refused_told _ h = refl
+refused_reported : (refusal : Refusal) (h : Holder) → run_shown (refused_by refusal h) ≡ None
+refused_reported Locked h = refl
+refused_reported _ h = refl
 
 -- what an answer shows
-state_told : (o : Option (List ℕ)) → run_told (option_map_or state o no_state) ≡ None
-state_told None = refl
-state_told (Some text) = refl
+state_reported : (o : Option (List ℕ)) → run_shown (option_map_or state o no_state) ≡ None
+state_reported None = refl
+state_reported (Some text) = refl
 
-told_is : (a : Answer) (w : Option Workspace) → told_by a ≡ run_told (answered a w)
-told_is answer.Done w = refl
-told_is answer.NoState w = refl
-told_is (answer.State n) w = sym (state_told (version_text n w))
-told_is (answer.Workspace shown) w = refl
-told_is (answer.Run r) w = refl
-told_is (answer.Versions after) w = refl
-told_is (answer.Runs after) w = refl
+reported_is : (a : Answer) (w : Option Workspace) → run_shown_by a ≡ run_shown (answered a w)
+reported_is answer.Done w = refl
+reported_is answer.NoState w = refl
+reported_is (answer.State n) w = sym (state_reported (version_text n w))
+reported_is (answer.Workspace shown) w = refl
+reported_is (answer.Run r) w = refl
+reported_is (answer.Versions after) w = refl
+reported_is (answer.Runs after) w = refl
 
 -- a workspace that is made anew has no version
 abbrev ifs : Bool → Option ℕ
@@ -152,10 +152,10 @@ changed_started w (edit.Report number action status frees) (Some n) = refl
 
 -- a decision, by what was seen of the workspace, has the trace of what it means there
 trace_is : (o : Organization) (act : Act) (w : Option Workspace) (decision : Decision) → trace_by (unit_by o act w) decision ≡ trace_of w (meaning decision w)
-trace_is o act w (Refused refusal) = sym (stays_traced w (refused_by refusal (holder_of w)) ∙ ap (λ (q : Option ℕ). trace q None None) (refused_told refusal (holder_of w)))
-trace_is o act w (Accepted a None) = ap (λ (q : Option ℕ). trace q None None) (told_is a w) ∙ sym (stays_traced w (answered a w))
-trace_is o act None (Accepted a (Some change)) = ap (λ (q : Option ℕ). trace q None None) (told_is a None)
-trace_is o act (Some w) (Accepted a (Some change)) = traces _ _ _ _ _ _ (told_is a (Some w)) (changed_made w change.edit change.start) (changed_started w change.edit change.start)
+trace_is o act w (Refused refusal) = sym (stays_traced w (refused_by refusal (holder_of w)) ∙ ap (λ (q : Option ℕ). trace q None None) (refused_reported refusal (holder_of w)))
+trace_is o act w (Accepted a None) = ap (λ (q : Option ℕ). trace q None None) (reported_is a w) ∙ sym (stays_traced w (answered a w))
+trace_is o act None (Accepted a (Some change)) = ap (λ (q : Option ℕ). trace q None None) (reported_is a None)
+trace_is o act (Some w) (Accepted a (Some change)) = traces _ _ _ _ _ _ (reported_is a (Some w)) (changed_made w change.edit change.start) (changed_started w change.edit change.start)
 
 -- the same of the rules, by way of a decision
 pub rule_traced : (r : Option Organization) (ws : List ℕ) (act : Act) (now : ℕ) (unit : AnyUnit) (decision : Decision)
@@ -187,11 +187,11 @@ abbrev pub caller_by : Result TokenRow Refusal → Result Caller Refusal
 caller_by x = and_then x (λ row. Ok row.caller)
 
 asks_by : (now : ℕ) (x : Option TokenRow) (y : Option Token) → option_map (λ (row : TokenRow). row.caller) x ≡ option_map (λ (token : Token). token.caller) y
-    → caller_by (found_counted now x) ≡ and_then (or_refused BadToken (while_it_counts now y)) (λ token. Ok token.caller)
+    → caller_by (found_valid_token now x) ≡ and_then (or_refused BadToken (while_it_counts now y)) (λ token. Ok token.caller)
 asks_by now None None e = refl
 asks_by now None (Some token) e = absurd (let none : ⊥ = cc in none)
 asks_by now (Some row) None e = absurd (let none : ⊥ = cc in none)
-asks_by now (Some row) (Some token) e = let same : row.caller ≡ token.caller = cc in by_count row.caller token.caller same (counts_at now row.caller) (counts_at now token.caller) (ap (counts_at now) same)
+asks_by now (Some row) (Some token) e = let same : row.caller ≡ token.caller = cc in by_count row.caller token.caller same (is_valid_at now row.caller) (is_valid_at now token.caller) (ap (is_valid_at now) same)
   where
     by_count : (a c : Caller) → a ≡ c → (b d : Bool) → b ≡ d
         → caller_by (if b then Ok (record row { caller = a }) else Err BadToken) ≡ and_then (or_refused BadToken (if d then Some (record token { caller = c }) else None)) (λ token. Ok token.caller)
@@ -210,9 +210,9 @@ pub no_row_calls : (r : Option Organization) (now : ℕ) (asked : Asked) (refusa
 no_row_calls r now asked refusal e = sym (callers_are r now asked) ∙ ap caller_by e
 
 -- the name of the token that asks
-name_known : (now : ℕ) (x : Option TokenRow) (row : TokenRow) → found_counted now x ≡ Ok row → name_counted now x ≡ Some row.name
+name_known : (now : ℕ) (x : Option TokenRow) (row : TokenRow) → found_valid_token now x ≡ Ok row → valid_token_name now x ≡ Some row.name
 name_known now None row e = absurd (let none : ⊥ = cc in none)
-name_known now (Some found) row e = by_count (counts_at now found.caller) e
+name_known now (Some found) row e = by_count (is_valid_at now found.caller) e
   where
     by_count : (b : Bool) → (if b then Ok found else Err BadToken) ≡ Ok row → (if b then Some found.name else None) ≡ Some row.name
     by_count true e = let same : found ≡ row = cc in ap (λ (q : TokenRow). Some q.name) same
@@ -259,11 +259,11 @@ facts_same a b c d s t x y z = ap (λ (q : Option (List ℕ)). facts q c s) x �
 
 -- what had been read where memory or the store refused: by what had passed the checks, or in them
 module _ (r : Option Organization) (at : ℕ) (asked : Asked) (content_md5 : Option (List ℕ)) (body : List ℕ) where
-  pub carried_so_far : (token id : Option (List ℕ)) (told : RowFacts) → token ≡ token_named r at asked → id ≡ id_spelt (task_read r at asked content_md5 body)
-      → (read : Option (List ℕ)) × ((read ≡ None) ⊎ (read ≡ id)) × (told ≡ read_so_far token read) → AreReadSoFar r at asked content_md5 body told
-  carried_so_far token id told named spelt (read, inl none, is) = subst (AreReadSoFar r at asked content_md5 body) (sym is) (record { read = inr (named, inl none); trace = refl })
-  carried_so_far token id told named spelt (read, inr same, is) = subst (AreReadSoFar r at asked content_md5 body) (sym is) (record { read = inr (named, inr (same ∙ spelt)); trace = refl })
+  pub carried_so_far : (token id : Option (List ℕ)) (reported : RowFacts) → token ≡ token_named r at asked → id ≡ id_spelt (task_read r at asked content_md5 body)
+      → (read : Option (List ℕ)) × ((read ≡ None) ⊎ (read ≡ id)) × (reported ≡ read_so_far token read) → AreReadSoFar r at asked content_md5 body reported
+  carried_so_far token id reported named spelt (read, inl none, is) = subst (AreReadSoFar r at asked content_md5 body) (sym is) (record { read = inr (named, inl none); trace = refl })
+  carried_so_far token id reported named spelt (read, inr same, is) = subst (AreReadSoFar r at asked content_md5 body) (sym is) (record { read = inr (named, inr (same ∙ spelt)); trace = refl })
 
-  pub refused_so_far : (token : Option (List ℕ)) (told : RowFacts) → (token ≡ None) ⊎ (token ≡ token_named r at asked) → told ≡ read_so_far token None → AreReadSoFar r at asked content_md5 body told
-  refused_so_far token told (inl none) is = subst (AreReadSoFar r at asked content_md5 body) (sym is) (record { read = inl (none, refl); trace = refl })
-  refused_so_far token told (inr named) is = subst (AreReadSoFar r at asked content_md5 body) (sym is) (record { read = inr (named, inl refl); trace = refl })
+  pub refused_so_far : (token : Option (List ℕ)) (reported : RowFacts) → (token ≡ None) ⊎ (token ≡ token_named r at asked) → reported ≡ read_so_far token None → AreReadSoFar r at asked content_md5 body reported
+  refused_so_far token reported (inl none) is = subst (AreReadSoFar r at asked content_md5 body) (sym is) (record { read = inl (none, refl); trace = refl })
+  refused_so_far token reported (inr named) is = subst (AreReadSoFar r at asked content_md5 body) (sym is) (record { read = inr (named, inl refl); trace = refl })

@@ -14,7 +14,7 @@ use Rattle.machine.specs.Ranges.{IsInRange, IsMoment}
 use Rattle.machine.specs.Records.{workspace_in, count_of, seen_in, standing, with_workspace, placed}
 use Rattle.machine.specs.Rules.{Ruling, refused_by, rules}
 use Rattle.machine.specs.Named.{keeps_named, has_named_run}
-use Rattle.machine.specs.Needs.{Needed, needs_of_look}
+use Rattle.machine.specs.Needs.{Needed, needs_of_query}
 use Rattle.machine.specs.Units.{unit_of, unit_by, has_version, asked_run}
 use Rattle.machine.specs.Meaning.{meaning, answered, holder_of, Meets, ChangeIsDue}
 use Rattle.machine.specs.declared.acts.Act.{Act}
@@ -32,10 +32,10 @@ use Rattle.docs.specs.Bodies.{error_text}
 use Rattle.wire.specs.Replies.{Answer as Reply, refused_answer}
 use Rattle.serve.specs.Steps.{Answered, answer_to, seen_at, ruled_in, refusing}
 use Rattle.serve.specs.Inner.Prepared.{Foresees, ChangesTo}
-use Rattle.serve.specs.Checks.{named_by, is_told_of, is_there}
+use Rattle.serve.specs.Checks.{named_by, has_queried, is_there}
 use Rattle.serve.specs.Inner.Units.{holder_in, if_named, is_present}
-use Rattle.basis.specs.declared.acts.Look.{Look as AnyLook}
-use Rattle.machine.specs.declared.acts.Act.TheVariants.{Look as LookAct}
+use Rattle.basis.specs.declared.acts.Query.{Query as AnyQuery}
+use Rattle.machine.specs.declared.acts.Act.TheVariants.{Query as QueryAct}
 use Rattle.basis.specs.declared.acts.WsAct.{WsAct}
 
 -- a workspace put where it stands already
@@ -85,7 +85,7 @@ holder_seen : (o : Organization) (act : Act) (w : Option Workspace) → holder_i
 holder_seen o act None = refl
 holder_seen o act (Some w) = refl
 
--- the rules, by way of a decision, over rows that a look at them left alone
+-- the rules, by way of a decision, over rows that a read of them left alone
 pub rule_foreseen : (r seen : Option Organization) (org ws : List ℕ) (act : Act) (now : ℕ) (unit : AnyUnit) (decision : Decision) (reply : Reply) (change : Option Change)
     → seen ≡ r → ((o : Organization) → r ≡ Some o → IsLawfulOrganization o) → ((o : Organization) → r ≡ Some o → unit ≡ unit_of o ws act)
     → ((o : Organization) (name : List ℕ) → IsLawfulOrganization o → unit ≡ unit_of o name act → Meets (seen_in o name) act now decision)
@@ -120,11 +120,11 @@ seen_named None (Some n) key w = refl
 seen_named (Some m) None key w = refl
 seen_named (Some m) (Some n) key w = refl
 
-present_is : (o : Organization) (what : AnyLook) (w : Option Workspace) → is_present what (unit_by o (LookAct what) w) ≡ is_told_of what w
+present_is : (o : Organization) (what : AnyQuery) (w : Option Workspace) → is_present what (unit_by o (QueryAct what) w) ≡ has_queried what w
 present_is o what None = refl
-present_is o what (Some w) = let need : Needed = needs_of_look what in seen_named need.version need.run need.key w
+present_is o what (Some w) = let need : Needed = needs_of_query what in seen_named need.version need.run need.key w
 
-pub there_is : (r : Option Organization) (ws : List ℕ) (act : WsAct) (unit : AnyUnit) (b : Bool) → IsSome r → ((o : Organization) → r ≡ Some o → unit ≡ unit_of o ws (LookAct (named_by act)))
+pub there_is : (r : Option Organization) (ws : List ℕ) (act : WsAct) (unit : AnyUnit) (b : Bool) → IsSome r → ((o : Organization) → r ≡ Some o → unit ≡ unit_of o ws (QueryAct (named_by act)))
     → b ≡ is_present (named_by act) unit → b ≡ is_there act (workspace_in r ws)
 there_is None ws act unit b some seen h = absurd (let none : ⊥ = cc in none)
 there_is (Some o) ws act unit b some seen h = h ∙ ap (is_present (named_by act)) (seen o refl) ∙ present_is o (named_by act) (get o.workspaces ws)

@@ -15,9 +15,9 @@ use Rattle.serve.specs.declared.steps.Admin.{Admin}
 use Rattle.serve.specs.declared.steps.Admin.TheVariants.{OrgAdd, OrgLimit, OrgRemove, OrgList, TokenAdd, TokenList, TokenRevoke}
 use Rattle.machine.specs.declared.keeps.AdminAnswer.{AdminAnswer}
 use Rattle.serve.specs.Asks.{Ask, silent, refused, requests, commands, Owner, organization, unattributed, operator, commanded_of, owner_of}
-use Rattle.serve.specs.Steps.{Said, nothing, replies, tells, lists, lists_tokens, command_step, command_said, step, own_said, own_record}
+use Rattle.serve.specs.Steps.{Said, nothing, replies, reports, lists, lists_tokens, command_step, command_said, step, own_said, own_record}
 use Rattle.serve.specs.Service.{IsAsked, AreAsked, AreTexts, IsSaidText, ask_of, same_owner, is_own, with_own, own_asks, replies_at, record_for, after_ask, records_after, IsListed, said_to}
-use Rattle.serve.specs.Runs.{IsOwnMachine, IsOwnRecord, AreOwnReplies, ListsAreTold}
+use Rattle.serve.specs.Runs.{IsOwnMachine, IsOwnRecord, AreOwnReplies, ListsAreReported}
 use Rattle.serve.specs.Inner.Taking.{IsTaken, RunsTo, IsTimely}
 use Rattle.serve.specs.Laws.{TwoWorlds, own_steps, SameStepsAskTheSame}
 use Rattle.std.specs.List.{AllByRecursion}
@@ -153,7 +153,7 @@ run_record_is (a ∷ asked) records org = run_record_is asked (records_after a r
     first false = refl
 
 lists_push : (records : List ℕ → Option Organization) (asked : List Ask) (ts : List (List ℕ)) (a : Ask) (t : List ℕ) → length asked ≡ length ts
-    → ListsAreTold records asked ts → IsListed (run_records records asked) a t → ListsAreTold records (asked ++ a ∷ []) (ts ++ t ∷ [])
+    → ListsAreReported records asked ts → IsListed (run_records records asked) a t → ListsAreReported records (asked ++ a ∷ []) (ts ++ t ∷ [])
 lists_push records [] [] a t e h is = (is, tt)
 lists_push records [] (u ∷ ts) a t e h is = absurd (omega arith)
 lists_push records (b ∷ asked) [] a t e h is = absurd h
@@ -212,7 +212,7 @@ all_asked_one (s ∷ steps) (a ∷ xs) (b ∷ ys) h k = ap (λ (x : Ask). x ∷ 
 abbrev IsOfOne : Said → Type 0
 IsOfOne nothing = ⊤
 IsOfOne (replies awaited at answer) = ⊤
-IsOfOne (tells answer) = ⊤
+IsOfOne (reports answer) = ⊤
 IsOfOne lists = ⊥
 IsOfOne lists_tokens = ⊥
 
@@ -250,7 +250,7 @@ one_text lists x y of_one h k = absurd of_one
 one_text lists_tokens x y of_one h k = absurd of_one
 one_text nothing x y of_one h k = h ∙ sym k
 one_text (replies awaited at answer) x y of_one h k = h.2 ∙ ap (λ (r : List ℕ). continue_if awaited ++ r) (one_reply answer at h.0 k.0 h.1 k.1) ∙ sym k.2
-one_text (tells answer) x y of_one h k = h ∙ sym k
+one_text (reports answer) x y of_one h k = h ∙ sym k
 
 pub one_list_of_texts : (said : List Said) (xs ys : List (List ℕ)) → AreOfOne said → AreTexts said xs → AreTexts said ys → xs ≡ ys
 one_list_of_texts [] [] [] one h k = refl
@@ -291,11 +291,11 @@ replies_given steps taken old new (Err e) h all owner = tt
 
 pub lists_given : {E : Type 0} (steps : List Step) (taken : ℕ) (old new : List ℕ → Option Organization) (res : Result (Vec (List ℕ) Global) E)
     → (replies : List (List ℕ)) × RunsTo (take taken steps) old new replies × IfOk res (λ given. given.items ≡ replies) → OnOk res (taken ≡ length steps)
-    → IfOk res (λ given. (asked : List Ask) → AreAsked steps asked → ListsAreTold old asked given.items)
+    → IfOk res (λ given. (asked : List Ask) → AreAsked steps asked → ListsAreReported old asked given.items)
 lists_given steps taken old new (Ok given) h all = λ asked are.
     let whole : take taken steps ≡ steps = ap (λ (n : ℕ). take n steps) all ∙ take-length steps in
     let run : RunsTo steps old new h.0 = subst (λ (xs : List Step). RunsTo xs old new h.0) whole h.1 in
-    subst (λ (ts : List (List ℕ)). ListsAreTold old asked ts) (sym h.2) (subst (λ (x : List Ask). ListsAreTold old x h.0) (all_asked_one steps run.asked asked run.are are) run.listed)
+    subst (λ (ts : List (List ℕ)). ListsAreReported old asked ts) (sym h.2) (subst (λ (x : List Ask). ListsAreReported old x h.0) (all_asked_one steps run.asked asked run.are are) run.listed)
 lists_given steps taken old new (Err e) h all = tt
 
 pub whole_taken : (steps : List Step) (taken : ℕ) (asked : List Ask) → taken ≡ length steps → AreAsked steps asked → AreAsked (take taken steps) asked

@@ -16,16 +16,16 @@ use Rattle.serve.specs.Inner.Prepared.{IsPrepared, Foresees}
 use Rattle.serve.specs.Logs.{workspace_named}
 use Rattle.serve.specs.Steps.{request_step, command_step}
 use Rattle.serve.specs.Service.{asked_by, Asks, Carries, Stays, said_to, IsSaidText, after_ask, is_own, ask_of}
-use Rattle.serve.specs.Service.{IsAsked, IsAdminAnswer, admin_word, token_list_text, told_text, ListsAll, IsListedBy, IsListed}
-use Rattle.serve.specs.Inner.Taking.{IsTaken, IsOnOne, IsTimely, IsTold, IsCarriedOut}
-use Rattle.serve.specs.declared.commands.Told.{Told}
+use Rattle.serve.specs.Service.{IsAsked, IsAdminAnswer, admin_word, token_list_text, reported_text, ListsAll, IsListedBy, IsListed}
+use Rattle.serve.specs.Inner.Taking.{IsTaken, IsOnOne, IsTimely, IsReported, IsCarriedOut}
+use Rattle.serve.specs.declared.commands.CommandReport.{CommandReport}
 use Rattle.serve.specs.declared.steps.Step.{Step}
 use Rattle.serve.specs.declared.steps.Step.TheVariants.{Command, Request}
 use Rattle.serve.specs.declared.steps.Admin.{Admin}
 use Rattle.serve.specs.declared.steps.Admin.TheVariants.{OrgAdd, OrgLimit, OrgRemove, OrgList, TokenAdd, TokenList, TokenRevoke}
 use Rattle.machine.specs.Effects.{effect}
 use Rattle.machine.specs.Removal.{has_use}
-use Rattle.machine.specs.Tokens.{has_digest, with_token, without_token, token_of, tokens_told, ListsOrganizations}
+use Rattle.machine.specs.Tokens.{has_digest, with_token, without_token, token_of, token_list_answer, ListsOrganizations}
 use Rattle.machine.specs.declared.keeps.AdminAnswer.{AdminAnswer}
 use Rattle.machine.specs.declared.keeps.AdminAnswer.TheVariants.{Done, Exists, Absent, InUse, Organizations, Tokens}
 use Rattle.machine.specs.Ranges.{IsMoment}
@@ -76,15 +76,15 @@ reading_listed at (wire.refused refusal head) records text = tt
 reading_listed at (whole message awaited) records text = asking_listed at awaited message (asked_of message) records text
 
 -- the list of all organizations, and that of an organization's tokens: nothing changes
-pub list_carried : (old new : List ℕ → Option Organization) (command : Admin) (told : Told) → command ≡ OrgList → Stays old new
-    → (answer : AdminAnswer) → ListsOrganizations old answer → IsTold answer told → IsCarriedOut command old new told
-list_carried old new command told is stays answer listed tells =
-    subst (λ (c : Admin). IsCarriedOut c old new told) (sym is) (record { answer = answer; answered = listed; tells = tells; carries = λ at. stays })
+pub list_carried : (old new : List ℕ → Option Organization) (command : Admin) (reported : CommandReport) → command ≡ OrgList → Stays old new
+    → (answer : AdminAnswer) → ListsOrganizations old answer → IsReported answer reported → IsCarriedOut command old new reported
+list_carried old new command reported is stays answer listed reports =
+    subst (λ (c : Admin). IsCarriedOut c old new reported) (sym is) (record { answer = answer; answered = listed; reports = reports; carries = λ at. stays })
 
-pub tokens_carried : (old new : List ℕ → Option Organization) (command : Admin) (org : List ℕ) (told : Told) → command ≡ TokenList org → Stays old new
-    → IsTold (tokens_told (old org)) told → IsCarriedOut command old new told
-tokens_carried old new command org told is stays tells =
-    subst (λ (c : Admin). IsCarriedOut c old new told) (sym is) (record { answer = tokens_told (old org); answered = refl; tells = tells; carries = λ at. stays })
+pub tokens_carried : (old new : List ℕ → Option Organization) (command : Admin) (org : List ℕ) (reported : CommandReport) → command ≡ TokenList org → Stays old new
+    → IsReported (token_list_answer (old org)) reported → IsCarriedOut command old new reported
+tokens_carried old new command org reported is stays reports =
+    subst (λ (c : Admin). IsCarriedOut c old new reported) (sym is) (record { answer = token_list_answer (old org); answered = refl; reports = reports; carries = λ at. stays })
 
 -- a request
 pub request_taken : {E : Type 0} (s : Step) (at : ℕ) (bytes came : List ℕ) (old new : List ℕ → Option Organization) (res : Result (List ℕ) E) → s ≡ Request at bytes → came ≡ bytes → IsMoment at
@@ -102,7 +102,7 @@ request_taken s at bytes came old new res is same moment h =
 
 -- the text of an answer on one organization is its word
 abbrev IsWord : AdminAnswer → Type 0
-IsWord answer = admin_word answer ≡ told_text answer
+IsWord answer = admin_word answer ≡ reported_text answer
 
 step_word : (r : Option Organization) (command : Admin) → IsOnOne command → IsWord (command_step r command).answer
 step_word None (OrgAdd org limit) one = refl
@@ -130,17 +130,17 @@ step_word (Some o) (TokenRevoke org name) one = taken (is_some (get o.tokens nam
     taken true = refl
     taken false = refl
 
-pub word_told : (rows : List ℕ → Option Organization) (command : Admin) (answer : AdminAnswer) → IsAdminAnswer rows command answer → IsOnOne command → IsWord answer
-word_told rows (OrgAdd org limit) answer is one = subst IsWord (sym is) (step_word (rows org) (OrgAdd org limit) one)
-word_told rows (OrgLimit org limit) answer is one = subst IsWord (sym is) (step_word (rows org) (OrgLimit org limit) one)
-word_told rows (OrgRemove org is_forced) answer is one = subst IsWord (sym is) (step_word (rows org) (OrgRemove org is_forced) one)
-word_told rows OrgList answer is one = absurd one
-word_told rows (TokenAdd org name role secret bounds) answer is one = subst IsWord (sym is) (step_word (rows org) (TokenAdd org name role secret bounds) one)
-word_told rows (TokenList org) answer is one = absurd one
-word_told rows (TokenRevoke org name) answer is one = subst IsWord (sym is) (step_word (rows org) (TokenRevoke org name) one)
+pub word_reported : (rows : List ℕ → Option Organization) (command : Admin) (answer : AdminAnswer) → IsAdminAnswer rows command answer → IsOnOne command → IsWord answer
+word_reported rows (OrgAdd org limit) answer is one = subst IsWord (sym is) (step_word (rows org) (OrgAdd org limit) one)
+word_reported rows (OrgLimit org limit) answer is one = subst IsWord (sym is) (step_word (rows org) (OrgLimit org limit) one)
+word_reported rows (OrgRemove org is_forced) answer is one = subst IsWord (sym is) (step_word (rows org) (OrgRemove org is_forced) one)
+word_reported rows OrgList answer is one = absurd one
+word_reported rows (TokenAdd org name role secret bounds) answer is one = subst IsWord (sym is) (step_word (rows org) (TokenAdd org name role secret bounds) one)
+word_reported rows (TokenList org) answer is one = absurd one
+word_reported rows (TokenRevoke org name) answer is one = subst IsWord (sym is) (step_word (rows org) (TokenRevoke org name) one)
 
 -- a list of all organizations, and one of tokens, is its text
-list_said : (rows : List ℕ → Option Organization) (answer : AdminAnswer) (text : List ℕ) → ListsOrganizations rows answer → text ≡ told_text answer → ListsAll rows text
+list_said : (rows : List ℕ → Option Organization) (answer : AdminAnswer) (text : List ℕ) → ListsOrganizations rows answer → text ≡ reported_text answer → ListsAll rows text
 list_said rows Done text listed made = absurd listed
 list_said rows Exists text listed made = absurd listed
 list_said rows Absent text listed made = absurd listed
@@ -148,17 +148,17 @@ list_said rows InUse text listed made = absurd listed
 list_said rows (Organizations listing) text listed made = (listing, listed, made)
 list_said rows (Tokens listing) text listed made = absurd listed
 
-tokens_said : (r : Option Organization) → told_text (tokens_told r) ≡ token_list_text (tokens_told r)
+tokens_said : (r : Option Organization) → reported_text (token_list_answer r) ≡ token_list_text (token_list_answer r)
 tokens_said None = refl
 tokens_said (Some o) = refl
 
 -- the text of an answer is that of what the machine says, and of the list that is asked for
-pub said_told : (rows : List ℕ → Option Organization) (command : Admin) (answer : AdminAnswer) (text : List ℕ) (at : ℕ) → IsAdminAnswer rows command answer → text ≡ told_text answer
+pub said_reported : (rows : List ℕ → Option Organization) (command : Admin) (answer : AdminAnswer) (text : List ℕ) (at : ℕ) → IsAdminAnswer rows command answer → text ≡ reported_text answer
     → IsSaidText (said_to rows (commands at command)) text × IsListedBy rows command text
-said_told rows (OrgAdd org limit) answer text at is made = (made ∙ sym (word_told rows (OrgAdd org limit) answer is tt) ∙ ap admin_word is, tt)
-said_told rows (OrgLimit org limit) answer text at is made = (made ∙ sym (word_told rows (OrgLimit org limit) answer is tt) ∙ ap admin_word is, tt)
-said_told rows (OrgRemove org is_forced) answer text at is made = (made ∙ sym (word_told rows (OrgRemove org is_forced) answer is tt) ∙ ap admin_word is, tt)
-said_told rows OrgList answer text at is made = let listed = list_said rows answer text is made in ((listed.0, listed.2), listed)
-said_told rows (TokenAdd org name role secret bounds) answer text at is made = (made ∙ sym (word_told rows (TokenAdd org name role secret bounds) answer is tt) ∙ ap admin_word is, tt)
-said_told rows (TokenList org) answer text at is made = let listed = made ∙ ap told_text is ∙ tokens_said (rows org) in ((tokens_told (rows org), listed), listed)
-said_told rows (TokenRevoke org name) answer text at is made = (made ∙ sym (word_told rows (TokenRevoke org name) answer is tt) ∙ ap admin_word is, tt)
+said_reported rows (OrgAdd org limit) answer text at is made = (made ∙ sym (word_reported rows (OrgAdd org limit) answer is tt) ∙ ap admin_word is, tt)
+said_reported rows (OrgLimit org limit) answer text at is made = (made ∙ sym (word_reported rows (OrgLimit org limit) answer is tt) ∙ ap admin_word is, tt)
+said_reported rows (OrgRemove org is_forced) answer text at is made = (made ∙ sym (word_reported rows (OrgRemove org is_forced) answer is tt) ∙ ap admin_word is, tt)
+said_reported rows OrgList answer text at is made = let listed = list_said rows answer text is made in ((listed.0, listed.2), listed)
+said_reported rows (TokenAdd org name role secret bounds) answer text at is made = (made ∙ sym (word_reported rows (TokenAdd org name role secret bounds) answer is tt) ∙ ap admin_word is, tt)
+said_reported rows (TokenList org) answer text at is made = let listed = made ∙ ap reported_text is ∙ tokens_said (rows org) in ((token_list_answer (rows org), listed), listed)
+said_reported rows (TokenRevoke org name) answer text at is made = (made ∙ sym (word_reported rows (TokenRevoke org name) answer is tt) ∙ ap admin_word is, tt)

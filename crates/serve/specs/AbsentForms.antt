@@ -48,19 +48,19 @@ pub record IsFormOf (bytes other org ws : List ℕ) : Type 0 where
 
 -- at a place of a run: the request that came, what it asks, what was asked before it, and its reply
 pub record AnsweredRequest (steps : List Step) (texts : List (List ℕ)) : Type 0 where
-  pub place : ℕ
+  pub index : ℕ
   pub at : ℕ
   pub bytes : List ℕ
-  pub came : slice_get steps place ≡ Some (Request at bytes)
+  pub came : slice_get steps index ≡ Some (Request at bytes)
   pub awaited : Bool
   pub asked : Asked
   pub content_md5 : Option (List ℕ)
   pub body : List ℕ
   pub asks : Asks at bytes (requests at awaited asked content_md5 body)
   pub earlier : List Ask
-  pub came_earlier : AreAsked (take place steps) earlier
+  pub came_earlier : AreAsked (take index steps) earlier
   pub text : List ℕ
-  pub replied : slice_get texts place ≡ Some text
+  pub replied : slice_get texts index ≡ Some text
 
 -- the record of an organization before a place: what its own machine left of the record at the start, by its own steps before it
 abbrev pub record_before : (List ℕ → Option Organization) → List ℕ → List Ask → Option Organization

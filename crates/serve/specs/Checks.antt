@@ -3,9 +3,9 @@
 use Rattle.std.specs.Prelude.{ℕ, Bool, true, false, ◌||◌, if◌then◌else◌, List, Option, Some, None, Result, Ok, Err}
 use Rattle.std.specs.Str.{bytes_eq}
 use Rattle.basis.specs.Checks.{or_refused, and_then}
-use Rattle.basis.specs.Roles.{counts_at}
-use Rattle.basis.specs.declared.acts.Look.{Look as AnyLook}
-use Rattle.basis.specs.declared.acts.Look.TheVariants as look
+use Rattle.basis.specs.Roles.{is_valid_at}
+use Rattle.basis.specs.declared.acts.Query.{Query as AnyQuery}
+use Rattle.basis.specs.declared.acts.Query.TheVariants as query
 use Rattle.basis.specs.declared.refusals.Refusal.{Refusal}
 use Rattle.basis.specs.declared.refusals.Refusal.TheVariants.{BadToken, NotFound, BadDigest, BadState, BadLock, BadBody}
 use Rattle.sha2.specs.Sha256.{sha256}
@@ -14,9 +14,9 @@ use Rattle.docs.specs.Digests.{digest_fits}
 use Rattle.machine.specs.Records.{workspace_in}
 use Rattle.machine.specs.Tokens.{caller_of}
 use Rattle.machine.specs.Named.{has_named}
-use Rattle.machine.specs.Needs.{needs_of_look}
+use Rattle.machine.specs.Needs.{needs_of_query}
 use Rattle.machine.specs.declared.acts.Act.{Act}
-use Rattle.machine.specs.declared.acts.Act.TheVariants.{Look as LookAct, PutWorkspace as PutAct, UpdateState as UpdateAct, PurgeState as PurgeAct, Lock as LockAct, Unlock as UnlockAct, ForceUnlock as ForceUnlockAct, DeleteWorkspace as DeleteAct, MakeRun as MakeRunAct, ReportRun as ReportRunAct}
+use Rattle.machine.specs.declared.acts.Act.TheVariants.{Query as QueryAct, PutWorkspace as PutAct, UpdateState as UpdateAct, PurgeState as PurgeAct, Lock as LockAct, Unlock as UnlockAct, ForceUnlock as ForceUnlockAct, DeleteWorkspace as DeleteAct, MakeRun as MakeRunAct, ReportRun as ReportRunAct}
 use Rattle.machine.specs.declared.records.Token.{Token}
 use Rattle.machine.specs.declared.records.Workspace.{Workspace}
 use Rattle.machine.specs.declared.records.Organization.{Organization}
@@ -25,7 +25,7 @@ use Rattle.route.specs.declared.routes.Asked.{Asked}
 use Rattle.route.specs.declared.routes.AskedAct.{AskedAct}
 use Rattle.route.specs.declared.routes.AskedAct.TheVariants.{ListWorkspaces, OfWorkspace}
 use Rattle.basis.specs.declared.acts.WsAct.{WsAct}
-use Rattle.basis.specs.declared.acts.WsAct.TheVariants.{Look, Put, Delete, UpdateState, PurgeState, Lock, Unlock, ForceUnlock, MakeRun, ReportRun}
+use Rattle.basis.specs.declared.acts.WsAct.TheVariants.{Query, Put, Delete, UpdateState, PurgeState, Lock, Unlock, ForceUnlock, MakeRun, ReportRun}
 use Rattle.serve.specs.declared.checks.Task.{Task}
 use Rattle.serve.specs.declared.checks.Task.TheVariants.{ListAll, Carry}
 
@@ -37,7 +37,7 @@ require refusal false = Err refusal
 -- a token that doesn't count at a moment, since it has ended, is as if it weren't there
 abbrev pub while_it_counts : ℕ → Option Token → Option Token
 while_it_counts now None = None
-while_it_counts now (Some token) = if counts_at now token.caller then Some token else None
+while_it_counts now (Some token) = if is_valid_at now token.caller then Some token else None
 
 -- the caller: the token of the organization whose secret this is, and which counts at the moment of the step
 abbrev pub known_caller : Option Organization → ℕ → Asked → Result Token Refusal
@@ -64,7 +64,7 @@ in_reach asked = require NotFound (is_in_reach asked)
 
 -- an act on a workspace that needn't be there: it is made
 abbrev pub makes : WsAct → Bool
-makes (Look what) = false
+makes (Query what) = false
 makes Put = true
 makes Delete = false
 makes UpdateState = false
@@ -76,26 +76,26 @@ makes MakeRun = false
 makes (ReportRun number action) = false
 
 -- what is told of is there: the workspace, and the version or the run that is named
-abbrev pub is_told_of : AnyLook → Option Workspace → Bool
-is_told_of what None = false
-is_told_of what (Some w) = has_named (needs_of_look what) w
+abbrev pub has_queried : AnyQuery → Option Workspace → Bool
+has_queried what None = false
+has_queried what (Some w) = has_named (needs_of_query what) w
 
 -- what an act asks of, as what would be told of it: the workspace, or a version or a run that it names
-abbrev pub named_by : WsAct → AnyLook
-named_by (Look what) = what
-named_by Put = look.Workspace
-named_by Delete = look.Workspace
-named_by UpdateState = look.Workspace
-named_by PurgeState = look.Workspace
-named_by Lock = look.Workspace
-named_by Unlock = look.Workspace
-named_by ForceUnlock = look.Workspace
-named_by MakeRun = look.Workspace
-named_by (ReportRun number action) = look.Run number
+abbrev pub named_by : WsAct → AnyQuery
+named_by (Query what) = what
+named_by Put = query.Workspace
+named_by Delete = query.Workspace
+named_by UpdateState = query.Workspace
+named_by PurgeState = query.Workspace
+named_by Lock = query.Workspace
+named_by Unlock = query.Workspace
+named_by ForceUnlock = query.Workspace
+named_by MakeRun = query.Workspace
+named_by (ReportRun number action) = query.Run number
 
 -- what an act asks of is there
 abbrev pub is_there : WsAct → Option Workspace → Bool
-is_there act w = is_told_of (named_by act) w
+is_there act w = has_queried (named_by act) w
 
 -- names: what is asked of is there, or is to be made
 abbrev pub is_found : Option Organization → List ℕ → WsAct → Bool
@@ -120,7 +120,7 @@ spelt refusal f None = Err refusal
 spelt refusal f (Some a) = Ok (f a)
 
 abbrev pub act_of : WsAct → Option (List ℕ) → List ℕ → Result Act Refusal
-act_of (Look what) id body = Ok (LookAct what)
+act_of (Query what) id body = Ok (QueryAct what)
 act_of Put id body = spelt BadBody PutAct (settings_of body)
 act_of Delete id body = Ok DeleteAct
 act_of UpdateState id body = spelt BadState (λ head. UpdateAct head body id) (state_head body)
@@ -133,7 +133,7 @@ act_of (ReportRun number action) id body = Ok (ReportRunAct number action)
 
 -- the lock's ID that a document has: that of LOCK, or of UNLOCK
 abbrev pub id_of_act : Act → Option (List ℕ)
-id_of_act (LookAct what) = None
+id_of_act (QueryAct what) = None
 id_of_act (PutAct settings) = None
 id_of_act DeleteAct = None
 id_of_act (UpdateAct head text id) = None

@@ -19,7 +19,7 @@ use Rattle.serve.specs.Checks.{act_of}
 use Rattle.serve.specs.declared.steps.Admin.{Admin}
 use Rattle.serve.specs.declared.steps.Admin.TheVariants.{OrgAdd, OrgRemove}
 use Rattle.serve.specs.Service.{Asks}
-use Rattle.serve.specs.Steps.{Said, nothing, replies, tells, lists, lists_tokens, holder_text, request_step, step}
+use Rattle.serve.specs.Steps.{Said, nothing, replies, reports, lists, lists_tokens, holder_text, request_step, step}
 
 -- the workspace that is asked for has this name
 abbrev pub NamesIn : AskedAct → List ℕ → Type 0
@@ -138,7 +138,7 @@ StepsAreRepeatable = (r : Option Organization) (what : Ask) (later : ℕ) → Ma
 abbrev pub IsAccepted : Said → Type 0
 IsAccepted nothing = ⊥
 IsAccepted (replies awaited at answer) = answer.refusal ≡ None
-IsAccepted (tells answer) = answer ≡ Done
+IsAccepted (reports answer) = answer ≡ Done
 IsAccepted lists = ⊤
 IsAccepted lists_tokens = ⊤
 
@@ -148,8 +148,8 @@ RepeatsLeaveTheWorkspace = (r q : Option Organization) (what : Ask) (later : ℕ
     → workspace_in q ws ≡ workspace_in (step r what).left ws → workspace_in (step q (asked_again later what)).left ws ≡ workspace_in q ws
 
 -- the body of a 423 is the holder's: the text that took the lock, or that of the run
-abbrev pub LockedTellsTheHolder : Type 0
-LockedTellsTheHolder = (r : Option Organization) (now : ℕ) (asked : Asked) (content_md5 : Option (List ℕ)) (body : List ℕ)
+abbrev pub LockedNamesTheHolder : Type 0
+LockedNamesTheHolder = (r : Option Organization) (now : ℕ) (asked : Asked) (content_md5 : Option (List ℕ)) (body : List ℕ)
     → (request_step r now asked content_md5 body).answer.refusal ≡ Some Locked
     → (ws : List ℕ) × (w : Workspace) × NamesIn asked.act ws × (workspace_in r ws ≡ Some w)
     × ((request_step r now asked content_md5 body).answer.body ≡ holder_text asked.caller ws w.holder)

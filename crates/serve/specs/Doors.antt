@@ -28,7 +28,7 @@ use Rattle.serve.specs.Checks.{digest_checked}
 use Rattle.serve.specs.Exchanges.{Exchanges}
 use Rattle.serve.specs.Lines.{only_line}
 use Rattle.serve.specs.Logs.{operator_row}
-use Rattle.serve.specs.Service.{is_head, Carries, Stays, IsAdminAnswer, told_text, refusal_told}
+use Rattle.serve.specs.Service.{is_head, Carries, Stays, IsAdminAnswer, reported_text, reported_refusal}
 use Rattle.serve.specs.Words.{command_in_line}
 
 -- the door that is open to this secret
@@ -84,12 +84,12 @@ abbrev pub subject_of : Admin → Option Refusal → Option (List ℕ)
 subject_of command refusal = unless_refused refusal (token_commanded command)
 
 -- the reply to a command that is carried out: what the program would print
-abbrev pub told_answer : AdminAnswer → Answer
-told_answer answer = text_answer (refusal_told answer) (told_text answer)
+abbrev pub reported_answer : AdminAnswer → Answer
+reported_answer answer = text_answer (reported_refusal answer) (reported_text answer)
 
 -- the row of the log for a command that is carried out, for a message that is turned away, and for a 503: with the command if it had been read
-abbrev pub told_row : ℕ → Admin → AdminAnswer → LogRow
-told_row now command answer = operator_row now (Some (act_commanded command)) (org_commanded command) (subject_of command (refusal_told answer)) (told_answer answer)
+abbrev pub reported_row : ℕ → Admin → AdminAnswer → LogRow
+reported_row now command answer = operator_row now (Some (act_commanded command)) (org_commanded command) (subject_of command (reported_refusal answer)) (reported_answer answer)
 
 abbrev pub turned_row : ℕ → Answer → LogRow
 turned_row now answer = operator_row now None None None answer
@@ -106,8 +106,8 @@ pub record IsOperated (digest : List ℕ) (now : ℕ) (message : Message) (old n
   pub carries : Carries (commands now command) old new
   pub answer : AdminAnswer
   pub answered : IsAdminAnswer old command answer
-  pub is : IsReplyText (told_answer answer) now text
-  pub logged : row ≡ Some (told_row now command answer)
+  pub is : IsReplyText (reported_answer answer) now text
+  pub logged : row ≡ Some (reported_row now command answer)
 
 -- a message is turned away: nothing changes
 pub record IsTurnedAway (digest : List ℕ) (now : ℕ) (message : Message) (old new : List ℕ → Option Organization) (text : List ℕ) (row : Option LogRow) : Type 0 where
@@ -127,9 +127,9 @@ pub record IsUnserved (digest : List ℕ) (now : ℕ) (message : Message) (old n
 
 -- a message at the open door is answered: its command is carried out, or it is turned away (`false`); or an allocation or the store failed
 -- (`true`)
-abbrev pub IsToldAtDoor : List ℕ → ℕ → Message → (List ℕ → Option Organization) → (List ℕ → Option Organization) → List ℕ → Option LogRow → Bool → Type 0
-IsToldAtDoor digest now message old new text row false = IsOperated digest now message old new text row ⊎ IsTurnedAway digest now message old new text row
-IsToldAtDoor digest now message old new text row true = IsUnserved digest now message old new text row
+abbrev pub IsReportedAtDoor : List ℕ → ℕ → Message → (List ℕ → Option Organization) → (List ℕ → Option Organization) → List ℕ → Option LogRow → Bool → Type 0
+IsReportedAtDoor digest now message old new text row false = IsOperated digest now message old new text row ⊎ IsTurnedAway digest now message old new text row
+IsReportedAtDoor digest now message old new text row true = IsUnserved digest now message old new text row
 
 -- the bytes are a message that comes to the door; whether `100 Continue` is awaited
 pub record ComesToDoor (received : List ℕ) (message : Message) (awaited : Bool) : Type 0 where
@@ -139,9 +139,9 @@ pub record ComesToDoor (received : List ℕ) (message : Message) (awaited : Bool
 -- what an exchange answers to bytes that come to the open door; it never ends before a reply
 abbrev pub AnswersAtDoor : List ℕ → ℕ → Message → Bool → (List ℕ → Option Organization) → (List ℕ → Option Organization) → Option (List ℕ) → Option (List ℕ) → Bool → Option LogRow → {T : Type 0} → Result T LinkFault → Type 0
 AnswersAtDoor digest now message awaited old new before after is_down row (Ok done) =
-    (text : List ℕ) × IsToldAtDoor digest now message old new text row is_down × Appends before after (continue_if awaited ++ text)
+    (text : List ℕ) × IsReportedAtDoor digest now message old new text row is_down × Appends before after (continue_if awaited ++ text)
 AnswersAtDoor digest now message awaited old new before after is_down row (Err Write) =
-    (part : List ℕ) × (rest : List ℕ) × (0 < length rest) × IsToldAtDoor digest now message old new (part ++ rest) row is_down × Appends before after (continue_if awaited ++ part)
+    (part : List ℕ) × (rest : List ℕ) × (0 < length rest) × IsReportedAtDoor digest now message old new (part ++ rest) row is_down × Appends before after (continue_if awaited ++ part)
 AnswersAtDoor digest now message awaited old new before after is_down row (Err Ended) = ⊥
 AnswersAtDoor digest now message awaited old new before after is_down row (Err Read) = ⊥
 AnswersAtDoor digest now message awaited old new before after is_down row (Err Continue) = ⊥
@@ -175,4 +175,4 @@ BringsSecret digest message = (field : List ℕ) × (secret : List ℕ) × (mess
 -- a message without the secret changes nothing at the door
 abbrev pub OnlyTheSecretOpens : Type 0
 OnlyTheSecretOpens = (digest : List ℕ) (now : ℕ) (message : Message) (old new : List ℕ → Option Organization) (text : List ℕ) (row : Option LogRow) (is_down : Bool)
-    → IsToldAtDoor digest now message old new text row is_down → BringsSecret digest message ⊎ Stays old new
+    → IsReportedAtDoor digest now message old new text row is_down → BringsSecret digest message ⊎ Stays old new

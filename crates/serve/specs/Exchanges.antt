@@ -49,9 +49,9 @@ pub record IsUnavailable (now : ℕ) (received : List ℕ) (old new : List ℕ �
   pub without_body : Bool
   pub shaped : IsShapedBy reading awaited without_body
   pub is : IsReplyText (unavailable_answer without_body) now text
-  pub told : LogRow
-  pub tells : row ≡ Some told
-  pub logged : IsUnavailableFor now old reading told
+  pub reported : LogRow
+  pub reports : row ≡ Some reported
+  pub logged : IsUnavailableFor now old reading reported
 
 -- what was received is answered: it is served (`false`), or memory or the store refused (`true`)
 abbrev pub IsAnswered : ℕ → List ℕ → (List ℕ → Option Organization) → (List ℕ → Option Organization) → Bool → List ℕ → Option LogRow → Bool → Type 0
@@ -93,7 +93,7 @@ pub record Makes (n : ℕ) (w v : Workspace) : Type 0 where
 -- what comes of an organization's record is what the row tells. In the workspace that it names the version that it tells is made, and
 -- the run that it tells starts; in no workspace is another version made, and no other run starts; and a workspace that wasn't there
 -- begins anew
-pub record ComesAsTold (row : LogRow) (old new : Option Organization) : Type 0 where
+pub record ComesAsLogged (row : LogRow) (old new : Option Organization) : Type 0 where
   pub version : IfSome row.version (λ n. OfNamed row.workspace old new (Makes n))
   pub run : IfSome row.run (λ n. OfNamed row.workspace old new (Starts n))
   pub versions : (ws : List ℕ) (w v : Workspace) → workspace_in old ws ≡ Some w → workspace_in new ws ≡ Some v → KeepsVersions w v ⊎ ((row.workspace ≡ Some ws) × IsSome row.version)
@@ -102,8 +102,8 @@ pub record ComesAsTold (row : LogRow) (old new : Option Organization) : Type 0 w
 
 -- what changed is what the row of the log tells: the record of its organization alone, as told, and none where it has a refusal. A row
 -- of no organization tells of no version and of no run
-pub record ChangesAsTold (row : LogRow) (old new : List ℕ → Option Organization) : Type 0 where
+pub record ChangesAsLogged (row : LogRow) (old new : List ℕ → Option Organization) : Type 0 where
   pub others : (org : List ℕ) → row.organization ≢ Some org → new org ≡ old org
   pub refused : IsSome row.refusal → Stays old new
-  pub own : (org : List ℕ) → row.organization ≡ Some org → ComesAsTold row (old org) (new org)
+  pub own : (org : List ℕ) → row.organization ≡ Some org → ComesAsLogged row (old org) (new org)
   pub nobody : row.organization ≡ None → (row.version ≡ None) × (row.run ≡ None)

@@ -19,7 +19,7 @@ use Rattle.serve.specs.declared.steps.Step.{Step}
 use Rattle.serve.specs.Asks.{Ask, organization}
 use Rattle.route.specs.Policy.{is_admitted}
 use Rattle.serve.specs.Checks.{makes, is_in_reach, known_caller, may_do}
-use Rattle.serve.specs.Steps.{replies, tells, refusing, request_step, step}
+use Rattle.serve.specs.Steps.{replies, reports, refusing, request_step, step}
 use Rattle.serve.specs.Logs.{request_row}
 use Rattle.serve.specs.Service.{AreAsked, with_own, is_own, own_asks, replies_at}
 use Rattle.serve.specs.Runs.{IsOwnMachine}
@@ -51,7 +51,7 @@ SameStepsAskTheSame = (org : List ℕ) (steps others : List Step) (asked other :
 abbrev pub RefusedStepsChangeNothing : Type 0
 RefusedStepsChangeNothing = (r : Option Organization) (ask : Ask) → ((awaited : Bool) (at : ℕ) (answer : Answer) (refusal : Refusal)
     → (step r ask).answer ≡ replies awaited at answer → answer.refusal ≡ Some refusal → (step r ask).left ≡ r)
-    × ((answer : AdminAnswer) → (step r ask).answer ≡ tells answer → answer ≢ Done → (step r ask).left ≡ r)
+    × ((answer : AdminAnswer) → (step r ask).answer ≡ reports answer → answer ≢ Done → (step r ask).left ≡ r)
 
 -- a request whose caller and role pass, and which is out of the caller's reach, is answered not-found, whatever it asks
 abbrev pub OutOfReachIsNotFound : Type 0
@@ -98,6 +98,6 @@ NamesDecideNothing = (o : Organization) (tokens : FinMap name_cmp Token) (now : 
     → (request_step (Some (record o { tokens = tokens })) now asked content_md5 body).answer ≡ (request_step (Some o) now asked content_md5 body).answer
 
 -- no secret is told: requests that differ in their secrets alone have equal rows of the log where the tokens with them have one name and one caller
-abbrev pub SecretsAreNotTold : Type 0
-SecretsAreNotTold = (r : Option Organization) (at : ℕ) (asked : Asked) (secret : List ℕ) (content_md5 : Option (List ℕ)) (body : List ℕ) → asker_of r (sha256 secret) ≡ asker_of r (sha256 asked.secret)
+abbrev pub SecretsAreNotLogged : Type 0
+SecretsAreNotLogged = (r : Option Organization) (at : ℕ) (asked : Asked) (secret : List ℕ) (content_md5 : Option (List ℕ)) (body : List ℕ) → asker_of r (sha256 secret) ≡ asker_of r (sha256 asked.secret)
     → request_row r at (record asked { secret = secret }) content_md5 body ≡ request_row r at asked content_md5 body

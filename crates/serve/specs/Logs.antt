@@ -3,7 +3,7 @@ use Rattle.std.specs.Prelude.{◌≡◌, ◌⊎◌, ℕ, zero, suc, true, false,
 use Rattle.std.specs.Option.{option_or}
 use Rattle.basis.specs.Acts.{act_number}
 use Rattle.basis.specs.Checks.{and_then}
-use Rattle.basis.specs.Roles.{counts_at}
+use Rattle.basis.specs.Roles.{is_valid_at}
 use Rattle.basis.specs.declared.refusals.Refusal.{Refusal}
 use Rattle.basis.specs.declared.refusals.Refusal.TheVariants.{Unavailable}
 use Rattle.basis.specs.declared.rows.Holder.{Holder}
@@ -47,12 +47,12 @@ number_named (ListWorkspaces after) = None
 number_named (OfWorkspace ws what) = act_number what
 
 -- the name of the token that asks, where it counts at the moment
-abbrev pub name_counted : ℕ → Option TokenRow → Option (List ℕ)
-name_counted now None = None
-name_counted now (Some row) = if counts_at now row.caller then Some row.name else None
+abbrev pub valid_token_name : ℕ → Option TokenRow → Option (List ℕ)
+valid_token_name now None = None
+valid_token_name now (Some row) = if is_valid_at now row.caller then Some row.name else None
 
 abbrev pub token_named : Option Organization → ℕ → Asked → Option (List ℕ)
-token_named r now asked = name_counted now (asker_of r (sha256 asked.secret))
+token_named r now asked = valid_token_name now (asker_of r (sha256 asked.secret))
 
 -- the document, read where the caller may ask and the digest fits, be what it asks of there or not
 abbrev pub task_read : Option Organization → ℕ → Asked → Option (List ℕ) → List ℕ → Result Task Refusal
@@ -74,16 +74,16 @@ id_spelt (Ok task) = id_of_task task
 id_spelt (Err refusal) = None
 
 -- the run that is told
-abbrev pub run_told : Outcome → Option ℕ
-run_told (refused refusal) = None
-run_told (held holder) = None
-run_told done = None
-run_told no_state = None
-run_told (state text) = None
-run_told (workspace shown) = None
-run_told (the_run r) = Some r.number
-run_told (versions list) = None
-run_told (runs list) = None
+abbrev pub run_shown : Outcome → Option ℕ
+run_shown (refused refusal) = None
+run_shown (held holder) = None
+run_shown done = None
+run_shown no_state = None
+run_shown (state text) = None
+run_shown (workspace shown) = None
+run_shown (the_run r) = Some r.number
+run_shown (versions list) = None
+run_shown (runs list) = None
 
 -- the number that was given last: the first is 1
 abbrev pub number_before : ℕ → Option ℕ
@@ -114,7 +114,7 @@ run_started (Some w) (Some v) = run_holding w.holder v.holder
 
 -- what the rules did
 abbrev pub trace_of : Option Workspace → Ruling → Trace
-trace_of w ruling = record { shown_run = run_told ruling.answer; version = version_made w ruling.left; run = run_started w ruling.left }
+trace_of w ruling = record { shown_run = run_shown ruling.answer; version = version_made w ruling.left; run = run_started w ruling.left }
 
 abbrev pub no_trace : Trace
 no_trace = record { shown_run = None; version = None; run = None }

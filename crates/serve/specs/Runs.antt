@@ -19,7 +19,7 @@ pub record IsOwnMachine (org : List ℕ) (asked : List Ask) (before after : List
   pub own_record : IsOwnRecord asked before after org
 
 -- each list of all organizations among the replies is that of the records at its step
-abbrev pub ListsAreTold : (List ℕ → Option Organization) → List Ask → List (List ℕ) → Type 0
-ListsAreTold records [] replies = ⊤
-ListsAreTold records (a ∷ asked) [] = ⊥
-ListsAreTold records (a ∷ asked) (t ∷ ts) = IsListed records a t × ListsAreTold (records_after a records) asked ts
+abbrev pub ListsAreReported : (List ℕ → Option Organization) → List Ask → List (List ℕ) → Type 0
+ListsAreReported records [] replies = ⊤
+ListsAreReported records (a ∷ asked) [] = ⊥
+ListsAreReported records (a ∷ asked) (t ∷ ts) = IsListed records a t × ListsAreReported (records_after a records) asked ts

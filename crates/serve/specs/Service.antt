@@ -6,7 +6,7 @@ use Rattle.machine.specs.declared.keeps.AdminAnswer.{AdminAnswer}
 use Rattle.basis.specs.declared.refusals.Refusal.{Refusal}
 use Rattle.basis.specs.declared.refusals.Refusal.TheVariants as why
 use Rattle.basis.specs.Roles.{role_word}
-use Rattle.machine.specs.Tokens.{AreOrganizations, ListsOrganizations, tokens_told}
+use Rattle.machine.specs.Tokens.{AreOrganizations, ListsOrganizations, token_list_answer}
 use Rattle.machine.specs.declared.keeps.AdminAnswer.TheVariants.{Done, Exists, Absent, InUse, Organizations, Tokens}
 use Rattle.machine.specs.declared.keeps.OrgRow.{OrgRow}
 use Rattle.machine.specs.declared.keeps.TokenRow.{TokenRow}
@@ -23,7 +23,7 @@ use Rattle.serve.specs.declared.steps.Step.TheVariants.{Request, Command}
 use Rattle.serve.specs.Asks.{Ask, silent, refused, requests, commands, Owner, organization, unattributed, operator, owner_of}
 use Rattle.serve.specs.declared.steps.Admin.{Admin}
 use Rattle.serve.specs.declared.steps.Admin.TheVariants.{OrgAdd, OrgLimit, OrgRemove, OrgList, TokenAdd, TokenList, TokenRevoke}
-use Rattle.serve.specs.Steps.{Said, nothing, replies, tells, lists, lists_tokens, command_step, step}
+use Rattle.serve.specs.Steps.{Said, nothing, replies, reports, lists, lists_tokens, command_step, step}
 
 -- the method of a message is HEAD
 abbrev pub is_head : Message → Bool
@@ -101,28 +101,28 @@ token_list_text (Organizations rows) = admin_word (Organizations rows)
 token_list_text (Tokens rows) = token_lines rows
 
 -- the text of an answer: a word or a list
-abbrev pub told_text : AdminAnswer → List ℕ
-told_text Done = admin_word Done
-told_text Exists = admin_word Exists
-told_text Absent = admin_word Absent
-told_text InUse = admin_word InUse
-told_text (Organizations rows) = org_lines rows
-told_text (Tokens rows) = token_lines rows
+abbrev pub reported_text : AdminAnswer → List ℕ
+reported_text Done = admin_word Done
+reported_text Exists = admin_word Exists
+reported_text Absent = admin_word Absent
+reported_text InUse = admin_word InUse
+reported_text (Organizations rows) = org_lines rows
+reported_text (Tokens rows) = token_lines rows
 
 -- why a command is refused, if it is
-abbrev pub refusal_told : AdminAnswer → Option Refusal
-refusal_told Done = None
-refusal_told Exists = Some why.Exists
-refusal_told Absent = Some why.Absent
-refusal_told InUse = Some why.InUse
-refusal_told (Organizations rows) = None
-refusal_told (Tokens rows) = None
+abbrev pub reported_refusal : AdminAnswer → Option Refusal
+reported_refusal Done = None
+reported_refusal Exists = Some why.Exists
+reported_refusal Absent = Some why.Absent
+reported_refusal InUse = Some why.InUse
+reported_refusal (Organizations rows) = None
+reported_refusal (Tokens rows) = None
 
 -- the text of what is said
 abbrev pub IsSaidText : Said → List ℕ → Type 0
 IsSaidText nothing text = text ≡ []
 IsSaidText (replies awaited at answer) text = (reply : List ℕ) × IsReplyText answer at reply × (text ≡ continue_if awaited ++ reply)
-IsSaidText (tells answer) text = text ≡ admin_word answer
+IsSaidText (reports answer) text = text ≡ admin_word answer
 IsSaidText lists text = (rows : List OrgRow) × (text ≡ org_lines rows)
 IsSaidText lists_tokens text = (answer : AdminAnswer) × (text ≡ token_list_text answer)
 
@@ -194,7 +194,7 @@ IsAdminAnswer rows (OrgLimit org limit) answer = answer ≡ (command_step (rows 
 IsAdminAnswer rows (OrgRemove org is_forced) answer = answer ≡ (command_step (rows org) (OrgRemove org is_forced)).answer
 IsAdminAnswer rows OrgList answer = ListsOrganizations rows answer
 IsAdminAnswer rows (TokenAdd org name role secret bounds) answer = answer ≡ (command_step (rows org) (TokenAdd org name role secret bounds)).answer
-IsAdminAnswer rows (TokenList org) answer = answer ≡ tokens_told (rows org)
+IsAdminAnswer rows (TokenList org) answer = answer ≡ token_list_answer (rows org)
 IsAdminAnswer rows (TokenRevoke org name) answer = answer ≡ (command_step (rows org) (TokenRevoke org name)).answer
 
 -- the text that lists all organizations: exactly those whose records are there
@@ -208,7 +208,7 @@ IsListedBy records (OrgLimit org limit) text = ⊤
 IsListedBy records (OrgRemove org is_forced) text = ⊤
 IsListedBy records OrgList text = ListsAll records text
 IsListedBy records (TokenAdd org name role secret bounds) text = ⊤
-IsListedBy records (TokenList org) text = text ≡ token_list_text (tokens_told (records org))
+IsListedBy records (TokenList org) text = text ≡ token_list_text (token_list_answer (records org))
 IsListedBy records (TokenRevoke org name) text = ⊤
 
 abbrev pub IsListed : (List ℕ → Option Organization) → Ask → List ℕ → Type 0

@@ -32,7 +32,7 @@ pub data Said : Type 0 where
   -- a reply: an answer at a moment, after `100 Continue` where it is awaited
   replies : Bool → ℕ → Answer → Said
   -- the word that answers an operator's command
-  tells : AdminAnswer → Said
+  reports : AdminAnswer → Said
   -- the list of all organizations, which no organization's machine knows
   lists : Said
   -- the list of an organization's tokens, which is told to the operator alone
@@ -95,13 +95,13 @@ command_step r (TokenRevoke org name) = token_revoked name r
 
 -- what is said to an operator
 abbrev pub command_said : Admin → AdminAnswer → Said
-command_said (OrgAdd org limit) answer = tells answer
-command_said (OrgLimit org limit) answer = tells answer
-command_said (OrgRemove org is_forced) answer = tells answer
+command_said (OrgAdd org limit) answer = reports answer
+command_said (OrgLimit org limit) answer = reports answer
+command_said (OrgRemove org is_forced) answer = reports answer
 command_said OrgList answer = lists
-command_said (TokenAdd org name role secret bounds) answer = tells answer
+command_said (TokenAdd org name role secret bounds) answer = reports answer
 command_said (TokenList org) answer = lists_tokens
-command_said (TokenRevoke org name) answer = tells answer
+command_said (TokenRevoke org name) answer = reports answer
 
 -- the step of an organization's machine: what is said, and the record afterwards; an unattributed step changes no record and reads none
 abbrev pub step : Option Organization → Ask → Effect Said (Option Organization)

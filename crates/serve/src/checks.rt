@@ -3,22 +3,23 @@ ghost use Rattle.std.specs.Prelude.{◌≡◌, ◌≢◌, [], cond, IsSome, Some
 ghost use Rattle.basis.specs.Inner.Checks.{Follows};
 ghost use Rattle.basis.specs.declared.refusals.Refusal.TheVariants.{BadBody, BadLock, BadState, NotFound, Unavailable};
 ghost use Rattle.docs.specs.Documents.{settings_of, state_head, lock_id_of, run_ask};
-ghost use Rattle.machine.specs.Keeping.{Looks};
+ghost use Rattle.machine.specs.StoreCalls.{Unchanged};
 ghost use Rattle.machine.specs.Needs.{needed_of};
 ghost use Rattle.machine.specs.Records.{workspace_in};
 ghost use Rattle.machine.specs.Units.{unit_of};
-ghost use Rattle.machine.specs.declared.acts.Act.TheVariants.{Look as LookAct, PutWorkspace, UpdateState, PurgeState, Lock, Unlock, MakeRun};
+ghost use Rattle.machine.specs.declared.acts.Act.TheVariants.{Query as QueryAct, PutWorkspace, UpdateState, PurgeState, Lock, Unlock, MakeRun};
 ghost use Rattle.machine.specs.declared.records.Organization.{Organization};
 ghost use Rattle.serve.specs.Checks.{require, in_reach, makes, named_by, is_there, is_found, digest_checked, spelt, act_of, id_of_act, task_of};
 ghost use Rattle.serve.specs.Logs.{id_of_task};
-ghost use Rattle.serve.specs.Inner.Prepared.{counted, row_known};
+ghost use Rattle.serve.specs.Inner.Prepared.{valid_token, row_known};
 ghost use Rattle.route.specs.declared.routes.AskedAct.TheVariants.{OfWorkspace};
 ghost use Rattle.serve.specs.declared.checks.Task.TheVariants.{ListAll};
 ghost use Rattle.serve.specs.Inner.Judging.{judged_task, missed};
 ghost use Rattle.serve.specs.Inner.Units.{if_named, sees_named, is_present};
 
 use basis::{
-    Bytes, Down, LockId, Look, Moment, Number, OrgName, Refusal, StateHead, WsAct, WsName, WsPrefix,
+    Bytes, Down, LockId, Moment, Number, OrgName, Query, Refusal, StateHead, WsAct, WsName,
+    WsPrefix,
 };
 use docs::{DocFault, digest_fits, read_lock, read_run, read_settings, read_state};
 use machine::{Act, Keep, Needs, StateText, TokenRow, Unit, WorkspaceUnit};
@@ -40,10 +41,10 @@ pub enum Task {
 }
 
 // A token that counts at this moment. One that has ended is as if it weren't there.
-fn counted(row: TokenRow, at: Moment) -> Result<TokenRow, Refusal>
-    ensures { result ≡ counted at row }
+fn valid_token(row: TokenRow, at: Moment) -> Result<TokenRow, Refusal>
+    ensures { result ≡ valid_token at row }
 {
-    if row.caller.counts_at(at) {
+    if row.caller.is_valid_at(at) {
         Ok(row)
     } else {
         Err(Refusal::BadToken)
@@ -57,12 +58,12 @@ pub fn known_caller<K: Keep>(
     at: Moment,
     asked: &Asked,
 ) -> Result<TokenRow, Refusal>
-    ensures looks { Looks K.rows K.clean K.sound K.keyed K.shielded keep.old keep.new }
+    ensures unchanged { Unchanged K.rows K.clean K.sound K.keyed K.shielded keep.old keep.new }
     ensures ok { K.clean keep.new → K.sound keep.old → Follows result (row_known (K.rows keep.old asked.now.caller) at asked.now) }
 {
     let secret = secret_digest(&asked.secret);
     match keep.caller(alloc, &asked.caller, &secret) {
-        Ok(Some(row)) => counted(row, at),
+        Ok(Some(row)) => valid_token(row, at),
         Ok(None) => Err(Refusal::BadToken),
         Err(Down) => Err(Refusal::Unavailable),
     }
@@ -87,7 +88,7 @@ fn makes(act: WsAct) -> bool
 {
     match act {
         WsAct::Put => true,
-        WsAct::Look(_) | WsAct::Delete => false,
+        WsAct::Query(_) | WsAct::Delete => false,
         WsAct::UpdateState | WsAct::PurgeState => false,
         WsAct::Lock | WsAct::Unlock | WsAct::ForceUnlock => false,
         WsAct::MakeRun | WsAct::ReportRun(_, _) => false,
@@ -95,15 +96,15 @@ fn makes(act: WsAct) -> bool
 }
 
 // What an act asks of, as what would be told of it.
-fn named_by(act: WsAct) -> Look
+fn named_by(act: WsAct) -> Query
     ensures { result ≡ named_by act }
 {
     match act {
-        WsAct::Look(look) => look,
-        WsAct::ReportRun(number, _) => Look::Run(number),
-        WsAct::Put | WsAct::Delete | WsAct::MakeRun => Look::Workspace,
-        WsAct::UpdateState | WsAct::PurgeState => Look::Workspace,
-        WsAct::Lock | WsAct::Unlock | WsAct::ForceUnlock => Look::Workspace,
+        WsAct::Query(query) => query,
+        WsAct::ReportRun(number, _) => Query::Run(number),
+        WsAct::Put | WsAct::Delete | WsAct::MakeRun => Query::Workspace,
+        WsAct::UpdateState | WsAct::PurgeState => Query::Workspace,
+        WsAct::Lock | WsAct::Unlock | WsAct::ForceUnlock => Query::Workspace,
     }
 }
 
@@ -130,34 +131,34 @@ fn is_present(unit: &Unit, act: &WsAct) -> bool
     match unit {
         Unit::Absent { .. } => false,
         Unit::Present(unit) => {
-            let look = telling(*act);
-            sees_named(&look.needs(), unit)
+            let query = named_query(*act);
+            sees_named(&query.needs(), unit)
         }
     }
 }
 
 // An act that tells it.
-fn telling(act: WsAct) -> Act
-    ensures { result ≡ LookAct (named_by act) }
+fn named_query(act: WsAct) -> Act
+    ensures { result ≡ QueryAct (named_by act) }
 {
-    let look = named_by(act);
-    Act::Look(look)
+    let query = named_by(act);
+    Act::Query(query)
 }
 
 // What is seen of it.
-fn look<K: Keep>(
+fn query<K: Keep>(
     alloc: Global,
     keep: &mut K,
     org: &OrgName,
     ws: &WsName,
     act: WsAct,
 ) -> Result<Unit, Down>
-    ensures looks { Looks K.rows K.clean K.sound K.keyed K.shielded keep.old keep.new }
+    ensures unchanged { Unchanged K.rows K.clean K.sound K.keyed K.shielded keep.old keep.new }
     ensures ok { K.clean keep.new → K.sound keep.old → IfOk result (λ unit. (o : Organization) → K.rows keep.old org.now ≡ Some o
-        → unit ≡ unit_of o ws.now (LookAct (named_by act))) }
+        → unit ≡ unit_of o ws.now (QueryAct (named_by act))) }
 {
-    let look = telling(act);
-    keep.unit(alloc, org, ws, &look)
+    let query = named_query(act);
+    keep.unit(alloc, org, ws, &query)
 }
 
 // Whether what is asked of is there.
@@ -168,11 +169,11 @@ fn is_there<K: Keep>(
     ws: &WsName,
     act: WsAct,
 ) -> Result<bool, Down>
-    ensures looks { Looks K.rows K.clean K.sound K.keyed K.shielded keep.old keep.new }
+    ensures unchanged { Unchanged K.rows K.clean K.sound K.keyed K.shielded keep.old keep.new }
     ensures ok { K.clean keep.new → K.sound keep.old → IsSome (K.rows keep.old org.now)
         → IfOk result (λ there. there ≡ is_there act (workspace_in (K.rows keep.old org.now) ws.now)) }
 {
-    let unit = look(alloc, keep, org, ws, act)?;
+    let unit = query(alloc, keep, org, ws, act)?;
     Ok(is_present(&unit, &act))
 }
 
@@ -184,7 +185,7 @@ fn is_found<K: Keep>(
     ws: &WsName,
     act: WsAct,
 ) -> Result<bool, Down>
-    ensures looks { Looks K.rows K.clean K.sound K.keyed K.shielded keep.old keep.new }
+    ensures unchanged { Unchanged K.rows K.clean K.sound K.keyed K.shielded keep.old keep.new }
     ensures ok { K.clean keep.new → K.sound keep.old → IsSome (K.rows keep.old org.now)
         → IfOk result (λ found. found ≡ is_found (K.rows keep.old org.now) ws.now act) }
 {
@@ -208,7 +209,7 @@ pub fn missed<K: Keep>(
     asked: &AskedAct,
     refusal: Refusal,
 ) -> Refusal
-    ensures looks { Looks K.rows K.clean K.sound K.keyed K.shielded keep.old keep.new }
+    ensures unchanged { Unchanged K.rows K.clean K.sound K.keyed K.shielded keep.old keep.new }
     ensures known { result ≢ Unavailable → refusal ≢ Unavailable }
     ensures ok { K.clean keep.new → K.sound keep.old → IsSome (K.rows keep.old org.now)
         → result ≢ Unavailable → result ≡ missed (K.rows keep.old org.now) asked.now refusal }
@@ -325,7 +326,7 @@ fn act_of(alloc: Global, act: WsAct, lock_id: &Option<LockId>, body: Bytes) -> R
     ensures { Follows result (act_of act lock_id.now body) }
 {
     match act {
-        WsAct::Look(look) => Ok(Act::Look(look)),
+        WsAct::Query(query) => Ok(Act::Query(query)),
         WsAct::Put => read_put(alloc, &body),
         WsAct::UpdateState => read_update(alloc, lock_id, body),
         WsAct::PurgeState => read_purge(lock_id),
@@ -344,7 +345,7 @@ fn id_of_act(act: &Act) -> Option<&LockId>
     match act {
         Act::Lock { id, .. } => Some(id),
         Act::Unlock(id) => Some(id),
-        Act::Look(_) | Act::PutWorkspace(_) | Act::DeleteWorkspace => None,
+        Act::Query(_) | Act::PutWorkspace(_) | Act::DeleteWorkspace => None,
         Act::UpdateState { .. } | Act::PurgeState { .. } => None,
         Act::ForceUnlock | Act::MakeRun(_) | Act::ReportRun(_, _) => None,
     }

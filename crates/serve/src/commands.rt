@@ -1,11 +1,11 @@
 //! Operator's commands.
 ghost use Rattle.std.specs.Prelude.{◌≡◌, ℕ, IfOk, OnErr, length, ◌≤◌};
-ghost use Rattle.machine.specs.Keeping.{Looks, Lasts};
-ghost use Rattle.machine.specs.Tokens.{ListsOrganizations, tokens_told};
+ghost use Rattle.machine.specs.StoreCalls.{Unchanged, Lasts};
+ghost use Rattle.machine.specs.Tokens.{ListsOrganizations, token_list_answer};
 ghost use Rattle.machine.specs.declared.keeps.AdminAnswer.{AdminAnswer};
 ghost use Rattle.serve.specs.Asks.{commands};
-ghost use Rattle.serve.specs.Inner.Taking.{IsOnOne, IsTold, IsCarriedOut};
-ghost use Rattle.serve.specs.Service.{Carries, Stays, IsAdminAnswer, org_lines, token_lines, admin_word, told_text, refusal_told};
+ghost use Rattle.serve.specs.Inner.Taking.{IsOnOne, IsReported, IsCarriedOut};
+ghost use Rattle.serve.specs.Service.{Carries, Stays, IsAdminAnswer, org_lines, token_lines, admin_word, reported_text, reported_refusal};
 
 use crate::lists::{write_org_lines, write_token_lines};
 use crate::steps::Admin;
@@ -19,7 +19,7 @@ const MAX_ADMIN_WORD: usize = 15;
 
 /// The answer to an operator's command, as text.
 #[derive(Drop)]
-pub struct Told {
+pub struct CommandReport {
     /// Why the command is refused; absent if it is not.
     pub refusal: Option<Refusal>,
     /// What is printed.
@@ -49,8 +49,8 @@ fn token_lines(alloc: Global, rows: &[TokenRow]) -> Result<Vec<u8>, Down>
 }
 
 // An answer as it is printed: its word, or its list.
-fn told_text(alloc: Global, answer: &AdminAnswer) -> Result<Vec<u8>, Down>
-    ensures { IfOk result (λ text. text.items ≡ told_text answer.now) }
+fn reported_text(alloc: Global, answer: &AdminAnswer) -> Result<Vec<u8>, Down>
+    ensures { IfOk result (λ text. text.items ≡ reported_text answer.now) }
 {
     match answer {
         AdminAnswer::Organizations(rows) => org_lines(alloc, rows.as_slice()),
@@ -85,8 +85,8 @@ fn admin_word(answer: &AdminAnswer) -> &'static [u8]
     }
 }
 
-fn refusal_told(answer: &AdminAnswer) -> Option<Refusal>
-    ensures { result ≡ refusal_told answer.now }
+fn reported_refusal(answer: &AdminAnswer) -> Option<Refusal>
+    ensures { result ≡ reported_refusal answer.now }
 {
     match answer {
         AdminAnswer::Exists => Some(Refusal::Exists),
@@ -124,61 +124,61 @@ pub fn command<K: Keep>(alloc: Global, keep: &mut K, command: &Admin) -> Result<
 }
 
 // Carries out a command on one organization, after allocating the memory for its word.
-fn tell_word<K: Keep>(alloc: Global, keep: &mut K, asked: &Admin) -> Result<Told, Down>
+fn report_word<K: Keep>(alloc: Global, keep: &mut K, asked: &Admin) -> Result<CommandReport, Down>
     ensures lasts { Lasts K.clean K.sound K.keyed K.shielded keep.old keep.new }
-    ensures ok { K.clean keep.new → K.sound keep.old → IfOk result (λ told. IsOnOne asked.now → IsCarriedOut asked.now (K.rows keep.old) (K.rows keep.new) told) }
+    ensures ok { K.clean keep.new → K.sound keep.old → IfOk result (λ reported. IsOnOne asked.now → IsCarriedOut asked.now (K.rows keep.old) (K.rows keep.new) reported) }
     ensures err { K.clean keep.new → OnErr result (Stays (K.rows keep.old) (K.rows keep.new)) }
 {
     let mut text = Vec::with_capacity(alloc, MAX_ADMIN_WORD)?;
     let answer = command(alloc, keep, asked)?;
     text.extend_from_slice(admin_word(&answer)).unwrap();
-    Ok(Told {
-        refusal: refusal_told(&answer),
+    Ok(CommandReport {
+        refusal: reported_refusal(&answer),
         text: Bytes::new(text),
     })
 }
 
-fn tell_answer(alloc: Global, answer: &AdminAnswer) -> Result<Told, Down>
-    ensures { IfOk result (IsTold answer.now) }
+fn report_answer(alloc: Global, answer: &AdminAnswer) -> Result<CommandReport, Down>
+    ensures { IfOk result (IsReported answer.now) }
 {
-    let text = told_text(alloc, answer)?;
-    Ok(Told {
-        refusal: refusal_told(answer),
+    let text = reported_text(alloc, answer)?;
+    Ok(CommandReport {
+        refusal: reported_refusal(answer),
         text: Bytes::new(text),
     })
 }
 
 // Lists all organizations, which changes nothing.
-fn tell_organizations<K: Keep>(alloc: Global, keep: &mut K) -> Result<Told, Down>
-    ensures looks { Looks K.rows K.clean K.sound K.keyed K.shielded keep.old keep.new }
-    ensures ok { K.clean keep.new → K.sound keep.old → IfOk result (λ told. (answer : AdminAnswer) × ListsOrganizations (K.rows keep.old) answer × IsTold answer told) }
+fn report_organizations<K: Keep>(alloc: Global, keep: &mut K) -> Result<CommandReport, Down>
+    ensures unchanged { Unchanged K.rows K.clean K.sound K.keyed K.shielded keep.old keep.new }
+    ensures ok { K.clean keep.new → K.sound keep.old → IfOk result (λ reported. (answer : AdminAnswer) × ListsOrganizations (K.rows keep.old) answer × IsReported answer reported) }
 {
     let answer = keep.org_list(alloc)?;
-    tell_answer(alloc, &answer)
+    report_answer(alloc, &answer)
 }
 
 // Lists an organization's tokens, which changes nothing.
-fn tell_tokens<K: Keep>(alloc: Global, keep: &mut K, org: &OrgName) -> Result<Told, Down>
-    ensures looks { Looks K.rows K.clean K.sound K.keyed K.shielded keep.old keep.new }
-    ensures ok { K.clean keep.new → K.sound keep.old → IfOk result (IsTold (tokens_told (K.rows keep.old org.now))) }
+fn report_tokens<K: Keep>(alloc: Global, keep: &mut K, org: &OrgName) -> Result<CommandReport, Down>
+    ensures unchanged { Unchanged K.rows K.clean K.sound K.keyed K.shielded keep.old keep.new }
+    ensures ok { K.clean keep.new → K.sound keep.old → IfOk result (IsReported (token_list_answer (K.rows keep.old org.now))) }
 {
     let answer = keep.token_list(alloc, org)?;
-    tell_answer(alloc, &answer)
+    report_answer(alloc, &answer)
 }
 
 /// Carries out an operator's command, and returns its answer as text. The memory for a word is allocated before the change.
-pub fn tell<K: Keep>(alloc: Global, keep: &mut K, asked: &Admin) -> Result<Told, Down>
+pub fn report<K: Keep>(alloc: Global, keep: &mut K, asked: &Admin) -> Result<CommandReport, Down>
     ensures lasts { Lasts K.clean K.sound K.keyed K.shielded keep.old keep.new }
     ensures ok { K.clean keep.new → K.sound keep.old → IfOk result (IsCarriedOut asked.now (K.rows keep.old) (K.rows keep.new)) }
     ensures err { K.clean keep.new → OnErr result (Stays (K.rows keep.old) (K.rows keep.new)) }
 {
     match asked {
-        Admin::OrgList => tell_organizations(alloc, keep),
-        Admin::TokenList { org } => tell_tokens(alloc, keep, org),
-        Admin::OrgAdd { .. } => tell_word(alloc, keep, asked),
-        Admin::OrgLimit { .. } => tell_word(alloc, keep, asked),
-        Admin::OrgRemove { .. } => tell_word(alloc, keep, asked),
-        Admin::TokenAdd { .. } => tell_word(alloc, keep, asked),
-        Admin::TokenRevoke { .. } => tell_word(alloc, keep, asked),
+        Admin::OrgList => report_organizations(alloc, keep),
+        Admin::TokenList { org } => report_tokens(alloc, keep, org),
+        Admin::OrgAdd { .. } => report_word(alloc, keep, asked),
+        Admin::OrgLimit { .. } => report_word(alloc, keep, asked),
+        Admin::OrgRemove { .. } => report_word(alloc, keep, asked),
+        Admin::TokenAdd { .. } => report_word(alloc, keep, asked),
+        Admin::TokenRevoke { .. } => report_word(alloc, keep, asked),
     }
 }

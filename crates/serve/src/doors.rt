@@ -1,7 +1,7 @@
 //! The operator's door: an operator's command in a request.
 ghost use Rattle.std.specs.Prelude.{◌≡◌, ◌≢◌, Some, None, IfOk, IfErr, OnOk, OnErr};
 ghost use Rattle.basis.specs.Inner.Checks.{Follows};
-ghost use Rattle.machine.specs.Keeping.{Lasts};
+ghost use Rattle.machine.specs.StoreCalls.{Lasts};
 ghost use Rattle.wire.specs.Replies.{text_answer};
 ghost use Rattle.serve.specs.Doors.{opened_by, command_in, commanded, act_commanded, org_commanded, token_commanded, unless_refused, subject_of, unserved_row};
 ghost use Rattle.serve.specs.Logs.{operator_row};
@@ -9,7 +9,7 @@ ghost use Rattle.serve.specs.Service.{Stays};
 ghost use Rattle.serve.specs.Inner.Doors.{Operates, TurnsAway, OperatesOrNot, IsRowSoFar};
 
 use crate::checks::digest_checked;
-use crate::commands::{Told, tell};
+use crate::commands::{CommandReport, report};
 use crate::lines::{MAX_LINE, only_line};
 use crate::logs::operator_row;
 use crate::messages::is_head;
@@ -152,11 +152,11 @@ pub struct Operated {
 }
 
 // The reply and the row for a command that is carried out.
-fn answered(at: Moment, asked: Admin, told: Told) -> Operated
-    ensures reply { result.reply ≡ text_answer told.refusal told.text }
-    ensures row { result.row ≡ operator_row at (Some (act_commanded asked)) (org_commanded asked) (subject_of asked told.refusal) (text_answer told.refusal told.text) }
+fn answered(at: Moment, asked: Admin, reported: CommandReport) -> Operated
+    ensures reply { result.reply ≡ text_answer reported.refusal reported.text }
+    ensures row { result.row ≡ operator_row at (Some (act_commanded asked)) (org_commanded asked) (subject_of asked reported.refusal) (text_answer reported.refusal reported.text) }
 {
-    let Told { refusal, text } = told;
+    let CommandReport { refusal, text } = reported;
     let act = act_of(&asked);
     let Names { org, token } = names_in(asked);
     let reply = Reply::text(refusal, text);
@@ -194,8 +194,8 @@ fn carry_out<K: Keep>(
     ensures err { K.clean keep.new → OnErr result (Stays (K.rows keep.old) (K.rows keep.new)) }
     ensures row { IfErr result (λ row. row ≡ unserved_row at (Some asked)) }
 {
-    match tell(alloc, keep, &asked) {
-        Ok(told) => Ok(answered(at, asked, told)),
+    match report(alloc, keep, &asked) {
+        Ok(reported) => Ok(answered(at, asked, reported)),
         Err(Down) => Err(row_so_far(at, asked)),
     }
 }

@@ -3,14 +3,14 @@ ghost use Rattle.std.specs.Prelude.{◌≡◌, ◌↔◌, ℕ, List, ◌⊎◌, 
 ghost use Rattle.std.specs.Io.KnownBytes.{Consumes};
 ghost use Rattle.wire.specs.Links.{Writes};
 ghost use Rattle.wire.specs.Replies.{IsReplyText, unavailable_answer};
-ghost use Rattle.machine.specs.Keeping.{Lasts, LastsWhere};
+ghost use Rattle.machine.specs.StoreCalls.{Lasts, LastsWhere};
 ghost use Rattle.serve.specs.Asks.{Ask};
 ghost use Rattle.serve.specs.Service.{Stays};
-ghost use Rattle.serve.specs.Exchanges.{Exchanges, ChangesAtMostOne, ChangesAsTold};
-ghost use Rattle.serve.specs.Doors.{ExchangesWith, IsToldAtDoor};
+ghost use Rattle.serve.specs.Exchanges.{Exchanges, ChangesAtMostOne, ChangesAsLogged};
+ghost use Rattle.serve.specs.Doors.{ExchangesWith, IsReportedAtDoor};
 ghost use Rattle.serve.specs.Inner.Doors.{AnswersOpen};
 ghost use Rattle.serve.specs.Inner.Prepared.{IsPrepared};
-ghost use Rattle.serve.specs.Inner.Replying.{AnswersTo, due_reply, due_row, Settles};
+ghost use Rattle.serve.specs.Inner.Replying.{AnswersTo, due_reply, due_row, CommitsUnlessDown};
 
 use crate::doors::{Door, Operated, operate};
 use crate::logs::{as_unavailable, silent_row};
@@ -64,7 +64,7 @@ pub fn refuse_exchange<O: Outlet>(
 
 /// The change that was prepared is made, and then its reply is written; where it isn't made (`down`), the
 /// 503 is.
-fn settle<K: Keep, O: Outlet>(
+fn commit_and_reply<K: Keep, O: Outlet>(
     alloc: Global,
     keep: &mut K,
     prepared: &Prepared,
@@ -75,7 +75,7 @@ fn settle<K: Keep, O: Outlet>(
 ) -> Result<(), LinkFault>
     requires { O.broken outlet.old ≡ false }
     ensures lasts { LastsWhere ((ask : Ask) × IsPrepared (K.rows keep.old) ask prepared.now) K.clean K.sound K.keyed K.shielded keep.old keep.new }
-    ensures settled { K.clean keep.new → K.sound keep.old → Settles down.new prepared.now (K.rows keep.old) (K.rows keep.new) }
+    ensures committed { K.clean keep.new → K.sound keep.old → CommitsUnlessDown down.new prepared.now (K.rows keep.old) (K.rows keep.new) }
     ensures text { (text : List ℕ) × IsReplyText (due_reply down.new is_head prepared.now.reply) now text
         × Writes (O.written outlet.old) (O.written outlet.new) text result }
     ensures fault { IfErr result (λ fault. fault ≡ LinkFault.Write) }
@@ -117,7 +117,7 @@ fn answer_read<K: Keep, O: Outlet>(
 ) -> Result<(), LinkFault>
     requires { (O.broken outlet.old ≡ true) ↔ IsErrOf read WireFault.Continue }
     ensures lasts { Lasts K.clean K.sound K.keyed K.shielded keep.old keep.new }
-    ensures told { K.clean keep.new → K.sound keep.old → AnswersTo now read (K.rows keep.old) (K.rows keep.new) (O.written outlet.old) (O.written outlet.new) is_down.new row.new result }
+    ensures reported { K.clean keep.new → K.sound keep.old → AnswersTo now read (K.rows keep.old) (K.rows keep.new) (O.written outlet.old) (O.written outlet.new) is_down.new row.new result }
     ensures stays { K.clean keep.new → (IsErrOf result LinkFault.Ended ⊎ (IsErrOf result LinkFault.Read ⊎ IsErrOf result LinkFault.Continue))
         → Stays (K.rows keep.old) (K.rows keep.new) }
     ensures ended { IsErrOf result LinkFault.Ended ↔ IsErrOf read WireFault.Ended }
@@ -130,7 +130,7 @@ fn answer_read<K: Keep, O: Outlet>(
     let head_only = without_body(&read);
     match prepare(alloc, keep, routes, now, read) {
         Ok(Ok(ready)) => {
-            let result = settle(alloc, keep, &ready, head_only, now, outlet, is_down);
+            let result = commit_and_reply(alloc, keep, &ready, head_only, now, outlet, is_down);
             *row = Some(row_after(ready, *is_down));
             result
         }
@@ -161,12 +161,12 @@ pub fn exchange<K: Keep, I: Inlet, O: Outlet>(
     requires reads { I.broken inlet.old ≡ false }
     requires writes { O.broken outlet.old ≡ false }
     ensures lasts { Lasts K.clean K.sound K.keyed K.shielded keep.old keep.new }
-    ensures told { K.clean keep.new → K.sound keep.old → (received : List ℕ) × Consumes (I.left inlet.old) (I.left inlet.new) received
+    ensures reported { K.clean keep.new → K.sound keep.old → (received : List ℕ) × Consumes (I.left inlet.old) (I.left inlet.new) received
         × Exchanges now received (I.left inlet.new) (K.rows keep.old) (K.rows keep.new) (O.written outlet.old) (O.written outlet.new) is_down.new row.new result }
     ensures stays { K.clean keep.new → (IsErrOf result LinkFault.Ended ⊎ (IsErrOf result LinkFault.Read ⊎ IsErrOf result LinkFault.Continue))
         → Stays (K.rows keep.old) (K.rows keep.new) }
     ensures others { K.clean keep.new → K.sound keep.old → ChangesAtMostOne (K.rows keep.old) (K.rows keep.new) }
-    ensures changes { K.clean keep.new → K.sound keep.old → IfSome row.new (λ told. ChangesAsTold told (K.rows keep.old) (K.rows keep.new)) }
+    ensures changes { K.clean keep.new → K.sound keep.old → IfSome row.new (λ reported. ChangesAsLogged reported (K.rows keep.old) (K.rows keep.new)) }
     ensures read { (I.broken inlet.new ≡ true) ↔ IsErrOf result LinkFault.Read }
     ensures end { I.ended inlet.old ≡ false → ((I.ended inlet.new ≡ true) ↔ IsErrOf result LinkFault.Ended) }
     ensures written { (O.broken outlet.new ≡ true) ↔ (IsErrOf result LinkFault.Continue ⊎ IsErrOf result LinkFault.Write) }
@@ -189,16 +189,19 @@ fn answer_at_door<K: Keep, O: Outlet>(
 ) -> Result<(), LinkFault>
     requires { O.broken outlet.old ≡ false }
     ensures lasts { Lasts K.clean K.sound K.keyed K.shielded keep.old keep.new }
-    ensures text { K.clean keep.new → K.sound keep.old → (text : List ℕ) × IsToldAtDoor digest.now now message.now (K.rows keep.old) (K.rows keep.new) text row.new is_down.new
+    ensures text { K.clean keep.new → K.sound keep.old → (text : List ℕ) × IsReportedAtDoor digest.now now message.now (K.rows keep.old) (K.rows keep.new) text row.new is_down.new
         × Writes (O.written outlet.old) (O.written outlet.new) text result }
     ensures fault { IfErr result (λ fault. fault ≡ LinkFault.Write) }
     ensures cause { O.broken outlet.new ≡ is_err result }
 {
     match operate(alloc, keep, digest, now, message) {
         Ok(operated) => {
-            let Operated { reply, row: told } = operated;
+            let Operated {
+                reply,
+                row: reported,
+            } = operated;
             *is_down = false;
-            *row = Some(told);
+            *row = Some(reported);
             write_due(&reply, now, outlet)
         }
         Err(so_far) => {
@@ -223,7 +226,7 @@ fn answer_open<K: Keep, O: Outlet>(
 ) -> Result<(), LinkFault>
     requires { (O.broken outlet.old ≡ true) ↔ IsErrOf read WireFault.Continue }
     ensures lasts { Lasts K.clean K.sound K.keyed K.shielded keep.old keep.new }
-    ensures told { K.clean keep.new → K.sound keep.old → AnswersOpen digest.now now read (K.rows keep.old) (K.rows keep.new) (O.written outlet.old) (O.written outlet.new) is_down.new row.new result }
+    ensures reported { K.clean keep.new → K.sound keep.old → AnswersOpen digest.now now read (K.rows keep.old) (K.rows keep.new) (O.written outlet.old) (O.written outlet.new) is_down.new row.new result }
     ensures stays { K.clean keep.new → (IsErrOf result LinkFault.Ended ⊎ (IsErrOf result LinkFault.Read ⊎ IsErrOf result LinkFault.Continue))
         → Stays (K.rows keep.old) (K.rows keep.new) }
     ensures ended { IsErrOf result LinkFault.Ended ↔ IsErrOf read WireFault.Ended }
@@ -257,12 +260,12 @@ pub fn exchange_with<K: Keep, I: Inlet, O: Outlet>(
     requires reads { I.broken inlet.old ≡ false }
     requires writes { O.broken outlet.old ≡ false }
     ensures lasts { Lasts K.clean K.sound K.keyed K.shielded keep.old keep.new }
-    ensures told { K.clean keep.new → K.sound keep.old → (received : List ℕ) × Consumes (I.left inlet.old) (I.left inlet.new) received
+    ensures reported { K.clean keep.new → K.sound keep.old → (received : List ℕ) × Consumes (I.left inlet.old) (I.left inlet.new) received
         × ExchangesWith door.now now received (I.left inlet.new) (K.rows keep.old) (K.rows keep.new) (O.written outlet.old) (O.written outlet.new) is_down.new row.new result }
     ensures stays { K.clean keep.new → (IsErrOf result LinkFault.Ended ⊎ (IsErrOf result LinkFault.Read ⊎ IsErrOf result LinkFault.Continue))
         → Stays (K.rows keep.old) (K.rows keep.new) }
     ensures others { K.clean keep.new → K.sound keep.old → ChangesAtMostOne (K.rows keep.old) (K.rows keep.new) }
-    ensures changes { K.clean keep.new → K.sound keep.old → IfSome row.new (λ told. ChangesAsTold told (K.rows keep.old) (K.rows keep.new)) }
+    ensures changes { K.clean keep.new → K.sound keep.old → IfSome row.new (λ reported. ChangesAsLogged reported (K.rows keep.old) (K.rows keep.new)) }
     ensures read { (I.broken inlet.new ≡ true) ↔ IsErrOf result LinkFault.Read }
     ensures end { I.ended inlet.old ≡ false → ((I.ended inlet.new ≡ true) ↔ IsErrOf result LinkFault.Ended) }
     ensures written { (O.broken outlet.new ≡ true) ↔ (IsErrOf result LinkFault.Continue ⊎ IsErrOf result LinkFault.Write) }

@@ -1,6 +1,6 @@
 //! Laws of steps and runs, each the contract of a call that does nothing.
-ghost use Rattle.serve.specs.Laws.{OneAsking, TwoWorlds, SameStepsAskTheSame, RefusedStepsChangeNothing, OutOfReachIsNotFound, OutOfReachIsAsAbsent, OutsideThePrefixIsNotFound, OutsideThePrefixIsAsAbsent, NamesDecideNothing, SecretsAreNotTold};
-ghost use Rattle.serve.specs.Custody.{StepsChangeWhatTheyName, LocksAreKept, OrganizationsGoByRemoval, RemovalsAreCarriedOut, OrganizationsBeginAnew, StepsAreRepeatable, RepeatsLeaveTheWorkspace, LockedTellsTheHolder, SameBytesAskAgain, RequestsChangeTheirWorkspaceAlone};
+ghost use Rattle.serve.specs.Laws.{OneAsking, TwoWorlds, SameStepsAskTheSame, RefusedStepsChangeNothing, OutOfReachIsNotFound, OutOfReachIsAsAbsent, OutsideThePrefixIsNotFound, OutsideThePrefixIsAsAbsent, NamesDecideNothing, SecretsAreNotLogged};
+ghost use Rattle.serve.specs.Custody.{StepsChangeWhatTheyName, LocksAreKept, OrganizationsGoByRemoval, RemovalsAreCarriedOut, OrganizationsBeginAnew, StepsAreRepeatable, RepeatsLeaveTheWorkspace, LockedNamesTheHolder, SameBytesAskAgain, RequestsChangeTheirWorkspaceAlone};
 ghost use Rattle.serve.specs.Doors.{OnlyTheSecretOpens};
 ghost use Rattle.serve.specs.Book.{BooksAreOfTheRun, PeriodsAreTheStepsBetween};
 
@@ -83,8 +83,8 @@ pub fn repeats_leave_the_workspace()
 {}
 
 /// The body of a 423 is the holder's.
-pub fn locked_tells_the_holder()
-    ensures { LockedTellsTheHolder }
+pub fn locked_names_the_holder()
+    ensures { LockedNamesTheHolder }
 {}
 
 /// The same bytes at another moment ask the same again.
@@ -115,8 +115,8 @@ pub fn names_decide_nothing()
 
 /// No secret is told: the log's row of a request follows from what else is asked, and from the token's
 /// name and caller.
-pub fn secrets_are_not_told()
-    ensures { SecretsAreNotTold }
+pub fn secrets_are_not_logged()
+    ensures { SecretsAreNotLogged }
 {}
 
 /// Nobody without the operator's secret changes anything at the operator's door.

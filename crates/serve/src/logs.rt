@@ -2,7 +2,7 @@
 ghost use Rattle.std.specs.Prelude.{◌≡◌, ◌+◌, Some, None};
 ghost use Rattle.serve.specs.Logs.{act_logged, workspace_named, number_named, number_given, no_trace, silent_row, with_answer, operator_row, row_of_request, unavailable_row};
 ghost use Rattle.machine.specs.Laws.{holds};
-ghost use Rattle.serve.specs.Inner.Tracing.{told_by, edit_number, edit_start, version_by, run_by, trace_by, read_so_far, as_unavailable};
+ghost use Rattle.serve.specs.Inner.Tracing.{run_shown_by, edit_number, edit_start, version_by, run_by, trace_by, read_so_far, as_unavailable};
 
 use basis::{Holder, LockId, Moment, Number, OrgName, Refusal, Text, WsName};
 use docs::{LogAct, LogRow};
@@ -85,8 +85,8 @@ fn workspace_named(asked: AskedAct) -> Option<WsName>
 }
 
 // The run that an answer shows.
-fn told_by(answer: &Answer) -> Option<Number>
-    ensures { result ≡ told_by answer.now }
+fn run_shown_by(answer: &Answer) -> Option<Number>
+    ensures { result ≡ run_shown_by answer.now }
 {
     match answer {
         Answer::Run(run) => Some(run.number),
@@ -167,12 +167,12 @@ pub fn trace_by(unit: &Unit, decision: &Decision) -> Trace
         Decision::Refused(_) => Trace::none(),
         Decision::Accepted { answer, change } => match change {
             None => Trace {
-                shown_run: told_by(answer),
+                shown_run: run_shown_by(answer),
                 version: None,
                 run: None,
             },
             Some(change) => Trace {
-                shown_run: told_by(answer),
+                shown_run: run_shown_by(answer),
                 version: version_by(unit, change),
                 run: run_by(unit, change),
             },

@@ -3,7 +3,7 @@ ghost use Rattle.std.specs.Prelude.{◌≡◌, ◌↔◌, Bool, None, Err, ◌�
 ghost use Rattle.wire.specs.declared.messages.WireFault.TheVariants.{Ended, Read, Continue};
 ghost use Rattle.route.specs.Asks.{asked_of};
 ghost use Rattle.serve.specs.Asks.{Ask, requests};
-ghost use Rattle.machine.specs.Keeping.{Looks, Lasts, LastsWhere};
+ghost use Rattle.machine.specs.StoreCalls.{Unchanged, Lasts, LastsWhere};
 ghost use Rattle.serve.specs.Inner.Prepared.{IsPrepared};
 ghost use Rattle.docs.specs.Bodies.{error_text};
 ghost use Rattle.wire.specs.Replies.{refused_answer};
@@ -99,7 +99,7 @@ fn answer_asked<K: Keep>(
     content_md5: &Option<Bytes>,
     body: Bytes,
 ) -> Result<Prepared, LogRow>
-    ensures looks { Looks K.rows K.clean K.sound K.keyed K.shielded keep.old keep.new }
+    ensures unchanged { Unchanged K.rows K.clean K.sound K.keyed K.shielded keep.old keep.new }
     ensures ok { K.clean keep.new → K.sound keep.old → IfOk result (λ r. (awaited : Bool)
         → IsPrepared (K.rows keep.old) (requests at awaited asked content_md5.now body) r) }
     ensures logs { K.clean keep.new → K.sound keep.old → IfOk result (λ r. (awaited : Bool)
@@ -121,7 +121,7 @@ fn answer<K: Keep>(
     at: Moment,
     message: Message,
 ) -> Result<Prepared, LogRow>
-    ensures looks { Looks K.rows K.clean K.sound K.keyed K.shielded keep.old keep.new }
+    ensures unchanged { Unchanged K.rows K.clean K.sound K.keyed K.shielded keep.old keep.new }
     ensures ok { K.clean keep.new → K.sound keep.old → IfOk result (λ r. (awaited : Bool)
         → IsPrepared (K.rows keep.old) (asked_by at awaited message (asked_of message)) r) }
     ensures logs { K.clean keep.new → K.sound keep.old → IfOk result (λ r. (awaited : Bool)
@@ -148,7 +148,7 @@ pub fn prepare<K: Keep>(
     at: Moment,
     read: Result<Message, WireFault>,
 ) -> Result<Result<Prepared, LogRow>, LinkFault>
-    ensures looks { Looks K.rows K.clean K.sound K.keyed K.shielded keep.old keep.new }
+    ensures unchanged { Unchanged K.rows K.clean K.sound K.keyed K.shielded keep.old keep.new }
     ensures ok { K.clean keep.new → K.sound keep.old → IfOk result (λ ready. IfOk ready (λ r. PreparesFor at (K.rows keep.old) read r)) }
     ensures logs { K.clean keep.new → K.sound keep.old → IfOk result (λ ready. IfOk ready (λ r. LogsFor at (K.rows keep.old) read r.row)) }
     ensures down { K.clean keep.new → K.sound keep.old → IfOk result (λ ready. IfErr ready (λ row. LogsDownFor at (K.rows keep.old) read row)) }

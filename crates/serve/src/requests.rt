@@ -1,6 +1,6 @@
 //! A request of an organization: the checks in their order, and the answer of the rules.
 ghost use Rattle.std.specs.Prelude.{◌≡◌, ◌≢◌, ◌⊎◌, ℕ, [], false, List, Option, Some, None, Ok, Err, IsSome, IfOk, IfErr, OnOk, option_copied};
-ghost use Rattle.machine.specs.Keeping.{Looks};
+ghost use Rattle.machine.specs.StoreCalls.{Unchanged};
 ghost use Rattle.machine.specs.Ranges.{IsInRange};
 ghost use Rattle.machine.specs.Records.{workspace_in, seen_in};
 ghost use Rattle.machine.specs.Rules.{refused_by};
@@ -42,7 +42,7 @@ pub fn request<K: Keep>(
     content_md5: &Option<Bytes>,
     body: Bytes,
 ) -> Result<(Reply, Option<Change>, RowFacts), RowFacts>
-    ensures looks { Looks K.rows K.clean K.sound K.keyed K.shielded keep.old keep.new }
+    ensures unchanged { Unchanged K.rows K.clean K.sound K.keyed K.shielded keep.old keep.new }
     ensures ok { K.clean keep.new → K.sound keep.old → IfOk result (λ p. Foresees (K.rows keep.old asked.now.caller) (workspace_named asked.now.act)
         (request_step (K.rows keep.old asked.now.caller) at asked.now content_md5.now body) p.0 p.1) }
     ensures facts { K.clean keep.new → K.sound keep.old → IfOk result (λ p. p.2 ≡ facts_of (K.rows keep.old asked.now.caller) at asked.now content_md5.now body) }
@@ -64,7 +64,7 @@ fn carry<K: Keep>(
     task: Task,
     token: Option<Text>,
 ) -> Result<(Reply, Option<Change>, RowFacts), RowFacts>
-    ensures looks { Looks K.rows K.clean K.sound K.keyed K.shielded keep.old keep.new }
+    ensures unchanged { Unchanged K.rows K.clean K.sound K.keyed K.shielded keep.old keep.new }
     ensures ok { K.clean keep.new → K.sound keep.old → IfOk result (λ p. IsSome (K.rows keep.old org.now) → IsTaskInRange task
         → Foresees (K.rows keep.old org.now) (workspace_of_task task) (carried org.now at (K.rows keep.old org.now) (Ok task)) p.0 p.1) }
     ensures facts { K.clean keep.new → K.sound keep.old → IfOk result (λ p. IsSome (K.rows keep.old org.now)
@@ -109,10 +109,10 @@ fn checked<K: Keep>(
     body: Bytes,
     token: &mut Option<Text>,
 ) -> Result<Task, Refusal>
-    ensures looks { Looks K.rows K.clean K.sound K.keyed K.shielded keep.old keep.new }
+    ensures unchanged { Unchanged K.rows K.clean K.sound K.keyed K.shielded keep.old keep.new }
     ensures ok { K.clean keep.new → K.sound keep.old → Stands result (K.rows keep.old asked.now.caller) at asked.now content_md5.now body }
     ensures range { IfOk result IsTaskInRange }
-    ensures place { IfOk result (λ task. workspace_of_task task ≡ workspace_named asked.now.act) }
+    ensures workspace { IfOk result (λ task. workspace_of_task task ≡ workspace_named asked.now.act) }
     ensures there { K.clean keep.new → K.sound keep.old → OnOk result (IsSome (K.rows keep.old asked.now.caller)) }
     ensures traces { K.clean keep.new → K.sound keep.old → IfOk result (λ task. traced at (K.rows keep.old asked.now.caller) (Ok task)
         ≡ traced at (K.rows keep.old asked.now.caller) (checked (K.rows keep.old asked.now.caller) at asked.now content_md5.now body)) }
@@ -218,7 +218,7 @@ fn accepted_reply<K: Keep>(
     ws: &WsName,
     answer: Answer,
 ) -> Result<Reply, Down>
-    ensures looks { Looks K.rows K.clean K.sound K.keyed K.shielded keep.old keep.new }
+    ensures unchanged { Unchanged K.rows K.clean K.sound K.keyed K.shielded keep.old keep.new }
     ensures ok { K.clean keep.new → K.sound keep.old → IfOk result (λ reply. reply
         ≡ answer_to org.now ws.now (answered answer (workspace_in (K.rows keep.old org.now) ws.now))) }
 {
@@ -243,7 +243,7 @@ fn list_versions<K: Keep>(
     ws: &WsName,
     after: u64,
 ) -> Result<Reply, Down>
-    ensures looks { Looks K.rows K.clean K.sound K.keyed K.shielded keep.old keep.new }
+    ensures unchanged { Unchanged K.rows K.clean K.sound K.keyed K.shielded keep.old keep.new }
     ensures ok { K.clean keep.new → K.sound keep.old → IfOk result (λ reply. reply
         ≡ answer_to org.now ws.now (answered (ListedVersions after) (workspace_in (K.rows keep.old org.now) ws.now))) }
 {
@@ -258,7 +258,7 @@ fn list_runs<K: Keep>(
     ws: &WsName,
     after: u64,
 ) -> Result<Reply, Down>
-    ensures looks { Looks K.rows K.clean K.sound K.keyed K.shielded keep.old keep.new }
+    ensures unchanged { Unchanged K.rows K.clean K.sound K.keyed K.shielded keep.old keep.new }
     ensures ok { K.clean keep.new → K.sound keep.old → IfOk result (λ reply. reply
         ≡ answer_to org.now ws.now (answered (ListedRuns after) (workspace_in (K.rows keep.old org.now) ws.now))) }
 {
@@ -283,7 +283,7 @@ fn list_workspaces<K: Keep>(
     after: &Option<WsName>,
     prefix: &WsPrefix,
 ) -> Result<Reply, Down>
-    ensures looks { Looks K.rows K.clean K.sound K.keyed K.shielded keep.old keep.new }
+    ensures unchanged { Unchanged K.rows K.clean K.sound K.keyed K.shielded keep.old keep.new }
     ensures ok { K.clean keep.new → K.sound keep.old → IfOk result (λ reply. (at : ℕ)
         → Foresees (K.rows keep.old org.now) None (carried org.now at (K.rows keep.old org.now) (Ok (ListAll after.now prefix.now))) reply None) }
 {
@@ -299,7 +299,7 @@ fn perform<K: Keep>(
     org: &OrgName,
     task: Task,
 ) -> Result<(Reply, Option<Change>, Trace), Down>
-    ensures looks { Looks K.rows K.clean K.sound K.keyed K.shielded keep.old keep.new }
+    ensures unchanged { Unchanged K.rows K.clean K.sound K.keyed K.shielded keep.old keep.new }
     ensures ok { K.clean keep.new → K.sound keep.old → IfOk result (λ p. IsSome (K.rows keep.old org.now) → IsTaskInRange task
         → Foresees (K.rows keep.old org.now) (workspace_of_task task) (carried org.now at (K.rows keep.old org.now) (Ok task)) p.0 p.1) }
     ensures traces { K.clean keep.new → K.sound keep.old → IfOk result (λ p. IsSome (K.rows keep.old org.now) → p.2 ≡ traced at (K.rows keep.old org.now) (Ok task)) }
@@ -322,7 +322,7 @@ fn answer_decision<K: Keep>(
     unit: &Unit,
     decision: Decision,
 ) -> Result<(Reply, Option<Change>), Down>
-    ensures looks { Looks K.rows K.clean K.sound K.keyed K.shielded keep.old keep.new }
+    ensures unchanged { Unchanged K.rows K.clean K.sound K.keyed K.shielded keep.old keep.new }
     ensures ok { K.clean keep.new → K.sound keep.old → IfOk result (λ p. IsSome (K.rows keep.old org.now)
         → holder_in unit.now ≡ holder_of (workspace_in (K.rows keep.old org.now) ws.now)
         → ((o : Organization) → K.rows keep.old org.now ≡ Some o → ChangeIsDue (seen_in o ws.now) decision)
@@ -351,7 +351,7 @@ fn rule<K: Keep>(
     ws: &WsName,
     act: &Act,
 ) -> Result<(Reply, Option<Change>, Trace), Down>
-    ensures looks { Looks K.rows K.clean K.sound K.keyed K.shielded keep.old keep.new }
+    ensures unchanged { Unchanged K.rows K.clean K.sound K.keyed K.shielded keep.old keep.new }
     ensures ok { K.clean keep.new → K.sound keep.old → IfOk result (λ p. IsSome (K.rows keep.old org.now) → IsInRange act.now
         → Foresees (K.rows keep.old org.now) (Some ws.now) (carried org.now at (K.rows keep.old org.now) (Ok (Carry ws.now act.now))) p.0 p.1) }
     ensures traces { K.clean keep.new → K.sound keep.old → IfOk result (λ p. IsSome (K.rows keep.old org.now) → p.2 ≡ traced at (K.rows keep.old org.now) (Ok (Carry ws.now act.now))) }

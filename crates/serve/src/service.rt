@@ -1,17 +1,17 @@
 //! The service over a keep: what it keeps between steps, and steps in turn.
 ghost use Rattle.std.specs.Prelude.{◌≡◌, ◌≤◌, ◌<◌, ℕ, List, Option, Some, None, IfOk, IsErrOf, true, false, IfSome, ◌↔◌, ◌⊎◌, OnOk, OnErr, length, take};
 ghost use Rattle.std.specs.Io.KnownBytes.{Consumes};
-ghost use Rattle.serve.specs.Exchanges.{Exchanges, ChangesAtMostOne, ChangesAsTold};
+ghost use Rattle.serve.specs.Exchanges.{Exchanges, ChangesAtMostOne, ChangesAsLogged};
 ghost use Rattle.serve.specs.Doors.{ExchangesWith};
 ghost use Rattle.serve.specs.Inner.Taking.{IsTaken, RunsTo};
 ghost use Rattle.serve.specs.Asks.{Ask, commands, unattributed, operator};
 ghost use Rattle.serve.specs.Service.{IsSaidText, Stays, Carries, said_to, AreAsked, IsAdminAnswer, IsListedBy};
-ghost use Rattle.machine.specs.Keeping.{Lasts};
+ghost use Rattle.machine.specs.StoreCalls.{Lasts};
 ghost use Rattle.serve.specs.AbsentForms.{RepliesAreThoseOfAbsentForms, RepliesOutsideThePrefixAreThoseOfAbsentForms, RepliesOutsideThePrefixAreNotFound, OutOfReachRepliesNotFound};
 ghost use Rattle.serve.specs.Book.{LocksKeepOthersOut, RunsKeepOthersOut, NoIdWhereNobodyHolds, LocksEndByUnlock, OneRunAtATime, StartsRise, RepeatsLeaveIt, DoneOnceIsDone, OfEachBook};
-ghost use Rattle.serve.specs.Runs.{IsOwnMachine, IsOwnRecord, AreOwnReplies, ListsAreTold};
+ghost use Rattle.serve.specs.Runs.{IsOwnMachine, IsOwnRecord, AreOwnReplies, ListsAreReported};
 
-use crate::commands::{Told, command, tell};
+use crate::commands::{CommandReport, command, report};
 use crate::doors::Door;
 use crate::exchanges::{LinkFault, exchange, exchange_with, refuse_exchange};
 use crate::logs::unavailable_row;
@@ -31,8 +31,8 @@ fn take_command<K: Keep>(alloc: Global, keep: &mut K, asked: &Admin) -> Result<B
         × IsSaidText (said_to (K.rows keep.old) (commands at asked.now)) text × IsListedBy (K.rows keep.old) asked.now text) }
     ensures err { K.clean keep.new → OnErr result (Stays (K.rows keep.old) (K.rows keep.new)) }
 {
-    let told = tell(alloc, keep, asked)?;
-    let Told { text, .. } = told;
+    let reported = report(alloc, keep, asked)?;
+    let CommandReport { text, .. } = reported;
     Ok(text)
 }
 
@@ -178,14 +178,14 @@ impl<K: Keep> Service<K> {
         requires reads { I.broken inlet.old ≡ false }
         requires writes { O.broken outlet.old ≡ false }
         ensures lasts { Lasts K.clean K.sound K.keyed K.shielded self.old.keep self.new.keep }
-        ensures told { K.clean self.new.keep → K.sound self.old.keep → (received : List ℕ) × Consumes (I.left inlet.old) (I.left inlet.new) received
+        ensures reported { K.clean self.new.keep → K.sound self.old.keep → (received : List ℕ) × Consumes (I.left inlet.old) (I.left inlet.new) received
             × Exchanges now received (I.left inlet.new) (K.rows self.old.keep) (K.rows self.new.keep) (O.written outlet.old) (O.written outlet.new) self.new.was_down self.new.row result }
 
         // What needs no bytes: where no whole message received no record changes, and never more than one does.
         ensures stays { K.clean self.new.keep → (IsErrOf result LinkFault.Ended ⊎ (IsErrOf result LinkFault.Read ⊎ IsErrOf result LinkFault.Continue))
             → Stays (K.rows self.old.keep) (K.rows self.new.keep) }
         ensures others { K.clean self.new.keep → K.sound self.old.keep → ChangesAtMostOne (K.rows self.old.keep) (K.rows self.new.keep) }
-        ensures changes { K.clean self.new.keep → K.sound self.old.keep → IfSome self.new.row (λ row. ChangesAsTold row (K.rows self.old.keep) (K.rows self.new.keep)) }
+        ensures changes { K.clean self.new.keep → K.sound self.old.keep → IfSome self.new.row (λ row. ChangesAsLogged row (K.rows self.old.keep) (K.rows self.new.keep)) }
         ensures read { (I.broken inlet.new ≡ true) ↔ IsErrOf result LinkFault.Read }
 
         // Where a read has told the input's end, it ended inside the message: an unfinished message is never answered.
@@ -229,14 +229,14 @@ impl<K: Keep> Service<K> {
         requires reads { I.broken inlet.old ≡ false }
         requires writes { O.broken outlet.old ≡ false }
         ensures lasts { Lasts K.clean K.sound K.keyed K.shielded self.old.keep self.new.keep }
-        ensures told { K.clean self.new.keep → K.sound self.old.keep → (received : List ℕ) × Consumes (I.left inlet.old) (I.left inlet.new) received
+        ensures reported { K.clean self.new.keep → K.sound self.old.keep → (received : List ℕ) × Consumes (I.left inlet.old) (I.left inlet.new) received
             × ExchangesWith door.now now received (I.left inlet.new) (K.rows self.old.keep) (K.rows self.new.keep) (O.written outlet.old) (O.written outlet.new) self.new.was_down self.new.row result }
 
         // What needs no bytes: where no whole message received no record changes, and never more than one does.
         ensures stays { K.clean self.new.keep → (IsErrOf result LinkFault.Ended ⊎ (IsErrOf result LinkFault.Read ⊎ IsErrOf result LinkFault.Continue))
             → Stays (K.rows self.old.keep) (K.rows self.new.keep) }
         ensures others { K.clean self.new.keep → K.sound self.old.keep → ChangesAtMostOne (K.rows self.old.keep) (K.rows self.new.keep) }
-        ensures changes { K.clean self.new.keep → K.sound self.old.keep → IfSome self.new.row (λ row. ChangesAsTold row (K.rows self.old.keep) (K.rows self.new.keep)) }
+        ensures changes { K.clean self.new.keep → K.sound self.old.keep → IfSome self.new.row (λ row. ChangesAsLogged row (K.rows self.old.keep) (K.rows self.new.keep)) }
         ensures read { (I.broken inlet.new ≡ true) ↔ IsErrOf result LinkFault.Read }
 
         // Where a read has told the input's end, it ended inside the message: an unfinished message is never answered.
@@ -339,8 +339,8 @@ impl<K: Keep> Service<K> {
             → AreOwnReplies asked (K.rows self.old.keep) replies.items operator) }
 
         // Each such list is that of the records at its step.
-        ensures lists_told { K.clean self.new.keep → K.sound self.old.keep → IfOk result (λ replies. (asked : List Ask) → AreAsked steps.now asked
-            → ListsAreTold (K.rows self.old.keep) asked replies.items) }
+        ensures lists_reported { K.clean self.new.keep → K.sound self.old.keep → IfOk result (λ replies. (asked : List Ask) → AreAsked steps.now asked
+            → ListsAreReported (K.rows self.old.keep) asked replies.items) }
 
         // Also after `Down`, each organization's record is that of its own machine, run over its own steps of those taken.
         ensures rows { K.clean self.new.keep → K.sound self.old.keep → (asked : List Ask) → AreAsked (take self.new.taken steps.now) asked

@@ -50,13 +50,13 @@ module _ (text : List ℕ) (is : IsQuery text) where
   unfolding Shown
   shown_calm params old new rows h = (subst (ShowsRows old new text h.0 _ rows) (silent old.now.schema h.0 h.1.is) h.2).3
 
-  no_rows_told : (e : StoreError) → QueryReturnedNoRows ≡ store_error e → ⊥
-  no_rows_told OutOfMemory h = cc
-  no_rows_told Io h = cc
-  no_rows_told Corrupt h = cc
-  no_rows_told Full h = cc
-  no_rows_told Broken h = cc
-  no_rows_told Unstorable h = cc
+  no_rows_reported : (e : StoreError) → QueryReturnedNoRows ≡ store_error e → ⊥
+  no_rows_reported OutOfMemory h = cc
+  no_rows_reported Io h = cc
+  no_rows_reported Corrupt h = cc
+  no_rows_reported Full h = cc
+  no_rows_reported Broken h = cc
+  no_rows_reported Unstorable h = cc
 
   pub failed_calm : (params : Row) (old new : State) (e : Error) → FailsToQuery text params old new e → IsUnchanged old new ⊎ IsRolledBack old new
   unfolding FailsToQuery IsNotRun
@@ -71,7 +71,7 @@ module _ (text : List ℕ) (is : IsQuery text) where
     | inl many ↦ let e = many.1 in cc
     | inr other ↦ elim other [ inl count ↦ let e = count.1 in cc | inr clock ↦ let e = clock.1 in cc ]
   ]
-  not_failed params old new (inl (inr failed)) = no_rows_told failed.0 failed.1
+  not_failed params old new (inl (inr failed)) = no_rows_reported failed.0 failed.1
   not_failed params old new (inr ran) = go ran.0.command (subst (FailsToShow old new text ran.0 _ QueryReturnedNoRows) (silent old.now.schema ran.0 ran.1.is) ran.2)
     where
       refuses : (k : Command) (limit : Option ℕ) (db : Database) (p : Row) → RefusesToRead limit k db p QueryReturnedNoRows → ⊥

@@ -8,8 +8,8 @@ use Rattle.sqlite_rules.specs.Cast.{cast, cast_all}
 use Rattle.sqlite_typed.specs.Columns.{or_null}
 use Rattle.basis.specs.declared.rows.Holder.{Holder}
 use Rattle.basis.specs.declared.rows.Holder.TheVariants.{Nobody, Lock, Run as HeldByRun}
-use Rattle.statements.specs.Schema.{meta_table, org_table, token_table, ws_table, version_table, run_table, page_table, vpage_table, bound_table, edition_table, keeping_table}
-use Rattle.statements.specs.Rows.{OrgRow, TokenRow, WsRow, VersionRow, RunRow, PageRow, VpageRow, BoundRow, KeepingRow, kind_cell, lock_id_cell, run_cell, meta_cells, org_cells, token_cells, ws_cells, version_cells, run_cells, page_cells, vpage_cells, bound_cells, edition_cells, keeping_cells, number, action_code}
+use Rattle.statements.specs.Schema.{meta_table, org_table, token_table, ws_table, version_table, run_table, page_table, vpage_table, bound_table, edition_table, retention_table}
+use Rattle.statements.specs.Rows.{OrgRow, TokenRow, WsRow, VersionRow, RunRow, PageRow, VpageRow, BoundRow, RetentionRow, kind_cell, lock_id_cell, run_cell, meta_cells, org_cells, token_cells, ws_cells, version_cells, run_cells, page_cells, vpage_cells, bound_cells, edition_cells, retention_cells, number, action_code}
 use Rattle.basis.specs.declared.runs.RunAction.{RunAction}
 use Rattle.statements.proofs.Own.{cast_int, cast_null}
 use Rattle.statements.proofs.RunSettings.{run_settings_cast}
@@ -79,5 +79,5 @@ bound_casts r = then_cell refl (then_cell refl (then_cell (cast_until r.until) (
 pub edition_casts : (version : ℕ) → cast_all edition_table.columns (edition_cells version) ≡ edition_cells version
 edition_casts version = then_cell cast_null (then_cell (cast_int (pos version)) refl)
 
-pub keeping_casts : (r : KeepingRow) → cast_all keeping_table.columns (keeping_cells r) ≡ keeping_cells r
-keeping_casts r = then_cell refl (then_cell refl (then_cell (cast_int _) refl))
+pub retention_casts : (r : RetentionRow) → cast_all retention_table.columns (retention_cells r) ≡ retention_cells r
+retention_casts r = then_cell refl (then_cell refl (then_cell (cast_int _) refl))

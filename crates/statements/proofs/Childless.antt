@@ -32,15 +32,15 @@ use Rattle.sqlite_keyed.proofs.KeyedLemmas.{Less-from_lt}
 use Rattle.sqlite_keyed.proofs.ListLemmas.{map-map, all_both, all_weaker}
 use Rattle.basis.proofs.NameLemmas.{equal_bytes}
 use Rattle.statements.specs.Place.{at_of, tree_of, IsPassive, IsOwn}
-use Rattle.statements.specs.Schema.{token_table, ws_table, bound_table, keeping_table, to_token, to_ws}
-use Rattle.statements.specs.Rows.{Kept, id_of, stored, TokenRow, WsRow, BoundRow, KeepingRow, token_cells, ws_cells, bound_cells, keeping_cells}
-use Rattle.statements.specs.Tables.{Layout, Tables, Holds, our_tables, token_layout, ws_layout, bound_layout, keeping_layout}
-use Rattle.statements.specs.Changes.{is_token, is_bound, HasNoBound, is_ws, is_keeping, HasNoKeeping}
+use Rattle.statements.specs.Schema.{token_table, ws_table, bound_table, retention_table, to_token, to_ws}
+use Rattle.statements.specs.Rows.{Kept, id_of, stored, TokenRow, WsRow, BoundRow, RetentionRow, token_cells, ws_cells, bound_cells, retention_cells}
+use Rattle.statements.specs.Tables.{Layout, Tables, Holds, our_tables, token_layout, ws_layout, bound_layout, retention_layout}
+use Rattle.statements.specs.Changes.{is_token, is_bound, HasNoBound, is_ws, is_retention, HasNoRetention}
 use Rattle.statements.specs.declared.tokens.TheConstants.{REMOVE_TOKEN}
 use Rattle.statements.specs.declared.workspaces.TheConstants.{REMOVE_WS}
 use Rattle.statements.proofs.Lead.{GoesTo, IsIdle, HasNoChildren, follower_keeps}
-use Rattle.statements.proofs.Follows.{Follows, bound_follows, keeping_follows, there, named_first}
-use Rattle.statements.proofs.Held.{IsHeld, tokens_held, wss_held, bounds_held, keepings_held, trees_apart}
+use Rattle.statements.proofs.Follows.{Follows, bound_follows, retention_follows, there, named_first}
+use Rattle.statements.proofs.Held.{IsHeld, tokens_held, wss_held, bounds_held, retentions_held, trees_apart}
 use Rattle.statements.proofs.Own.{stored_tree}
 use Rattle.statements.proofs.Writes.{deletes, plain_program}
 use Rattle.statements.proofs.Edits.{all_shown}
@@ -117,7 +117,7 @@ module _ {R C : Type 0} (parent : Layout R) (child : Layout C) (ref : Reference)
     their_rows = map (stored child.cells) ys
 
     known : (key : ParentKey) → parent_key s.tables ref ≡ Some key → (here, 1 ∷ 2 ∷ [], order) ≡ key
-    known key told = let e = sym key_is ∙ told in cc
+    known key reported = let e = sym key_is ∙ reported in cc
 
     childless_at : (moves : List (Row × Row)) (key : ParentKey) → (here, 1 ∷ 2 ∷ [], order) ≡ key → HasNoChildren their_rows moves ref (here, 1 ∷ 2 ∷ [], order) → HasNoChildren their_rows moves ref key
     childless_at moves key is h = subst (λ k. HasNoChildren their_rows moves ref k) is h
@@ -140,7 +140,7 @@ module _ {R C : Type 0} (parent : Layout R) (child : Layout C) (ref : Reference)
         (λ z it.
         let row : row_at (old.now.trees here) (id_of z) ≡ stored parent.cells z = ap (λ l. row_at l (id_of z)) ours.rows ∙ it.0 in
         ap (λ a. loses order (1 ∷ 2 ∷ []) (row_at (old.now.trees here) (id_of z), []) && a) (ap (λ l. agree order ref.columns r (1 ∷ 2 ∷ []) l) row ∙ stranger z it.1) ∙ and-false _) some.0 taken) in
-        let idle : IsIdle s their_rows here true moves ref = inr (λ key told. inr (childless_at moves key (known key told) childless)) in
+        let idle : IsIdle s their_rows here true moves ref = inr (λ key reported. inr (childless_at moves key (known key reported) childless)) in
         follower_keeps s Enforced (tree_of s child.table.name) here their_rows child.table (at_of s child.table.name) theirs.own.place.found (there (GoesTo s here) s child.table theirs.own follows.goes)
         (there IsPassive s parent.table ours.own follows.passive) old.now.trees new.now.trees (edit_of old.now.trees (record parent.table { tree = here }) (ids_of made.0) Given 0 []) theirs.rows apart
         (there (IsIdle s their_rows here true moves) s child.table theirs.own (subst (AllByRecursion (IsIdle s their_rows here true moves)) (sym one) (idle, tt))) made.2 ∙ sym theirs.rows
@@ -183,16 +183,16 @@ ws_places tree = refl
 ws_key : (s : Schema) → IsOwn s ws_table → parent_key s.tables to_ws ≡ Some (tree_of s ws_table.name, 1 ∷ 2 ∷ [], ws_order)
 ws_key s own = ap (option_and_then (λ t. option_and_then (key_in t) (key_places t to_ws.parent_columns))) (named_first s ws_table own) ∙ ws_places (tree_of s ws_table.name)
 
-keeping_agrees : (b : Kept KeepingRow) (z : Kept WsRow) → agree ws_order to_ws.columns (stored keeping_cells b) (1 ∷ 2 ∷ []) (stored ws_cells z) ≡ (bytes_eq b.1.org z.1.org && bytes_eq b.1.ws z.1.name)
+retention_agrees : (b : Kept RetentionRow) (z : Kept WsRow) → agree ws_order to_ws.columns (stored retention_cells b) (1 ∷ 2 ∷ []) (stored ws_cells z) ≡ (bytes_eq b.1.org z.1.org && bytes_eq b.1.ws z.1.name)
 unfolding everything
-keeping_agrees b z = two_texts b.1.org z.1.org b.1.ws z.1.name
+retention_agrees b z = two_texts b.1.org z.1.org b.1.ws z.1.name
 
-pub ws_goes : (org name : List ℕ) (old new : State) (t : Tables) → Holds old.now t → (count : ℕ) → HasNoKeeping org name t → Executes REMOVE_WS.now (Text org ∷ Text name ∷ []) old new (Ok count)
-    → new.now.trees (tree_of old.now.schema keeping_table.name) ≡ old.now.trees (tree_of old.now.schema keeping_table.name)
+pub ws_goes : (org name : List ℕ) (old new : State) (t : Tables) → Holds old.now t → (count : ℕ) → HasNoRetention org name t → Executes REMOVE_WS.now (Text org ∷ Text name ∷ []) old new (Ok count)
+    → new.now.trees (tree_of old.now.schema retention_table.name) ≡ old.now.trees (tree_of old.now.schema retention_table.name)
 ws_goes org name old new t h count none ran =
     let wss = wss_held old.now t h in
-    goes_alone ws_layout keeping_layout to_ws ws_order org name (is_ws org name) (is_keeping org name)
-    (λ b z other mine. keeping_agrees b z ∙ apart_by org name b.1.org b.1.ws z.1.org z.1.name other mine) (λ x. two_texts x.1.org org x.1.name name)
-    old new t.wss wss t.keepings (keepings_held old.now t h) (keeping_follows old.now.schema wss.own) refl
-    (λ same. trees_apart old.now.schema our_tables 3 10 ws_table keeping_table refl refl (omega arith) h.ours.apart (sym same)) (ws_key old.now.schema wss.own)
+    goes_alone ws_layout retention_layout to_ws ws_order org name (is_ws org name) (is_retention org name)
+    (λ b z other mine. retention_agrees b z ∙ apart_by org name b.1.org b.1.ws z.1.org z.1.name other mine) (λ x. two_texts x.1.org org x.1.name name)
+    old new t.wss wss t.retentions (retentions_held old.now t h) (retention_follows old.now.schema wss.own) refl
+    (λ same. trees_apart old.now.schema our_tables 3 10 ws_table retention_table refl refl (omega arith) h.ours.apart (sym same)) (ws_key old.now.schema wss.own)
     REMOVE_WS.now count none (remove_ws_means old.now.schema _ _ wss.own.place) ran

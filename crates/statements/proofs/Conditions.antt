@@ -51,17 +51,17 @@ equal_is Less h = absurd (cc)
 equal_is Equal h = refl
 equal_is Greater h = absurd (cc)
 
-told : (b : Bool) → is_true (from_truth (Some b)) ≡ b
-told true = refl
-told false = refl
+reported : (b : Bool) → is_true (from_truth (Some b)) ≡ b
+reported true = refl
+reported false = refl
 
 equals : (m : ℕ) (v : Value) → is_true (binary (Compare Eq Binary) (Int (pos m)) v) ≡ true → value_cmp (Int (pos m)) v ≡ Equal
 unfolding binary
 equals m Null h = absurd (cc)
-equals m (Int n) h = equal_is (value_cmp (Int (pos m)) (Int n)) (sym (told _) ∙ h)
-equals m (Real x) h = equal_is (value_cmp (Int (pos m)) (Real x)) (sym (told _) ∙ h)
-equals m (Text t) h = equal_is (value_cmp (Int (pos m)) (Text t)) (sym (told _) ∙ h)
-equals m (Blob b) h = equal_is (value_cmp (Int (pos m)) (Blob b)) (sym (told _) ∙ h)
+equals m (Int n) h = equal_is (value_cmp (Int (pos m)) (Int n)) (sym (reported _) ∙ h)
+equals m (Real x) h = equal_is (value_cmp (Int (pos m)) (Real x)) (sym (reported _) ∙ h)
+equals m (Text t) h = equal_is (value_cmp (Int (pos m)) (Text t)) (sym (reported _) ∙ h)
+equals m (Blob b) h = equal_is (value_cmp (Int (pos m)) (Blob b)) (sym (reported _) ∙ h)
 
 one_int : (m n : ℕ) → int_cmp (pos m) (pos n) ≡ Equal → m ≡ n
 one_int m n h = grind (arith, ints)

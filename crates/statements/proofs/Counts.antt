@@ -5,7 +5,7 @@ use Rattle.std.specs.List.{AllByRecursion, list_all}
 use Rattle.std.proofs.lemmas.Bool.{and_parts}
 use Rattle.std.proofs.lemmas.Bool.Decides.{nat_tests}
 use Rattle.sqlite_trees.specs.Tree.{IsAscending}
-use Rattle.statements.specs.declared.making.TheConstants.{NEWEST}
+use Rattle.statements.specs.declared.making.TheConstants.{SCHEMA_VERSION}
 use Rattle.sqlite_keyed.proofs.ListLemmas.{all-slice_get}
 use Rattle.statements.specs.Tables.{table_counts, is_known, count_in, schema_tables, added_by, our_tables}
 
@@ -77,7 +77,7 @@ known_below [] n is = absurd (cc)
 known_below (x ∷ xs) zero is = omega arith
 known_below (x ∷ xs) (suc n) is = let low = known_below xs n is in omega (arith, low)
 
-pub known_within : (n : ℕ) → is_known n ≡ true → (1 ≤ n) × (n ≤ NEWEST)
+pub known_within : (n : ℕ) → is_known n ≡ true → (1 ≤ n) × (n ≤ SCHEMA_VERSION)
 known_within zero is = absurd (cc)
 known_within (suc n) is = let low = known_below table_counts (suc n) is in (omega arith, omega (arith, low))
 

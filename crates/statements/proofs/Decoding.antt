@@ -5,9 +5,9 @@ use Rattle.std.proofs.lemmas.Bool.Decides.{nat_tests}
 use Rattle.sqlite_keyed.proofs.ListLemmas.{map_back}
 use Rattle.sqlite.specs.Effect.{Database}
 use Rattle.statements.specs.Rows.{Kept, TokenRow, WsRow, RunRow, BoundRow, stored, token_cells, ws_cells, run_cells, bound_cells, number, kept_by, token_at, ws_at, run_at, bound_at}
-use Rattle.statements.specs.declared.making.TheConstants.{NEWEST}
+use Rattle.statements.specs.declared.making.TheConstants.{SCHEMA_VERSION}
 use Rattle.statements.specs.Tables.{Layout, Tables, Holds, HoldsIn, count_in, rows_in, up_to, rows_of, tables_of, tables_at}
-use Rattle.statements.proofs.Held.{IsHeld, Ours, metas, orgs, tokens, wss, versions, runs, pages, vpages, bounds, editions, keepings, held_in, holds_all}
+use Rattle.statements.proofs.Held.{IsHeld, Ours, metas, orgs, tokens, wss, versions, runs, pages, vpages, bounds, editions, retentions, held_in, holds_all}
 use Rattle.statements.proofs.Codes.{role_back}
 use Rattle.statements.proofs.ReadBack.{workspace_back, run_row_back}
 
@@ -54,9 +54,9 @@ module _ (n : ℕ) (db : Database) (t : Tables) (h : HoldsIn n db t) where
     vpages = read_back vpages (λ x. refl) i;
     bounds = read_back bounds bound_back i;
     editions = read_back editions (λ x. refl) i;
-    keepings = read_back keepings (λ x. refl) i;
+    retentions = read_back retentions (λ x. refl) i;
   }
 
 -- and of ours
 pub tables-held : (db : Database) (t : Tables) → Holds db t → tables_of db ≡ t
-tables-held db t h = tables_at-held NEWEST db t (holds_all db t h)
+tables-held db t h = tables_at-held SCHEMA_VERSION db t (holds_all db t h)

@@ -19,14 +19,14 @@ use Rattle.sqlite.specs.State.{State, Executes}
 use Rattle.sqlite_keyed.proofs.KeyedLemmas.{IsKeyedBy-insert_by, IsKeyedBy-update_where}
 use Rattle.sqlite_typed.proofs.TestLemmas.{at_ints, last_term}
 use Rattle.sqlite_sql.specs.declared.ops.CompareOp.TheVariants as compare
-use Rattle.statements.specs.declared.making.TheConstants.{SET_VERSION, MOVE_VERSION, EDITION, NEWEST}
+use Rattle.statements.specs.declared.making.TheConstants.{SET_VERSION, MOVE_VERSION, EDITION, SCHEMA_VERSION}
 use Rattle.statements.specs.Place.{StandsAt, tree_of}
 use Rattle.statements.specs.Schema.{edition_table}
 use Rattle.statements.specs.Rows.{Kept, id_of, stored, number, edition_cells}
 use Rattle.statements.specs.Tables.{Tables, Holds, HoldsIn, count_in, edition_layout}
 use Rattle.statements.specs.Changes.{edition_moved}
-use Rattle.statements.specs.Making.{HasEdition, like_edition, told_schema_version, edition_in}
-use Rattle.statements.specs.Inner.Making.{Moved, Told, edition_set}
+use Rattle.statements.specs.Making.{HasEdition, like_edition, stored_schema_version, edition_in}
+use Rattle.statements.specs.Inner.Making.{Moved, Reported, edition_set}
 use Rattle.statements.specs.Calls.{IsQuery, FirstRow, Pins, IsNumber}
 use Rattle.statements.proofs.SyntaxTrees as st
 use Rattle.statements.proofs.Meaning.{Means, means}
@@ -69,11 +69,11 @@ edition_asks table =
 pub edition_is_query : IsQuery EDITION.now
 edition_is_query = (edition_asks edition_table).is_query
 
-pub edition_told : (old new : State) (table : Table) (editions : List (Kept ℕ)) → HasEdition old.now table editions → (row : Option Row) → FirstRow EDITION.now [] old new row → Pins IsNumber row (told_schema_version editions)
-edition_told old new table editions has row first =
+pub edition_reported : (old new : State) (table : Table) (editions : List (Kept ℕ)) → HasEdition old.now table editions → (row : Option Row) → FirstRow EDITION.now [] old new row → Pins IsNumber row (stored_schema_version editions)
+edition_reported old new table editions has row first =
     let tree = tree_of old.now.schema edition_table.name in
     let got = answered EDITION.now [] old new (point edition_rest tree false) (codes "version" ∷ []) ((edition_asks table).meaning old.now.schema _ _ has.place) row first in
-    pinned IsNumber (λ (x : Kept ℕ). eval_all edition_rest.project ([] ∷ stored edition_cells x ∷ [])) (λ x. x.1) (λ x y told. number_read x.1 y told) row (find (λ x. int_eq (id_of x) (pos 1)) editions)
+    pinned IsNumber (λ (x : Kept ℕ). eval_all edition_rest.project ([] ∷ stored edition_cells x ∷ [])) (λ x. x.1) (λ x y reported. number_read x.1 y reported) row (find (λ x. int_eq (id_of x) (pos 1)) editions)
     (got.2 ∙ first_is edition_cells (overlay old.now.trees []) tree editions (stored_tree old.now.trees tree has.place.low ∙ has.rows) has.keyed edition_rest []
     (λ x. int_eq (id_of x) (pos 1)) (λ x. last_term (at_ints _ compare.Eq (id_of x) (pos 1))) (λ l. refl) got.0 got.1)
 
@@ -82,7 +82,7 @@ pub has_edition : (n : ℕ) → 9 < count_in n → (db : Database) (t : Tables) 
 has_edition n some db t h = let held = held_in editions (count_in n) some db t h in record { place = held.own.place; rows = held.rows; keyed = held.keyed }
 
 pub edition_shows : (old new : State) (t : Tables) → Holds old.now t → (row : Option Row) → FirstRow EDITION.now [] old new row → Pins IsNumber row (edition_in t)
-edition_shows old new t h = edition_told old new edition_table t.editions (has_edition NEWEST (omega arith) old.now t (holds_all old.now t h))
+edition_shows old new t h = edition_reported old new edition_table t.editions (has_edition SCHEMA_VERSION (omega arith) old.now t (holds_all old.now t h))
 
 module _ (n : ℕ) (some : 9 < count_in n) (version : ℕ) (old new : State) (count : ℕ) where
   abbrev held : (t : Tables) → HoldsIn n old.now t → IsHeld edition_layout old.now t.editions
@@ -103,12 +103,12 @@ module _ (n : ℕ) (some : 9 < count_in n) (version : ℕ) (old new : State) (co
       (move_version_query (tree_of old.now.schema edition_table.name)) (move_version_means old.now.schema _ _ held.own.place) refl refl refl (λ rows. refl) (λ x. true) (λ x. refl) moved (λ x. refl) (λ x. refl) in
       written_in old.now new.now left.1 editions t (map moved t.editions) (count_in n) some h tt left.0 (IsKeyedBy-update_where id_of (λ x. true) moved (λ x. refl) t.editions held.keyed))
 
-pub set_version_does : (n : ℕ) → 9 < count_in n → (old new : State) (count : ℕ) → Executes SET_VERSION.now (number n ∷ []) old new (Ok count) → Told n old.now new.now
+pub set_version_does : (n : ℕ) → 9 < count_in n → (old new : State) (count : ℕ) → Executes SET_VERSION.now (number n ∷ []) old new (Ok count) → Reported n old.now new.now
 set_version_does n some old new count ran = record {
   moved = set_version_moves n some n old new count ran;
   leaves = λ own. insert_others edition_table old new own SET_VERSION.now (number n ∷ []) count ran (Values set_version_terms 3) (set_version_means old.now.schema _ _ own.place) refl refl;
 }
 
 -- the newest version is said once more
-pub retold : (old new : State) (count : ℕ) (t : Tables) → Holds old.now t → Executes MOVE_VERSION.now (number NEWEST ∷ []) old new (Ok count) → Turns old.now new.now (edition_moved NEWEST t)
-retold old new count t h ran = updated editions edition_casts old new count t h _ _ ran (move_version_means old.now.schema) (λ x. true) (λ x. refl) (λ r. NEWEST) (λ x. refl) tt
+pub retold : (old new : State) (count : ℕ) (t : Tables) → Holds old.now t → Executes MOVE_VERSION.now (number SCHEMA_VERSION ∷ []) old new (Ok count) → Turns old.now new.now (edition_moved SCHEMA_VERSION t)
+retold old new count t h ran = updated editions edition_casts old new count t h _ _ ran (move_version_means old.now.schema) (λ x. true) (λ x. refl) (λ r. SCHEMA_VERSION) (λ x. refl) tt

@@ -10,7 +10,7 @@ use Rattle.sqlite_schema.specs.Names.{same_name}
 use Rattle.sqlite_schema.specs.Rules.{ParentKey, key_in, key_places, declared_order}
 use Rattle.sqlite_keyed.proofs.ListLemmas.{all_weaker}
 use Rattle.statements.specs.Place.{RefersPassively, IsOwn, at_of, tree_of}
-use Rattle.statements.specs.Schema.{token_table, ws_table, bound_table, keeping_table}
+use Rattle.statements.specs.Schema.{token_table, ws_table, bound_table, retention_table}
 use Rattle.statements.proofs.Lead.{GoesTo}
 
 -- each reference of the table is passive or goes to the parent, whose own are passive
@@ -61,8 +61,8 @@ key_tree t names key h = go (key_places t names) h
 
 -- a reference to a name goes to the tree of the table that the name means
 pub goes_to : (s : Schema) (parent : Table) (ref : Reference) → IsOwn s parent → ref.parent ≡ parent.name → GoesTo s (tree_of s parent.name) ref
-goes_to s parent ref own is = inr (λ key told. key_tree (record parent { tree = tree_of s parent.name }) ref.parent_columns key (
-    sym (ap (option_and_then (λ t. option_and_then (key_in t) (key_places t ref.parent_columns))) (ap (λ name. find (λ (t : Table). same_name t.name name) s.tables) is ∙ named_first s parent own)) ∙ told))
+goes_to s parent ref own is = inr (λ key reported. key_tree (record parent { tree = tree_of s parent.name }) ref.parent_columns key (
+    sym (ap (option_and_then (λ t. option_and_then (key_in t) (key_places t ref.parent_columns))) (ap (λ name. find (λ (t : Table). same_name t.name name) s.tables) is ∙ named_first s parent own)) ∙ reported))
 
 pub follows_by : (s : Schema) (parent table : Table) → IsOwn s parent → RefersPassively parent → AllByRecursion (λ (ref : Reference). ref.parent ≡ parent.name) table.references → Follows s parent table
 follows_by s parent table own passive refs = record { own = own; passive = passive; goes = all_weaker (λ (ref : Reference). ref.parent ≡ parent.name) (GoesTo s (tree_of s parent.name)) (λ ref is. goes_to s parent ref own is) table.references refs }
@@ -70,8 +70,8 @@ follows_by s parent table own passive refs = record { own = own; passive = passi
 pub bound_follows : (s : Schema) → IsOwn s token_table → Follows s token_table bound_table
 bound_follows s own = follows_by s token_table bound_table own tt (refl, tt)
 
-pub keeping_follows : (s : Schema) → IsOwn s ws_table → Follows s ws_table keeping_table
-keeping_follows s own = follows_by s ws_table keeping_table own tt (refl, tt)
+pub retention_follows : (s : Schema) → IsOwn s ws_table → Follows s ws_table retention_table
+retention_follows s own = follows_by s ws_table retention_table own tt (refl, tt)
 
 -- ---- which of several follows which
 

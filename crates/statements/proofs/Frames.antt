@@ -22,7 +22,7 @@ use Rattle.sqlite.specs.State.{State, Executes}
 use Rattle.sqlite.proofs.MarkLemmas.{slice_get-take}
 use Rattle.statements.specs.Place.{tree_of, StandsAt, IsOwn, AreOwn}
 use Rattle.statements.specs.Rows.{Kept, id_of, stored}
-use Rattle.statements.specs.declared.making.TheConstants.{NEWEST}
+use Rattle.statements.specs.declared.making.TheConstants.{SCHEMA_VERSION}
 use Rattle.statements.specs.Tables.{count_in, Tables, Holds, HoldsAll, HoldsIn, HasRows, StoredTable, stored_tables, schema_tables, tables_in, our_tables, rowid_of}
 use Rattle.statements.specs.Steps.{LeavesBeside, LeavesForeign}
 use Rattle.statements.specs.Inner.Making.{Moved}
@@ -169,7 +169,7 @@ module _ (old new : Database) (same : new.schema ≡ old.schema) where
         (it.0, subst (λ l. LeavesBeside l old new) (tables_taken k t) it.1)
 
     written : Holds old t → FollowersStay → IsWritten → IsKeyedBy id_of xs → Turns old new (x.put xs t)
-    written h stay w keyed = let it = written_in (count_in NEWEST) x.low (holds_all old t h) stay w keyed in (record { ours = it.0.own; rows = it.0.rows }, it.1)
+    written h stay w keyed = let it = written_in (count_in SCHEMA_VERSION) x.low (holds_all old t h) stay w keyed in (record { ours = it.0.own; rows = it.0.rows }, it.1)
 
 -- ---- what a text does
 

@@ -13,10 +13,10 @@ use Rattle.sqlite_keyed.proofs.ListLemmas.{all-slice_get, ascending-map, ascendi
 use Rattle.sqlite.specs.Effect.{Database}
 use Rattle.sqlite.proofs.MarkLemmas.{slice_get-take}
 use Rattle.statements.specs.Place.{tree_of, IsOwn, AreOwn}
-use Rattle.statements.specs.Rows.{Kept, id_of, OrgRow, TokenRow, WsRow, VersionRow, RunRow, PageRow, VpageRow, BoundRow, KeepingRow, stored}
+use Rattle.statements.specs.Rows.{Kept, id_of, OrgRow, TokenRow, WsRow, VersionRow, RunRow, PageRow, VpageRow, BoundRow, RetentionRow, stored}
 use Rattle.statements.specs.Schema.{token_table, ws_table}
-use Rattle.statements.specs.declared.making.TheConstants.{NEWEST}
-use Rattle.statements.specs.Tables.{count_in, Layout, Tables, Holds, HoldsAll, HasRows, StoredTable, stored_table, stored_tables, tables_in, our_tables, rowid_of, meta_layout, org_layout, token_layout, ws_layout, version_layout, run_layout, page_layout, vpage_layout, bound_layout, edition_layout, keeping_layout}
+use Rattle.statements.specs.declared.making.TheConstants.{SCHEMA_VERSION}
+use Rattle.statements.specs.Tables.{count_in, Layout, Tables, Holds, HoldsAll, HasRows, StoredTable, stored_table, stored_tables, tables_in, our_tables, rowid_of, meta_layout, org_layout, token_layout, ws_layout, version_layout, run_layout, page_layout, vpage_layout, bound_layout, edition_layout, retention_layout}
 use Rattle.statements.proofs.Counts.{rising}
 use Rattle.statements.proofs.Follows.{IsSteady, IsFollowing, AllFollow, follow_at, follows_by}
 
@@ -32,7 +32,7 @@ pub record Ours (R : Type 0) : Type 0 where
   pub place : ℕ
   pub rows : Tables → List (Kept R)
   pub put : List (Kept R) → Tables → Tables
-  pub low : place < count_in NEWEST
+  pub low : place < count_in SCHEMA_VERSION
   pub at : (t : Tables) → slice_get (stored_tables t) place ≡ Some (stored_table layout (rows t))
   pub puts : (t : Tables) (xs : List (Kept R)) → with_rows place (map (stored layout.cells) xs) (stored_tables t) ≡ stored_tables (put xs t)
 
@@ -66,8 +66,8 @@ bounds = record { layout = bound_layout; place = 8; rows = λ t. t.bounds; put =
 abbrev pub editions : Ours ℕ
 editions = record { layout = edition_layout; place = 9; rows = λ t. t.editions; put = λ xs t. record t { editions = xs }; low = omega arith; at = λ t. refl; puts = λ t xs. refl }
 
-abbrev pub keepings : Ours KeepingRow
-keepings = record { layout = keeping_layout; place = 10; rows = λ t. t.keepings; put = λ xs t. record t { keepings = xs }; low = omega arith; at = λ t. refl; puts = λ t xs. refl }
+abbrev pub retentions : Ours RetentionRow
+retentions = record { layout = retention_layout; place = 10; rows = λ t. t.retentions; put = λ xs t. record t { retentions = xs }; low = omega arith; at = λ t. refl; puts = λ t xs. refl }
 
 -- the place of the one that each of ours follows, if it follows one
 abbrev pub followed : List (Option ℕ)
@@ -152,7 +152,7 @@ holds_all db t h = record { own = h.ours; rows = h.rows }
 
 module _ (db : Database) (t : Tables) (h : Holds db t) where
   pub held : {R : Type 0} (x : Ours R) → IsHeld x.layout db (x.rows t)
-  held x = held_in x (count_in NEWEST) x.low db t (holds_all db t h)
+  held x = held_in x (count_in SCHEMA_VERSION) x.low db t (holds_all db t h)
 
   pub orgs_held : IsHeld org_layout db t.orgs
   orgs_held = held orgs
@@ -178,5 +178,5 @@ module _ (db : Database) (t : Tables) (h : Holds db t) where
   pub bounds_held : IsHeld bound_layout db t.bounds
   bounds_held = held bounds
 
-  pub keepings_held : IsHeld keeping_layout db t.keepings
-  keepings_held = held keepings
+  pub retentions_held : IsHeld retention_layout db t.retentions
+  retentions_held = held retentions

@@ -22,9 +22,9 @@ pub mod Grown
 pub mod Held
 pub mod JoinParts
 pub mod Joined
-pub mod KeepingReads
-pub mod KeepingTexts
-pub mod KeepingWrites
+pub mod RetentionReads
+pub mod RetentionTexts
+pub mod RetentionWrites
 pub mod KeyedLists
 pub mod Lead
 pub mod Lefts

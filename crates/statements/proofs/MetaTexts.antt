@@ -16,12 +16,12 @@ use Rattle.sqlite.specs.State.{State, Executes}
 use Rattle.sqlite_keyed.specs.Lists.{delete_where}
 use Rattle.sqlite_typed.proofs.TestLemmas.{at_ints, last_term}
 use Rattle.sqlite_sql.specs.declared.ops.CompareOp.TheVariants as compare
-use Rattle.statements.specs.declared.making.TheConstants.{CLEAR_VERSION, VERSION, NEWEST}
+use Rattle.statements.specs.declared.making.TheConstants.{CLEAR_VERSION, VERSION, SCHEMA_VERSION}
 use Rattle.statements.specs.Place.{StandsAt, tree_of}
 use Rattle.statements.specs.Schema.{meta_table}
 use Rattle.statements.specs.Rows.{Kept, id_of, stored, meta_cells}
 use Rattle.statements.specs.Tables.{Tables, Holds, HoldsIn, count_in}
-use Rattle.statements.specs.Making.{HasMeta, like_meta, told_schema_version, schema_version_in}
+use Rattle.statements.specs.Making.{HasMeta, like_meta, stored_schema_version, schema_version_in}
 use Rattle.statements.specs.Inner.Making.{Moved, schema_version_cleared}
 use Rattle.statements.specs.Calls.{IsQuery, FirstRow, Pins, IsNumber}
 use Rattle.statements.proofs.SyntaxTrees as st
@@ -58,11 +58,11 @@ version_asks table =
 pub version_is_query : IsQuery VERSION.now
 version_is_query = (version_asks meta_table).is_query
 
-pub version_told : (old new : State) (table : Table) (metas : List (Kept ℕ)) → HasMeta old.now table metas → (row : Option Row) → FirstRow VERSION.now [] old new row → Pins IsNumber row (told_schema_version metas)
-version_told old new table metas has row first =
+pub version_reported : (old new : State) (table : Table) (metas : List (Kept ℕ)) → HasMeta old.now table metas → (row : Option Row) → FirstRow VERSION.now [] old new row → Pins IsNumber row (stored_schema_version metas)
+version_reported old new table metas has row first =
     let tree = tree_of old.now.schema meta_table.name in
     let got = answered VERSION.now [] old new (point version_rest tree false) (codes "version" ∷ []) ((version_asks table).meaning old.now.schema _ _ has.place) row first in
-    pinned IsNumber (λ (x : Kept ℕ). eval_all version_rest.project ([] ∷ stored meta_cells x ∷ [])) (λ x. x.1) (λ x y told. number_read x.1 y told) row (find (λ x. int_eq (id_of x) (pos 1)) metas)
+    pinned IsNumber (λ (x : Kept ℕ). eval_all version_rest.project ([] ∷ stored meta_cells x ∷ [])) (λ x. x.1) (λ x y reported. number_read x.1 y reported) row (find (λ x. int_eq (id_of x) (pos 1)) metas)
     (got.2 ∙ first_is meta_cells (overlay old.now.trees []) tree metas (stored_tree old.now.trees tree has.place.low ∙ has.rows) has.keyed version_rest []
     (λ x. int_eq (id_of x) (pos 1)) (λ x. last_term (at_ints _ compare.Eq (id_of x) (pos 1))) (λ l. refl) got.0 got.1)
 
@@ -83,4 +83,4 @@ clear_version_does old new count ran = moved_by 2 schema_version_cleared old.now
     written_in old.now new.now left.1 metas t [] 10 (omega arith) h tt leads tt)
 
 pub version_shows : (old new : State) (t : Tables) → Holds old.now t → (row : Option Row) → FirstRow VERSION.now [] old new row → Pins IsNumber row (schema_version_in t)
-version_shows old new t h = version_told old new meta_table t.metas (has_meta NEWEST (omega arith) old.now t (holds_all old.now t h))
+version_shows old new t h = version_reported old new meta_table t.metas (has_meta SCHEMA_VERSION (omega arith) old.now t (holds_all old.now t h))

@@ -160,7 +160,7 @@ module _ {R : Type 0} (cells : R → Row) (table : Table) (casts : (r : R) → c
       → AllByRecursion (λ (t : Table). t.tree ≡ tree_of s other.name
       → AllByRecursion (IsIdle s (old.now.trees (tree_of s other.name)) here (length (new_rows rows).news == 0) (pairs (taken_by old.now.trees (new_rows rows)) (new_rows rows).news)) t.references) s.tables
   update_idle other is firm [] =
-      there (IsIdle s (old.now.trees (tree_of s other.name)) here true []) s other is (all_of (IsIdle s (old.now.trees (tree_of s other.name)) here true []) (λ ref. inr (λ key told. inr (λ r has. refl))) other.references)
+      there (IsIdle s (old.now.trees (tree_of s other.name)) here true []) s other is (all_of (IsIdle s (old.now.trees (tree_of s other.name)) here true []) (λ ref. inr (λ key reported. inr (λ r has. refl))) other.references)
   update_idle other is firm (row ∷ rows) =
       let moves = pairs (taken_by old.now.trees (new_rows (row ∷ rows))) (new_rows (row ∷ rows)).news in
       let some : (length (new_rows (row ∷ rows)).news == 0) ≡ false = ne_eqb _ _ (omega arith) in

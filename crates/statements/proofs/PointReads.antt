@@ -31,7 +31,7 @@ pub pinned : {A X : Type 0} (Is : Row → X → Type 0) (show : A → Row) (val 
 pinned Is show val back None None is = tt
 pinned Is show val back None (Some x) is = absurd (cc)
 pinned Is show val back (Some row) None is = absurd (cc)
-pinned Is show val back (Some row) (Some x) is = λ y told. let same : row ≡ show x = cc in back x y (subst (λ r. Is r y) same told)
+pinned Is show val back (Some row) (Some x) is = λ y reported. let same : row ≡ show x = cc in back x y (subst (λ r. Is r y) same reported)
 
 module _ {R : Type 0} (cells : R → Row) (table : Table) (old new : State) (own : IsOwn old.now.schema table)
     (xs : List (Kept R)) (held : old.now.trees (tree_of old.now.schema table.name) ≡ map (stored cells) xs) (keyed : IsKeyedBy id_of xs) (text : List ℕ) (params : Row)

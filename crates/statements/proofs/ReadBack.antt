@@ -42,58 +42,58 @@ status_read a b e = sym (same_status a b (same_code _ _ e))
 
 -- ---- what a row holds is the value that its cells stand for
 
-number_told : (v : Value) (n : ℕ) → v ≡ number n → n ≡ unsigned_abs (int_of v)
-number_told v n is = ap (λ c. unsigned_abs (int_of c)) (sym is)
+number_reported : (v : Value) (n : ℕ) → v ≡ number n → n ≡ unsigned_abs (int_of v)
+number_reported v n is = ap (λ c. unsigned_abs (int_of c)) (sym is)
 
-text_told : (v : Value) (t : List ℕ) → v ≡ cell.Text t → t ≡ bytes_of v
-text_told v t is = ap bytes_of (sym is)
+text_reported : (v : Value) (t : List ℕ) → v ≡ cell.Text t → t ≡ bytes_of v
+text_reported v t is = ap bytes_of (sym is)
 
-flag_told : (v : Value) (b : Bool) → IsFlagCell v b → b ≡ not (int_eq (int_of v) (pos 0))
-flag_told v b told = told.2 ∙ ap (λ c. not (int_eq (int_of c) (pos 0))) (sym told.1)
+flag_reported : (v : Value) (b : Bool) → IsFlagCell v b → b ≡ not (int_eq (int_of v) (pos 0))
+flag_reported v b reported = reported.2 ∙ ap (λ c. not (int_eq (int_of c) (pos 0))) (sym reported.1)
 
-some_text_told : (v : Value) (o : Option (List ℕ)) → IsTextOrNull v o → o ≡ unless_null bytes_of v
-some_text_told v None is = ap (unless_null bytes_of) (sym is)
-some_text_told v (Some t) is = ap (unless_null bytes_of) (sym is)
+some_text_reported : (v : Value) (o : Option (List ℕ)) → IsTextOrNull v o → o ≡ unless_null bytes_of v
+some_text_reported v None is = ap (unless_null bytes_of) (sym is)
+some_text_reported v (Some t) is = ap (unless_null bytes_of) (sym is)
 
-some_action_told : (v : Value) (o : Option RunAction) → IsActionOrNull v o → o ≡ unless_null (λ c. action_at (unsigned_abs (int_of c))) v
-some_action_told v None is = ap (unless_null (λ c. action_at (unsigned_abs (int_of c)))) (sym is)
-some_action_told v (Some a) is = ap Some (sym (action_back a)) ∙ ap (unless_null (λ c. action_at (unsigned_abs (int_of c)))) (sym is)
+some_action_reported : (v : Value) (o : Option RunAction) → IsActionOrNull v o → o ≡ unless_null (λ c. action_at (unsigned_abs (int_of c))) v
+some_action_reported v None is = ap (unless_null (λ c. action_at (unsigned_abs (int_of c)))) (sym is)
+some_action_reported v (Some a) is = ap Some (sym (action_back a)) ∙ ap (unless_null (λ c. action_at (unsigned_abs (int_of c)))) (sym is)
 
-status_told : (v : Value) (s : RunStatus) → v ≡ number (status_code s) → s ≡ status_at (unsigned_abs (int_of v))
-status_told v s is = sym (status_back s) ∙ ap (λ c. status_at (unsigned_abs (int_of c))) (sym is)
+status_reported : (v : Value) (s : RunStatus) → v ≡ number (status_code s) → s ≡ status_at (unsigned_abs (int_of v))
+status_reported v s is = sym (status_back s) ∙ ap (λ c. status_at (unsigned_abs (int_of c))) (sym is)
 
-holder_told : (at : ℕ) (row : Row) (h : Holder) → IsHolderIn at row h → h ≡ holder_at row at
-holder_told at row Nobody is = ap (λ c. holder_of (unsigned_abs (int_of c)) (bytes_at row (at + 1)) (bytes_at row (at + 2)) (number_at row (at + 3))) (sym is)
-holder_told at row (Lock id text) is = λ i. holder_of (number_told (column row at) 1 is.0 i) (text_told (column row (at + 1)) id is.1 i) (ap bytes_of (sym is.2) i) (number_at row (at + 3))
-holder_told at row (HeldByRun n) is = λ i. holder_of (number_told (column row at) 2 is.0 i) (bytes_at row (at + 1)) (bytes_at row (at + 2)) (number_told (column row (at + 3)) n is.1 i)
+holder_reported : (at : ℕ) (row : Row) (h : Holder) → IsHolderIn at row h → h ≡ holder_at row at
+holder_reported at row Nobody is = ap (λ c. holder_of (unsigned_abs (int_of c)) (bytes_at row (at + 1)) (bytes_at row (at + 2)) (number_at row (at + 3))) (sym is)
+holder_reported at row (Lock id text) is = λ i. holder_of (number_reported (column row at) 1 is.0 i) (text_reported (column row (at + 1)) id is.1 i) (ap bytes_of (sym is.2) i) (number_at row (at + 3))
+holder_reported at row (HeldByRun n) is = λ i. holder_of (number_reported (column row at) 2 is.0 i) (bytes_at row (at + 1)) (bytes_at row (at + 2)) (number_reported (column row (at + 3)) n is.1 i)
 
-pub workspace_told : (at settings : ℕ) (row : Row) (w : Workspace) → IsWorkspaceIn at settings row w → w ≡ workspace_in_row row at settings
-workspace_told at settings row w told = λ i. record {
-  runs = told.runs i;
-  holder = holder_told at row w.holder told.holder i;
-  released = some_text_told (column row (at + 4)) w.released told.released i;
-  next_version = number_told (column row (at + 5)) w.next_version told.next_version i;
-  next_run = number_told (column row (at + 6)) w.next_run told.next_run i;
+pub workspace_reported : (at settings : ℕ) (row : Row) (w : Workspace) → IsWorkspaceIn at settings row w → w ≡ workspace_in_row row at settings
+workspace_reported at settings row w reported = λ i. record {
+  runs = reported.runs i;
+  holder = holder_reported at row w.holder reported.holder i;
+  released = some_text_reported (column row (at + 4)) w.released reported.released i;
+  next_version = number_reported (column row (at + 5)) w.next_version reported.next_version i;
+  next_run = number_reported (column row (at + 6)) w.next_run reported.next_run i;
 }
 
-pub version_told : (at : ℕ) (row : Row) (v : Version) → IsVersionIn at row v → v ≡ version_in_row row at
-version_told at row v told = λ i. record {
-  number = number_told (column row at) v.number told.number_is i;
-  serial = number_told (column row (at + 1)) v.serial told.serial i;
-  lineage = text_told (column row (at + 2)) v.lineage told.lineage i;
-  created = number_told (column row (at + 3)) v.created told.created i;
-  size = number_told (column row (at + 4)) v.size told.size i;
+pub version_reported : (at : ℕ) (row : Row) (v : Version) → IsVersionIn at row v → v ≡ version_in_row row at
+version_reported at row v reported = λ i. record {
+  number = number_reported (column row at) v.number reported.number_is i;
+  serial = number_reported (column row (at + 1)) v.serial reported.serial i;
+  lineage = text_reported (column row (at + 2)) v.lineage reported.lineage i;
+  created = number_reported (column row (at + 3)) v.created reported.created i;
+  size = number_reported (column row (at + 4)) v.size reported.size i;
 }
 
-pub run_told : (at : ℕ) (row : Row) (r : Run) → IsRunIn at row r → r ≡ run_in_row row at
-run_told at row r told = λ i. record {
-  number = number_told (column row at) r.number told.number_is i;
-  plan_only = flag_told (column row (at + 1)) r.plan_only told.plan_only i;
-  key = some_text_told (column row (at + 2)) r.key told.key i;
-  message = text_told (column row (at + 3)) r.message told.message i;
-  created = number_told (column row (at + 4)) r.created told.created i;
-  status = status_told (column row (at + 5)) r.status told.status i;
-  action = some_action_told (column row (at + 6)) r.action told.action i;
+pub run_reported : (at : ℕ) (row : Row) (r : Run) → IsRunIn at row r → r ≡ run_in_row row at
+run_reported at row r reported = λ i. record {
+  number = number_reported (column row at) r.number reported.number_is i;
+  plan_only = flag_reported (column row (at + 1)) r.plan_only reported.plan_only i;
+  key = some_text_reported (column row (at + 2)) r.key reported.key i;
+  message = text_reported (column row (at + 3)) r.message reported.message i;
+  created = number_reported (column row (at + 4)) r.created reported.created i;
+  status = status_reported (column row (at + 5)) r.status reported.status i;
+  action = some_action_reported (column row (at + 6)) r.action reported.action i;
 }
 
 -- ---- and the row of a value is read as it
@@ -128,31 +128,31 @@ run_row_back r = λ i. record {
 }
 
 optional_number_read : (o p : Option ℕ) → IsNumberOrNull (or_null number o) p → p ≡ o
-optional_number_read None None told = refl
-optional_number_read None (Some n) told = absurd (cc)
-optional_number_read (Some n) None told = absurd (cc)
-optional_number_read (Some n) (Some m) told = ap Some (number_read n m told)
+optional_number_read None None reported = refl
+optional_number_read None (Some n) reported = absurd (cc)
+optional_number_read (Some n) None reported = absurd (cc)
+optional_number_read (Some n) (Some m) reported = ap Some (number_read n m reported)
 
-pub named_workspace_read : (name : List ℕ) (w : Workspace) (kept before : Value) (keep last : Option ℕ) → kept ≡ or_null number keep → before ≡ or_null number last → (v : NamedWorkspace)
+pub named_workspace_read : (name : List ℕ) (w : Workspace) (kept before : Value) (retention last : Option ℕ) → kept ≡ or_null number retention → before ≡ or_null number last → (v : NamedWorkspace)
     → IsNamedRow (kind_cell w.holder ∷ lock_id_cell w.holder ∷ lock_text_cell w.holder ∷ run_cell w.holder ∷ or_null cell.Text w.released ∷ number w.next_version ∷ number w.next_run ∷ cell.Text name ∷ kept ∷ before ∷ run_settings_cells w.runs) v
-    → v ≡ record { name = name; it = w; keep = keep; last = last }
-named_workspace_read name w kept before keep last is was v told =
-    let it = workspace_told 0 10 _ v.it told.it ∙ workspace_back w in
-    let number_kept = optional_number_read keep v.keep (subst (λ c. IsNumberOrNull c v.keep) is told.keep) in
-    let number_before = optional_number_read last v.last (subst (λ c. IsNumberOrNull c v.last) was told.last) in
-    λ i. record { name = text_read name v.name told.name i; it = it i; keep = number_kept i; last = number_before i }
+    → v ≡ record { name = name; it = w; retention = retention; last = last }
+named_workspace_read name w kept before retention last is was v reported =
+    let it = workspace_reported 0 10 _ v.it reported.it ∙ workspace_back w in
+    let number_kept = optional_number_read retention v.retention (subst (λ c. IsNumberOrNull c v.retention) is reported.retention) in
+    let number_before = optional_number_read last v.last (subst (λ c. IsNumberOrNull c v.last) was reported.last) in
+    λ i. record { name = text_read name v.name reported.name i; it = it i; retention = number_kept i; last = number_before i }
 
 pub organization_read : (name : List ℕ) (cap : ℕ) (o : Organization) → IsOrganization (cell.Text name ∷ number cap ∷ []) o → o ≡ record { name = name; cap = cap }
-organization_read name cap o told = λ i. record { name = text_read name o.name told.name i; cap = number_read cap o.cap told.cap i }
+organization_read name cap o reported = λ i. record { name = text_read name o.name reported.name i; cap = number_read cap o.cap reported.cap i }
 
 pub named_role_read : (name : List ℕ) (role : Role) (r : NamedRole) → IsNamedRole (cell.Text name ∷ number (role_code role) ∷ []) r → r ≡ record { name = name; role = role }
-named_role_read name role r told = λ i. record { name = text_read name r.name told.name i; role = role_read role r.role told.role i }
+named_role_read name role r reported = λ i. record { name = text_read name r.name reported.name i; role = role_read role r.role reported.role i }
 
 pub named_token_read : (name : List ℕ) (it : Token) (x : NamedToken) → IsNamedToken (cell.Text name ∷ cell.Blob it.digest ∷ number (role_code it.role) ∷ []) x → x ≡ record { name = name; it = it }
-named_token_read name it x told = λ i. record {
-  name = text_read name x.name told.name i;
-  it = record { digest = blob_read it.digest x.it.digest told.digest i; role = role_read it.role x.it.role told.role i };
+named_token_read name it x reported = λ i. record {
+  name = text_read name x.name reported.name i;
+  it = record { digest = blob_read it.digest x.it.digest reported.digest i; role = role_read it.role x.it.role reported.role i };
 }
 
 pub bound_read : (until : Option ℕ) (prefix : List ℕ) (b : Bounds) → IsBound (or_null number until ∷ cell.Text prefix ∷ []) b → b ≡ record { until = until; prefix = prefix }
-bound_read until prefix b told = λ i. record { until = optional_number_read until b.until told.until i; prefix = text_read prefix b.prefix told.prefix i }
+bound_read until prefix b reported = λ i. record { until = optional_number_read until b.until reported.until i; prefix = text_read prefix b.prefix reported.prefix i }

@@ -7,9 +7,9 @@ use Rattle.sqlite_ast.specs.declared.Core.{Core}
 use Rattle.sqlite_resolve.specs.Select.{named}
 use Rattle.sqlite_resolve.specs.Program.{program}
 use Rattle.sqlite_tied.specs.Compute.{everything}
-use Rattle.statements.specs.declared.scans.TheConstants.{ALL_ORGS, ALL_TOKENS, ALL_WSS, ALL_VERSIONS, ALL_RUNS, ALL_BOUNDS, ALL_KEEPINGS, ALL_METAS, ALL_EDITIONS}
+use Rattle.statements.specs.declared.scans.TheConstants.{ALL_ORGS, ALL_TOKENS, ALL_WSS, ALL_VERSIONS, ALL_RUNS, ALL_BOUNDS, ALL_RETENTIONS, ALL_METAS, ALL_EDITIONS}
 use Rattle.statements.specs.Place.{StandsAt}
-use Rattle.statements.specs.Schema.{org_table, token_table, ws_table, version_table, run_table, bound_table, keeping_table, meta_table, edition_table}
+use Rattle.statements.specs.Schema.{org_table, token_table, ws_table, version_table, run_table, bound_table, retention_table, meta_table, edition_table}
 use Rattle.statements.proofs.SyntaxTrees as st
 use Rattle.statements.proofs.Selects.{IsSelect, Asks, asks}
 use Rattle.statements.proofs.Writes.{plain_program}
@@ -63,9 +63,9 @@ pub all_bounds_asks : AsksAll bound_table ALL_BOUNDS.now (codes "rowid") (names_
 unfolding everything
 all_bounds_asks = asks_all bound_table ALL_BOUNDS.now (codes "rowid") (names_of bound_table.columns) refl (λ s at tree h. rw (h.named, h.found, h.found, h.small, h.found, h.small) refl) (λ s at tree h. rw (h.low, h.treed) refl)
 
-pub all_keepings_asks : AsksAll keeping_table ALL_KEEPINGS.now (codes "rowid") (names_of keeping_table.columns)
+pub all_retentions_asks : AsksAll retention_table ALL_RETENTIONS.now (codes "rowid") (names_of retention_table.columns)
 unfolding everything
-all_keepings_asks = asks_all keeping_table ALL_KEEPINGS.now (codes "rowid") (names_of keeping_table.columns) refl (λ s at tree h. rw (h.named, h.found, h.found, h.small, h.found, h.small) refl) (λ s at tree h. rw (h.low, h.treed) refl)
+all_retentions_asks = asks_all retention_table ALL_RETENTIONS.now (codes "rowid") (names_of retention_table.columns) refl (λ s at tree h. rw (h.named, h.found, h.found, h.small, h.found, h.small) refl) (λ s at tree h. rw (h.low, h.treed) refl)
 
 pub all_metas_asks : AsksAll meta_table ALL_METAS.now (codes "one") (codes "version" ∷ [])
 unfolding everything

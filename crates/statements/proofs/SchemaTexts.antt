@@ -9,7 +9,7 @@ use Rattle.sqlite_resolve.specs.Compile.{first}
 use Rattle.sqlite_tied.specs.Compute.{everything}
 use Rattle.sqlite_schema.specs.declared.schema.Table.{Table}
 use Rattle.statements.specs.declared.making.TheConstants.{TABLE_TEXTS, FIRST, SECOND, THIRD, MAKE_META, MAKE_ORG, MAKE_TOKEN, MAKE_WS, MAKE_VERSION, MAKE_RUN, MAKE_PAGE, MAKE_VPAGE, MAKE_BOUND, MAKE_EDITION, MAKE_KEEPING, MAKE_RUN_INDEX, MAKE_VPAGE_INDEX}
-use Rattle.statements.specs.Schema.{meta_table, org_table, token_table, ws_table, version_table, run_table, page_table, vpage_table, bound_table, edition_table, keeping_table}
+use Rattle.statements.specs.Schema.{meta_table, org_table, token_table, ws_table, version_table, run_table, page_table, vpage_table, bound_table, edition_table, retention_table}
 use Rattle.statements.specs.Tables.{our_tables}
 use Rattle.statements.specs.Inner.Making.{IsTableText, IsDefinedBy, IsIndexText, IsMaker}
 use Rattle.statements.proofs.Meaning.{some_parsed}
@@ -63,7 +63,7 @@ make_edition : IsTableText MAKE_EDITION.now edition_table
 unfolding everything
 make_edition = record { def = table_text (some_parsed (first MAKE_EDITION.now)).statement; parsed = some_parsed (first MAKE_EDITION.now); reads = refl; whole = refl; defines = refl }
 
-make_keeping : IsTableText MAKE_KEEPING.now keeping_table
+make_keeping : IsTableText MAKE_KEEPING.now retention_table
 unfolding everything
 make_keeping = record { def = table_text (some_parsed (first MAKE_KEEPING.now)).statement; parsed = some_parsed (first MAKE_KEEPING.now); reads = refl; whole = refl; defines = refl }
 
@@ -90,7 +90,7 @@ pub second_are : AllZip IsMaker (map (λ x. x.now) SECOND.now) second_made
 second_are = (make_bound, (make_edition, tt))
 
 abbrev pub third_made : List (List Table)
-third_made = (keeping_table ∷ []) ∷ []
+third_made = (retention_table ∷ []) ∷ []
 
 pub third_are : AllZip IsMaker (map (λ x. x.now) THIRD.now) third_made
 third_are = (make_keeping, tt)

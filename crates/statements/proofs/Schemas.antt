@@ -18,10 +18,10 @@ use Rattle.sqlite_catalog.proofs.AlterLemmas.{rows_trans}
 use Rattle.statements.specs.Place.{IsOwn, RefersPassively, at_of, tree_of}
 use Rattle.statements.specs.Schema.{edition_table}
 use Rattle.statements.specs.Steps.{LeavesBeside}
-use Rattle.statements.specs.declared.making.TheConstants.{NEWEST}
+use Rattle.statements.specs.declared.making.TheConstants.{SCHEMA_VERSION}
 use Rattle.statements.specs.Tables.{Tables, HoldsAll, HoldsIn, StoredTable, no_rows, our_tables, is_known, count_in, stored_in, schema_tables, added_by, up_to, tables_in}
 use Rattle.statements.specs.Making.{bare_table, IsNotNamed, KeepsTables, HasSchema, Alters, AltersBy, MakesBy, IsBeside, KeepsForeign, Raises, raised}
-use Rattle.statements.specs.Inner.Making.{Grows, IsMaker, texts_in, all_of, Moved, Told}
+use Rattle.statements.specs.Inner.Making.{Grows, IsMaker, texts_in, all_of, Moved, Reported}
 use Rattle.statements.proofs.Begin.{none_made}
 use Rattle.statements.proofs.Counts.{version_grows}
 use Rattle.statements.proofs.Held.{tables_taken}
@@ -61,11 +61,11 @@ grown_then xs ys a b c g h = record {
 }
 
 -- the last step: the version is set
-pub schema_set : (a b c : Database) → Grows our_tables a b → Told NEWEST b c → HasSchema a c
-schema_set a b c g told =
+pub schema_set : (a b c : Database) → Grows our_tables a b → Reported SCHEMA_VERSION b c → HasSchema a c
+schema_set a b c g reported =
     let made = g.made [] (none_made a) in
-    let set = told.moved.rows no_rows made in
-    let left = told.leaves (all-slice_get (IsOwn b.schema) our_tables 9 edition_table refl made.own.own) in
+    let set = reported.moved.rows no_rows made in
+    let left = reported.leaves (all-slice_get (IsOwn b.schema) our_tables 9 edition_table refl made.own.own) in
     let apart = all-slice_get (λ (x : Table). AllByRecursion (λ (t : Table). t.tree ≢ tree_of b.schema x.name) a.schema.tables) our_tables 9 edition_table refl g.apart in
     let rows = (front (λ (t : Table). t.tree ≢ tree_of b.schema edition_table.name → c.trees t.tree ≡ b.trees t.tree) a.schema.tables g.kept.more
     (subst (AllByRecursion (λ (t : Table). t.tree ≢ tree_of b.schema edition_table.name → c.trees t.tree ≡ b.trees t.tree)) g.kept.tables left.1)).0 in

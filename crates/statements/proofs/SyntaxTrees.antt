@@ -144,8 +144,8 @@ named_token_role_core = from_table (shown_columns (codes "role" ∷ [])) (codes 
 abbrev pub list_tokens_core : Core
 list_tokens_core = from_table (shown_columns (codes "name" ∷ codes "role" ∷ [])) (codes "token") (is_given (codes "org") 1)
 
-abbrev pub list_whole_tokens_core : Core
-list_whole_tokens_core = from_table (shown_columns (codes "name" ∷ codes "digest" ∷ codes "role" ∷ [])) (codes "token") (is_given (codes "org") 1)
+abbrev pub list_digest_tokens_core : Core
+list_digest_tokens_core = from_table (shown_columns (codes "name" ∷ codes "digest" ∷ codes "role" ∷ [])) (codes "token") (is_given (codes "org") 1)
 
 abbrev pub find_bound_core : Core
 find_bound_core = from_table (shown_columns (codes "until" ∷ codes "prefix" ∷ [])) (codes "bound") (at_key (codes "org") (codes "name"))
@@ -165,26 +165,26 @@ fill_bounds_core = from_all (One (named (codes "org")) None (codes "org") ∷ On
 abbrev pub fill_bounds : Statement
 fill_bounds = written.Insert Abort (codes "bound") bound_columns (Selected (select fill_bounds_core (by_rowid false) None)) [] []
 
-abbrev pub find_keeping_core : Core
-find_keeping_core = from_table (shown_columns (codes "keep" ∷ [])) (codes "keeping") (at_key (codes "org") (codes "ws"))
+abbrev pub find_retention_core : Core
+find_retention_core = from_table (shown_columns (codes "keep" ∷ [])) (codes "keeping") (at_key (codes "org") (codes "ws"))
 
-abbrev pub keeping_columns : List (List ℕ)
-keeping_columns = codes "org" ∷ codes "ws" ∷ codes "keep" ∷ []
+abbrev pub retention_columns : List (List ℕ)
+retention_columns = codes "org" ∷ codes "ws" ∷ codes "keep" ∷ []
 
-abbrev pub add_keeping : Statement
-add_keeping = insert (codes "keeping") keeping_columns (Parameter 1 ∷ Parameter 2 ∷ Parameter 3 ∷ [])
+abbrev pub add_retention : Statement
+add_retention = insert (codes "keeping") retention_columns (Parameter 1 ∷ Parameter 2 ∷ Parameter 3 ∷ [])
 
-abbrev pub set_keeping : Statement
-set_keeping = update (codes "keeping") ((codes "keep", Parameter 3) ∷ []) (at_key (codes "org") (codes "ws"))
+abbrev pub set_retention : Statement
+set_retention = update (codes "keeping") ((codes "keep", Parameter 3) ∷ []) (at_key (codes "org") (codes "ws"))
 
-abbrev pub remove_keeping : Statement
-remove_keeping = delete (codes "keeping") (at_key (codes "org") (codes "ws"))
+abbrev pub remove_retention : Statement
+remove_retention = delete (codes "keeping") (at_key (codes "org") (codes "ws"))
 
-abbrev pub fill_keepings_core : Core
-fill_keepings_core = from_all (One (named (codes "org")) None (codes "org") ∷ One (named (codes "name")) None (codes "name") ∷ One (Integer (codes "100")) None (codes "100") ∷ []) (codes "ws")
+abbrev pub fill_retentions_core : Core
+fill_retentions_core = from_all (One (named (codes "org")) None (codes "org") ∷ One (named (codes "name")) None (codes "name") ∷ One (Integer (codes "100")) None (codes "100") ∷ []) (codes "ws")
 
-abbrev pub fill_keepings : Statement
-fill_keepings = written.Insert Abort (codes "keeping") keeping_columns (Selected (select fill_keepings_core (by_rowid false) None)) [] []
+abbrev pub fill_retentions : Statement
+fill_retentions = written.Insert Abort (codes "keeping") retention_columns (Selected (select fill_retentions_core (by_rowid false) None)) [] []
 
 abbrev pub clear_schema_version : Statement
 clear_schema_version = written.Delete (codes "meta") None []

@@ -27,10 +27,10 @@ use Rattle.statements.proofs.TokenFoundTexts.{find_token_means, find_token_rest,
 -- a row that shows a bound was found with one
 bounded_read : (name : List ℕ) (role : Role) (o : Option (Kept BoundRow)) (b : BoundedRole)
     → IsBoundedRole (Text name ∷ number (role_code role) ∷ column (row_or (stored bound_cells) o) 3 ∷ column (row_or (stored bound_cells) o) 4 ∷ []) b → (b.token ≡ record { name = name; role = role }) × (option_map bound_in o ≡ Some b.bounds)
-bounded_read name role None b told = absurd (let e : Null ≡ Text b.bounds.prefix = told.prefix in cc)
-bounded_read name role (Some z) b told = (
-  named_role_read name role b.token (record { name = told.name; role = told.role }),
-  ap Some (sym (bound_read z.1.until z.1.prefix b.bounds (record { until = told.until; prefix = told.prefix }))),
+bounded_read name role None b reported = absurd (let e : Null ≡ Text b.bounds.prefix = reported.prefix in cc)
+bounded_read name role (Some z) b reported = (
+  named_role_read name role b.token (record { name = reported.name; role = reported.role }),
+  ap Some (sym (bound_read z.1.until z.1.prefix b.bounds (record { until = reported.until; prefix = reported.prefix }))),
 )
 
 module _ (old new : State) (t : Tables) (h : Holds old.now t) where
@@ -64,5 +64,5 @@ module _ (old new : State) (t : Tables) (h : Holds old.now t) where
         let one = one_is token_cells bound_cells (overlay old.now.trees []) here t.tokens (stored_tree old.now.trees here held.own.place.low ∙ held.rows) there t.bounds (stored_tree old.now.trees there reach.own.place.low ∙ reach.rows)
         find_token_rest (Text org ∷ Blob digest ∷ []) of_token (is_digest_of org digest) (λ x r. text_blob x.1.org org x.1.it.digest digest) (λ x. is_bound org x.1.name) (λ x y. two_texts y.1.org org y.1.name x.1.name)
         (λ l. refl) row (answer (row ∷ []) shown) in
-        let told = bounded_read one.0.1.name one.0.1.it.role (find (is_bound org one.0.1.name) t.bounds) b (subst (λ r. IsBoundedRole r b) one.2 is) in
-        (ap Some told.0 ∙ ap (option_map named_role) (sym one.1), ap (λ (n : List ℕ). bound_of org n t) (λ i. (told.0 i).name) ∙ told.1)
+        let reported = bounded_read one.0.1.name one.0.1.it.role (find (is_bound org one.0.1.name) t.bounds) b (subst (λ r. IsBoundedRole r b) one.2 is) in
+        (ap Some reported.0 ∙ ap (option_map named_role) (sym one.1), ap (λ (n : List ℕ). bound_of org n t) (λ i. (reported.0 i).name) ∙ reported.1)

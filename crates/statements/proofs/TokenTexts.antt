@@ -8,7 +8,7 @@ use Rattle.sqlite_schema.specs.declared.schema.Schema.{Schema}
 use Rattle.sqlite_schema.specs.declared.command.Source.TheVariants.{Values}
 use Rattle.sqlite_schema.specs.declared.command.Command.TheVariants.{Insert, Delete}
 use Rattle.sqlite_tied.specs.Compute.{everything}
-use Rattle.statements.specs.declared.tokens.TheConstants.{ADD_TOKEN, TOKEN_ROLE, NAMED_TOKEN_ROLE, LIST_TOKENS, LIST_WHOLE_TOKENS, REMOVE_TOKEN}
+use Rattle.statements.specs.declared.tokens.TheConstants.{ADD_TOKEN, TOKEN_ROLE, NAMED_TOKEN_ROLE, LIST_TOKENS, LIST_DIGEST_TOKENS, REMOVE_TOKEN}
 use Rattle.statements.specs.Place.{StandsAt}
 use Rattle.statements.specs.Schema.{token_table}
 use Rattle.statements.proofs.SyntaxTrees as st
@@ -31,11 +31,11 @@ token_names = codes "name" ∷ codes "role" ∷ []
 abbrev pub list_tokens_rest : Query
 list_tokens_rest = point_rest (is_at 1 0 ∷ []) (col 1 2 ∷ col 1 4 ∷ []) no_page
 
-abbrev pub whole_token_names : List (List ℕ)
-whole_token_names = codes "name" ∷ codes "digest" ∷ codes "role" ∷ []
+abbrev pub digest_token_names : List (List ℕ)
+digest_token_names = codes "name" ∷ codes "digest" ∷ codes "role" ∷ []
 
-abbrev pub list_whole_tokens_rest : Query
-list_whole_tokens_rest = point_rest (is_at 1 0 ∷ []) (col 1 2 ∷ col 1 3 ∷ col 1 4 ∷ []) no_page
+abbrev pub list_digest_tokens_rest : Query
+list_digest_tokens_rest = point_rest (is_at 1 0 ∷ []) (col 1 2 ∷ col 1 3 ∷ col 1 4 ∷ []) no_page
 
 pub token_role_asks : Asks token_table TOKEN_ROLE.now (λ tree. point token_role_rest tree false) (codes "role" ∷ [])
 unfolding everything
@@ -55,10 +55,10 @@ list_tokens_asks =
     asks st.list_tokens_core (st.by_column (codes "name")) None (λ tree. listing_draft list_tokens_rest tree 2) (Some Binary ∷ Some Binary ∷ []) refl refl (λ s tree. refl) (λ s again. refl)
     (λ s at tree h. rw (h.named, h.found, h.found, h.found, h.found) refl) (λ s at tree h. rw (h.low, h.treed) refl)
 
-pub list_whole_tokens_asks : Asks token_table LIST_WHOLE_TOKENS.now (λ tree. listing list_whole_tokens_rest tree 2) whole_token_names
+pub list_digest_tokens_asks : Asks token_table LIST_DIGEST_TOKENS.now (λ tree. listing list_digest_tokens_rest tree 2) digest_token_names
 unfolding everything
-list_whole_tokens_asks =
-    asks st.list_whole_tokens_core (st.by_column (codes "name")) None (λ tree. listing_draft list_whole_tokens_rest tree 2) (Some Binary ∷ Some Binary ∷ Some Binary ∷ []) refl refl (λ s tree. refl) (λ s again. refl)
+list_digest_tokens_asks =
+    asks st.list_digest_tokens_core (st.by_column (codes "name")) None (λ tree. listing_draft list_digest_tokens_rest tree 2) (Some Binary ∷ Some Binary ∷ Some Binary ∷ []) refl refl (λ s tree. refl) (λ s again. refl)
     (λ s at tree h. rw (h.named, h.found, h.found, h.found, h.found) refl) (λ s at tree h. rw (h.low, h.treed) refl)
 
 module _ (s : Schema) (at tree : ℕ) (h : StandsAt s (codes "token") token_table at tree) where

@@ -42,15 +42,15 @@ any_wrote old new text params (Ok any) wrote = ((wrote.0.0, wrote.0.1), tt)
 any_wrote old new text params (Err e) wrote = (tt, wrote.1)
 
 -- what a write that is done tells of the rows before it
-pub tells_by : {X E : Type 0} (law : Tables → Type 0) (old new : State) (text : List ℕ) (params : Row) (result : Result X E) → Wrote text params old new result
+pub reports_by : {X E : Type 0} (law : Tables → Type 0) (old new : State) (text : List ℕ) (params : Row) (result : Result X E) → Wrote text params old new result
     → ((count : ℕ) (t : Tables) → Holds old.now t → Executes text params old new (Ok count) → law t) → OnOk result ((t : Tables) → Holds old.now t → law t)
-tells_by law old new text params (Ok x) wrote tells = λ t h. tells wrote.0.0 t h wrote.0.1.0
-tells_by law old new text params (Err e) wrote tells = tt
+reports_by law old new text params (Ok x) wrote reports = λ t h. reports wrote.0.0 t h wrote.0.1.0
+reports_by law old new text params (Err e) wrote reports = tt
 
 pub finds_by : {E : Type 0} (has : Tables → Bool) (old new : State) (text : List ℕ) (params : Row) (result : Result Bool E) → WroteAny text params old new result
     → ((count : ℕ) (t : Tables) → Holds old.now t → Executes text params old new (Ok count) → not (count == 0) ≡ has t) → IfOk result (λ found. (t : Tables) → Holds old.now t → found ≡ has t)
-finds_by has old new text params (Ok any) wrote tells = λ t h. wrote.0.2 ∙ tells wrote.0.0 t h wrote.0.1.0
-finds_by has old new text params (Err e) wrote tells = tt
+finds_by has old new text params (Ok any) wrote reports = λ t h. wrote.0.2 ∙ reports wrote.0.0 t h wrote.0.1.0
+finds_by has old new text params (Err e) wrote reports = tt
 
 alters_by : {X E : Type 0} (Change : Database → Database → Type 0) (old new : State) (text : List ℕ) (params : Row) (result : Result X E) → Wrote text params old new result
     → ((count : ℕ) → Executes text params old new (Ok count) → Change old.now new.now) → OnOk result (Alters Change old new) × OnErr result (KeepsCommit old new)
@@ -81,9 +81,9 @@ reads_by read Is old new text params (Ok r) (Ok o) first calm is pins = (λ t h.
 pub one_read : {X E F : Type 0} (Is : Row → X → Type 0) (old new : State) (text : List ℕ) (params : Row) (row : Result (Option Row) E) (result : Result (Option X) F)
     → IfOk row (FirstRow text params old new) → IsRead Is row result → (P : Option X → Type 0)
     → ((o : Option X) → ((want : Option X) → ((r : Option Row) → FirstRow text params old new r → Pins Is r want) → o ≡ want) → P o) → IfOk result P
-one_read Is old new text params row (Err f) first is P tells = tt
-one_read Is old new text params (Err e) (Ok o) first is P tells = absurd is
-one_read Is old new text params (Ok r) (Ok o) first is P tells = tells o (λ want pins. read_same Is r o want is (pins r first))
+one_read Is old new text params row (Err f) first is P reports = tt
+one_read Is old new text params (Err e) (Ok o) first is P reports = absurd is
+one_read Is old new text params (Ok r) (Ok o) first is P reports = reports o (λ want pins. read_same Is r o want is (pins r first))
 
 -- what a query leaves, however it ended
 pub left_calm : {X E : Type 0} {A B : Type 0} (result : Result X E) → OnOk result A × OnErr result (A ⊎ B) → A ⊎ B
@@ -132,7 +132,7 @@ counts_by read old new text params (Ok r) (Ok n) first calm is shows = (λ t h. 
     same None m is e = absurd (cc)
     same (Some row) m is e =
         let shown : row ≡ number m ∷ [] = cc in
-        let told : number m ≡ number n = subst (λ (l : Row). IsNumber l n) shown is in
+        let reported : number m ≡ number n = subst (λ (l : Row). IsNumber l n) shown is in
         cc
 
 -- ---- the whole of what a function promises

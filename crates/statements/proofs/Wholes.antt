@@ -12,7 +12,7 @@ use Rattle.sqlite_schema.specs.declared.command.Command.TheVariants.{Select}
 use Rattle.sqlite.specs.Held.{Held, state}
 use Rattle.sqlite.specs.State.{State, Shown}
 use Rattle.sqlite_keyed.proofs.ListLemmas.{filter_all, all_of}
-use Rattle.statements.specs.declared.making.TheConstants.{NEWEST}
+use Rattle.statements.specs.declared.making.TheConstants.{SCHEMA_VERSION}
 use Rattle.statements.specs.Place.{tree_of}
 use Rattle.statements.specs.Rows.{Kept, stored}
 use Rattle.statements.specs.Tables.{Layout, count_in}
@@ -49,7 +49,7 @@ module _ {R : Type 0} (layout : Layout R) (old new : State) (xs : List (Kept R))
       let each = filter_all (λ (x : Kept R). true) xs (all_of (λ x. true ≡ true) (λ x. refl) xs) in
       let answer = all_are layout.cells (overlay old.now.trees []) here xs (stored_tree old.now.trees here held.own.place.low ∙ held.rows) held.keyed (point_rest [] project no_page) [] (λ x. true) (λ x. refl) (λ l. refl) in
       let listed : rows ≡ map show xs = all_listed text [] old new (whole project here) names means rows _ answer shown ∙ ap (map show) each in
-      read_as (λ row y. y ≡ read row) show (λ x. x) (λ x y told. told ∙ back x) xs rows ys listed are ∙ map-id xs
+      read_as (λ row y. y ≡ read row) show (λ x. x) (λ x y reported. reported ∙ back x) xs rows ys listed are ∙ map-id xs
 
 -- of a table of ours: a scan whose text means such a query gives its rows
 pub scans : {S R E : Type 0} {text : List ℕ} {project : List Term} {names : List (List ℕ)} (g : Ghosts S) (x : Ours R) (old new : Held S) (result : Result (List (Kept R)) E)
@@ -58,14 +58,14 @@ pub scans : {S R E : Type 0} {text : List ℕ} {project : List Term} {names : Li
 scans {text} {project} {names} g x old new result asks read back q = record {
   mode = q.mode;
   read = λ clean.
-      let told = q.read clean in (
+      let reported = q.read clean in (
         IfOk-weaker result _ _
             (λ ys gives t h.
-            let held = held_in x (count_in NEWEST) x.low (state g old).now t (holds_all (state g old).now t h) in
+            let held = held_in x (count_in SCHEMA_VERSION) x.low (state g old).now t (holds_all (state g old).now t h) in
             let all = gives t h in
             whole_are x.layout (state g old) (state g new) (x.rows t) held text project names read back (asks.meaning (state g old).now.schema _ _ held.own.place) all.0 ys all.1 all.2)
-            told.0,
-        told.1,
+            reported.0,
+        reported.1,
       );
   survives = q.survives;
 }

@@ -23,7 +23,7 @@ use Rattle.sqlite_resolve.specs.Body.{within, outputs, left_join, tests}
 use Rattle.sqlite_resolve.specs.Order.{sorts}
 use Rattle.sqlite_tied.specs.Compute.{everything}
 use Rattle.statements.specs.Place.{StandsAt}
-use Rattle.statements.specs.Schema.{ws_table, keeping_table, version_table}
+use Rattle.statements.specs.Schema.{ws_table, retention_table, version_table}
 use Rattle.statements.proofs.SyntaxTrees as st
 use Rattle.statements.proofs.Columns.{place_of, orders_of}
 use Rattle.statements.proofs.JoinParts.{composed, by_bytes, shown_as, read_so_far, no_tests}
@@ -40,7 +40,7 @@ of_version_before slot = of_workspace slot ++ op2 (Compare Eq Binary) (col slot 
 
 -- the rows of keeping and of version
 abbrev pub with_both : ℕ → ℕ → Join
-with_both keepings versions = left keepings (of_workspace 2) (left versions (of_version_before 3) end)
+with_both retentions versions = left retentions (of_workspace 2) (left versions (of_version_before 3) end)
 
 abbrev pub list_ws_names : List (List ℕ)
 list_ws_names = st.ws_names ++ codes "name" ∷ codes "keep" ∷ codes "number" ∷ st.run_settings_names
@@ -54,7 +54,7 @@ shown_in slot table = map (λ name. shown_as name slot (place_of table name))
 
 abbrev pub list_ws_shown : List Output
 list_ws_shown =
-    shown_in 1 ws_table st.ws_names ++ shown_in 1 ws_table (codes "name" ∷ []) ++ shown_in 2 keeping_table (codes "keep" ∷ []) ++ shown_in 3 version_table (codes "number" ∷ [])
+    shown_in 1 ws_table st.ws_names ++ shown_in 1 ws_table (codes "name" ∷ []) ++ shown_in 2 retention_table (codes "keep" ∷ []) ++ shown_in 3 version_table (codes "number" ∷ [])
     ++ shown_in 1 ws_table st.run_settings_names
 
 abbrev list_ws_project : List Term
@@ -70,7 +70,7 @@ list_ws_within_rest = point_rest (is_at 1 0 ∷ is_above 2 1 ∷ is_from 2 2 ∷
 abbrev left_behind : ℕ → ℕ
 left_behind steps = 100_000 - (length list_ws_names + steps)
 
-module _ (s : Schema) (at tree : ℕ) (h : StandsAt s (codes "ws") ws_table at tree) (retention_at keepings : ℕ) (k : StandsAt s (codes "keeping") keeping_table retention_at keepings)
+module _ (s : Schema) (at tree : ℕ) (h : StandsAt s (codes "ws") ws_table at tree) (retention_at retentions : ℕ) (k : StandsAt s (codes "keeping") retention_table retention_at retentions)
     (version_at versions : ℕ) (v : StandsAt s (codes "version") version_table version_at versions) where
   abbrev pub list_ws_tables : List Bound
   list_ws_tables =
@@ -88,10 +88,10 @@ module _ (s : Schema) (at tree : ℕ) (h : StandsAt s (codes "ws") ws_table at t
   abbrev pub list_ws_inside : Context
   list_ws_inside = within (outermost s) (list_ws_level list_ws_shown) false
 
-  pub joins_keeping : (done : Joined) → left_join lower list_ws_inside done keepings 2 [] (Some (st.of_workspace (codes "keeping"))) (read_so_far 4 (left_behind 0) by_bytes)
-      ≡ Ok (record done { steps = done.steps ++ Left keepings (of_workspace 2) ∷ [] }, read_so_far 4 (left_behind 7) nothing)
+  pub joins_retention : (done : Joined) → left_join lower list_ws_inside done retentions 2 [] (Some (st.of_workspace (codes "keeping"))) (read_so_far 4 (left_behind 0) by_bytes)
+      ≡ Ok (record done { steps = done.steps ++ Left retentions (of_workspace 2) ∷ [] }, read_so_far 4 (left_behind 7) nothing)
   unfolding everything
-  joins_keeping done = rw (h.found, k.found, k.found, v.found, h.found, k.found, h.found) refl
+  joins_retention done = rw (h.found, k.found, k.found, v.found, h.found, k.found, h.found) refl
 
   pub joins_version : (done : Joined) → left_join lower list_ws_inside done versions 3 [] (Some (st.of_version_before (codes "version"))) (read_so_far 4 (left_behind 7) nothing)
       ≡ Ok (record done { steps = done.steps ++ Left versions (of_version_before 3) ∷ [] }, read_so_far 4 (left_behind 20) nothing)
@@ -114,12 +114,12 @@ module _ (s : Schema) (at tree : ℕ) (h : StandsAt s (codes "ws") ws_table at t
   unfolding everything
   by_name_within = rw (h.found, k.found, v.found, h.found) refl
 
-  pub list_ws_named : named s st.list_ws_core (st.by_column (codes "name")) (page_to 2) ≡ Ok ((joined_draft list_ws_rest tree (with_both keepings versions) 2), list_ws_names, list_ws_orders)
+  pub list_ws_named : named s st.list_ws_core (st.by_column (codes "name")) (page_to 2) ≡ Ok ((joined_draft list_ws_rest tree (with_both retentions versions) 2), list_ws_names, list_ws_orders)
   unfolding composed
   list_ws_named = rw (h.named, k.named, v.named, columns_are, h.found, no_tests list_ws_inside (read_so_far 4 (left_behind 0) by_bytes))
-      (rw (k.found, joins_keeping _, v.found, joins_version _, those_after) (rw (no_tests (inside s (list_ws_level list_ws_shown) false) (read_so_far 4 (left_behind 27) nothing), by_name) refl))
+      (rw (k.found, joins_retention _, v.found, joins_version _, those_after) (rw (no_tests (inside s (list_ws_level list_ws_shown) false) (read_so_far 4 (left_behind 27) nothing), by_name) refl))
 
-  pub list_ws_within_named : named s st.list_ws_within_core (st.by_column (codes "name")) (page_to 4) ≡ Ok ((joined_draft list_ws_within_rest tree (with_both keepings versions) 2), list_ws_names, list_ws_orders)
+  pub list_ws_within_named : named s st.list_ws_within_core (st.by_column (codes "name")) (page_to 4) ≡ Ok ((joined_draft list_ws_within_rest tree (with_both retentions versions) 2), list_ws_names, list_ws_orders)
   unfolding composed
   list_ws_within_named = rw (h.named, k.named, v.named, columns_are, h.found, no_tests list_ws_inside (read_so_far 4 (left_behind 0) by_bytes))
-      (rw (k.found, joins_keeping _, v.found, joins_version _, those_within) (rw (no_tests (inside s (list_ws_level list_ws_shown) false) (read_so_far 4 (left_behind 35) nothing), by_name_within) refl))
+      (rw (k.found, joins_retention _, v.found, joins_version _, those_within) (rw (no_tests (inside s (list_ws_level list_ws_shown) false) (read_so_far 4 (left_behind 35) nothing), by_name_within) refl))

@@ -5,7 +5,7 @@ use Rattle.sqlite_schema.specs.declared.command.Command.TheVariants.{Select}
 use Rattle.sqlite_ast.specs.declared.Expr.TheVariants.{Parameter}
 use Rattle.sqlite_tied.specs.Compute.{everything}
 use Rattle.statements.specs.Place.{StandsAt}
-use Rattle.statements.specs.Schema.{ws_table, keeping_table, version_table}
+use Rattle.statements.specs.Schema.{ws_table, retention_table, version_table}
 use Rattle.statements.specs.Calls.{IsQuery}
 use Rattle.statements.specs.declared.workspaces.TheConstants.{LIST_WS, LIST_WS_WITHIN}
 use Rattle.statements.proofs.SyntaxTrees as st
@@ -30,16 +30,16 @@ list_ws_within_reads = refl
 pub list_ws_within_is_query : IsQuery LIST_WS_WITHIN.now
 list_ws_within_is_query = asks_query LIST_WS_WITHIN.now st.list_ws_within_core (st.by_column (codes "name")) (Some (Parameter 5)) list_ws_within_reads
 
-module _ (s : Schema) (at tree : ℕ) (h : StandsAt s (codes "ws") ws_table at tree) (retention_at keepings : ℕ) (k : StandsAt s (codes "keeping") keeping_table retention_at keepings)
+module _ (s : Schema) (at tree : ℕ) (h : StandsAt s (codes "ws") ws_table at tree) (retention_at retentions : ℕ) (k : StandsAt s (codes "keeping") retention_table retention_at retentions)
     (version_at versions : ℕ) (v : StandsAt s (codes "version") version_table version_at versions) where
-  pub list_ws_means : Means s (Select (plain_program (joined_listing list_ws_rest tree (with_both keepings versions) 2)) list_ws_names) LIST_WS.now
+  pub list_ws_means : Means s (Select (plain_program (joined_listing list_ws_rest tree (with_both retentions versions) 2)) list_ws_names) LIST_WS.now
   unfolding everything
   list_ws_means =
-      select_means LIST_WS.now st.list_ws_core (st.by_column (codes "name")) (Some (Parameter 3)) list_ws_reads s (page_to 2) (joined_draft list_ws_rest tree (with_both keepings versions) 2) (joined_listing list_ws_rest tree (with_both keepings versions) 2) list_ws_names list_ws_orders refl refl (λ again. refl)
-      (list_ws_named s at tree h retention_at keepings k version_at versions v) (rw (h.low, k.low, v.low, h.treed, k.treed, v.treed) refl)
+      select_means LIST_WS.now st.list_ws_core (st.by_column (codes "name")) (Some (Parameter 3)) list_ws_reads s (page_to 2) (joined_draft list_ws_rest tree (with_both retentions versions) 2) (joined_listing list_ws_rest tree (with_both retentions versions) 2) list_ws_names list_ws_orders refl refl (λ again. refl)
+      (list_ws_named s at tree h retention_at retentions k version_at versions v) (rw (h.low, k.low, v.low, h.treed, k.treed, v.treed) refl)
 
-  pub list_ws_within_means : Means s (Select (plain_program (joined_listing list_ws_within_rest tree (with_both keepings versions) 2)) list_ws_names) LIST_WS_WITHIN.now
+  pub list_ws_within_means : Means s (Select (plain_program (joined_listing list_ws_within_rest tree (with_both retentions versions) 2)) list_ws_names) LIST_WS_WITHIN.now
   unfolding everything
   list_ws_within_means =
-      select_means LIST_WS_WITHIN.now st.list_ws_within_core (st.by_column (codes "name")) (Some (Parameter 5)) list_ws_within_reads s (page_to 4) (joined_draft list_ws_within_rest tree (with_both keepings versions) 2) (joined_listing list_ws_within_rest tree (with_both keepings versions) 2) list_ws_names list_ws_orders refl refl (λ again. refl)
-      (list_ws_within_named s at tree h retention_at keepings k version_at versions v) (rw (h.low, k.low, v.low, h.treed, k.treed, v.treed) refl)
+      select_means LIST_WS_WITHIN.now st.list_ws_within_core (st.by_column (codes "name")) (Some (Parameter 5)) list_ws_within_reads s (page_to 4) (joined_draft list_ws_within_rest tree (with_both retentions versions) 2) (joined_listing list_ws_within_rest tree (with_both retentions versions) 2) list_ws_names list_ws_orders refl refl (λ again. refl)
+      (list_ws_within_named s at tree h retention_at retentions k version_at versions v) (rw (h.low, k.low, v.low, h.treed, k.treed, v.treed) refl)

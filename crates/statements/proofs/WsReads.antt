@@ -10,16 +10,16 @@ use Rattle.sqlite_typed.specs.Columns.{or_null}
 use Rattle.sqlite_keyed.proofs.ListLemmas.{ascending_weaker}
 use Rattle.sqlite.specs.State.{State, Shown}
 use Rattle.statements.specs.Place.{tree_of}
-use Rattle.statements.specs.Schema.{ws_table, keeping_table, version_table}
-use Rattle.statements.specs.Rows.{Kept, WsRow, VersionRow, KeepingRow, stored, ws_cells, version_cells, keeping_cells, number}
-use Rattle.statements.specs.Tables.{Tables, Holds, ws_layout, version_layout, keeping_layout}
-use Rattle.statements.specs.Changes.{is_ws, is_ws_of, is_keeping, is_version}
+use Rattle.statements.specs.Schema.{ws_table, retention_table, version_table}
+use Rattle.statements.specs.Rows.{Kept, WsRow, VersionRow, RetentionRow, stored, ws_cells, version_cells, retention_cells, number}
+use Rattle.statements.specs.Tables.{Tables, Holds, ws_layout, version_layout, retention_layout}
+use Rattle.statements.specs.Changes.{is_ws, is_ws_of, is_retention, is_version}
 use Rattle.statements.specs.Finds.{workspace_of, workspaces_of, retention_of, is_one_less, is_version_before, version_before}
 use Rattle.statements.specs.Calls.{FirstRow, FirstRows, LimitsTo, Pins, IsWorkspace, IsNamedRow, IsName}
 use Rattle.statements.specs.declared.rows.NamedWorkspace.{NamedWorkspace}
 use Rattle.statements.specs.Listings.{named_row, is_behind, workspace_rows_after, workspace_names_of, later_of, end_of, WorkspacesApart, NamesApart}
 use Rattle.statements.specs.declared.workspaces.TheConstants.{LIST_WS, LIST_WS_WITHIN, FIND_WS, COUNT_WS, LIST_NAMES}
-use Rattle.statements.proofs.Held.{IsHeld, wss_held, versions_held, keepings_held}
+use Rattle.statements.proofs.Held.{IsHeld, wss_held, versions_held, retentions_held}
 use Rattle.statements.proofs.NameLists.{by_text, wss_apart, names_within, own_names}
 use Rattle.statements.proofs.Listed.{Ends, limit_enough}
 use Rattle.statements.proofs.Lefts.{row_or, left_is}
@@ -32,19 +32,19 @@ use Rattle.basis.proofs.NameLemmas.{equal_bytes}
 use Rattle.std.specs.Str.{bytes_eq}
 use Rattle.std.proofs.lemmas.Bool.{and_parts}
 use Rattle.statements.proofs.PointReads.{first_own, count_own}
-use Rattle.statements.proofs.ReadBack.{text_read, workspace_told, workspace_back, named_workspace_read}
+use Rattle.statements.proofs.ReadBack.{text_read, workspace_reported, workspace_back, named_workspace_read}
 use Rattle.statements.proofs.Conditions.{one_text, two_texts, same_text, text_after, one_number, two_texts_one_less}
 use Rattle.statements.proofs.WsListParts.{of_workspace, of_version_before, with_both, list_ws_rest, list_ws_names, list_ws_within_rest}
 use Rattle.statements.proofs.WsListTexts.{list_ws_means, list_ws_within_means}
 use Rattle.statements.proofs.WsTexts.{find_ws_names, find_ws_asks, find_ws_rest, count_ws_asks, count_ws_rest, list_names_asks, list_names_rest}
 
 -- two rows for one workspace of an organization clash
-one_keeping : (org ws : List ℕ) (a b : Kept KeepingRow) → is_keeping a.1.org a.1.ws b ≡ false → is_keeping org ws a ≡ true → is_keeping org ws b ≡ false
-one_keeping org ws a b apart mine =
+one_retention : (org ws : List ℕ) (a b : Kept RetentionRow) → is_retention a.1.org a.1.ws b ≡ false → is_retention org ws a ≡ true → is_retention org ws b ≡ false
+one_retention org ws a b apart mine =
     let same = and_parts (bytes_eq a.1.org org) (bytes_eq a.1.ws ws) mine in
     let one = equal_bytes a.1.org org same.0 in
     let two = equal_bytes a.1.ws ws same.1 in
-    sym (λ i. is_keeping (one i) (two i) b) ∙ apart
+    sym (λ i. is_retention (one i) (two i) b) ∙ apart
 
 three_true : (a b c : Bool) → (a && (b && c)) ≡ true → (a ≡ true) × (b ≡ true) × (c ≡ true)
 three_true true true c h = (refl, refl, h)
@@ -81,24 +81,24 @@ module _ (old new : State) (t : Tables) (h : Holds old.now t) where
   pub find_ws_shows : (org name : List ℕ) (row : Option Row) → FirstRow FIND_WS.now (Text org ∷ Text name ∷ []) old new row → Pins IsWorkspace row (workspace_of org name t)
   find_ws_shows org name row first =
       first_own ws_cells ws_table old new held.own t.wss held.rows held.keyed FIND_WS.now (Text org ∷ Text name ∷ []) row first find_ws_rest find_ws_names
-      (is_ws org name) (λ x. two_texts x.1.org org x.1.name name) IsWorkspace (λ x. x.1.it) (λ x y told. workspace_told 0 7 _ y told ∙ workspace_back x.1.it) (find_ws_asks.meaning old.now.schema _ _ held.own.place) (λ l. refl)
+      (is_ws org name) (λ x. two_texts x.1.org org x.1.name name) IsWorkspace (λ x. x.1.it) (λ x y reported. workspace_reported 0 7 _ y reported ∙ workspace_back x.1.it) (find_ws_asks.meaning old.now.schema _ _ held.own.place) (λ l. refl)
 
   pub count_ws_shows : (org : List ℕ) (row : Option Row) → FirstRow COUNT_WS.now (Text org ∷ []) old new row → row ≡ Some (number (workspaces_of org t) ∷ [])
   count_ws_shows org row first =
       count_own ws_cells ws_table old new held.own t.wss held.rows held.keyed COUNT_WS.now (Text org ∷ []) row first count_ws_rest (codes "count(*)" ∷ [])
       (is_ws_of org) (λ x. one_text x.1.org org) (count_ws_asks.meaning old.now.schema _ _ held.own.place) (λ l. refl)
 
-  abbrev kept : IsHeld keeping_layout old.now t.keepings
-  kept = keepings_held old.now t h
+  abbrev kept : IsHeld retention_layout old.now t.retentions
+  kept = retentions_held old.now t h
 
   -- the row of keeping that LEFT JOIN finds for a workspace, or none
   abbrev kept_row : List ℕ → Kept WsRow → Row
-  kept_row org x = row_or (stored keeping_cells) (find (is_keeping org x.1.name) t.keepings)
+  kept_row org x = row_or (stored retention_cells) (find (is_retention org x.1.name) t.retentions)
 
   kept_cell : (org : List ℕ) (x : Kept WsRow) → column (kept_row org x) 3 ≡ or_null number (retention_of org x.1.name t)
-  kept_cell org x = by_row (find (is_keeping org x.1.name) t.keepings)
+  kept_cell org x = by_row (find (is_retention org x.1.name) t.retentions)
     where
-      by_row : (o : Option (Kept KeepingRow)) → column (row_or (stored keeping_cells) o) 3 ≡ or_null number (option_map (λ (y : Kept KeepingRow). y.1.keep) o)
+      by_row : (o : Option (Kept RetentionRow)) → column (row_or (stored retention_cells) o) 3 ≡ or_null number (option_map (λ (y : Kept RetentionRow). y.1.retention) o)
       by_row None = refl
       by_row (Some y) = refl
 
@@ -118,16 +118,16 @@ module _ (old new : State) (t : Tables) (h : Holds old.now t) where
 
   -- the steps of FROM behind ws
   abbrev joined : Join
-  joined = with_both (tree_of old.now.schema keeping_table.name) (tree_of old.now.schema version_table.name)
+  joined = with_both (tree_of old.now.schema retention_table.name) (tree_of old.now.schema version_table.name)
 
   abbrev both_rows : List ℕ → Kept WsRow → Env
   both_rows org x = kept_row org x ∷ before_row org x ∷ []
 
   both_found : (org : List ℕ) (more : Row) → WorkspacesApart t → Ends (overlay old.now.trees []) (λ (x : Kept WsRow). (Text org ∷ more) ∷ stored ws_cells x ∷ []) joined (both_rows org)
   both_found org more apart terms x =
-      left_is (stored keeping_cells) (is_keeping org x.1.name) (overlay old.now.trees []) (tree_of old.now.schema keeping_table.name) t.keepings
-      (stored_tree old.now.trees (tree_of old.now.schema keeping_table.name) kept.own.place.low ∙ kept.rows) (of_workspace 2) ((Text org ∷ more) ∷ stored ws_cells x ∷ [])
-      (λ y. two_texts y.1.org org y.1.ws x.1.name) (ascending_weaker _ _ (λ a b. one_keeping org x.1.name a b) t.keepings apart.keepings) terms (left (tree_of old.now.schema version_table.name) (of_version_before 3) end)
+      left_is (stored retention_cells) (is_retention org x.1.name) (overlay old.now.trees []) (tree_of old.now.schema retention_table.name) t.retentions
+      (stored_tree old.now.trees (tree_of old.now.schema retention_table.name) kept.own.place.low ∙ kept.rows) (of_workspace 2) ((Text org ∷ more) ∷ stored ws_cells x ∷ [])
+      (λ y. two_texts y.1.org org y.1.ws x.1.name) (ascending_weaker _ _ (λ a b. one_retention org x.1.name a b) t.retentions apart.retentions) terms (left (tree_of old.now.schema version_table.name) (of_version_before 3) end)
       ∙ left_is (stored version_cells) (is_version_before org x.1.name x.1.it.next_version) (overlay old.now.trees []) (tree_of old.now.schema version_table.name) t.versions
       (stored_tree old.now.trees (tree_of old.now.schema version_table.name) made.own.place.low ∙ made.rows) (of_version_before 3) ((Text org ∷ more) ∷ stored ws_cells x ∷ kept_row org x ∷ [])
       (λ y. two_texts_one_less y.1.org org y.1.ws x.1.name y.1.it.number x.1.it.next_version) (ascending_weaker _ _ (λ a b. one_version org x.1.name x.1.it.next_version a b) t.versions apart.versions) terms end
@@ -136,7 +136,7 @@ module _ (old new : State) (t : Tables) (h : Holds old.now t) where
       → wss ≡ workspace_rows_after org after [] most t
   list_ws_shows org after most limit limits rows wss apart first read =
       names_within ws_cells ws_table old new held.own t.wss held.rows LIST_WS.now (Text org ∷ Text after ∷ Int limit ∷ []) list_ws_rest 2 list_ws_names joined (both_rows org) (both_found org (Text after ∷ Int limit ∷ []) apart)
-      IsNamedRow (λ x. x.1.name) (λ x. x.1.it) (named_row org t) (λ x y told. named_workspace_read x.1.name x.1.it _ _ (retention_of org x.1.name t) (version_before org x.1.name x.1.it.next_version t) (kept_cell org x) (before_cell org x) y told)
+      IsNamedRow (λ x. x.1.name) (λ x. x.1.it) (named_row org t) (λ x y reported. named_workspace_read x.1.name x.1.it _ _ (retention_of org x.1.name t) (version_before org x.1.name x.1.it.next_version t) (kept_cell org x) (before_cell org x) y reported)
       (λ x y. by_text x.1.name y.1.name) (list_ws_means old.now.schema _ _ held.own.place _ _ kept.own.place _ _ made.own.place) most (λ l. limit_enough most limit limits l) (is_ws_of org) (λ n. is_behind after n && admits [] n)
       (λ x. text_after x.1.org org x.1.name after ∙ ap (λ b. bytes_eq x.1.org org && b) (all_admitted (is_behind after x.1.name) x.1.name)) (wss_apart org t.wss apart.wss) rows wss first read
 
@@ -145,7 +145,7 @@ module _ (old new : State) (t : Tables) (h : Holds old.now t) where
       → wss ≡ workspace_rows_after org after prefix most t
   list_ws_within_shows org after prefix some most limit limits rows wss apart first read =
       names_within ws_cells ws_table old new held.own t.wss held.rows LIST_WS_WITHIN.now (Text org ∷ Text after ∷ Text (later_of after prefix) ∷ Text (end_of prefix) ∷ Int limit ∷ []) list_ws_within_rest 2 list_ws_names joined (both_rows org) (both_found org (Text after ∷ Text (later_of after prefix) ∷ Text (end_of prefix) ∷ Int limit ∷ []) apart)
-      IsNamedRow (λ x. x.1.name) (λ x. x.1.it) (named_row org t) (λ x y told. named_workspace_read x.1.name x.1.it _ _ (retention_of org x.1.name t) (version_before org x.1.name x.1.it.next_version t) (kept_cell org x) (before_cell org x) y told)
+      IsNamedRow (λ x. x.1.name) (λ x. x.1.it) (named_row org t) (λ x y reported. named_workspace_read x.1.name x.1.it _ _ (retention_of org x.1.name t) (version_before org x.1.name x.1.it.next_version t) (kept_cell org x) (before_cell org x) y reported)
       (λ x y. by_text x.1.name y.1.name) (list_ws_within_means old.now.schema _ _ held.own.place _ _ kept.own.place _ _ made.own.place) most (λ l. limit_enough most limit limits l) (is_ws_of org) (λ n. is_behind after n && admits prefix n)
       (λ x. then_term (same_text x.1.org org) (then_term (at_texts _ Gt x.1.name after) (then_term (at_texts _ Ge x.1.name (later_of after prefix)) (last_term (at_texts _ Lt x.1.name (end_of prefix)))))
       ∙ ap (λ b. bytes_eq x.1.org org && b) (within after prefix x.1.name some)) (wss_apart org t.wss apart.wss) rows wss first read
@@ -153,5 +153,5 @@ module _ (old new : State) (t : Tables) (h : Holds old.now t) where
   pub list_names_shows : (org : List ℕ) (rows : List Row) (names : List (List ℕ)) → NamesApart t → Shown LIST_NAMES.now (Text org ∷ []) old new rows → AllZip IsName rows names → names ≡ workspace_names_of org t
   list_names_shows org rows names apart shown read =
       own_names ws_cells ws_table old new held.own t.wss held.rows LIST_NAMES.now (Text org ∷ []) list_names_rest 2 (codes "name" ∷ []) end (λ _. []) (λ terms x. refl)
-      IsName (λ x. x.1.name) (λ x. x.1.it) (λ e. e.0) (λ x y told. text_read x.1.name y told)
+      IsName (λ x. x.1.name) (λ x. x.1.it) (λ e. e.0) (λ x y reported. text_read x.1.name y reported)
       (λ x y. by_text x.1.name y.1.name) (list_names_asks.meaning old.now.schema _ _ held.own.place) (λ l. refl) (is_ws_of org) (λ x. one_text x.1.org org) (wss_apart org t.wss apart) rows names shown read

@@ -12,15 +12,15 @@ use Rattle.basis.specs.declared.rows.RunSettings.{RunSettings}
 use Rattle.basis.specs.declared.rows.Holder.{Holder}
 use Rattle.statements.specs.declared.rows.Workspace.{Workspace}
 use Rattle.statements.specs.Place.{at_of, tree_of, StandsAt, IsOwn}
-use Rattle.statements.specs.Schema.{ws_table, keeping_table}
+use Rattle.statements.specs.Schema.{ws_table, retention_table}
 use Rattle.statements.specs.Rows.{Kept, WsRow, ws_cells, stored, run_settings_cells, kind_cell, lock_id_cell, lock_text_cell, run_cell, number}
 use Rattle.statements.specs.Tables.{Tables, Holds, ws_layout, our_tables}
-use Rattle.statements.specs.Changes.{is_ws, with_run_settings, held_by, released_from, with_next_version, with_next_run, workspace_made, ws_changed, ws_row_added, ws_row_removed, HasNoKeeping}
+use Rattle.statements.specs.Changes.{is_ws, with_run_settings, held_by, released_from, with_next_version, with_next_run, workspace_made, ws_changed, ws_row_added, ws_row_removed, HasNoRetention}
 use Rattle.statements.specs.Finds.{workspace_of}
 use Rattle.statements.specs.declared.workspaces.TheConstants.{ADD_WS, SET_RUN_SETTINGS, HOLD, RELEASE_LOCK, SET_NEXT_VERSION, SET_NEXT_RUN, REMOVE_WS}
 use Rattle.statements.proofs.Fresh.{insert_sound, none_alike, none_found}
-use Rattle.statements.proofs.Held.{IsHeld, wss, wss_held, keepings_held, trees_apart}
-use Rattle.statements.proofs.Follows.{keeping_follows}
+use Rattle.statements.proofs.Held.{IsHeld, wss, wss_held, retentions_held, trees_apart}
+use Rattle.statements.proofs.Follows.{retention_follows}
 use Rattle.statements.proofs.Childless.{ws_goes}
 use Rattle.statements.proofs.Meaning.{Means}
 use Rattle.statements.proofs.Writes.{plain_program}
@@ -35,17 +35,17 @@ module _ (old new : State) (count : ℕ) (t : Tables) (h : Holds old.now t) wher
   abbrev held : IsHeld ws_layout old.now t.wss
   held = wss_held old.now t h
 
-  keeping_own : IsOwn old.now.schema keeping_table
-  keeping_own = (keepings_held old.now t h).own
+  retention_own : IsOwn old.now.schema retention_table
+  retention_own = (retentions_held old.now t h).own
 
-  keeping_apart : tree_of old.now.schema keeping_table.name ≢ tree_of old.now.schema ws_table.name
-  keeping_apart same = trees_apart old.now.schema our_tables 3 10 ws_table keeping_table refl refl (omega arith) h.ours.apart (sym same)
+  retention_apart : tree_of old.now.schema retention_table.name ≢ tree_of old.now.schema ws_table.name
+  retention_apart same = trees_apart old.now.schema our_tables 3 10 ws_table retention_table refl refl (omega arith) h.ours.apart (sym same)
 
   -- the numbers of versions to keep stay where no workspace goes
-  keeping_stays : (text : List ℕ) (params : Row) → Executes text params old new (Ok count) → (q : Query) → Means old.now.schema (Update (at_of old.now.schema ws_table.name) (plain_program q)) text
-      → new.now.trees (tree_of old.now.schema keeping_table.name) ≡ old.now.trees (tree_of old.now.schema keeping_table.name)
-  keeping_stays text params ran q means =
-      update_leaves ws_cells ws_table ws_casts old new held.own held.steady t.wss held.rows held.keyed text params count ran q means keeping_table keeping_own (keeping_follows old.now.schema held.own) (refl, tt) keeping_apart
+  retention_stays : (text : List ℕ) (params : Row) → Executes text params old new (Ok count) → (q : Query) → Means old.now.schema (Update (at_of old.now.schema ws_table.name) (plain_program q)) text
+      → new.now.trees (tree_of old.now.schema retention_table.name) ≡ old.now.trees (tree_of old.now.schema retention_table.name)
+  retention_stays text params ran q means =
+      update_leaves ws_cells ws_table ws_casts old new held.own held.steady t.wss held.rows held.keyed text params count ran q means retention_table retention_own (retention_follows old.now.schema held.own) (refl, tt) retention_apart
 
   pub add_ws_does : (org name : List ℕ) (runs : RunSettings) → Executes ADD_WS.now (Text org ∷ Text name ∷ run_settings_cells runs) old new (Ok count) → Turns old.now new.now (ws_row_added org name runs t)
   add_ws_does org name runs ran = inserted wss ws_casts old new count t h _ _ ran (add_ws_means old.now.schema) refl refl (record { org = org; name = name; it = workspace_made runs }) refl
@@ -67,7 +67,7 @@ module _ (old new : State) (count : ℕ) (t : Tables) (h : Holds old.now t) wher
   changes : {terms : List Term} (text : List ℕ) (given : Row) (org name : List ℕ) (f : Workspace → Workspace) → Executes text (Text org ∷ Text name ∷ given) old new (Ok count) → SetsCells text terms
       → ((x : Kept WsRow) → eval_all terms ((Text org ∷ Text name ∷ given) ∷ stored ws_cells x ∷ []) ≡ ws_cells (record x.1 { it = f x.1.it })) → Turns old.now new.now (ws_changed f org name t)
   changes text given org name f ran means shows =
-      updated wss ws_casts old new count t h _ _ ran means (is_ws org name) (λ x. two_texts x.1.org org x.1.name name) (λ r. record r { it = f r.it }) shows ((λ _. keeping_stays _ _ ran _ (means _ _ held.own.place)), tt)
+      updated wss ws_casts old new count t h _ _ ran means (is_ws org name) (λ x. two_texts x.1.org org x.1.name name) (λ r. record r { it = f r.it }) shows ((λ _. retention_stays _ _ ran _ (means _ _ held.own.place)), tt)
 
   finds : {terms : List Term} (text : List ℕ) (given : Row) (org name : List ℕ) → Executes text (Text org ∷ Text name ∷ given) old new (Ok count) → SetsCells text terms → not (count == 0) ≡ is_some (workspace_of org name t)
   finds text given org name ran means =
@@ -95,5 +95,5 @@ module _ (old new : State) (count : ℕ) (t : Tables) (h : Holds old.now t) wher
   pub set_next_run_finds : (org name : List ℕ) (next : ℕ) → Executes SET_NEXT_RUN.now (Text org ∷ Text name ∷ number next ∷ []) old new (Ok count) → not (count == 0) ≡ is_some (workspace_of org name t)
   set_next_run_finds org name next ran = finds _ _ org name ran (set_next_run_means old.now.schema)
 
-  pub remove_ws_does : (org name : List ℕ) → HasNoKeeping org name t → Executes REMOVE_WS.now (Text org ∷ Text name ∷ []) old new (Ok count) → Turns old.now new.now (ws_row_removed org name t)
+  pub remove_ws_does : (org name : List ℕ) → HasNoRetention org name t → Executes REMOVE_WS.now (Text org ∷ Text name ∷ []) old new (Ok count) → Turns old.now new.now (ws_row_removed org name t)
   remove_ws_does org name none ran = deleted wss ws_casts old new count t h _ _ ran (remove_ws_means old.now.schema) (is_ws org name) (λ x. two_texts x.1.org org x.1.name name) ((λ _. ws_goes org name old new t h count none ran), tt)

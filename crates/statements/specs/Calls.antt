@@ -118,7 +118,7 @@ IsWorkspace row w = IsWorkspaceIn 0 7 row w
 pub record IsNamedRow (row : Row) (w : NamedWorkspace) : Type 0 where
   pub it : IsWorkspaceIn 0 10 row w.it
   pub name : column row 7 ≡ cell.Text w.name
-  pub keep : IsNumberOrNull (column row 8) w.keep
+  pub retention : IsNumberOrNull (column row 8) w.retention
   pub last : IsNumberOrNull (column row 9) w.last
 
 abbrev pub IsName : Row → List ℕ → Type 0

@@ -14,7 +14,7 @@ use Rattle.basis.specs.declared.rows.Holder.TheVariants.{Nobody}
 use Rattle.basis.specs.declared.rows.VersionRow.{VersionRow as Version}
 use Rattle.statements.specs.declared.rows.Workspace.{Workspace}
 use Rattle.basis.specs.declared.rows.RunRow.{RunRow as Run}
-use Rattle.statements.specs.Rows.{Kept, id_of, OrgRow, TokenRow, WsRow, VersionRow, RunRow, BoundRow, KeepingRow}
+use Rattle.statements.specs.Rows.{Kept, id_of, OrgRow, TokenRow, WsRow, VersionRow, RunRow, BoundRow, RetentionRow}
 use Rattle.statements.specs.Tables.{Tables}
 
 -- one more row, after the others and with the next rowid
@@ -131,37 +131,37 @@ ws_row_removed org name t = record t { wss = delete_where (is_ws org name) t.wss
 
 -- ---- the number of versions that workspaces keep
 
-abbrev pub is_keeping : List ℕ → List ℕ → Kept KeepingRow → Bool
-is_keeping org ws x = bytes_eq x.1.org org && bytes_eq x.1.ws ws
+abbrev pub is_retention : List ℕ → List ℕ → Kept RetentionRow → Bool
+is_retention org ws x = bytes_eq x.1.org org && bytes_eq x.1.ws ws
 
-abbrev pub keeping_row_added : List ℕ → List ℕ → ℕ → Tables → Tables
-keeping_row_added org ws keep t = record t { keepings = with_next (record { org = org; ws = ws; keep = keep }) t.keepings }
+abbrev pub retention_row_added : List ℕ → List ℕ → ℕ → Tables → Tables
+retention_row_added org ws retention t = record t { retentions = with_next (record { org = org; ws = ws; retention = retention }) t.retentions }
 
 -- the workspace keeps this many versions
-abbrev pub keeping_changed : ℕ → List ℕ → List ℕ → Tables → Tables
-keeping_changed keep org ws t = record t { keepings = update_where (is_keeping org ws) (λ x. (x.0, record x.1 { keep = keep })) t.keepings }
+abbrev pub retention_changed : ℕ → List ℕ → List ℕ → Tables → Tables
+retention_changed retention org ws t = record t { retentions = update_where (is_retention org ws) (λ x. (x.0, record x.1 { retention = retention })) t.retentions }
 
-abbrev pub keeping_row_removed : List ℕ → List ℕ → Tables → Tables
-keeping_row_removed org ws t = record t { keepings = delete_where (is_keeping org ws) t.keepings }
+abbrev pub retention_row_removed : List ℕ → List ℕ → Tables → Tables
+retention_row_removed org ws t = record t { retentions = delete_where (is_retention org ws) t.retentions }
 
 -- the number of versions that a new workspace keeps
-abbrev pub kept_first : WsRow → KeepingRow
-kept_first r = record { org = r.org; ws = r.name; keep = FIRST_KEPT }
+abbrev pub kept_first : WsRow → RetentionRow
+kept_first r = record { org = r.org; ws = r.name; retention = FIRST_KEPT }
 
 -- each workspace gets such a row, in the order of the workspaces
-abbrev pub keepings_filled : Tables → Tables
-keepings_filled t = record t { keepings = with_all (map (λ x. kept_first x.1) t.wss) t.keepings }
+abbrev pub retentions_filled : Tables → Tables
+retentions_filled t = record t { retentions = with_all (map (λ x. kept_first x.1) t.wss) t.retentions }
 
 -- a workspace with the number of versions that it keeps
 abbrev pub ws_added : List ℕ → List ℕ → RunSettings → ℕ → Tables → Tables
-ws_added org name runs keep t = keeping_row_added org name keep (ws_row_added org name runs t)
+ws_added org name runs retention t = retention_row_added org name retention (ws_row_added org name runs t)
 
-abbrev pub HasNoKeeping : List ℕ → List ℕ → Tables → Type 0
-HasNoKeeping org ws t = AllByRecursion (λ x. is_keeping org ws x ≡ false) t.keepings
+abbrev pub HasNoRetention : List ℕ → List ℕ → Tables → Type 0
+HasNoRetention org ws t = AllByRecursion (λ x. is_retention org ws x ≡ false) t.retentions
 
 -- the number of versions is removed first
 abbrev pub ws_removed : List ℕ → List ℕ → Tables → Tables
-ws_removed org name t = ws_row_removed org name (keeping_row_removed org name t)
+ws_removed org name t = ws_row_removed org name (retention_row_removed org name t)
 
 -- ---- versions
 

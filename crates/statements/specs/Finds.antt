@@ -21,7 +21,7 @@ use Rattle.statements.specs.declared.rows.BoundedRole.{BoundedRole}
 use Rattle.basis.specs.declared.roles.Bounds.{Bounds}
 use Rattle.statements.specs.Rows.{Kept, TokenRow, VersionRow, RunRow, BoundRow, id_of, number}
 use Rattle.statements.specs.Tables.{Tables}
-use Rattle.statements.specs.Changes.{is_org, is_token, is_digest_of, is_bound, is_ws_of, is_ws, is_keeping, is_version_of, is_version, is_version_below, is_run_row}
+use Rattle.statements.specs.Changes.{is_org, is_token, is_digest_of, is_bound, is_ws_of, is_ws, is_retention, is_version_of, is_version, is_version_below, is_run_row}
 
 -- SQL counts at most up to its greatest integer
 abbrev pub counted : {X : Type 0} → List X → ℕ
@@ -59,7 +59,7 @@ workspace_of org name t = option_map (λ x. x.1.it) (find (is_ws org name) t.wss
 
 -- the number of versions that a workspace with this name keeps
 abbrev pub retention_of : List ℕ → List ℕ → Tables → Option ℕ
-retention_of org ws t = option_map (λ x. x.1.keep) (find (is_keeping org ws) t.keepings)
+retention_of org ws t = option_map (λ x. x.1.retention) (find (is_retention org ws) t.retentions)
 
 abbrev pub workspaces_of : List ℕ → Tables → ℕ
 workspaces_of org t = counted (filter (is_ws_of org) t.wss)

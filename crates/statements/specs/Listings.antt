@@ -19,7 +19,7 @@ use Rattle.statements.specs.declared.rows.Organization.{Organization}
 use Rattle.statements.specs.Rows.{Kept, Token, TokenRow}
 use Rattle.statements.specs.Tables.{Tables}
 use Rattle.statements.specs.Finds.{retention_of, version_before, version_cmp, run_cmp}
-use Rattle.statements.specs.Changes.{is_org, is_token, is_ws_of, is_ws, is_keeping, is_version_of, is_version, is_run_of}
+use Rattle.statements.specs.Changes.{is_org, is_token, is_ws_of, is_ws, is_retention, is_version_of, is_version, is_run_of}
 
 -- the order of names: by their bytes
 abbrev pub text_cmp : List ℕ → List ℕ → Ordering
@@ -61,12 +61,12 @@ token_rows_of org t = map role_row (entries (roles_by_name org t))
 abbrev pub tokens_by_name : List ℕ → Tables → FinMap text_cmp Token
 tokens_by_name org t = from_entries (map (λ x. (x.1.name, x.1.it)) (filter (is_token_of org) t.tokens))
 
-abbrev pub token_row_whole : List ℕ × Token → NamedToken
-token_row_whole e = record { name = e.0; it = e.1 }
+abbrev pub digest_token_row : List ℕ × Token → NamedToken
+digest_token_row e = record { name = e.0; it = e.1 }
 
 -- the same with their digests
-abbrev pub whole_tokens_of : List ℕ → Tables → List NamedToken
-whole_tokens_of org t = map token_row_whole (entries (tokens_by_name org t))
+abbrev pub digest_tokens_of : List ℕ → Tables → List NamedToken
+digest_tokens_of org t = map digest_token_row (entries (tokens_by_name org t))
 
 abbrev pub TokensApart : Tables → Type 0
 TokensApart t = AreApart (λ a b. is_token a.1.org a.1.name b) t.tokens
@@ -77,7 +77,7 @@ abbrev pub workspaces_by_name : List ℕ → Tables → FinMap text_cmp Workspac
 workspaces_by_name org t = from_entries (map (λ x. (x.1.name, x.1.it)) (filter (is_ws_of org) t.wss))
 
 abbrev pub named_row : List ℕ → Tables → List ℕ × Workspace → NamedWorkspace
-named_row org t e = record { name = e.0; it = e.1; keep = retention_of org e.0 t; last = version_before org e.0 e.1.next_version t }
+named_row org t e = record { name = e.0; it = e.1; retention = retention_of org e.0 t; last = version_before org e.0 e.1.next_version t }
 
 -- those of an organization whose names come after a name and begin with a prefix, each with the number of versions that it keeps and the
 -- number before its next version's, in the order of their names' bytes, at most a given number
@@ -105,7 +105,7 @@ end_of (b ∷ c ∷ bytes) = b ∷ end_of (c ∷ bytes)
 -- a workspace has at most one row, at most one row of keeping, and at most one row for each of its versions
 pub record WorkspacesApart (t : Tables) : Type 0 where
   pub wss : AreApart (λ a b. is_ws a.1.org a.1.name b) t.wss
-  pub keepings : AreApart (λ a b. is_keeping a.1.org a.1.ws b) t.keepings
+  pub retentions : AreApart (λ a b. is_retention a.1.org a.1.ws b) t.retentions
   pub versions : AreApart (λ a b. is_version a.1.org a.1.ws a.1.it.number b) t.versions
 
 -- ---- versions

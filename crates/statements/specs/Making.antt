@@ -11,7 +11,7 @@ use Rattle.sqlite.specs.Held.{state}
 use Rattle.sqlite.specs.State.{State, HasCleanDisk, KeepsCommit}
 use Rattle.sqlite.specs.declared.transaction.Transaction.{Transaction}
 use Rattle.sqlite_keyed.specs.Keyed.{IsKeyedBy, get_by}
-use Rattle.statements.specs.declared.making.TheConstants.{NEWEST}
+use Rattle.statements.specs.declared.making.TheConstants.{SCHEMA_VERSION}
 use Rattle.statements.specs.Place.{at_of, tree_of, StandsAt, IsOwn, RefersPassively}
 use Rattle.statements.specs.Schema.{meta_table, edition_table}
 use Rattle.statements.specs.Rows.{Kept, id_of, stored, meta_cells, edition_cells}
@@ -61,7 +61,7 @@ pub record MakesBy {S X E : Type 0} (g : Ghosts S) (Change : Database → Databa
 
 -- The database has the newest schema, with no row but that of its version. Each table that existed before is kept.
 pub record HasSchema (old new : Database) : Type 0 where
-  pub holds : Holds new (record no_rows { editions = (pos 1, NEWEST) ∷ [] })
+  pub holds : Holds new (record no_rows { editions = (pos 1, SCHEMA_VERSION) ∷ [] })
   pub kept : KeepsTables old new
 
 -- The rows of a version as those of the next. From the first to the second, no token expires, each is for all workspaces, and edition has
@@ -69,7 +69,7 @@ pub record HasSchema (old new : Database) : Type 0 where
 -- version.
 abbrev pub raised : ℕ → Tables → Tables
 raised (suc zero) t = record t { metas = []; bounds = with_all (map (λ x. unbounded x.1) t.tokens) []; editions = (pos 1, 2) ∷ [] }
-raised (suc (suc zero)) t = record t { keepings = with_all (map (λ x. kept_first x.1) t.wss) []; editions = map (λ x. (x.0, 3)) t.editions }
+raised (suc (suc zero)) t = record t { retentions = with_all (map (λ x. kept_first x.1) t.wss) []; editions = map (λ x. (x.0, 3)) t.editions }
 raised n t = t
 
 -- the table's tree is none of the trees of these tables
@@ -91,11 +91,11 @@ pub record Raises (n : ℕ) (old new : Database) : Type 0 where
   pub foreign : (t : Tables) → HoldsIn n old t → KeepsForeign (schema_tables n) (schema_tables (suc n)) old new
 
 -- the version in row 1 of meta, or of edition
-abbrev pub told_schema_version : List (Kept ℕ) → Option ℕ
-told_schema_version metas = option_map (λ x. x.1) (get_by id_of metas (pos 1))
+abbrev pub stored_schema_version : List (Kept ℕ) → Option ℕ
+stored_schema_version metas = option_map (λ x. x.1) (get_by id_of metas (pos 1))
 
 abbrev pub schema_version_in : Tables → Option ℕ
-schema_version_in t = told_schema_version t.metas
+schema_version_in t = stored_schema_version t.metas
 
 -- a table with the name and the columns of meta, whatever its checks, references and unique keys are
 abbrev pub like_meta : Table → Table
@@ -110,7 +110,7 @@ pub record HasMeta (db : Database) (table : Table) (metas : List (Kept ℕ)) : T
 -- ---- the same of edition
 
 abbrev pub edition_in : Tables → Option ℕ
-edition_in t = told_schema_version t.editions
+edition_in t = stored_schema_version t.editions
 
 -- a table with the name and the columns of edition, whatever its checks, references and unique keys are
 abbrev pub like_edition : Table → Table

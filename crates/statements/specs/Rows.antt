@@ -24,7 +24,7 @@ use Rattle.statements.specs.declared.rows.VersionRow.{VersionRow as ItsVersionRo
 use Rattle.statements.specs.declared.rows.RunRow.{RunRow as ItsRunRow}
 use Rattle.statements.specs.declared.rows.VpageRow.{VpageRow as ItsVpageRow}
 use Rattle.statements.specs.declared.rows.BoundRow.{BoundRow as ItsBoundRow}
-use Rattle.statements.specs.declared.rows.KeepingRow.{KeepingRow as ItsKeepingRow}
+use Rattle.statements.specs.declared.rows.RetentionRow.{RetentionRow as ItsRetentionRow}
 use Rattle.std.specs.Ordering.{int_eq}
 
 -- a token: the digest of its secret, and its role
@@ -69,8 +69,8 @@ abbrev pub BoundRow : Type 0
 BoundRow = ItsBoundRow
 
 -- the number of versions that a workspace keeps
-abbrev pub KeepingRow : Type 0
-KeepingRow = ItsKeepingRow
+abbrev pub RetentionRow : Type 0
+RetentionRow = ItsRetentionRow
 
 -- ---- cells
 
@@ -159,8 +159,8 @@ vpage_cells r = cell.Text r.org ∷ cell.Text r.ws ∷ number r.number ∷ numbe
 abbrev pub bound_cells : BoundRow → Row
 bound_cells r = cell.Text r.org ∷ cell.Text r.name ∷ or_null number r.until ∷ cell.Text r.prefix ∷ []
 
-abbrev pub keeping_cells : KeepingRow → Row
-keeping_cells r = cell.Text r.org ∷ cell.Text r.ws ∷ number r.keep ∷ []
+abbrev pub retention_cells : RetentionRow → Row
+retention_cells r = cell.Text r.org ∷ cell.Text r.ws ∷ number r.retention ∷ []
 
 -- meta's column `one` is its rowid, and the stored row has Null in its place
 abbrev pub meta_cells : ℕ → Row
@@ -286,8 +286,8 @@ vpage_at r = record { org = bytes_at r 1; ws = bytes_at r 2; number = number_at 
 abbrev pub bound_at : Row → BoundRow
 bound_at r = record { org = bytes_at r 1; name = bytes_at r 2; until = unless_null (λ v. unsigned_abs (int_of v)) (column r 3); prefix = bytes_at r 4 }
 
-abbrev pub keeping_at : Row → KeepingRow
-keeping_at r = record { org = bytes_at r 1; ws = bytes_at r 2; keep = number_at r 3 }
+abbrev pub retention_row_at : Row → RetentionRow
+retention_row_at r = record { org = bytes_at r 1; ws = bytes_at r 2; retention = number_at r 3 }
 
 abbrev pub edition_at : Row → ℕ
 edition_at r = number_at r 2

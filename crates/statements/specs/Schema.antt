@@ -54,12 +54,12 @@ abbrev pub run_settings_columns : List Column
 run_settings_columns = column (codes "auto") Integer true ∷ []
 
 -- the place of the column `kind`, which comes after them
-abbrev pub kind_place : ℕ
-kind_place = 3 + length run_settings_columns
+abbrev pub kind_index : ℕ
+kind_index = 3 + length run_settings_columns
 
 -- the column so many places after `kind` is not null exactly if `kind` is this number
 abbrev pub is_given_for : ℕ → ℕ → Term
-is_given_for behind kind = op2 (Compare Eq Binary) (op1 Not (op2 (Is Binary) (col 1 (kind_place + behind)) (lit Null))) (op2 (Compare Eq Binary) (col 1 kind_place) (lit (Int (pos kind))))
+is_given_for behind kind = op2 (Compare Eq Binary) (op1 Not (op2 (Is Binary) (col 1 (kind_index + behind)) (lit Null))) (op2 (Compare Eq Binary) (col 1 kind_index) (lit (Int (pos kind))))
 
 abbrev pub ws_table : Table
 ws_table = keyed_table (codes "ws")
@@ -67,7 +67,7 @@ ws_table = keyed_table (codes "ws")
     ∷ column (codes "lock_id") Text false ∷ column (codes "lock_text") Blob false ∷ column (codes "run") Integer false ∷ column (codes "released") Text false
     ∷ column (codes "next_version") Integer true ∷ column (codes "next_run") Integer true ∷ []))
     (1 ∷ 2 ∷ []) ((1 ∷ 2 ∷ []) ∷ []) (plain ∷ [])
-    (is_between kind_place 0 2 ∷ is_given_for 1 1 ∷ is_given_for 2 1 ∷ is_given_for 3 2 ∷ [])
+    (is_between kind_index 0 2 ∷ is_given_for 1 1 ∷ is_given_for 2 1 ∷ is_given_for 3 2 ∷ [])
 
 abbrev pub version_table : Table
 version_table = keyed_table (codes "version")
@@ -154,7 +154,7 @@ abbrev pub to_ws : Reference
 to_ws = record { columns = 1 ∷ 2 ∷ []; parent = codes "ws"; parent_columns = codes "org" ∷ codes "name" ∷ []; on_delete = Cascade; on_update = NoAction; is_deferred = false }
 
 -- The number of versions that each workspace keeps. The row is deleted with the workspace's.
-abbrev pub keeping_table : Table
-keeping_table = record (keyed_table (codes "keeping")
+abbrev pub retention_table : Table
+retention_table = record (keyed_table (codes "keeping")
     (column (codes "org") Text true ∷ column (codes "ws") Text true ∷ column (codes "keep") Integer true ∷ [])
     (1 ∷ 2 ∷ []) ((1 ∷ 2 ∷ []) ∷ []) (plain ∷ []) (is_between 3 1 1_000 ∷ [])) { references = to_ws ∷ [] }

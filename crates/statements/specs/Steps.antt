@@ -66,8 +66,8 @@ pub record Steps {S X E : Type 0} (g : Ghosts S) (change : Tables → Tables) (o
   pub shield : (state g old.conn.now).IsShielded → (state g new.conn.now).IsShielded
 
 -- if it succeeds, the result says this about the rows before it
-abbrev pub Tells : {X E : Type 0} → (X → Tables → Type 0) → State → State → Result X E → Type 0
-Tells says old new result = HasCleanDisk new → IsTrue old.in_transaction → IfOk result (λ x. (t : Tables) → Holds old.now t → says x t)
+abbrev pub Reports : {X E : Type 0} → (X → Tables → Type 0) → State → State → Result X E → Type 0
+Reports says old new result = HasCleanDisk new → IsTrue old.in_transaction → IfOk result (λ x. (t : Tables) → Holds old.now t → says x t)
 
 -- ---- a read
 

@@ -8,8 +8,8 @@ use Rattle.sqlite_schema.specs.declared.schema.Table.{Table}
 use Rattle.sqlite_keyed.specs.Keyed.{IsKeyedBy}
 use Rattle.sqlite.specs.Effect.{Database}
 use Rattle.statements.specs.Place.{tree_of, AreOwn}
-use Rattle.statements.specs.Schema.{meta_table, org_table, token_table, ws_table, version_table, run_table, page_table, vpage_table, bound_table, edition_table, keeping_table}
-use Rattle.statements.specs.Rows.{Kept, OrgRow, TokenRow, WsRow, VersionRow, RunRow, PageRow, VpageRow, BoundRow, KeepingRow, stored, meta_cells, org_cells, token_cells, ws_cells, version_cells, run_cells, page_cells, vpage_cells, bound_cells, edition_cells, keeping_cells, kept_by, meta_at, org_at, token_at, ws_at, version_at, run_at, page_at, vpage_at, bound_at, edition_at, keeping_at}
+use Rattle.statements.specs.Schema.{meta_table, org_table, token_table, ws_table, version_table, run_table, page_table, vpage_table, bound_table, edition_table, retention_table}
+use Rattle.statements.specs.Rows.{Kept, OrgRow, TokenRow, WsRow, VersionRow, RunRow, PageRow, VpageRow, BoundRow, RetentionRow, stored, meta_cells, org_cells, token_cells, ws_cells, version_cells, run_cells, page_cells, vpage_cells, bound_cells, edition_cells, retention_cells, kept_by, meta_at, org_at, token_at, ws_at, version_at, run_at, page_at, vpage_at, bound_at, edition_at, retention_row_at}
 
 -- One of our tables: its definition, the cells that store a row, and the row that cells stand for.
 pub record Layout (R : Type 0) : Type 0 where
@@ -47,8 +47,8 @@ bound_layout = record { table = bound_table; cells = bound_cells; read = bound_a
 abbrev pub edition_layout : Layout ℕ
 edition_layout = record { table = edition_table; cells = edition_cells; read = edition_at }
 
-abbrev pub keeping_layout : Layout KeepingRow
-keeping_layout = record { table = keeping_table; cells = keeping_cells; read = keeping_at }
+abbrev pub retention_layout : Layout RetentionRow
+retention_layout = record { table = retention_table; cells = retention_cells; read = retention_row_at }
 
 -- the rows of our tables
 pub record Tables : Type 0 where
@@ -62,10 +62,10 @@ pub record Tables : Type 0 where
   pub vpages : List (Kept VpageRow)
   pub bounds : List (Kept BoundRow)
   pub editions : List (Kept ℕ)
-  pub keepings : List (Kept KeepingRow)
+  pub retentions : List (Kept RetentionRow)
 
 abbrev pub no_rows : Tables
-no_rows = record { metas = []; orgs = []; tokens = []; wss = []; versions = []; runs = []; pages = []; vpages = []; bounds = []; editions = []; keepings = [] }
+no_rows = record { metas = []; orgs = []; tokens = []; wss = []; versions = []; runs = []; pages = []; vpages = []; bounds = []; editions = []; retentions = [] }
 
 -- a table, and the rows that its tree stores
 pub record StoredTable : Type 0 where
@@ -80,7 +80,7 @@ abbrev pub stored_tables : Tables → List StoredTable
 stored_tables t =
     stored_table meta_layout t.metas ∷ stored_table org_layout t.orgs ∷ stored_table token_layout t.tokens ∷ stored_table ws_layout t.wss
     ∷ stored_table version_layout t.versions ∷ stored_table run_layout t.runs ∷ stored_table page_layout t.pages ∷ stored_table vpage_layout t.vpages
-    ∷ stored_table bound_layout t.bounds ∷ stored_table edition_layout t.editions ∷ stored_table keeping_layout t.keepings ∷ []
+    ∷ stored_table bound_layout t.bounds ∷ stored_table edition_layout t.editions ∷ stored_table retention_layout t.retentions ∷ []
 
 abbrev pub tables_in : List StoredTable → List Table
 tables_in = map (λ (x : StoredTable). x.table)
@@ -157,7 +157,7 @@ tables_of db = record {
   vpages = rows_of vpage_layout db;
   bounds = rows_of bound_layout db;
   editions = rows_of edition_layout db;
-  keepings = rows_of keeping_layout db;
+  retentions = rows_of retention_layout db;
 }
 
 -- the rows of the table at a place, in a version; none if the version does not have the table
@@ -176,7 +176,7 @@ up_to n t = record {
   vpages = rows_in n 7 t.vpages;
   bounds = rows_in n 8 t.bounds;
   editions = rows_in n 9 t.editions;
-  keepings = rows_in n 10 t.keepings;
+  retentions = rows_in n 10 t.retentions;
 }
 
 -- the rows of our tables in a database of a version

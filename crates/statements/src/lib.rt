@@ -8,9 +8,9 @@ pub mod bounds;
 pub mod calls;
 mod cells;
 mod encoding;
-pub mod keepings;
 pub mod making;
 pub mod organizations;
+pub mod retentions;
 pub mod rows;
 pub mod runs;
 pub mod scans;
@@ -19,6 +19,6 @@ pub mod versions;
 pub mod workspaces;
 
 pub use rows::{
-    BoundRow, KeepingRow, NamedRole, NamedToken, NamedWorkspace, OrgRow, Organization, PageHead,
+    BoundRow, NamedRole, NamedToken, NamedWorkspace, OrgRow, Organization, PageHead, RetentionRow,
     Rows, RunRow, Token, TokenRow, VersionRow, VpageRow, Workspace, WsRow,
 };

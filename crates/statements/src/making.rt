@@ -7,18 +7,18 @@ ghost use Rattle.sqlite.specs.Held.{state};
 ghost use Rattle.sqlite.specs.State.{HasCleanDisk};
 ghost use Rattle.statements.specs.Steps.{AnyRows, Equals, Writes, Queries};
 ghost use Rattle.statements.specs.Changes.{edition_moved};
-ghost use Rattle.statements.specs.declared.making.TheConstants.{NEWEST};
+ghost use Rattle.statements.specs.declared.making.TheConstants.{SCHEMA_VERSION};
 ghost use Rattle.statements.specs.Tables.{count_in, added_by, our_tables};
-ghost use Rattle.statements.specs.Making.{MakesBy, HasSchema, Raises, HasMeta, HasEdition, told_schema_version, schema_version_in, edition_in};
-ghost use Rattle.statements.specs.Inner.Making.{Grows, IsMaker, texts_in, all_of, Moved, Told, schema_version_cleared};
+ghost use Rattle.statements.specs.Making.{MakesBy, HasSchema, Raises, HasMeta, HasEdition, stored_schema_version, schema_version_in, edition_in};
+ghost use Rattle.statements.specs.Inner.Making.{Grows, IsMaker, texts_in, all_of, Moved, Reported, schema_version_cleared};
 ghost use Rattle.statements.specs.Rows.{Kept};
 
 use crate::calls::{first_row, read_one, write};
-use crate::{bounds, keepings};
+use crate::{bounds, retentions};
 use sqlite::{Alter, Connection, Error, Transaction, params};
 
 /// The newest version of the schema.
-pub const NEWEST: u64 = 3;
+pub const SCHEMA_VERSION: u64 = 3;
 
 /// The names of the tables, in the order of their creation.
 pub const TABLES: &[&str] = &[
@@ -138,7 +138,7 @@ fn make_tables_of<S: Alter>(tx: &mut Transaction<'_, S>, schema_version: u64) ->
 fn make_tables<S: Alter>(tx: &mut Transaction<'_, S>) -> Result<(), Error>
     ensures { MakesBy S.Store (Grows our_tables) tx.old tx.new result }
 {
-    for schema_version in 0..NEWEST {
+    for schema_version in 0..SCHEMA_VERSION {
         make_tables_of(tx, schema_version + 1)?;
     }
     Ok(())
@@ -152,7 +152,7 @@ fn set_schema_version<S: Alter>(
     schema_version: u32,
 ) -> Result<(), Error>
     requires there { 9 < count_in schema_version }
-    ensures { MakesBy S.Store (Told schema_version) tx.old tx.new result }
+    ensures { MakesBy S.Store (Reported schema_version) tx.old tx.new result }
 {
     write(tx, SET_VERSION, params![schema_version])
 }
@@ -171,10 +171,10 @@ fn move_schema_version<S: Alter>(
 }
 
 /// Stores the newest version again. If the database has it already, no row changes, but the row is written.
-pub fn retell_newest<S: Alter>(tx: &mut Transaction<'_, S>) -> Result<(), Error>
-    ensures { Writes S.Store AnyRows (edition_moved NEWEST) tx.old tx.new result }
+pub fn touch_schema_version<S: Alter>(tx: &mut Transaction<'_, S>) -> Result<(), Error>
+    ensures { Writes S.Store AnyRows (edition_moved SCHEMA_VERSION) tx.old tx.new result }
 {
-    write(tx, MOVE_VERSION, params![NEWEST as u32])
+    write(tx, MOVE_VERSION, params![SCHEMA_VERSION as u32])
 }
 
 const CLEAR_VERSION: &str = "DELETE FROM meta";
@@ -191,7 +191,7 @@ pub fn make_schema<S: Alter>(tx: &mut Transaction<'_, S>) -> Result<(), Error>
     ensures { MakesBy S.Store HasSchema tx.old tx.new result }
 {
     make_tables(tx)?;
-    set_schema_version(tx, NEWEST as u32)
+    set_schema_version(tx, SCHEMA_VERSION as u32)
 }
 
 /// Upgrades schema 1 to schema 2: each token gets its row of bound, and edition has the version in place of
@@ -210,7 +210,7 @@ fn raise_second<S: Alter>(tx: &mut Transaction<'_, S>) -> Result<(), Error>
     ensures { MakesBy S.Store (Raises 2) tx.old tx.new result }
 {
     make_tables_of(tx, 3)?;
-    keepings::fill(tx)?;
+    retentions::fill(tx)?;
     move_schema_version(tx, 3)
 }
 
@@ -230,7 +230,7 @@ const VERSION: &str = "SELECT version FROM meta WHERE one = 1 ORDER BY rowid";
 /// The version in meta, or none. Only schema 1 has it there.
 pub fn schema_version<S: Alter>(conn: &mut Connection<S>) -> Result<Option<u64>, Error>
     ensures reads { Queries S.Store (Equals schema_version_in) conn.old conn.new result }
-    ensures told { HasCleanDisk (state S.Store conn.new) → IfOk result (λ schema_version. (table : Table) (metas : List (Kept ℕ)) → HasMeta (state S.Store conn.old).now table metas → schema_version ≡ told_schema_version metas) }
+    ensures reported { HasCleanDisk (state S.Store conn.new) → IfOk result (λ schema_version. (table : Table) (metas : List (Kept ℕ)) → HasMeta (state S.Store conn.old).now table metas → schema_version ≡ stored_schema_version metas) }
 {
     let row = first_row(conn, VERSION, &[]);
     read_one(row)
@@ -241,7 +241,7 @@ const EDITION: &str = "SELECT version FROM edition WHERE one = 1 ORDER BY rowid"
 /// The version in edition, or none. Each schema from 2 on has it there.
 pub fn edition<S: Alter>(conn: &mut Connection<S>) -> Result<Option<u64>, Error>
     ensures reads { Queries S.Store (Equals edition_in) conn.old conn.new result }
-    ensures told { HasCleanDisk (state S.Store conn.new) → IfOk result (λ schema_version. (table : Table) (editions : List (Kept ℕ)) → HasEdition (state S.Store conn.old).now table editions → schema_version ≡ told_schema_version editions) }
+    ensures reported { HasCleanDisk (state S.Store conn.new) → IfOk result (λ schema_version. (table : Table) (editions : List (Kept ℕ)) → HasEdition (state S.Store conn.old).now table editions → schema_version ≡ stored_schema_version editions) }
 {
     let row = first_row(conn, EDITION, &[]);
     read_one(row)

@@ -72,10 +72,10 @@ pub struct BoundRow {
 
 /// A row of keeping: the number of versions that a workspace keeps.
 #[derive(Drop)]
-pub struct KeepingRow {
+pub struct RetentionRow {
     pub org: Text,
     pub ws: Text,
-    pub keep: KeepCount,
+    pub retention: KeepCount,
 }
 
 /// A row of page without the page's bytes.
@@ -106,7 +106,7 @@ pub struct Rows {
     pub vpages: Items<(i64, VpageRow)>,
     pub bounds: Items<(i64, BoundRow)>,
     pub editions: Items<(i64, u64)>,
-    pub keepings: Items<(i64, KeepingRow)>,
+    pub retentions: Items<(i64, RetentionRow)>,
 }
 
 /// A workspace, without its versions and runs.
@@ -125,7 +125,7 @@ pub struct Workspace {
 pub struct NamedWorkspace {
     pub name: WsName,
     pub it: Workspace,
-    pub keep: Option<KeepCount>,
+    pub retention: Option<KeepCount>,
     /// The number before the next version's, if a version has it.
     pub last: Option<Number>,
 }

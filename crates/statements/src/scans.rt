@@ -5,7 +5,7 @@ ghost use Rattle.sqlite_value.specs.declared.value.Value.TheVariants.{Int};
 ghost use Rattle.sqlite_typed.specs.Columns.{int_of, unless_null};
 ghost use Rattle.statements.specs.Calls.{IsNumberOrNull};
 ghost use Rattle.statements.specs.Steps.{Equals, Queries};
-ghost use Rattle.statements.specs.Rows.{kept_by, org_at, token_at, ws_at, version_at, run_at, vpage_at, bound_at, keeping_at, number_at, bytes_at, role_at, number, role_code};
+ghost use Rattle.statements.specs.Rows.{kept_by, org_at, token_at, ws_at, version_at, run_at, vpage_at, bound_at, retention_row_at, number_at, bytes_at, role_at, number, role_code};
 
 use crate::calls::{Read, scan};
 use crate::cells::{
@@ -13,7 +13,7 @@ use crate::cells::{
     version_in,
 };
 use crate::rows::{
-    BoundRow, KeepingRow, OrgRow, RunRow, Token, TokenRow, VersionRow, VpageRow, WsRow,
+    BoundRow, OrgRow, RetentionRow, RunRow, Token, TokenRow, VersionRow, VpageRow, WsRow,
 };
 use crate::workspaces::{BEHIND_RUN_SETTINGS, workspace_in};
 use basis::{Items, KeepCount, Limit, Moment, Role, Text};
@@ -166,13 +166,13 @@ impl Read for (i64, BoundRow) {
     }
 }
 
-impl Read for (i64, KeepingRow) {
-    ghost is_in = { λ row x. x ≡ kept_by keeping_at row };
+impl Read for (i64, RetentionRow) {
+    ghost is_in = { λ row x. x ≡ kept_by retention_row_at row };
 
-    fn of_row(row: &Row) -> Result<(i64, KeepingRow), Error> {
-        let keep = retention_in(row, 3)?;
+    fn of_row(row: &Row) -> Result<(i64, RetentionRow), Error> {
+        let retention = retention_in(row, 3)?;
         let (id, org, ws) = head_in(row)?;
-        Ok((id, KeepingRow { org, ws, keep }))
+        Ok((id, RetentionRow { org, ws, retention }))
     }
 }
 
@@ -269,14 +269,14 @@ pub fn editions<S: Alter>(
     scan(alloc, conn, ALL_EDITIONS)
 }
 
-const ALL_KEEPINGS: &str = "SELECT rowid, org, ws, keep FROM keeping ORDER BY rowid";
+const ALL_RETENTIONS: &str = "SELECT rowid, org, ws, keep FROM keeping ORDER BY rowid";
 
 /// All rows of keeping, in the order of their rowids.
-pub fn keepings<S: Alter>(
+pub fn retentions<S: Alter>(
     alloc: Global,
     conn: &mut Connection<S>,
-) -> Result<Items<(i64, KeepingRow)>, Error>
-    ensures { Queries S.Store (Equals (λ t. t.keepings)) conn.old conn.new result }
+) -> Result<Items<(i64, RetentionRow)>, Error>
+    ensures { Queries S.Store (Equals (λ t. t.retentions)) conn.old conn.new result }
 {
-    scan(alloc, conn, ALL_KEEPINGS)
+    scan(alloc, conn, ALL_RETENTIONS)
 }

@@ -1,7 +1,7 @@
 //! Statements on the table token. When a token is added or removed, so is its row of bound.
 ghost use Rattle.statements.specs.Steps.{AnyRows, Equals, EqualsWhere, Writes, Queries};
 ghost use Rattle.statements.specs.Changes.{token_row_added, token_row_removed, token_added, token_removed, HasNoBound};
-ghost use Rattle.statements.specs.Listings.{token_rows_of, whole_tokens_of, TokensApart};
+ghost use Rattle.statements.specs.Listings.{token_rows_of, digest_tokens_of, TokensApart};
 ghost use Rattle.statements.specs.Finds.{IsBoundedRoleOf, role_of_digest, role_of_name};
 
 use crate::bounds;
@@ -70,17 +70,18 @@ pub fn list<S: Alter>(
     read_all(alloc, rows)
 }
 
-const LIST_WHOLE_TOKENS: &str = "SELECT name, digest, role FROM token WHERE org = ?1 ORDER BY name";
+const LIST_DIGEST_TOKENS: &str =
+    "SELECT name, digest, role FROM token WHERE org = ?1 ORDER BY name";
 
 /// All tokens of an organization with their digests, in the order of their names' bytes.
-pub fn list_whole<S: Alter>(
+pub fn list_with_digests<S: Alter>(
     alloc: Global,
     conn: &mut Connection<S>,
     org: &str,
 ) -> Result<Items<NamedToken>, Error>
-    ensures { Queries S.Store (EqualsWhere TokensApart (whole_tokens_of org.now)) conn.old conn.new result }
+    ensures { Queries S.Store (EqualsWhere TokensApart (digest_tokens_of org.now)) conn.old conn.new result }
 {
-    let rows = all_rows(conn, LIST_WHOLE_TOKENS, params![org]);
+    let rows = all_rows(conn, LIST_DIGEST_TOKENS, params![org]);
     read_all(alloc, rows)
 }
 

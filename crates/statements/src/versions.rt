@@ -2,7 +2,7 @@
 ghost use Rattle.std.specs.Prelude.{◌≡◌, ◌<◌, ◌^◌, None};
 ghost use Rattle.sqlite.specs.Held.{state};
 ghost use Rattle.sqlite.specs.State.{Survives};
-ghost use Rattle.statements.specs.Steps.{AnyRows, Equals, EqualsWhere, Writes, Tells, Reads, Queries};
+ghost use Rattle.statements.specs.Steps.{AnyRows, Equals, EqualsWhere, Writes, Reports, Reads, Queries};
 ghost use Rattle.statements.specs.Changes.{new_version, version_added, version_removed};
 ghost use Rattle.statements.specs.Listings.{version_rows_after, VersionsApart};
 ghost use Rattle.statements.specs.Finds.{newest_of, oldest_below, size_of};
@@ -99,7 +99,7 @@ pub fn add<'v, S: Alter>(
 ) -> Result<(), Error>
     requires size_fits { size < 2 ^ 63 }
     ensures writes { Writes S.Store AnyRows (version_added org.now ws.now (new_version number serial lineage.now created size)) tx.old tx.new result }
-    ensures fresh { Tells (λ _ t. size_of org.now ws.now number t ≡ None) (state S.Store tx.old.conn.now) (state S.Store tx.new.conn.now) result }
+    ensures fresh { Reports (λ _ t. size_of org.now ws.now number t ≡ None) (state S.Store tx.old.conn.now) (state S.Store tx.new.conn.now) result }
 {
     let number = number.get();
     let serial = signed_serial(serial);

@@ -2,8 +2,8 @@
 ghost use Rattle.std.specs.Prelude.{◌≡◌, ◌≢◌, [], ◌∷◌, None, IfOk, is_some, string_bytes};
 ghost use Rattle.sqlite.specs.Held.{state};
 ghost use Rattle.sqlite.specs.Values.{bound};
-ghost use Rattle.statements.specs.Steps.{AnyRows, Equals, EqualsWhere, Writes, Tells, Queries};
-ghost use Rattle.statements.specs.Changes.{with_run_settings, held_by, released_from, with_next_version, with_next_run, ws_changed, ws_row_added, ws_row_removed, ws_added, ws_removed, HasNoKeeping};
+ghost use Rattle.statements.specs.Steps.{AnyRows, Equals, EqualsWhere, Writes, Reports, Queries};
+ghost use Rattle.statements.specs.Changes.{with_run_settings, held_by, released_from, with_next_version, with_next_run, ws_changed, ws_row_added, ws_row_removed, ws_added, ws_removed, HasNoRetention};
 ghost use Rattle.statements.specs.Listings.{workspace_rows_after, workspace_names_of, WorkspacesApart, NamesApart, later_of, end_of};
 ghost use Rattle.statements.specs.Rows.{run_settings_at, run_settings_cells, bytes_at, holder_at, workspace_in_row};
 ghost use Rattle.statements.specs.Calls.{IsHolderIn, IsWorkspaceIn, IsWorkspace, IsNamedRow, IsName};
@@ -20,7 +20,7 @@ use crate::cells::{
     optional_retention, unsigned_in,
 };
 use crate::encoding::limit;
-use crate::keepings;
+use crate::retentions;
 use crate::rows::{NamedWorkspace, Workspace};
 use basis::{Holder, Items, KeepCount, LockId, Number, RunSettings, WsName, WsPrefix};
 use sqlite::types::{ToSql, ValueRef};
@@ -85,12 +85,12 @@ pub(crate) fn workspace_in(row: &Row, at: u8, settings: u8) -> Result<Workspace,
     ensures is { IfOk result (λ x. x ≡ workspace_in_row row.now at settings) }
     ensures cells { IfOk result (IsWorkspaceIn at settings row.now) }
 {
-    let place = usize::from(at);
+    let offset = usize::from(at);
     Ok(Workspace {
         runs: run_settings_in(row, settings)?,
-        next_version: unsigned_in(row, place + 5)?,
-        next_run: unsigned_in(row, place + 6)?,
-        released: optional_lock_id(row, place + 4)?,
+        next_version: unsigned_in(row, offset + 5)?,
+        next_run: unsigned_in(row, offset + 6)?,
+        released: optional_lock_id(row, offset + 4)?,
         holder: holder_in(row, at)?,
     })
 }
@@ -108,7 +108,7 @@ impl Read for NamedWorkspace {
 
     fn of_row(row: &Row) -> Result<NamedWorkspace, Error> {
         Ok(NamedWorkspace {
-            keep: optional_retention(row, 8)?,
+            retention: optional_retention(row, 8)?,
             last: optional_number(row, 9)?,
             name: name_of(row.get(7)?, 7)?,
             it: workspace_in(row, 0, 10)?,
@@ -270,7 +270,7 @@ fn add_row<S: Alter>(
     runs: RunSettings,
 ) -> Result<(), Error>
     ensures writes { Writes S.Store AnyRows (ws_row_added org.now name.now runs) tx.old tx.new result }
-    ensures fresh { Tells (λ _ t. workspace_of org.now name.now t ≡ None) (state S.Store tx.old.conn.now) (state S.Store tx.new.conn.now) result }
+    ensures fresh { Reports (λ _ t. workspace_of org.now name.now t ≡ None) (state S.Store tx.old.conn.now) (state S.Store tx.new.conn.now) result }
 {
     write(tx, ADD_WS, &params_of(org, name, runs))
 }
@@ -285,10 +285,10 @@ pub fn add<S: Alter>(
     retention: KeepCount,
 ) -> Result<(), Error>
     ensures writes { Writes S.Store AnyRows (ws_added org.now name.now runs retention) tx.old tx.new result }
-    ensures fresh { Tells (λ _ t. workspace_of org.now name.now t ≡ None) (state S.Store tx.old.conn.now) (state S.Store tx.new.conn.now) result }
+    ensures fresh { Reports (λ _ t. workspace_of org.now name.now t ≡ None) (state S.Store tx.old.conn.now) (state S.Store tx.new.conn.now) result }
 {
     add_row(tx, org, name, runs)?;
-    keepings::add(tx, org, name, retention)
+    retentions::add(tx, org, name, retention)
 }
 
 const SET_RUN_SETTINGS: &str = "UPDATE ws SET auto = ?3 WHERE org = ?1 AND name = ?2";
@@ -369,7 +369,7 @@ pub fn set_next_version<S: Alter>(
     next: u32,
 ) -> Result<bool, Error>
     ensures writes { Writes S.Store AnyRows (ws_changed (with_next_version next) org.now name.now) tx.old tx.new result }
-    ensures found { Tells (Equals (λ t. is_some (workspace_of org.now name.now t))) (state S.Store tx.old.conn.now) (state S.Store tx.new.conn.now) result }
+    ensures found { Reports (Equals (λ t. is_some (workspace_of org.now name.now t))) (state S.Store tx.old.conn.now) (state S.Store tx.new.conn.now) result }
 {
     update(tx, SET_NEXT_VERSION, params![org, name, next])
 }
@@ -384,7 +384,7 @@ pub fn set_next_run<S: Alter>(
     next: u32,
 ) -> Result<bool, Error>
     ensures writes { Writes S.Store AnyRows (ws_changed (with_next_run next) org.now name.now) tx.old tx.new result }
-    ensures found { Tells (Equals (λ t. is_some (workspace_of org.now name.now t))) (state S.Store tx.old.conn.now) (state S.Store tx.new.conn.now) result }
+    ensures found { Reports (Equals (λ t. is_some (workspace_of org.now name.now t))) (state S.Store tx.old.conn.now) (state S.Store tx.new.conn.now) result }
 {
     update(tx, SET_NEXT_RUN, params![org, name, next])
 }
@@ -393,7 +393,7 @@ const REMOVE_WS: &str = "DELETE FROM ws WHERE org = ?1 AND name = ?2";
 
 /// Removes the row of a workspace. The contract holds if the workspace has no row of keeping.
 fn remove_row<S: Alter>(tx: &mut Transaction<'_, S>, org: &str, name: &str) -> Result<(), Error>
-    ensures { Writes S.Store (HasNoKeeping org.now name.now) (ws_row_removed org.now name.now) tx.old tx.new result }
+    ensures { Writes S.Store (HasNoRetention org.now name.now) (ws_row_removed org.now name.now) tx.old tx.new result }
 {
     write(tx, REMOVE_WS, params![org, name])
 }
@@ -403,6 +403,6 @@ fn remove_row<S: Alter>(tx: &mut Transaction<'_, S>, org: &str, name: &str) -> R
 pub fn remove<S: Alter>(tx: &mut Transaction<'_, S>, org: &str, name: &str) -> Result<(), Error>
     ensures { Writes S.Store AnyRows (ws_removed org.now name.now) tx.old tx.new result }
 {
-    keepings::remove(tx, org, name)?;
+    retentions::remove(tx, org, name)?;
     remove_row(tx, org, name)
 }

@@ -7,7 +7,7 @@ use story_runner::failures::Failure;
 use story_runner::modes::{Counts, Modes};
 use story_runner::plays::Play;
 use story_runner::recovering::Work;
-use story_stores::cuts::{Image, over_whole};
+use story_stores::cuts::{Image, over_all_rows};
 use story_stores::stops;
 use story_stores::stops::run_earlier_stops;
 
@@ -15,7 +15,7 @@ use story_stores::stops::run_earlier_stops;
 const WAY: &str = "the file in memory";
 
 fn run_in_image(alloc: Global, play: &Play, image: &Image) -> Result<(), Failure> {
-    over_whole(alloc, 0, image, play, Work::Tell)?;
+    over_all_rows(alloc, 0, image, play, Work::Report)?;
     Ok(())
 }
 

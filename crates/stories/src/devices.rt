@@ -30,14 +30,14 @@ const ANSWERS: &[Answer] = &[
 
 /// A device that gives the same answer to each call, and counts the calls.
 #[derive(Drop)]
-struct Counted {
+struct CountedErrors {
     answer: Answer,
     calls: usize,
 }
 
-impl Counted {
-    fn new(answer: Answer) -> Counted {
-        Counted { answer, calls: 0 }
+impl CountedErrors {
+    fn new(answer: Answer) -> CountedErrors {
+        CountedErrors { answer, calls: 0 }
     }
 
     fn answer(&mut self, size: usize) -> io::Result<usize>
@@ -51,13 +51,13 @@ impl Counted {
     }
 }
 
-impl Read for Counted {
+impl Read for CountedErrors {
     fn read(&mut self, buf: &mut [u8]) -> io::Result<usize> {
         self.answer(buf.len())
     }
 }
 
-impl Write for Counted {
+impl Write for CountedErrors {
     fn write(&mut self, buf: &[u8]) -> io::Result<usize> {
         self.answer(buf.len())
     }
@@ -84,20 +84,20 @@ fn due_of_write(answer: Answer, size: usize) -> Result<usize, Broken> {
 }
 
 fn is_read_once(answer: Answer, buf: &mut [u8]) -> bool {
-    let mut reader = FromRead::new(Counted::new(answer));
-    let told = reader.read(buf);
+    let mut reader = FromRead::new(CountedErrors::new(answer));
+    let reported = reader.read(buf);
     let has_failed = reader.failed();
-    told == due_of_read(answer, buf.len())
-        && has_failed == told.is_err()
+    reported == due_of_read(answer, buf.len())
+        && has_failed == reported.is_err()
         && reader.into_inner().calls == 1
 }
 
 fn is_written_once(answer: Answer, piece: &[u8]) -> bool {
-    let mut writer = ToWrite::new(Counted::new(answer));
-    let told = writer.write(piece);
+    let mut writer = ToWrite::new(CountedErrors::new(answer));
+    let reported = writer.write(piece);
     let has_failed = writer.failed();
-    told == due_of_write(answer, piece.len())
-        && has_failed == told.is_err()
+    reported == due_of_write(answer, piece.len())
+        && has_failed == reported.is_err()
         && writer.into_inner().calls == 1
 }
 

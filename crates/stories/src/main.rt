@@ -20,8 +20,8 @@ use stories::run_story;
 use story_runner::books::{Book, Story, read_book};
 use story_runner::failures::{Failure, Why};
 use story_runner::modes::Counts;
-use story_runner::tells::{
-    tell_counts, tell_end, tell_failure, tell_passed, tell_short, tell_unread,
+use story_runner::reports::{
+    report_counts, report_end, report_failure, report_passed, report_short, report_unread,
 };
 
 /// All stories passed.
@@ -42,7 +42,7 @@ enum Came {
     Unread,
 }
 
-fn tell_came<W: Write>(
+fn report_came<W: Write>(
     rt: &HostRuntime,
     output: &mut W,
     name: &str,
@@ -50,18 +50,18 @@ fn tell_came<W: Write>(
 ) -> io::Result<Came> {
     match &failure.why {
         Why::Unread(why) => {
-            tell_unread(output, failure.line, why)?;
+            report_unread(output, failure.line, why)?;
             Ok(Came::Unread)
         }
         _ => {
-            tell_failure(rt.alloc(), output, name, failure)?;
-            tell_short(rt.alloc(), &mut rt.stderr(), name, failure)?;
+            report_failure(rt.alloc(), output, name, failure)?;
+            report_short(rt.alloc(), &mut rt.stderr(), name, failure)?;
             Ok(Came::Failed)
         }
     }
 }
 
-fn tell_story<W: Write>(
+fn report_story<W: Write>(
     rt: &HostRuntime,
     output: &mut W,
     book: &Book<'_>,
@@ -70,32 +70,32 @@ fn tell_story<W: Write>(
     let mut counts = Counts::new();
     match run_story(rt, book, story, &mut counts) {
         Ok(()) => {
-            tell_passed(output, story.name)?;
-            tell_counts(output, story.name, &counts)?;
+            report_passed(output, story.name)?;
+            report_counts(output, story.name, &counts)?;
             Ok(Came::Passed)
         }
-        Err(failure) => tell_came(rt, output, story.name, &failure),
+        Err(failure) => report_came(rt, output, story.name, &failure),
     }
 }
 
-fn tell_stories<W: Write>(rt: &HostRuntime, output: &mut W, book: &Book<'_>) -> io::Result<u8> {
+fn report_stories<W: Write>(rt: &HostRuntime, output: &mut W, book: &Book<'_>) -> io::Result<u8> {
     let mut failed = 0usize;
     for story in book.stories.as_slice() {
-        match tell_story(rt, output, book, story)? {
+        match report_story(rt, output, book, story)? {
             Came::Passed => {}
             Came::Failed => failed = failed.saturating_add(1),
             Came::Unread => return Ok(UNREAD),
         }
     }
-    tell_end(output, book.stories.len(), failed)?;
+    report_end(output, book.stories.len(), failed)?;
     Ok(if failed == 0 { PASSED } else { FAILED })
 }
 
-fn tell_text<W: Write>(rt: &HostRuntime, output: &mut W, text: &str) -> io::Result<u8> {
+fn report_text<W: Write>(rt: &HostRuntime, output: &mut W, text: &str) -> io::Result<u8> {
     match read_book(rt.alloc(), text) {
-        Ok(book) => tell_stories(rt, output, &book),
+        Ok(book) => report_stories(rt, output, &book),
         Err(unread) => {
-            tell_unread(output, unread.line, unread.why)?;
+            report_unread(output, unread.line, unread.why)?;
             Ok(UNREAD)
         }
     }
@@ -107,9 +107,9 @@ fn run(rt: &HostRuntime) -> io::Result<u8> {
     rt.stdin().read_to_end(&mut bytes)?;
     let mut output = BufWriter::new(alloc, rt.stdout())?;
     match str::from_utf8(bytes.as_slice()) {
-        Ok(text) => tell_text(rt, &mut output, text),
+        Ok(text) => report_text(rt, &mut output, text),
         Err(_) => {
-            tell_unread(&mut output, 0, "the text isn't UTF-8")?;
+            report_unread(&mut output, 0, "the text isn't UTF-8")?;
             Ok(UNREAD)
         }
     }

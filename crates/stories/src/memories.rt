@@ -1,11 +1,11 @@
 //! A story of the program over a database, peers and a clock in memory.
 use crate::programs::{Does, Left, answer_of, compare_left, split, words_of};
-use crate::streams::{Told, break_streams};
+use crate::streams::{Reported, break_streams};
 use basis::Moment;
 use fakes::{MemoryFile, MemoryPeers, StandingClock};
 use program::replays::run_frames;
 use program::running::run_words;
-use program::streams::Counted;
+use program::streams::CountedErrors;
 use std::alloc::Global;
 use std::mem;
 use story_runner::books::{Part, Plot, Story};
@@ -121,7 +121,7 @@ impl<'s> Memory<'s> {
         let sent = mem::replace(&mut self.sent, Vec::new(alloc));
         let due = mem::replace(&mut self.due, Vec::new(alloc));
         let mut peers = MemoryPeers::new(alloc, sent.as_slice());
-        let mut errors = Counted::new(errors);
+        let mut errors = CountedErrors::new(errors);
         let mut clock = StandingClock {
             moment: if self.has_no_clock {
                 None
@@ -187,8 +187,8 @@ impl<'s> Memory<'s> {
         let (answer, parts) = answer_of(head, parts)?;
         let split = split(alloc, words)?;
         self.run(alloc, at, split.as_slice(), head, answer, parts)?;
-        let told = Told::new(at, split.as_slice(), head, answer, parts);
-        break_streams(alloc, self, &told, modes, counts)
+        let reported = Reported::new(at, split.as_slice(), head, answer, parts);
+        break_streams(alloc, self, &reported, modes, counts)
     }
 
     fn break_next(&mut self, head: &Part<'_>, what: &'s str) -> Result<(), Failure> {

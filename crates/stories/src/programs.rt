@@ -1,6 +1,6 @@
 //! Steps of the program: its words, its streams, and files beside it.
 use basis::numbers::whole_number;
-use program::streams::Counted;
+use program::streams::CountedErrors;
 use sqlite::{Connection, FileStore};
 use sqlite_disk::Disk;
 use std::alloc::{AllocError, Global};
@@ -115,7 +115,7 @@ pub fn split(alloc: Global, words: &str) -> Result<Vec<String>, AllocError> {
 // Runs the program on these words.
 fn ran(rt: &HostRuntime, words: &[String], mut input: &[u8]) -> Left {
     let mut output = Vec::new(rt.alloc());
-    let mut errors = Counted::new(Vec::new(rt.alloc()));
+    let mut errors = CountedErrors::new(Vec::new(rt.alloc()));
     let status = run_here(rt, words, &mut input, &mut output, &mut errors);
     Left {
         status,

@@ -8,7 +8,7 @@ use program::environment::Connections;
 use program::exits::Exit;
 use program::reasons::Cause;
 use program::serving::{Terms, serve_loop};
-use program::streams::Counted;
+use program::streams::CountedErrors;
 use program::timeouts::{IDLE_SECONDS, MAX_SECONDS, MOST_SECONDS, Seconds, Timeouts};
 use serve::{Door, Service};
 use std::alloc::Global;
@@ -146,7 +146,7 @@ impl<O: Outlet> Outlet for Stuffed<O> {
 struct Slow<'a> {
     rt: &'a HostRuntime,
     network: TcpSockets<'a>,
-    place: u32,
+    connection: u32,
     trickling: Option<&'a TcpStream>,
     is_deaf: bool,
 }
@@ -157,7 +157,7 @@ impl<'a> Slow<'a> {
         Slow {
             rt,
             network,
-            place: 0,
+            connection: 0,
             trickling: None,
             is_deaf: false,
         }
@@ -184,8 +184,8 @@ impl<'a> Connections for Slow<'a> {
             Ok(sides) => sides,
             Err(refused) => return Err(refused),
         };
-        self.place = self.place.saturating_add(1);
-        let is_second = self.place == 2;
+        self.connection = self.connection.saturating_add(1);
+        let is_second = self.connection == 2;
         let reader = Trickle {
             rt: self.rt,
             inlet,
@@ -198,8 +198,8 @@ impl<'a> Connections for Slow<'a> {
         Ok((reader, writer))
     }
 
-    fn finish(&mut self, reader: Self::Reader, writer: Self::Writer, was_whole: bool) {
-        self.network.finish(reader.inlet, writer.outlet, was_whole);
+    fn finish(&mut self, reader: Self::Reader, writer: Self::Writer, was_read: bool) {
+        self.network.finish(reader.inlet, writer.outlet, was_read);
     }
 }
 
@@ -240,13 +240,13 @@ impl Bout<'_> {
         service: &mut Service<PlainKeep>,
         count: u64,
         timeouts: Timeouts,
-        told: &[u8],
+        reported: &[u8],
     ) -> Result<(), Failure> {
         let mut clock = StandingClock {
             moment: Moment::new(self.at),
         };
         let mut output = Vec::new(alloc);
-        let mut errors = Counted::new(Vec::new(alloc));
+        let mut errors = CountedErrors::new(Vec::new(alloc));
         let terms = Terms {
             timeouts,
             logs: false,
@@ -267,7 +267,7 @@ impl Bout<'_> {
         if exit != Exit::Done {
             return Err(self.refused("the connections aren't all answered"));
         }
-        compare_bytes(alloc, self.line, told, errors.into_inner().as_slice())
+        compare_bytes(alloc, self.line, reported, errors.into_inner().as_slice())
     }
 }
 
@@ -361,7 +361,7 @@ pub fn answer_idle(
     let mut network = Slow {
         rt,
         network,
-        place: 0,
+        connection: 0,
         trickling: None,
         is_deaf: true,
     };
@@ -386,7 +386,7 @@ pub fn answer_trickling(
     let mut network = Slow {
         rt,
         network,
-        place: 0,
+        connection: 0,
         trickling: Some(&second),
         is_deaf: false,
     };

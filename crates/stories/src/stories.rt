@@ -107,8 +107,8 @@ fn take_all(rt: &HostRuntime, files: &mut Files, plots: &[Plot<'_>]) -> Result<(
 // Over the files, the sockets and the clock of the system.
 fn run_here(rt: &HostRuntime, book: &Book<'_>, story: &Story<'_>) -> Result<(), Failure> {
     let mut files = Files::new(rt.alloc());
-    for place in story.before.as_slice() {
-        if let Some(earlier) = book.stories.get(*place) {
+    for index in story.before.as_slice() {
+        if let Some(earlier) = book.stories.get(*index) {
             take_all(rt, &mut files, earlier.plots.as_slice())?;
         }
     }

@@ -19,7 +19,7 @@ const UNPRINTED: &[u8] =
 
 /// Words, and what is due on the streams.
 #[derive(Drop)]
-pub struct Told<'s> {
+pub struct Reported<'s> {
     line: usize,
     at: u64,
     words: &'s [String],
@@ -39,16 +39,16 @@ fn errors_in<'s>(parts: &'s [Part<'_>]) -> &'s [u8] {
     }
 }
 
-impl<'s> Told<'s> {
+impl<'s> Reported<'s> {
     pub fn new(
         at: u64,
         words: &'s [String],
         head: &'s Part<'_>,
         answer: &'s Part<'_>,
         parts: &'s [Part<'_>],
-    ) -> Told<'s> {
+    ) -> Reported<'s> {
         let reads_frames = head.text.starts_with("$ replay");
-        Told {
+        Reported {
             line: answer.line,
             at,
             words,
@@ -62,51 +62,60 @@ impl<'s> Told<'s> {
 }
 
 // Whether the error stream has this, and behind it the line that a stream didn't take all.
-fn tells_end(told: &Told<'_>, before: &[u8], errors: &[u8]) -> bool {
+fn reports_end(reported: &Reported<'_>, before: &[u8], errors: &[u8]) -> bool {
     let (front, end) = errors.split_at(before.len().min(errors.len()));
-    let due: &[u8] = if told.reads_frames { b"" } else { UNPRINTED };
+    let due: &[u8] = if reported.reads_frames {
+        b""
+    } else {
+        UNPRINTED
+    };
     front == before && end == due
 }
 
 // So where the error stream takes all; of one of which the text says only a part the length isn't known.
-fn tells_all(told: &Told<'_>, errors: &[u8]) -> bool {
-    if told.reads_frames || told.errors.is_empty() {
+fn reports_all(reported: &Reported<'_>, errors: &[u8]) -> bool {
+    if reported.reads_frames || reported.errors.is_empty() {
         return true;
     }
-    tells_end(told, told.errors, errors)
+    reports_end(reported, reported.errors, errors)
 }
 
-fn check(told: &Told<'_>, holds: bool, what: &'static str, place: usize) -> Result<(), Failure> {
+fn check(
+    reported: &Reported<'_>,
+    holds: bool,
+    what: &'static str,
+    place: usize,
+) -> Result<(), Failure> {
     if holds {
         Ok(())
     } else {
-        Err(Failure::broken(told.line, what, place))
+        Err(Failure::broken(reported.line, what, place))
     }
 }
 
 fn ran(
     alloc: Global,
     memory: &mut Memory<'_>,
-    told: &Told<'_>,
+    reported: &Reported<'_>,
     input: Giver<'_>,
     output: Taker,
     errors: Taker,
 ) -> Result<Left, Failure> {
-    memory.ran(alloc, told.at, told.words, input, output, errors)
+    memory.ran(alloc, reported.at, reported.words, input, output, errors)
 }
 
 // A read of the standard input fails: no frame is answered.
 fn fail_read(
     alloc: Global,
     memory: &mut Memory<'_>,
-    told: &Told<'_>,
+    reported: &Reported<'_>,
     read: usize,
 ) -> Result<(), Failure> {
-    let input = Giver::failing(told.input, 1, read);
+    let input = Giver::failing(reported.input, 1, read);
     let left = ran(
         alloc,
         memory,
-        told,
+        reported,
         input,
         Taker::new(alloc),
         Taker::new(alloc),
@@ -115,7 +124,7 @@ fn fail_read(
         && left.output.as_slice() == b"refused down\n".as_slice()
         && left.errors.as_slice() == UNREAD;
     check(
-        told,
+        reported,
         is_due,
         "something else came where reading fails at read",
         read,
@@ -126,18 +135,18 @@ fn fail_read(
 fn stop_output(
     alloc: Global,
     memory: &mut Memory<'_>,
-    told: &Told<'_>,
+    reported: &Reported<'_>,
     stops_at: usize,
     stop: Stop,
 ) -> Result<(), Failure> {
-    let input = Giver::new(told.input, ALL);
+    let input = Giver::new(reported.input, ALL);
     let output = Taker::stopping(alloc, stops_at, stop);
-    let left = ran(alloc, memory, told, input, output, Taker::new(alloc))?;
+    let left = ran(alloc, memory, reported, input, output, Taker::new(alloc))?;
     let is_front = left.output.len().saturating_add(1) == stops_at
-        && told.output.starts_with(left.output.as_slice());
+        && reported.output.starts_with(left.output.as_slice());
     check(
-        told,
-        left.status == BROKEN && is_front && tells_all(told, left.errors.as_slice()),
+        reported,
+        left.status == BROKEN && is_front && reports_all(reported, left.errors.as_slice()),
         "something else came where the output stops at byte",
         stops_at,
     )
@@ -147,38 +156,42 @@ fn stop_output(
 fn stop_errors(
     alloc: Global,
     memory: &mut Memory<'_>,
-    told: &Told<'_>,
+    reported: &Reported<'_>,
     stops_at: usize,
     stop: Stop,
 ) -> Result<(), Failure> {
-    let input = Giver::new(told.input, ALL);
+    let input = Giver::new(reported.input, ALL);
     let errors = Taker::stopping(alloc, stops_at, stop);
-    let left = ran(alloc, memory, told, input, Taker::new(alloc), errors)?;
-    let (front, _) = told
+    let left = ran(alloc, memory, reported, input, Taker::new(alloc), errors)?;
+    let (front, _) = reported
         .errors
-        .split_at(stops_at.saturating_sub(1).min(told.errors.len()));
+        .split_at(stops_at.saturating_sub(1).min(reported.errors.len()));
     check(
-        told,
-        left.status == BROKEN && tells_end(told, front, left.errors.as_slice()),
+        reported,
+        left.status == BROKEN && reports_end(reported, front, left.errors.as_slice()),
         "something else came where the error stream stops at byte",
         stops_at,
     )
 }
 
 // The standard output takes all, and then can't be flushed.
-fn fail_flush(alloc: Global, memory: &mut Memory<'_>, told: &Told<'_>) -> Result<(), Failure> {
-    let input = Giver::new(told.input, ALL);
+fn fail_flush(
+    alloc: Global,
+    memory: &mut Memory<'_>,
+    reported: &Reported<'_>,
+) -> Result<(), Failure> {
+    let input = Giver::new(reported.input, ALL);
     let left = ran(
         alloc,
         memory,
-        told,
+        reported,
         input,
         Taker::unflushed(alloc),
         Taker::new(alloc),
     )?;
     check(
-        told,
-        left.status == BROKEN && tells_all(told, left.errors.as_slice()),
+        reported,
+        left.status == BROKEN && reports_all(reported, left.errors.as_slice()),
         "something else came where the output can't be flushed, bytes",
         left.output.len(),
     )
@@ -187,13 +200,13 @@ fn fail_flush(alloc: Global, memory: &mut Memory<'_>, told: &Told<'_>) -> Result
 fn fail_reads(
     alloc: Global,
     memory: &mut Memory<'_>,
-    told: &Told<'_>,
+    reported: &Reported<'_>,
     counts: &mut Counts,
 ) -> Result<(), Failure> {
     // The last read would tell the end.
-    let reads = told.input.len().saturating_add(1);
+    let reads = reported.input.len().saturating_add(1);
     for read in 1..=reads {
-        fail_read(alloc, memory, told, read)?;
+        fail_read(alloc, memory, reported, read)?;
     }
     counts.reads = counts.reads.saturating_add(reads);
     Ok(())
@@ -202,17 +215,17 @@ fn fail_reads(
 fn stop_all(
     alloc: Global,
     memory: &mut Memory<'_>,
-    told: &Told<'_>,
+    reported: &Reported<'_>,
     stop: Stop,
     counts: &mut Counts,
 ) -> Result<(), Failure> {
-    for stops_at in 1..=told.output.len() {
-        stop_output(alloc, memory, told, stops_at, stop)?;
+    for stops_at in 1..=reported.output.len() {
+        stop_output(alloc, memory, reported, stops_at, stop)?;
     }
-    for stops_at in 1..=told.errors.len() {
-        stop_errors(alloc, memory, told, stops_at, stop)?;
+    for stops_at in 1..=reported.errors.len() {
+        stop_errors(alloc, memory, reported, stops_at, stop)?;
     }
-    let stops = told.output.len().saturating_add(told.errors.len());
+    let stops = reported.output.len().saturating_add(reported.errors.len());
     counts.writes = counts.writes.saturating_add(stops);
     Ok(())
 }
@@ -220,31 +233,31 @@ fn stop_all(
 fn stop_writes(
     alloc: Global,
     memory: &mut Memory<'_>,
-    told: &Told<'_>,
+    reported: &Reported<'_>,
     counts: &mut Counts,
 ) -> Result<(), Failure> {
-    stop_all(alloc, memory, told, Stop::Fails, counts)?;
-    stop_all(alloc, memory, told, Stop::TakesNone, counts)?;
-    if told.output.is_empty() {
+    stop_all(alloc, memory, reported, Stop::Fails, counts)?;
+    stop_all(alloc, memory, reported, Stop::TakesNone, counts)?;
+    if reported.output.is_empty() {
         return Ok(());
     }
     counts.writes = counts.writes.saturating_add(1);
-    fail_flush(alloc, memory, told)
+    fail_flush(alloc, memory, reported)
 }
 
 /// The same words over streams that break. What is left then is told by the status.
 pub fn break_streams(
     alloc: Global,
     memory: &mut Memory<'_>,
-    told: &Told<'_>,
+    reported: &Reported<'_>,
     modes: Modes,
     counts: &mut Counts,
 ) -> Result<(), Failure> {
-    if modes.reads && told.reads_frames {
-        fail_reads(alloc, memory, told, counts)?;
+    if modes.reads && reported.reads_frames {
+        fail_reads(alloc, memory, reported, counts)?;
     }
-    if modes.writes && told.leaves_no_mark {
-        stop_writes(alloc, memory, told, counts)?;
+    if modes.writes && reported.leaves_no_mark {
+        stop_writes(alloc, memory, reported, counts)?;
     }
     Ok(())
 }

@@ -1,12 +1,12 @@
 //! Acts on a workspace in words.
-use basis::{Look, Number, WsAct};
+use basis::{Number, Query, WsAct};
 use std::alloc::{AllocError, Global};
 
 // The number after which a list begins.
 fn after_in(act: &WsAct) -> Option<u64> {
     match act {
-        WsAct::Look(Look::Versions(after)) => Some(*after),
-        WsAct::Look(Look::Runs(after)) => Some(*after),
+        WsAct::Query(Query::Versions(after)) => Some(*after),
+        WsAct::Query(Query::Runs(after)) => Some(*after),
         _ => None,
     }
 }

@@ -114,19 +114,19 @@ pub struct Book<'a> {
 }
 
 // The place of the story of this name.
-fn place_of(stories: &[Story<'_>], name: &str) -> Option<usize> {
-    for (place, story) in stories.iter().enumerate() {
+fn index_of(stories: &[Story<'_>], name: &str) -> Option<usize> {
+    for (index, story) in stories.iter().enumerate() {
         if story.name == name {
-            return Some(place);
+            return Some(index);
         }
     }
     None
 }
 
 // The stories that come before one at this place, and that one.
-fn chain_behind(alloc: Global, story: &Story<'_>, place: usize) -> Result<Vec<usize>, Unread> {
+fn chain_behind(alloc: Global, story: &Story<'_>, index: usize) -> Result<Vec<usize>, Unread> {
     let mut chain = Vec::from_slice(alloc, story.before.as_slice())?;
-    chain.push(place)?;
+    chain.push(index)?;
     Ok(chain)
 }
 
@@ -176,7 +176,7 @@ impl<'a> Story<'a> {
 
 impl<'a> Book<'a> {
     fn begin_story(&mut self, alloc: Global, line: usize, name: &'a str) -> Result<(), Unread> {
-        if place_of(self.stories.as_slice(), name).is_some() {
+        if index_of(self.stories.as_slice(), name).is_some() {
             return Err(Unread {
                 line,
                 why: "an earlier story has this name",
@@ -199,10 +199,10 @@ impl<'a> Book<'a> {
             line,
             why: "no earlier story has this name",
         };
-        let Some(place) = place_of(self.stories.as_slice(), name) else {
+        let Some(index) = index_of(self.stories.as_slice(), name) else {
             return Err(unread);
         };
-        let Some(story) = self.stories.get(place) else {
+        let Some(story) = self.stories.get(index) else {
             return Err(unread);
         };
         if story.begins.is_some() {
@@ -211,7 +211,7 @@ impl<'a> Book<'a> {
                 why: "a story that begins with a file comes before no other",
             });
         }
-        chain_behind(alloc, story, place)
+        chain_behind(alloc, story, index)
     }
 
     fn set_before(&mut self, alloc: Global, line: usize, name: &str) -> Result<(), Unread> {

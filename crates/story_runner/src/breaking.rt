@@ -4,7 +4,7 @@ use crate::failures::Failure;
 use crate::links::{Asked, Break, WriteStop, break_link, line_in, makes_more};
 use crate::modes::{Counts, Modes};
 use crate::plays::Play;
-use crate::stores::{Looks, Makes, checked, record_at, records_of};
+use crate::stores::{Inspects, Makes, checked, record_at, records_of};
 use crate::taking::{Way, taken_to};
 use machine::Keep;
 use serve::{Service, Step};
@@ -33,9 +33,9 @@ fn begun<K: Keep + Drop, M: Makes<K>>(alloc: Global, makes: &M, play: &Play) -> 
 }
 
 // The request of a place, and what is due to it; none where an operator's command stands.
-fn asked_at(play: &Play, place: usize) -> Option<Asked<'_>> {
-    let step = play.steps.get(place)?;
-    let due = play.due.get(place)?;
+fn asked_at(play: &Play, index: usize) -> Option<Asked<'_>> {
+    let step = play.steps.get(index)?;
+    let due = play.due.get(index)?;
     match step {
         Step::Request { at, bytes } => Some(Asked::new(*at, bytes.as_slice(), due, &play.door)),
         Step::Command { .. } => None,
@@ -60,27 +60,27 @@ fn over_link<K: Keep + Drop>(
 }
 
 // The request is cut, and its reads fail; and then it comes whole.
-fn read_one<K: Keep + Drop, L: Looks<K>>(
+fn read_one<K: Keep + Drop, L: Inspects<K>>(
     alloc: Global,
-    looks: &L,
+    inspects: &L,
     keep: K,
     asked: &Asked<'_>,
     most: usize,
     modes: Modes,
     counts: &mut Counts,
 ) -> Result<K, Failure> {
-    let (keep, before) = looks.recorded(alloc, keep, asked.line, false)?;
+    let (keep, before) = inspects.recorded(alloc, keep, asked.line, false)?;
     let keep = over_link(alloc, keep, asked, Break::Reads(most, modes), counts)?;
-    let keep = checked(alloc, looks, keep, asked.line, before.as_slice(), false)?;
+    let keep = checked(alloc, inspects, keep, asked.line, before.as_slice(), false)?;
     over_link(alloc, keep, asked, Break::Nothing(most), counts)
 }
 
 // Where the line that says to go on isn't written, no step is taken: the request comes whole then. Else the step is taken, and
 // where requests come again it leaves the tables as they are, but for one that makes something more: that doesn't come again. A
 // request whose reply has fewer bytes comes whole.
-fn write_one<K: Keep + Drop, L: Looks<K>>(
+fn write_one<K: Keep + Drop, L: Inspects<K>>(
     alloc: Global,
-    looks: &L,
+    inspects: &L,
     keep: K,
     asked: &Asked<'_>,
     around: (&[u8], &[u8]),
@@ -95,7 +95,7 @@ fn write_one<K: Keep + Drop, L: Looks<K>>(
     let is_taken = stops.at > line_in(asked.due);
     let due = if is_taken { around.1 } else { around.0 };
     let keep = over_link(alloc, keep, asked, Break::Write(stops), counts)?;
-    let keep = checked(alloc, looks, keep, asked.line, due, false)?;
+    let keep = checked(alloc, inspects, keep, asked.line, due, false)?;
     if !is_taken {
         return over_link(alloc, keep, asked, whole, counts);
     }
@@ -103,33 +103,33 @@ fn write_one<K: Keep + Drop, L: Looks<K>>(
         return Ok(keep);
     }
     let keep = over_link(alloc, keep, asked, Break::Again(stops.most), counts)?;
-    checked(alloc, looks, keep, asked.line, due, false)
+    checked(alloc, inspects, keep, asked.line, due, false)
 }
 
 // The request of a place over links that break.
-fn break_one<K: Keep + Drop, L: Looks<K>>(
+fn break_one<K: Keep + Drop, L: Inspects<K>>(
     alloc: Global,
-    looks: &L,
+    inspects: &L,
     keep: K,
     play: &Play,
-    place: usize,
+    index: usize,
     asked: &Asked<'_>,
     breaks: &Breaks<'_>,
     counts: &mut Counts,
 ) -> Result<K, Failure> {
     match breaks {
-        Breaks::Reads(most, modes) => read_one(alloc, looks, keep, asked, *most, *modes, counts),
+        Breaks::Reads(most, modes) => read_one(alloc, inspects, keep, asked, *most, *modes, counts),
         Breaks::Writes(stops, again, records) => {
-            let before = record_at(records, play, place);
-            let after = record_at(records, play, place.saturating_add(1));
+            let before = record_at(records, play, index);
+            let after = record_at(records, play, index.saturating_add(1));
             let around = (before, after);
-            write_one(alloc, looks, keep, asked, around, *stops, *again, counts)
+            write_one(alloc, inspects, keep, asked, around, *stops, *again, counts)
         }
     }
 }
 
 // The story's own steps, each request over links that break.
-fn break_each<K: Keep + Drop, T: Makes<K> + Looks<K>>(
+fn break_each<K: Keep + Drop, T: Makes<K> + Inspects<K>>(
     alloc: Global,
     tables: &T,
     play: &Play,
@@ -137,11 +137,11 @@ fn break_each<K: Keep + Drop, T: Makes<K> + Looks<K>>(
     counts: &mut Counts,
 ) -> Result<(), Failure> {
     let mut keep: K = begun(alloc, tables, play)?;
-    for place in play.own..play.steps.len() {
-        let next = place.saturating_add(1);
-        keep = match asked_at(play, place) {
-            Some(asked) => break_one(alloc, tables, keep, play, place, &asked, breaks, counts)?,
-            None => taken_to(alloc, keep, Way::Replay, play, place, next)?,
+    for index in play.own..play.steps.len() {
+        let next = index.saturating_add(1);
+        keep = match asked_at(play, index) {
+            Some(asked) => break_one(alloc, tables, keep, play, index, &asked, breaks, counts)?,
+            None => taken_to(alloc, keep, Way::Replay, play, index, next)?,
         };
     }
     Ok(())
@@ -150,8 +150,8 @@ fn break_each<K: Keep + Drop, T: Makes<K> + Looks<K>>(
 // How many of the story's own requests have a reply of so many bytes.
 fn count_of(play: &Play, stops_at: usize) -> usize {
     let mut count = 0usize;
-    for place in play.own..play.steps.len() {
-        if let Some(asked) = asked_at(play, place) {
+    for index in play.own..play.steps.len() {
+        if let Some(asked) = asked_at(play, index) {
             if asked.due.len() >= stops_at {
                 count = count.saturating_add(1);
             }
@@ -161,7 +161,7 @@ fn count_of(play: &Play, stops_at: usize) -> usize {
 }
 
 // The reply to each of the story's own requests stops at each byte. It ends with the longest.
-fn stop_writes<K: Keep + Drop, T: Makes<K> + Looks<K>>(
+fn stop_writes<K: Keep + Drop, T: Makes<K> + Inspects<K>>(
     alloc: Global,
     tables: &T,
     play: &Play,
@@ -183,7 +183,7 @@ fn stop_writes<K: Keep + Drop, T: Makes<K> + Looks<K>>(
     Ok(())
 }
 
-fn break_writes<K: Keep + Drop, T: Makes<K> + Looks<K>>(
+fn break_writes<K: Keep + Drop, T: Makes<K> + Inspects<K>>(
     alloc: Global,
     tables: &T,
     play: &Play,
@@ -203,7 +203,7 @@ fn break_writes<K: Keep + Drop, T: Makes<K> + Looks<K>>(
 }
 
 /// Tells a story's own requests over links that break.
-pub fn run_broken<K: Keep + Drop, T: Makes<K> + Looks<K>>(
+pub fn run_broken<K: Keep + Drop, T: Makes<K> + Inspects<K>>(
     alloc: Global,
     tables: &T,
     play: &Play,

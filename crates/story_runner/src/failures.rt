@@ -44,11 +44,11 @@ impl Failure {
     }
 
     /// Something else came, where a link or a stream broke at a place.
-    pub fn broken(line: usize, what: &'static str, place: usize) -> Failure {
+    pub fn broken(line: usize, what: &'static str, index: usize) -> Failure {
         Failure {
             way: "",
             line,
-            why: Why::Broken(what, place),
+            why: Why::Broken(what, index),
         }
     }
 

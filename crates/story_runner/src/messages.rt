@@ -1,7 +1,7 @@
 //! A message read and shown.
 use crate::devices::{ALL, Giver, Taker};
 use crate::failures::Failure;
-use crate::tells::shown;
+use crate::reports::shown;
 use basis::{Bytes, Text};
 use std::alloc::{AllocError, Global};
 use wire::{FromRead, Message, ToWrite, WireFault, read_message};

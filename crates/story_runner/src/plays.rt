@@ -18,7 +18,7 @@ pub struct Due {
 /// What is asked of the tables before the step of this place, and its answer.
 #[derive(Drop)]
 pub struct Question {
-    pub place: usize,
+    pub index: usize,
     /// By which key the tables that are asked have their pages.
     pub keyed: Keyed,
     pub line: usize,
@@ -157,7 +157,7 @@ impl Play {
             return Err(head.unread("a question has one line `= TEXT`"));
         };
         let question = Question {
-            place: self.steps.len(),
+            index: self.steps.len(),
             keyed,
             line: head.line,
             sql: String::from_str(alloc, sql)?,
@@ -227,8 +227,8 @@ pub fn play_of<R: ReadsCommands>(
     if let Some(operator) = story.operator {
         play.door = door_of(alloc, operator)?;
     }
-    for place in story.before.as_slice() {
-        if let Some(earlier) = book.stories.get(*place) {
+    for index in story.before.as_slice() {
+        if let Some(earlier) = book.stories.get(*index) {
             play.add_all(alloc, commands, &book.definitions, earlier)?;
         }
     }

@@ -89,9 +89,9 @@ fn refused(
     counts: &mut Counts,
 ) -> Result<PlainKeep, Failure> {
     let mut service = Service::new(Refusing { keep });
-    let told = refuse(alloc, &mut service, asked, counts);
+    let reported = refuse(alloc, &mut service, asked, counts);
     let Refusing { keep } = service.into_keep();
-    match told {
+    match reported {
         Ok(()) => Ok(keep),
         Err(failure) => Err(failure),
     }
@@ -102,10 +102,10 @@ fn refuse_at(
     alloc: Global,
     keep: PlainKeep,
     play: &Play,
-    place: usize,
+    index: usize,
     counts: &mut Counts,
 ) -> Result<PlainKeep, Failure> {
-    let keep = match (play.steps.get(place), play.due.get(place)) {
+    let keep = match (play.steps.get(index), play.due.get(index)) {
         (Some(Step::Request { at, bytes }), Some(due)) => {
             let asked = Asked::new(*at, bytes.as_slice(), due, &play.door);
             refused(alloc, keep, &asked, counts)?
@@ -117,16 +117,16 @@ fn refuse_at(
         keep,
         Way::Replay,
         play,
-        place,
-        place.saturating_add(1),
+        index,
+        index.saturating_add(1),
     )
 }
 
 /// Tells a story's own requests to a store that refuses each change, before each of them is taken.
 pub fn run_refused(alloc: Global, play: &Play, counts: &mut Counts) -> Result<(), Failure> {
     let mut keep = taken_to(alloc, PlainKeep::new(alloc), Way::Replay, play, 0, play.own)?;
-    for place in play.own..play.steps.len() {
-        keep = refuse_at(alloc, keep, play, place, counts)?;
+    for index in play.own..play.steps.len() {
+        keep = refuse_at(alloc, keep, play, index, counts)?;
     }
     drop(keep);
     Ok(())

@@ -13,34 +13,34 @@ use std::alloc::Global;
 #[derive(Clone, Copy)]
 pub struct Cut {
     /// The place of the step that is due next.
-    pub place: usize,
+    pub index: usize,
     /// Whether it was in that step, and not as the files were opened or closed.
     pub is_in_step: bool,
     pub line: usize,
 }
 
 impl Cut {
-    pub fn new(play: &Play, place: usize, is_in_step: bool) -> Cut {
+    pub fn new(play: &Play, index: usize, is_in_step: bool) -> Cut {
         Cut {
-            place,
+            index,
             is_in_step,
-            line: line_at(play, place),
+            line: line_at(play, index),
         }
     }
 
     /// The place of the step behind it.
     pub fn next(&self) -> usize {
         if self.is_in_step {
-            self.place.saturating_add(1)
+            self.index.saturating_add(1)
         } else {
-            self.place
+            self.index
         }
     }
 }
 
 /// The line of the text where a step stands.
-pub fn line_at(play: &Play, place: usize) -> usize {
-    match play.due.get(place) {
+pub fn line_at(play: &Play, index: usize) -> usize {
+    match play.due.get(index) {
         Some(due) => due.line,
         None => 0,
     }
@@ -78,9 +78,9 @@ fn take_at<K: Keep>(
     alloc: Global,
     service: &mut Service<K>,
     play: &Play,
-    place: usize,
+    index: usize,
 ) -> Result<bool, Failure> {
-    let (Some(step), Some(due)) = (play.steps.get(place), play.due.get(place)) else {
+    let (Some(step), Some(due)) = (play.steps.get(index), play.due.get(index)) else {
         return Err(Failure::refused(0, "there is no such step"));
     };
     let came = answered(alloc, service, &play.door, ALL, step);
@@ -99,9 +99,9 @@ fn take_between<K: Keep>(
     from: usize,
     to: usize,
 ) -> Result<Option<usize>, Failure> {
-    for place in from..to {
-        if !take_at(alloc, service, play, place)? {
-            return Ok(Some(place));
+    for index in from..to {
+        if !take_at(alloc, service, play, index)? {
+            return Ok(Some(index));
         }
     }
     Ok(None)
@@ -142,10 +142,10 @@ pub fn sent_again<K: Keep + Drop>(
     alloc: Global,
     keep: K,
     play: &Play,
-    place: usize,
+    index: usize,
     is_applied: bool,
 ) -> Result<K, Failure> {
-    let (Some(step), Some(due)) = (play.steps.get(place), play.due.get(place)) else {
+    let (Some(step), Some(due)) = (play.steps.get(index), play.due.get(index)) else {
         return Err(Failure::refused(0, "there is no such step"));
     };
     let mut service = Service::new(keep);

@@ -15,7 +15,7 @@ pub trait Makes<K: Keep + Drop> {
 }
 
 /// Looks at the tables of stores. Each call gives the store back.
-pub trait Looks<K: Keep + Drop> {
+pub trait Inspects<K: Keep + Drop> {
     /// All that stands in the tables, as bytes that are compared. Where `is_lawful` is set the tables have to obey their laws.
     fn recorded(
         &self,
@@ -30,9 +30,9 @@ pub trait Looks<K: Keep + Drop> {
 }
 
 /// Takes a story's steps over these tables, which are asked what the story asks of tables with pages by this key.
-pub fn told_over<K: Keep + Drop, L: Looks<K>>(
+pub fn played_over<K: Keep + Drop, L: Inspects<K>>(
     alloc: Global,
-    looks: &L,
+    inspects: &L,
     keep: K,
     play: &Play,
     keyed: Keyed,
@@ -42,24 +42,24 @@ pub fn told_over<K: Keep + Drop, L: Looks<K>>(
     let mut from = 0;
     for question in play.questions.as_slice() {
         if question.keyed == keyed {
-            keep = taken_to(alloc, keep, way, play, from, question.place)?;
-            keep = looks.asked(alloc, keep, question)?;
-            from = question.place;
+            keep = taken_to(alloc, keep, way, play, from, question.index)?;
+            keep = inspects.asked(alloc, keep, question)?;
+            from = question.index;
         }
     }
     taken_to(alloc, keep, way, play, from, play.steps.len())
 }
 
 /// That what stands in the tables is due.
-pub fn checked<K: Keep + Drop, L: Looks<K>>(
+pub fn checked<K: Keep + Drop, L: Inspects<K>>(
     alloc: Global,
-    looks: &L,
+    inspects: &L,
     keep: K,
     line: usize,
     due: &[u8],
     is_lawful: bool,
 ) -> Result<K, Failure> {
-    let (keep, found) = looks.recorded(alloc, keep, line, is_lawful)?;
+    let (keep, found) = inspects.recorded(alloc, keep, line, is_lawful)?;
     match compare_bytes(alloc, line, due, found.as_slice()) {
         Ok(()) => Ok(keep),
         Err(failure) => Err(failure),
@@ -67,9 +67,9 @@ pub fn checked<K: Keep + Drop, L: Looks<K>>(
 }
 
 /// What stands in the tables before each of the story's own steps, and behind the last.
-pub fn records_of<K: Keep + Drop, L: Looks<K>>(
+pub fn records_of<K: Keep + Drop, L: Inspects<K>>(
     alloc: Global,
-    looks: &L,
+    inspects: &L,
     keep: K,
     play: &Play,
     way: Way,
@@ -77,19 +77,19 @@ pub fn records_of<K: Keep + Drop, L: Looks<K>>(
 ) -> Result<(K, Vec<Vec<u8>>), Failure> {
     let mut records = Vec::new(alloc);
     let mut keep = keep;
-    for place in play.own..play.steps.len() {
-        let (kept, record) = looks.recorded(alloc, keep, line_at(play, place), is_lawful)?;
+    for index in play.own..play.steps.len() {
+        let (kept, record) = inspects.recorded(alloc, keep, line_at(play, index), is_lawful)?;
         records.push(record)?;
-        keep = taken_to(alloc, kept, way, play, place, place.saturating_add(1))?;
+        keep = taken_to(alloc, kept, way, play, index, index.saturating_add(1))?;
     }
-    let (kept, record) = looks.recorded(alloc, keep, 0, is_lawful)?;
+    let (kept, record) = inspects.recorded(alloc, keep, 0, is_lawful)?;
     records.push(record)?;
     Ok((kept, records))
 }
 
 /// What stood in the tables before the own step of this place.
-pub fn record_at<'s>(records: &'s [Vec<u8>], play: &Play, place: usize) -> &'s [u8] {
-    match records.get(place.saturating_sub(play.own)) {
+pub fn record_at<'s>(records: &'s [Vec<u8>], play: &Play, index: usize) -> &'s [u8] {
+    match records.get(index.saturating_sub(play.own)) {
         Some(record) => record.as_slice(),
         None => b"",
     }

@@ -1,7 +1,7 @@
 //! Acts of each kind on a workspace, as what is asked of a store before them.
-use crate::whole::{RUNS, VERSIONS, Whole, greatest, text_at};
+use crate::all_rows::{AllRows, RUNS, VERSIONS, greatest, text_at};
 use basis::{
-    Bytes, Down, KeepCount, LockId, Look, Number, RunAction, RunAsk, RunSettings, Serial,
+    Bytes, Down, KeepCount, LockId, Number, Query, RunAction, RunAsk, RunSettings, Serial,
     SettingsAsk, StateHead, Text,
 };
 use machine::{Act, StateText};
@@ -26,18 +26,18 @@ pub fn numbers_about(last: u64) -> [u64; 4] {
     [1, last.saturating_sub(1), last, last.saturating_add(1)]
 }
 
-fn push_looks(acts: &mut Vec<Act>, last: u64) -> Result<(), Down> {
-    for look in [
-        Look::Workspace,
-        Look::State,
-        Look::Versions(0),
-        Look::Runs(0),
+fn push_queries(acts: &mut Vec<Act>, last: u64) -> Result<(), Down> {
+    for query in [
+        Query::Workspace,
+        Query::State,
+        Query::Versions(0),
+        Query::Runs(0),
     ] {
-        acts.push(Act::Look(look))?;
+        acts.push(Act::Query(query))?;
     }
     for value in numbers_about(last) {
         if let Some(number) = Number::new(value) {
-            acts.push(Act::Look(Look::Version(number)))?;
+            acts.push(Act::Query(Query::Version(number)))?;
         }
     }
     Ok(())
@@ -56,7 +56,7 @@ fn push_reports(acts: &mut Vec<Act>, last: u64) -> Result<(), Down> {
 fn push_runs(acts: &mut Vec<Act>, last: u64) -> Result<(), Down> {
     for value in numbers_about(last) {
         if let Some(number) = Number::new(value) {
-            acts.push(Act::Look(Look::Run(number)))?;
+            acts.push(Act::Query(Query::Run(number)))?;
             acts.push(Act::ReportRun(number, RunAction::Discard))?;
         }
     }
@@ -102,10 +102,10 @@ fn push_run(alloc: Global, acts: &mut Vec<Act>, key: Option<Text>) -> Result<(),
 }
 
 // A run without a key, with one that no run has, and with the key of the first run that has one.
-fn push_keys(alloc: Global, acts: &mut Vec<Act>, whole: &Whole) -> Result<(), Down> {
+fn push_keys(alloc: Global, acts: &mut Vec<Act>, all_rows: &AllRows) -> Result<(), Down> {
     push_run(alloc, acts, None)?;
     push_run(alloc, acts, Some(Text::copy_of(alloc, "another")?))?;
-    for row in whole.rows(RUNS) {
+    for row in all_rows.rows(RUNS) {
         if let Some(key) = text_at(row, 2).and_then(|key| str::from_utf8(key).ok()) {
             return push_run(alloc, acts, Some(Text::copy_of(alloc, key)?));
         }
@@ -137,20 +137,20 @@ fn push_updates(alloc: Global, acts: &mut Vec<Act>, text: &[u8]) -> Result<(), D
     push_update(alloc, acts, longer)
 }
 
-fn push_all(alloc: Global, acts: &mut Vec<Act>, whole: &Whole) -> Result<(), Down> {
-    let newest = greatest(whole.rows(VERSIONS));
-    push_looks(acts, newest)?;
-    push_runs(acts, greatest(whole.rows(RUNS)))?;
+fn push_all(alloc: Global, acts: &mut Vec<Act>, all_rows: &AllRows) -> Result<(), Down> {
+    let newest = greatest(all_rows.rows(VERSIONS));
+    push_queries(acts, newest)?;
+    push_runs(acts, greatest(all_rows.rows(RUNS)))?;
     push_settings(acts)?;
     push_locks(alloc, acts)?;
-    push_keys(alloc, acts, whole)?;
-    let text = whole.text(alloc, newest)?;
+    push_keys(alloc, acts, all_rows)?;
+    let text = all_rows.text(alloc, newest)?;
     push_updates(alloc, acts, text.as_slice())
 }
 
 /// Acts of each kind on a workspace with these rows.
-pub fn acts_on(alloc: Global, whole: &Whole) -> Result<Vec<Act>, Down> {
+pub fn acts_on(alloc: Global, all_rows: &AllRows) -> Result<Vec<Act>, Down> {
     let mut acts = Vec::new(alloc);
-    push_all(alloc, &mut acts, whole)?;
+    push_all(alloc, &mut acts, all_rows)?;
     Ok(acts)
 }

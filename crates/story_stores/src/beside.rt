@@ -1,11 +1,11 @@
 //! What a store over tables says by its queries of the workspace that a request names, compared with what is found in all rows:
 //! before acts of each kind, text by text and list by list, behind each of a story's own steps that may have changed it.
+use crate::all_rows::{AllRows, ORGANIZATION, RUNS, VERSIONS, greatest, read_all_rows, row_of};
 use crate::asks::{acts_on, numbers_about};
 use crate::keys::FirstByte;
 use crate::listed::{are_runs, are_versions, are_workspaces};
 use crate::parts::difference;
 use crate::ways::{Sql, TablesBy, reopened};
-use crate::whole::{ORGANIZATION, RUNS, VERSIONS, Whole, greatest, read_whole, row_of};
 use basis::{Down, Number, OrgName, WsName, WsPrefix};
 use machine::{Act, Keep};
 use pages::PageKey;
@@ -69,8 +69,8 @@ fn may_change(sent: &[u8], due: &[u8]) -> bool {
 }
 
 // The workspace that a step names which may have changed it.
-fn changed_by(alloc: Global, play: &Play, place: usize) -> Option<Named> {
-    match (play.steps.get(place)?, play.due.get(place)?) {
+fn changed_by(alloc: Global, play: &Play, index: usize) -> Option<Named> {
+    match (play.steps.get(index)?, play.due.get(index)?) {
         (Step::Request { bytes, .. }, due) if may_change(bytes.as_slice(), due.bytes.as_slice()) =>
             { named_in(alloc, due.line, bytes.as_slice()) }
         _ => None,
@@ -82,11 +82,11 @@ fn act_differs<K: Keep>(
     alloc: Global,
     keep: &mut K,
     named: &Named,
-    whole: &Whole,
+    all_rows: &AllRows,
     act: &Act,
 ) -> Option<&'static str> {
     match keep.unit(alloc, &named.org, &named.ws, act) {
-        Ok(unit) => difference(whole, &act.needs(), &unit),
+        Ok(unit) => difference(all_rows, &act.needs(), &unit),
         Err(_) => Some("memory or the store refused, at the act"),
     }
 }
@@ -95,12 +95,12 @@ fn compare_acts<K: Keep>(
     alloc: Global,
     keep: &mut K,
     named: &Named,
-    whole: &Whole,
+    all_rows: &AllRows,
     acts: &[Act],
 ) -> Result<(), Failure> {
-    for (place, act) in acts.iter().enumerate() {
-        if let Some(what) = act_differs(alloc, keep, named, whole, act) {
-            return Err(Failure::broken(named.line, what, place));
+    for (index, act) in acts.iter().enumerate() {
+        if let Some(what) = act_differs(alloc, keep, named, all_rows, act) {
+            return Err(Failure::broken(named.line, what, index));
         }
     }
     Ok(())
@@ -111,13 +111,13 @@ fn is_text<K: Keep>(
     alloc: Global,
     keep: &mut K,
     named: &Named,
-    whole: &Whole,
+    all_rows: &AllRows,
     number: Number,
 ) -> Result<bool, Down> {
     let value = u64::from(number.get());
-    let is_there = row_of(whole.rows(VERSIONS), value).is_some();
+    let is_there = row_of(all_rows.rows(VERSIONS), value).is_some();
     match keep.text(alloc, &named.org, &named.ws, number)? {
-        Some(text) => Ok(is_there && whole.has_text(value, text.as_slice())),
+        Some(text) => Ok(is_there && all_rows.has_text(value, text.as_slice())),
         None => Ok(!is_there),
     }
 }
@@ -127,15 +127,15 @@ fn lists_workspaces<K: Keep>(
     alloc: Global,
     keep: &mut K,
     named: &Named,
-    whole: &Whole,
+    all_rows: &AllRows,
     prefix: &WsPrefix,
 ) -> Result<bool, Down> {
     let list = keep.workspaces(alloc, &named.org, None, prefix)?;
-    if !are_workspaces(whole, "", prefix, &list) {
+    if !are_workspaces(all_rows, "", prefix, &list) {
         return Ok(false);
     }
     let list = keep.workspaces(alloc, &named.org, Some(&named.ws), prefix)?;
-    Ok(are_workspaces(whole, named.ws.as_str(), prefix, &list))
+    Ok(are_workspaces(all_rows, named.ws.as_str(), prefix, &list))
 }
 
 // So with the prefix that admits all, and with the first letter of the workspace that is named.
@@ -143,15 +143,15 @@ fn has_workspaces<K: Keep>(
     alloc: Global,
     keep: &mut K,
     named: &Named,
-    whole: &Whole,
+    all_rows: &AllRows,
 ) -> Result<bool, Down> {
     let all = WsPrefix::new(alloc);
-    if !lists_workspaces(alloc, keep, named, whole, &all)? {
+    if !lists_workspaces(alloc, keep, named, all_rows, &all)? {
         return Ok(false);
     }
     let letter = named.ws.as_str().get(..1).unwrap_or("");
     match WsPrefix::read(alloc, letter) {
-        Ok(prefix) => lists_workspaces(alloc, keep, named, whole, &prefix),
+        Ok(prefix) => lists_workspaces(alloc, keep, named, all_rows, &prefix),
         Err(_) => Err(Down),
     }
 }
@@ -160,11 +160,11 @@ fn has_texts<K: Keep>(
     alloc: Global,
     keep: &mut K,
     named: &Named,
-    whole: &Whole,
+    all_rows: &AllRows,
 ) -> Result<bool, Down> {
-    for value in numbers_about(greatest(whole.rows(VERSIONS))) {
+    for value in numbers_about(greatest(all_rows.rows(VERSIONS))) {
         if let Some(number) = Number::new(value) {
-            if !is_text(alloc, keep, named, whole, number)? {
+            if !is_text(alloc, keep, named, all_rows, number)? {
                 return Ok(false);
             }
         }
@@ -176,11 +176,11 @@ fn has_versions<K: Keep>(
     alloc: Global,
     keep: &mut K,
     named: &Named,
-    whole: &Whole,
+    all_rows: &AllRows,
 ) -> Result<bool, Down> {
-    for after in numbers_about(greatest(whole.rows(VERSIONS))) {
+    for after in numbers_about(greatest(all_rows.rows(VERSIONS))) {
         let list = keep.versions(alloc, &named.org, &named.ws, after.saturating_sub(1))?;
-        if !are_versions(whole, after.saturating_sub(1), &list) {
+        if !are_versions(all_rows, after.saturating_sub(1), &list) {
             return Ok(false);
         }
     }
@@ -191,11 +191,11 @@ fn has_runs<K: Keep>(
     alloc: Global,
     keep: &mut K,
     named: &Named,
-    whole: &Whole,
+    all_rows: &AllRows,
 ) -> Result<bool, Down> {
-    for after in numbers_about(greatest(whole.rows(RUNS))) {
+    for after in numbers_about(greatest(all_rows.rows(RUNS))) {
         let list = keep.runs(alloc, &named.org, &named.ws, after.saturating_sub(1))?;
-        if !are_runs(whole, after.saturating_sub(1), &list) {
+        if !are_runs(all_rows, after.saturating_sub(1), &list) {
             return Ok(false);
         }
     }
@@ -206,15 +206,15 @@ fn compare_lists<K: Keep>(
     alloc: Global,
     keep: &mut K,
     named: &Named,
-    whole: &Whole,
+    all_rows: &AllRows,
 ) -> Result<(), Failure> {
-    let why = if !has_workspaces(alloc, keep, named, whole)? {
+    let why = if !has_workspaces(alloc, keep, named, all_rows)? {
         "a list of workspaces differs from the rows"
-    } else if !has_versions(alloc, keep, named, whole)? {
+    } else if !has_versions(alloc, keep, named, all_rows)? {
         "a list of versions differs from the rows"
-    } else if !has_runs(alloc, keep, named, whole)? {
+    } else if !has_runs(alloc, keep, named, all_rows)? {
         "a list of runs differs from the rows"
-    } else if !has_texts(alloc, keep, named, whole)? {
+    } else if !has_texts(alloc, keep, named, all_rows)? {
         "a text differs from the pages"
     } else {
         return Ok(());
@@ -227,14 +227,14 @@ fn compare_all<K: Keep>(
     alloc: Global,
     keep: &mut K,
     named: &Named,
-    whole: &Whole,
+    all_rows: &AllRows,
 ) -> Result<(), Failure> {
-    if whole.rows(ORGANIZATION).is_empty() {
+    if all_rows.rows(ORGANIZATION).is_empty() {
         return Ok(());
     }
-    let acts = acts_on(alloc, whole)?;
-    compare_acts(alloc, keep, named, whole, acts.as_slice())?;
-    compare_lists(alloc, keep, named, whole)
+    let acts = acts_on(alloc, all_rows)?;
+    compare_acts(alloc, keep, named, all_rows, acts.as_slice())?;
+    compare_lists(alloc, keep, named, all_rows)
 }
 
 // Compares a store with rows that were read of it, and gives it back.
@@ -242,10 +242,10 @@ fn compared_with<K: Keep + Drop>(
     alloc: Global,
     keep: K,
     named: &Named,
-    whole: &Whole,
+    all_rows: &AllRows,
 ) -> Result<K, Failure> {
     let mut keep = keep;
-    compare_all(alloc, &mut keep, named, whole)?;
+    compare_all(alloc, &mut keep, named, all_rows)?;
     Ok(keep)
 }
 
@@ -257,10 +257,10 @@ fn compared<S: Alter + Drop, K: PageKey>(
 ) -> Result<SqlKeep<S, K>, Failure> {
     let (line, org, ws) = (named.line, named.org.as_str(), named.ws.as_str());
     let mut conn = keep.close();
-    let read = read_whole(alloc, line, &mut conn, org, ws);
+    let read = read_all_rows(alloc, line, &mut conn, org, ws);
     let keep = reopened(line, conn)?;
     match read {
-        Ok(whole) => compared_with(alloc, keep, named, &whole),
+        Ok(all_rows) => compared_with(alloc, keep, named, &all_rows),
         Err(failure) => Err(failure),
     }
 }
@@ -271,9 +271,9 @@ fn compare_behind_each<S: Alter + Drop, K: PageKey>(
     play: &Play,
 ) -> Result<(), Failure> {
     let mut keep = taken_to(alloc, keep, EACH, play, 0, play.own)?;
-    for place in play.own..play.steps.len() {
-        keep = taken_to(alloc, keep, EACH, play, place, place.saturating_add(1))?;
-        if let Some(named) = changed_by(alloc, play, place) {
+    for index in play.own..play.steps.len() {
+        keep = taken_to(alloc, keep, EACH, play, index, index.saturating_add(1))?;
+        if let Some(named) = changed_by(alloc, play, index) {
             keep = compared(alloc, keep, &named)?;
         }
     }

@@ -71,8 +71,8 @@ fn file_of(alloc: Global, bytes: &[u8], calls: u64) -> io::Result<Fused> {
 // bytes nor the new ones.
 fn torn(alloc: Global, written: &[u8], synced: &[u8]) -> Result<Vec<u8>, AllocError> {
     let mut bytes = Vec::new(alloc);
-    for (place, byte) in written.iter().enumerate() {
-        let is_torn = place / SECTOR % 2 == 1 && synced.get(place) != Some(byte);
+    for (index, byte) in written.iter().enumerate() {
+        let is_torn = index / SECTOR % 2 == 1 && synced.get(index) != Some(byte);
         bytes.push(if is_torn { !*byte } else { *byte })?;
     }
     Ok(bytes)
@@ -170,8 +170,8 @@ pub struct Left {
 }
 
 // What stands in tables of an earlier version.
-fn looked_at<S: Alter>(alloc: Global, conn: &mut Connection<S>) -> Result<Done, Failure> {
-    let mut done = Done::new(alloc, Ended::Whole);
+fn inspected_at<S: Alter>(alloc: Global, conn: &mut Connection<S>) -> Result<Done, Failure> {
+    let mut done = Done::new(alloc, Ended::Completed);
     let record = earlier_record_of(alloc, conn)?;
     done.records.push(record)?;
     Ok(done)
@@ -237,7 +237,7 @@ fn work_at<S: Alter + Drop>(
 ) -> Result<(Connection<S>, Done), Failure> {
     let mut conn = conn;
     match work {
-        Work::LookEarlier => match looked_at(alloc, &mut conn) {
+        Work::QueryEarlier => match inspected_at(alloc, &mut conn) {
             Ok(done) => Ok((conn, done)),
             Err(failure) => Err(failure),
         },
@@ -247,11 +247,11 @@ fn work_at<S: Alter + Drop>(
 
 // Copies the log into the file. Where the power is cut, or was, the files as they are.
 fn closed<D: Disk + Drop>(conn: Connection<FileStore<D>>, ended: Ended) -> (Files<D>, Ended) {
-    if ended != Ended::Whole {
+    if ended != Ended::Completed {
         return (conn.into_store().close(), ended);
     }
     match conn.close_files() {
-        Ok(files) => (files, Ended::Whole),
+        Ok(files) => (files, Ended::Completed),
         Err((_, store)) => (store.close(), Ended::Unclosed),
     }
 }
@@ -296,7 +296,7 @@ pub fn over_image(
 }
 
 /// The same, where the power isn't cut.
-pub fn over_whole(
+pub fn over_all_rows(
     alloc: Global,
     line: usize,
     image: &Image,
@@ -305,7 +305,7 @@ pub fn over_whole(
 ) -> Result<Left, Failure> {
     let left = over_image(alloc, image, NO_CUTS, play, work)?;
     match left.done.ended {
-        Ended::Whole => Ok(left),
+        Ended::Completed => Ok(left),
         Ended::Unopened => Err(Failure::refused(line, "the files don't open")),
         Ended::Unclosed => Err(Failure::refused(line, "the files don't close")),
         Ended::Stopped(_) => Err(Failure::refused(

@@ -53,13 +53,13 @@ fn take_away(conn: &mut Tables, number: Number, size: usize) -> Result<(), Error
     tx.commit()
 }
 
-fn add_counts(alloc: Global, conn: &mut Tables, told: &mut String) -> Result<(), Error> {
+fn add_counts(alloc: Global, conn: &mut Tables, reported: &mut String) -> Result<(), Error> {
     for (name, sql) in COUNTS {
         let count = ask(alloc, conn, sql)?;
-        told.push_str(name)?;
-        told.push(' ')?;
-        told.push_str(count.as_str())?;
-        told.push('\n')?;
+        reported.push_str(name)?;
+        reported.push(' ')?;
+        reported.push_str(count.as_str())?;
+        reported.push('\n')?;
     }
     Ok(())
 }
@@ -94,24 +94,24 @@ fn is_left(alloc: Global, conn: &mut Tables) -> Result<bool, Error> {
     Ok(false)
 }
 
-fn told_of<K: PageKey>(alloc: Global, conn: &mut Tables, due: &[u8]) -> Result<String, Error> {
+fn reported_of<K: PageKey>(alloc: Global, conn: &mut Tables, due: &[u8]) -> Result<String, Error> {
     let number = number()?;
     put::<K>(conn, number, due)?;
-    let mut told = String::new(alloc);
-    add_counts(alloc, conn, &mut told)?;
+    let mut reported = String::new(alloc);
+    add_counts(alloc, conn, &mut reported)?;
     let is_kept = is_kept(alloc, conn, number, due)?;
-    told.push_str(if is_kept { "kept\n" } else { "not kept\n" })?;
+    reported.push_str(if is_kept { "kept\n" } else { "not kept\n" })?;
     take_away(conn, number, due.len())?;
     let is_left = is_left(alloc, conn)?;
-    told.push_str(if is_left { "left" } else { "gone" })?;
-    Ok(told)
+    reported.push_str(if is_left { "left" } else { "gone" })?;
+    Ok(reported)
 }
 
 fn show_by<K: PageKey>(alloc: Global, due: &[u8]) -> Result<String, Failure> {
     let keep: TablesBy<K> = Sql.made(alloc)?;
     let mut conn = keep.close();
-    match told_of::<K>(alloc, &mut conn, due) {
-        Ok(told) => Ok(told),
+    match reported_of::<K>(alloc, &mut conn, due) {
+        Ok(reported) => Ok(reported),
         Err(_) => Err(Failure::refused(0, "the tables don't answer")),
     }
 }

@@ -1,6 +1,7 @@
 //! A story's steps tried over stores: values and tables in memory, links that break, files whose power is cut.
 #![tactic(auto)]
 
+mod all_rows;
 mod asks;
 pub mod beside;
 pub mod cuts;
@@ -14,4 +15,3 @@ mod records;
 pub mod resuming;
 pub mod stops;
 pub mod ways;
-mod whole;

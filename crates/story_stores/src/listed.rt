@@ -1,18 +1,18 @@
 //! Lists of versions, runs and workspaces beside the rows that were read whole: each item is that of the next row, and what is said of
 //! the rows behind the last is true.
-use crate::parts::{is_run, value_of};
-use crate::whole::{
-    KEEPINGS, NAMES, NUMBERS, RUNS, VERSIONS, Whole, has_flag, has_number, has_text, least_above,
-    number_at, row_of, row_with, text_at,
+use crate::all_rows::{
+    AllRows, NAMES, NUMBERS, RETENTIONS, RUNS, VERSIONS, has_flag, has_number, has_text,
+    least_above, number_at, row_of, row_with, text_at,
 };
+use crate::parts::{is_run, value_of};
 use basis::numbers::FIRST_KEPT;
 use basis::rows::MAX_ITEMS;
 use basis::{HolderId, Listing, RunRow, VersionRow, WsPrefix, WsRow};
 use sqlite::Row;
 use std::cmp::Ordering;
 
-fn is_version(whole: &Whole, number: u64, version: &VersionRow) -> bool {
-    match row_of(whole.rows(VERSIONS), number) {
+fn is_version(all_rows: &AllRows, number: u64, version: &VersionRow) -> bool {
+    match row_of(all_rows.rows(VERSIONS), number) {
         Some(row) => {
             number == u64::from(version.number.get())
                 && has_number(row, 1, version.serial.get())
@@ -30,12 +30,12 @@ fn is_end(count: usize, more: bool, follows: bool) -> bool {
 }
 
 /// Whether a list has the versions behind a number, each in turn.
-pub fn are_versions(whole: &Whole, after: u64, list: &Listing<VersionRow>) -> bool {
-    let rows = whole.rows(VERSIONS);
+pub fn are_versions(all_rows: &AllRows, after: u64, list: &Listing<VersionRow>) -> bool {
+    let rows = all_rows.rows(VERSIONS);
     let mut last = after;
     for version in list.items.as_slice() {
         last = least_above(rows, last);
-        if !is_version(whole, last, version) {
+        if !is_version(all_rows, last, version) {
             return false;
         }
     }
@@ -46,20 +46,20 @@ pub fn are_versions(whole: &Whole, after: u64, list: &Listing<VersionRow>) -> bo
     )
 }
 
-fn is_run_of(whole: &Whole, number: u64, run: &RunRow) -> bool {
-    match row_of(whole.rows(RUNS), number) {
+fn is_run_of(all_rows: &AllRows, number: u64, run: &RunRow) -> bool {
+    match row_of(all_rows.rows(RUNS), number) {
         Some(row) => is_run(row, run),
         None => false,
     }
 }
 
 /// Whether a list has the runs behind a number, each in turn.
-pub fn are_runs(whole: &Whole, after: u64, list: &Listing<RunRow>) -> bool {
-    let rows = whole.rows(RUNS);
+pub fn are_runs(all_rows: &AllRows, after: u64, list: &Listing<RunRow>) -> bool {
+    let rows = all_rows.rows(RUNS);
     let mut last = after;
     for run in list.items.as_slice() {
         last = least_above(rows, last);
-        if !is_run_of(whole, last, run) {
+        if !is_run_of(all_rows, last, run) {
             return false;
         }
     }
@@ -101,17 +101,17 @@ fn has_holder(row: &Row, holder: &Option<HolderId>) -> bool {
     }
 }
 
-fn kept_of(whole: &Whole, name: &str) -> u64 {
-    match row_with(whole.rows(KEEPINGS), 0, name) {
+fn kept_of(all_rows: &AllRows, name: &str) -> u64 {
+    match row_with(all_rows.rows(RETENTIONS), 0, name) {
         Some(row) => number_at(row, 1).unwrap_or(0),
         None => u64::from(FIRST_KEPT),
     }
 }
 
 // The greatest number of a workspace's versions; 0 where there is none.
-fn newest_of(whole: &Whole, name: &str) -> u64 {
+fn newest_of(all_rows: &AllRows, name: &str) -> u64 {
     let mut newest = 0;
-    for row in whole.rows(NUMBERS) {
+    for row in all_rows.rows(NUMBERS) {
         if has_text(row, 0, name) {
             newest = number_at(row, 1).unwrap_or(0).max(newest);
         }
@@ -119,14 +119,14 @@ fn newest_of(whole: &Whole, name: &str) -> u64 {
     newest
 }
 
-fn is_workspace(whole: &Whole, name: &str, ws: &WsRow) -> bool {
-    match row_with(whole.rows(NAMES), 0, name) {
+fn is_workspace(all_rows: &AllRows, name: &str, ws: &WsRow) -> bool {
+    match row_with(all_rows.rows(NAMES), 0, name) {
         Some(row) => {
             name == ws.name.as_str()
                 && has_flag(row, 1, ws.settings.runs.auto_apply)
                 && has_holder(row, &ws.holder)
-                && u64::from(ws.settings.retention.get()) == kept_of(whole, name)
-                && value_of(ws.version) == newest_of(whole, name)
+                && u64::from(ws.settings.retention.get()) == kept_of(all_rows, name)
+                && value_of(ws.version) == newest_of(all_rows, name)
         }
         None => false,
     }
@@ -134,16 +134,16 @@ fn is_workspace(whole: &Whole, name: &str, ws: &WsRow) -> bool {
 
 /// Whether a list has the workspaces that a prefix admits behind a name, each in turn.
 pub fn are_workspaces(
-    whole: &Whole,
+    all_rows: &AllRows,
     after: &str,
     prefix: &WsPrefix,
     list: &Listing<WsRow>,
 ) -> bool {
-    let rows = whole.rows(NAMES);
+    let rows = all_rows.rows(NAMES);
     let mut last = after;
     for ws in list.items.as_slice() {
         last = name_above(rows, last, prefix);
-        if !is_workspace(whole, last, ws) {
+        if !is_workspace(all_rows, last, ws) {
             return false;
         }
     }

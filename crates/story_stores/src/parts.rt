@@ -1,7 +1,8 @@
 //! What a store says of a workspace, part by part, beside the rows of the workspace that were read whole.
-use crate::whole::{
-    KEEPING, NAMES, ORGANIZATION, RUNS, VERSIONS, Whole, bytes_at, count_above, greatest, has_flag,
-    has_number, has_optional, has_text, least_above, number_at, number_of, row_of, row_with,
+use crate::all_rows::{
+    AllRows, NAMES, ORGANIZATION, RETENTION, RUNS, VERSIONS, bytes_at, count_above, greatest,
+    has_flag, has_number, has_optional, has_text, least_above, number_at, number_of, row_of,
+    row_with,
 };
 use basis::numbers::FIRST_KEPT;
 use basis::{Holder, Limit, LockId, Number, RunAction, RunRow, RunStatus, Text};
@@ -97,32 +98,32 @@ fn is_row(row: &Row, unit: &WorkspaceUnit) -> bool {
 }
 
 // How many versions are kept; as many as at first, where that isn't needed.
-fn kept(whole: &Whole, is_needed: bool) -> u64 {
-    match whole.rows(KEEPING).first() {
+fn kept(all_rows: &AllRows, is_needed: bool) -> u64 {
+    match all_rows.rows(RETENTION).first() {
         Some(row) if is_needed => number_of(row),
         _ => u64::from(FIRST_KEPT),
     }
 }
 
-fn has_same(whole: &Whole, number: u64, text: Option<&[u8]>) -> bool {
+fn has_same(all_rows: &AllRows, number: u64, text: Option<&[u8]>) -> bool {
     match text {
-        Some(text) => whole.has_text(number, text),
+        Some(text) => all_rows.has_text(number, text),
         None => false,
     }
 }
 
-fn is_newest_row(whole: &Whole, needs: &Needs<'_>, row: &Row, newest: &Newest) -> bool {
+fn is_newest_row(all_rows: &AllRows, needs: &Needs<'_>, row: &Row, newest: &Newest) -> bool {
     let number = number_of(row);
     number == u64::from(newest.number.get())
         && has_number(row, 1, newest.serial.get())
         && has_text(row, 2, newest.lineage.as_str())
-        && newest.is_same == has_same(whole, number, needs.text)
+        && newest.is_same == has_same(all_rows, number, needs.text)
 }
 
-fn is_newest(whole: &Whole, needs: &Needs<'_>, newest: &Option<Newest>) -> bool {
-    let rows = whole.rows(VERSIONS);
+fn is_newest(all_rows: &AllRows, needs: &Needs<'_>, newest: &Option<Newest>) -> bool {
+    let rows = all_rows.rows(VERSIONS);
     match (row_of(rows, greatest(rows)), newest) {
-        (Some(row), Some(newest)) if needs.newest => is_newest_row(whole, needs, row, newest),
+        (Some(row), Some(newest)) if needs.newest => is_newest_row(all_rows, needs, row, newest),
         (Some(_), None) => !needs.newest,
         (None, None) => true,
         _ => false,
@@ -142,25 +143,25 @@ fn last_before(rows: &[Row], staying: usize) -> u64 {
 }
 
 // The greatest number of the versions that go; 0 where none does.
-fn outgoing(whole: &Whole, staying: Staying) -> u64 {
-    let rows = whole.rows(VERSIONS);
+fn outgoing(all_rows: &AllRows, staying: Staying) -> u64 {
+    let rows = all_rows.rows(VERSIONS);
     match staying {
         Staying::StayAll => 0,
-        Staying::MakeRoom => last_before(rows, kept(whole, true).saturating_sub(1) as usize),
+        Staying::MakeRoom => last_before(rows, kept(all_rows, true).saturating_sub(1) as usize),
         Staying::StayAtMost(most) => last_before(rows, most.get() as usize),
     }
 }
 
-fn has_version(whole: &Whole, number: Option<Number>) -> bool {
+fn has_version(all_rows: &AllRows, number: Option<Number>) -> bool {
     match number {
-        Some(number) => row_of(whole.rows(VERSIONS), u64::from(number.get())).is_some(),
+        Some(number) => row_of(all_rows.rows(VERSIONS), u64::from(number.get())).is_some(),
         None => false,
     }
 }
 
-fn are_versions(whole: &Whole, needs: &Needs<'_>, unit: &WorkspaceUnit) -> bool {
-    value_of(unit.outgoing) == outgoing(whole, needs.outgoing)
-        && unit.has_version == has_version(whole, needs.version)
+fn are_versions(all_rows: &AllRows, needs: &Needs<'_>, unit: &WorkspaceUnit) -> bool {
+    value_of(unit.outgoing) == outgoing(all_rows, needs.outgoing)
+        && unit.has_version == has_version(all_rows, needs.version)
 }
 
 /// Whether a run's row has this status.
@@ -211,13 +212,13 @@ fn is_asked(row: Option<&Row>, run: &Option<RunRow>) -> bool {
 }
 
 // The row of the run that holds.
-fn holding_row(whole: &Whole) -> Option<&Row> {
-    let row = whole.workspace()?;
-    row_of(whole.rows(RUNS), number_at(row, HOLDING_RUN)?)
+fn holding_row(all_rows: &AllRows) -> Option<&Row> {
+    let row = all_rows.workspace()?;
+    row_of(all_rows.rows(RUNS), number_at(row, HOLDING_RUN)?)
 }
 
-fn is_holder_status(whole: &Whole, needs: &Needs<'_>, status: Option<RunStatus>) -> bool {
-    match (holding_row(whole), status) {
+fn is_holder_status(all_rows: &AllRows, needs: &Needs<'_>, status: Option<RunStatus>) -> bool {
+    match (holding_row(all_rows), status) {
         (Some(row), Some(status)) => needs.holder_status && has_status(row, status),
         (Some(_), None) => !needs.holder_status,
         (None, None) => true,
@@ -251,8 +252,8 @@ fn count_open(rows: &[Row]) -> usize {
     count
 }
 
-fn are_runs(whole: &Whole, needs: &Needs<'_>, unit: &WorkspaceUnit) -> bool {
-    let rows = whole.rows(RUNS);
+fn are_runs(all_rows: &AllRows, needs: &Needs<'_>, unit: &WorkspaceUnit) -> bool {
+    let rows = all_rows.rows(RUNS);
     let waiting = if needs.waiting {
         first_waiting(rows)
     } else {
@@ -262,12 +263,12 @@ fn are_runs(whole: &Whole, needs: &Needs<'_>, unit: &WorkspaceUnit) -> bool {
     value_of(unit.first_waiting) == waiting
         && unit.open_runs == open
         && is_asked(asked_row(rows, needs), &unit.asked_run)
-        && is_holder_status(whole, needs, unit.holder_status)
+        && is_holder_status(all_rows, needs, unit.holder_status)
 }
 
 // In what the parts of a workspace that is there differ from its rows.
 fn differs_in(
-    whole: &Whole,
+    all_rows: &AllRows,
     needs: &Needs<'_>,
     row: &Row,
     unit: &WorkspaceUnit,
@@ -275,38 +276,38 @@ fn differs_in(
     if !is_row(row, unit) {
         return Some("the workspace's own row differs, at the act");
     }
-    if u64::from(unit.settings.retention.get()) != kept(whole, needs.retention) {
+    if u64::from(unit.settings.retention.get()) != kept(all_rows, needs.retention) {
         return Some("how many versions are kept differs, at the act");
     }
-    if !is_newest(whole, needs, &unit.newest) {
+    if !is_newest(all_rows, needs, &unit.newest) {
         return Some("the newest version differs, at the act");
     }
-    if !are_versions(whole, needs, unit) {
+    if !are_versions(all_rows, needs, unit) {
         return Some("the versions that go differ, at the act");
     }
-    if !are_runs(whole, needs, unit) {
+    if !are_runs(all_rows, needs, unit) {
         return Some("the runs differ, at the act");
     }
     None
 }
 
 // How many workspaces the organization has and may have; 0 and 0, where that isn't needed.
-fn has_room(whole: &Whole, is_needed: bool, workspaces: usize, limit: Limit) -> bool {
+fn has_room(all_rows: &AllRows, is_needed: bool, workspaces: usize, limit: Limit) -> bool {
     let limit = u64::from(limit.get());
-    match whole.rows(ORGANIZATION).first() {
+    match all_rows.rows(ORGANIZATION).first() {
         Some(row) if is_needed => {
-            number_of(row) == limit && whole.rows(NAMES).len() == workspaces
+            number_of(row) == limit && all_rows.rows(NAMES).len() == workspaces
         }
         _ => workspaces == 0 && limit == 0,
     }
 }
 
 /// In what that which a store says before an act differs from the rows.
-pub fn difference(whole: &Whole, needs: &Needs<'_>, unit: &Unit) -> Option<&'static str> {
-    match (whole.workspace(), unit) {
-        (Some(row), Unit::Present(unit)) => differs_in(whole, needs, row, unit),
+pub fn difference(all_rows: &AllRows, needs: &Needs<'_>, unit: &Unit) -> Option<&'static str> {
+    match (all_rows.workspace(), unit) {
+        (Some(row), Unit::Present(unit)) => differs_in(all_rows, needs, row, unit),
         (None, Unit::Absent { workspaces, limit })
-            if has_room(whole, needs.makes, *workspaces, *limit) => { None }
+            if has_room(all_rows, needs.makes, *workspaces, *limit) => { None }
         (None, Unit::Absent { .. }) => {
             Some("the count or the limit of workspaces differs, at the act")
         }

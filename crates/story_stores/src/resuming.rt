@@ -11,7 +11,7 @@ use story_runner::devices::ALL;
 use story_runner::failures::Failure;
 use story_runner::plays::Play;
 use story_runner::stopping::line_at;
-use story_runner::stores::{Looks, Makes, checked, record_at, records_of};
+use story_runner::stores::{Inspects, Makes, checked, record_at, records_of};
 use story_runner::taking::{Way, replay_over, resume_over, taken_to};
 
 /// The name of tables that are looked at where a replay gave up.
@@ -63,9 +63,9 @@ fn resume<K: Keep + Drop>(
 
 // The same, where the tables are looked at behind the step at which the replay gave up: they have what they had before the
 // step that it left.
-fn resume_looked<K: Keep + Drop, L: Looks<K>>(
+fn resume_inspected<K: Keep + Drop, L: Inspects<K>>(
     rt: &HostRuntime,
-    looks: &L,
+    inspects: &L,
     keep: K,
     play: &Play,
     records: &[Vec<u8>],
@@ -76,27 +76,27 @@ fn resume_looked<K: Keep + Drop, L: Looks<K>>(
     let gave_up = replayed?;
     said_taken(rt, play, gave_up)?;
     let end = play.steps.len();
-    let place = match gave_up {
+    let index = match gave_up {
         Some(taken) => play.own.saturating_add(taken),
         None => end,
     };
-    let line = line_at(play, place);
-    let due = record_at(records, play, place);
-    let keep = checked(rt.alloc(), looks, keep, line, due, true)?;
-    taken_to(rt.alloc(), keep, Way::Replay, play, place, end)
+    let line = line_at(play, index);
+    let due = record_at(records, play, index);
+    let keep = checked(rt.alloc(), inspects, keep, line, due, true)?;
+    taken_to(rt.alloc(), keep, Way::Replay, play, index, end)
 }
 
 // At the end the tables have what they have where no memory is refused.
-fn check_end<K: Keep + Drop, L: Looks<K>>(
+fn check_end<K: Keep + Drop, L: Inspects<K>>(
     alloc: Global,
-    looks: &L,
+    inspects: &L,
     keep: K,
     play: &Play,
     records: &[Vec<u8>],
 ) -> Result<(), Failure> {
     let end = play.steps.len();
     let due = record_at(records, play, end);
-    checked(alloc, looks, keep, line_at(play, play.own), due, true)?;
+    checked(alloc, inspects, keep, line_at(play, play.own), due, true)?;
     Ok(())
 }
 
@@ -122,9 +122,13 @@ fn resume_by<K: PageKey>(
     }
 }
 
-fn look_by<K: PageKey>(rt: &HostRuntime, play: &Play, records: &[Vec<u8>]) -> Result<(), Failure> {
+fn inspect_by<K: PageKey>(
+    rt: &HostRuntime,
+    play: &Play,
+    records: &[Vec<u8>],
+) -> Result<(), Failure> {
     let keep: TablesBy<K> = Sql.made(rt.alloc())?;
-    match resume_looked(rt, &Sql, keep, play, records) {
+    match resume_inspected(rt, &Sql, keep, play, records) {
         Ok(keep) => check_end(rt.alloc(), &Sql, keep, play, records),
         Err(failure) => Err(failure.on(LOOKED)),
     }
@@ -139,5 +143,5 @@ pub fn run_resumed(rt: &HostRuntime, play: &Play) -> Result<(), Failure> {
     resume(rt, "values", PlainKeep::new(alloc), play)?;
     resume_by::<ShaKey>(rt, "tables", play, by_sha.as_slice())?;
     resume_by::<FirstByte>(rt, "tables by first bytes", play, by_first.as_slice())?;
-    look_by::<FirstByte>(rt, play, by_first.as_slice())
+    inspect_by::<FirstByte>(rt, play, by_first.as_slice())
 }

@@ -1,6 +1,6 @@
 //! A story of a store over files in memory, the power cut at each of their calls: what stands there then is all before
 //! the step or all behind it, and the step is sent again.
-use crate::cuts::{Cuts, Image, Left, NO_CUTS, over_image, over_whole};
+use crate::cuts::{Cuts, Image, Left, NO_CUTS, over_all_rows, over_image};
 use crate::images::write_images;
 use std::alloc::Global;
 use story_runner::failures::Failure;
@@ -26,7 +26,7 @@ struct Stop {
 impl Stop {
     // Whether it was in this step, and may have left this.
     fn has(&self, cut: Cut, image: &Image) -> bool {
-        if self.cut.place != cut.place || self.cut.is_in_step != cut.is_in_step {
+        if self.cut.index != cut.index || self.cut.is_in_step != cut.is_in_step {
             return false;
         }
         for left in self.images.as_slice() {
@@ -44,7 +44,7 @@ fn begun(alloc: Global, play: &Play) -> Result<Image, Failure> {
     if play.own == 0 {
         return Ok(nothing);
     }
-    let mut left = over_whole(alloc, 0, &nothing, play, Work::Begin)?;
+    let mut left = over_all_rows(alloc, 0, &nothing, play, Work::Begin)?;
     left.images.truncate(1);
     match left.images.pop() {
         Some(image) => Ok(image),
@@ -54,13 +54,13 @@ fn begun(alloc: Global, play: &Play) -> Result<Image, Failure> {
 
 // What stands in the tables before each of the story's own steps, and behind the last.
 fn records_from(alloc: Global, play: &Play, image: &Image) -> Result<Vec<Vec<u8>>, Failure> {
-    let left = over_whole(alloc, 0, image, play, Work::Record)?;
+    let left = over_all_rows(alloc, 0, image, play, Work::Record)?;
     Ok(left.done.records)
 }
 
 // What stands in the tables of an earlier version.
 fn earlier_record(alloc: Global, play: &Play, image: &Image) -> Result<Vec<u8>, Failure> {
-    let mut left = over_whole(alloc, 0, image, play, Work::LookEarlier)?;
+    let mut left = over_all_rows(alloc, 0, image, play, Work::QueryEarlier)?;
     match left.done.records.pop() {
         Some(record) => Ok(record),
         None => Err(Failure::refused(0, "the tables don't answer")),
@@ -71,14 +71,19 @@ fn earlier_record(alloc: Global, play: &Play, image: &Image) -> Result<Vec<u8>, 
 fn cut_of(play: &Play, ended: Ended) -> Option<Cut> {
     match ended {
         Ended::Unopened => Some(Cut::new(play, play.own, false)),
-        Ended::Stopped(place) => Some(Cut::new(play, place, true)),
+        Ended::Stopped(index) => Some(Cut::new(play, index, true)),
         Ended::Unclosed => Some(Cut::new(play, play.steps.len(), false)),
-        Ended::Whole => None,
+        Ended::Completed => None,
     }
 }
 
 // Tells the story, the power cut behind so many calls: where it was, unless the story came to its end.
-fn told(alloc: Global, play: &Play, image: &Image, cuts: Cuts) -> Result<Option<Stop>, Failure> {
+fn reported(
+    alloc: Global,
+    play: &Play,
+    image: &Image,
+    cuts: Cuts,
+) -> Result<Option<Stop>, Failure> {
     let Left { done, images } = over_image(alloc, image, cuts, play, Work::TakeOwn)?;
     match cut_of(play, done.ended) {
         Some(cut) => Ok(Some(Stop { cut, images })),
@@ -94,7 +99,7 @@ fn recovered(
     cut: Cut,
     image: &Image,
 ) -> Result<(), Failure> {
-    match over_whole(alloc, cut.line, image, play, Work::GoOn(cut, records)) {
+    match over_all_rows(alloc, cut.line, image, play, Work::GoOn(cut, records)) {
         Ok(_) => Ok(()),
         Err(failure) => Err(failure),
     }
@@ -112,12 +117,12 @@ struct Records {
 impl Records {
     // What stood there before the stop, and what stands there behind the step.
     fn around(&self, play: &Play, cut: Cut) -> (&[u8], &[u8]) {
-        let is_first = cut.place == 0 && !cut.is_in_step;
+        let is_first = cut.index == 0 && !cut.is_in_step;
         let records = self.all.as_slice();
         let before = if is_first {
             self.first.as_slice()
         } else {
-            record_at(records, play, cut.place)
+            record_at(records, play, cut.index)
         };
         (before, record_at(records, play, cut.next()))
     }
@@ -188,7 +193,7 @@ fn cut_each(
         images: Vec::new(alloc),
     };
     for calls in 0..MOST_CALLS {
-        let Some(stop) = told(alloc, play, image, cuts_after(is_log, calls))? else {
+        let Some(stop) = reported(alloc, play, image, cuts_after(is_log, calls))? else {
             return Ok(());
         };
         recover_each(alloc, play, records.all.as_slice(), &stop, &last, counts)?;

@@ -14,7 +14,7 @@ use story_runner::failures::{Failure, compare_bytes};
 use story_runner::keyed::Keyed;
 use story_runner::modes::{Counts, Modes};
 use story_runner::plays::{Play, Question};
-use story_runner::stores::{Looks, Makes, told_over};
+use story_runner::stores::{Inspects, Makes, played_over};
 use story_runner::taking::{Way, taken_to};
 use tables::SqlKeep;
 
@@ -146,7 +146,7 @@ pub(crate) fn reopened<S: Alter + Drop, K: PageKey>(
     }
 }
 
-impl<S: Alter + Drop, K: PageKey> Looks<SqlKeep<S, K>> for Sql {
+impl<S: Alter + Drop, K: PageKey> Inspects<SqlKeep<S, K>> for Sql {
     fn recorded(
         &self,
         alloc: Global,
@@ -194,7 +194,7 @@ fn in_tables<K: PageKey>(
     way: Way,
 ) -> Result<(), Failure> {
     let keep: TablesBy<K> = Sql.made(alloc)?;
-    match told_over(alloc, &Sql, keep, play, keyed, way) {
+    match played_over(alloc, &Sql, keep, play, keyed, way) {
         Ok(_) => Ok(()),
         Err(failure) => Err(failure),
     }

@@ -10,7 +10,7 @@ use Rattle.sqlite.specs.Closing.{HoldsAlone}
 use Rattle.sqlite.specs.Effect.{Database, IsDatabase}
 use Rattle.sqlite.specs.Files.{HoldsDatabase, image_of}
 use Rattle.machine.specs.declared.records.Organization.{Organization}
-use Rattle.tables.specs.Opening.{any_there, all_there, newest_there, tells_edition}
+use Rattle.tables.specs.Opening.{any_there, all_there, newest_there, has_edition}
 use Rattle.tables.specs.Stores.{records_of, IsSoundStore}
 use Rattle.tables.specs.Versions.{HoldsSchema, schema_records}
 
@@ -22,7 +22,7 @@ pub record OpensOn (image : Image) (rows : List ℕ → Option Organization) (Is
   pub found : Database
   pub is : IsDatabase found
   pub holds : (trees : Trees) → HoldsDatabase image trees → found.trees ≡ trees
-  pub whole : any_there found.schema ≡ true → (all_there 1 found.schema ≡ true) ⊎ (tells_edition found.schema ≡ true)
+  pub whole : any_there found.schema ≡ true → (all_there 1 found.schema ≡ true) ⊎ (has_edition found.schema ≡ true)
   pub there : newest_there found.schema ≡ true → ((org : List ℕ) → rows org ≡ records_of found org) × (IsSoundStore found → IsSound)
   pub climbed : (version : ℕ) → HoldsSchema version found → ((org : List ℕ) → rows org ≡ schema_records version found org) × IsSound
   pub fresh : any_there found.schema ≡ false → ((org : List ℕ) → rows org ≡ None) × IsSound

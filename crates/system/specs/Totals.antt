@@ -2,10 +2,10 @@
 use Rattle.sha2.specs.Sha256.{sha256}
 use Rattle.sqlite.specs.Effect.{Database}
 use Rattle.statements.specs.Tables.{Tables, Holds}
-use Rattle.checks.specs.Standing.{TellsStore}
+use Rattle.checks.specs.Standing.{ReportsStore}
 use Rattle.checks.specs.Totals.{AreTotalsOf}
 use Rattle.checks.specs.declared.totals.Totals as checks
-use Rattle.program.specs.declared.totals.Looked.{Looked}
+use Rattle.program.specs.declared.totals.Findings.{Findings}
 use Rattle.program.specs.declared.totals.Totals.{Totals}
 
 -- the same numbers
@@ -14,6 +14,6 @@ found_totals t = record { organizations = t.organizations; workspaces = t.worksp
 
 -- No fault was found exactly if the tables of the database are ours and sound, and each page's key is the SHA-256 of its bytes; and these are
 -- the numbers of their rows.
-pub record TellsOf (db : Database) (looked : Looked) : Type 0 where
-  pub faults : TellsStore sha256 db looked.faults
-  pub totals : (t : Tables) → Holds db t → AreTotalsOf t (found_totals looked.totals)
+pub record ReportsOf (db : Database) (findings : Findings) : Type 0 where
+  pub faults : ReportsStore sha256 db findings.faults
+  pub totals : (t : Tables) → Holds db t → AreTotalsOf t (found_totals findings.totals)

@@ -31,7 +31,7 @@ impl<'a> SystemClock<'a> {
 
 impl Clock for SystemClock<'_> {
     // No contract says what the clock of the system tells.
-    ghost tells = { λ _ _ _. ⊤ };
+    ghost reports = { λ _ _ _. ⊤ };
 
     fn now(&mut self) -> Option<Moment> {
         let now = SystemTime::now(self.rt).ok()?;

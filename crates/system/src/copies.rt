@@ -1,7 +1,7 @@
 //! An organization is copied from one database to another.
 ghost use Rattle.std.specs.Prelude.{◌≡◌, ◌≢◌, ℕ, List, IfOk, OnErr};
 ghost use Rattle.machine.specs.Effects.{effect};
-ghost use Rattle.machine.specs.Keeping.{Looks, LastsWhere};
+ghost use Rattle.machine.specs.StoreCalls.{Unchanged, LastsWhere};
 ghost use Rattle.program.specs.Moves.{org_copied};
 
 use basis::{Down, OrgName};
@@ -18,7 +18,7 @@ pub fn copy_between<S: Alter, K: PageKey>(
     from: &mut SqlKeep<S, K>,
     to: &mut SqlKeep<S, K>,
 ) -> Result<AdminAnswer, Down>
-    ensures source { Looks ⟦<SqlKeep<S, K> as Keep>⟧.rows ⟦<SqlKeep<S, K> as Keep>⟧.clean ⟦<SqlKeep<S, K> as Keep>⟧.sound ⟦<SqlKeep<S, K> as Keep>⟧.keyed ⟦<SqlKeep<S, K> as Keep>⟧.shielded from.old from.new }
+    ensures source { Unchanged ⟦<SqlKeep<S, K> as Keep>⟧.rows ⟦<SqlKeep<S, K> as Keep>⟧.clean ⟦<SqlKeep<S, K> as Keep>⟧.sound ⟦<SqlKeep<S, K> as Keep>⟧.keyed ⟦<SqlKeep<S, K> as Keep>⟧.shielded from.old from.new }
     ensures lasts { LastsWhere (⟦<SqlKeep<S, K> as Keep>⟧.clean from.new × ⟦<SqlKeep<S, K> as Keep>⟧.sound from.old) ⟦<SqlKeep<S, K> as Keep>⟧.clean ⟦<SqlKeep<S, K> as Keep>⟧.sound ⟦<SqlKeep<S, K> as Keep>⟧.keyed ⟦<SqlKeep<S, K> as Keep>⟧.shielded to.old to.new }
     ensures own { ⟦<SqlKeep<S, K> as Keep>⟧.clean to.new → ⟦<SqlKeep<S, K> as Keep>⟧.sound to.old → ⟦<SqlKeep<S, K> as Keep>⟧.clean from.new → ⟦<SqlKeep<S, K> as Keep>⟧.sound from.old
         → IfOk result (λ answer. effect answer (⟦<SqlKeep<S, K> as Keep>⟧.rows to.new org.now) ≡ org_copied (⟦<SqlKeep<S, K> as Keep>⟧.rows from.old org.now) (⟦<SqlKeep<S, K> as Keep>⟧.rows to.old org.now)) }

@@ -9,7 +9,7 @@ ghost use Rattle.sqlite.specs.Start.{FindsIn};
 ghost use Rattle.sqlite.specs.State.{HasCleanDisk};
 ghost use Rattle.sqlite_disk.specs.Modelled.{calls_of, start_of};
 ghost use Rattle.statements.specs.Tables.{tables_of};
-ghost use Rattle.statements.specs.declared.making.TheConstants.{NEWEST};
+ghost use Rattle.statements.specs.declared.making.TheConstants.{SCHEMA_VERSION};
 ghost use Rattle.tables.specs.Logs.{CopiesLog};
 ghost use Rattle.tables.specs.Opening.{IsFresh};
 ghost use Rattle.checks.specs.Standing.{HaveRows};
@@ -17,7 +17,7 @@ ghost use Rattle.program.specs.Paths.{makes};
 ghost use Rattle.system.specs.Causes.{IsFileFault, is_open_cause};
 ghost use Rattle.system.specs.Files.{OpensOn, HadTables, IsClosedOn};
 ghost use Rattle.system.specs.Shields.{AreCleanOrCollided};
-ghost use Rattle.system.specs.Totals.{TellsOf, found_totals};
+ghost use Rattle.system.specs.Totals.{ReportsOf, found_totals};
 
 use crate::causes::{pair_cause, system_cause};
 use crate::connecting::connect;
@@ -32,13 +32,13 @@ use machine::{AdminAnswer, Fault, Keep};
 use pages::ShaKey;
 use program::environment::{Files, Opening};
 use program::reasons::{Cause, OpenFault, OtherSchema};
-use program::totals::{Looked, Totals};
+use program::totals::{Findings, Totals};
 use serve::Step;
 use sqlite::{Alter, Connection, Error, Row};
 use sqlite_disk::{Calls, Disk, Start};
 use sqlite_std_file::{FileFrom, Host};
 use sqlite_store::FileStore;
-use statements::making::NEWEST;
+use statements::making::SCHEMA_VERSION;
 use std::alloc::Global;
 use std::os::unix::fs::MetadataExt;
 use std::rt::HostRuntime;
@@ -94,7 +94,7 @@ fn open_database<S: Start>(
 fn version_in(row: &Row) -> OtherSchema {
     match row.get::<i64>(0) {
         Ok(version) => OtherSchema::Version(version.unsigned_abs()),
-        Err(_) => OtherSchema::Untold,
+        Err(_) => OtherSchema::Unversioned,
     }
 }
 
@@ -105,9 +105,9 @@ fn other_in<S: Alter>(conn: &mut Connection<S>) -> OtherSchema {
         Ok(row) => version_in(&row),
         Err(Error::SqlInputError(_)) => match conn.query_row("SELECT version FROM meta", &[]) {
             Ok(row) => version_in(&row),
-            Err(_) => OtherSchema::Untold,
+            Err(_) => OtherSchema::Unversioned,
         },
-        Err(_) => OtherSchema::Untold,
+        Err(_) => OtherSchema::Unversioned,
     }
 }
 
@@ -203,13 +203,13 @@ pub fn close_file<S: Start>(keep: FileKeep<S>) -> Result<sqlite_disk::Files<File
     }
 }
 
-// What a look over the tables found, in the program's words.
-fn told(looked: checks::Looked) -> Looked
-    ensures faults { result.faults ≡ looked.faults }
-    ensures totals { found_totals result.totals ≡ looked.totals }
+// What a check over the tables found, in the program's words.
+fn reported(findings: checks::Findings) -> Findings
+    ensures faults { result.faults ≡ findings.faults }
+    ensures totals { found_totals result.totals ≡ findings.totals }
 {
-    let checks::Looked { faults, totals } = looked;
-    Looked {
+    let checks::Findings { faults, totals } = findings;
+    Findings {
         faults,
         totals: Totals {
             organizations: totals.organizations,
@@ -304,9 +304,9 @@ impl<S: Start> Files<FileKeep<S>> for DiskFiles<'_, S> {
 
     // No fault is found exactly where the tables are ours and sound and each page's key is the SHA-256 of its bytes, while the disk
     // kept what it promised; and the numbers are those of their rows.
-    ghost finds = { λ store said after. ⟦<FileKeep<S> as Keep>⟧.clean after → IfOk said (TellsOf (file_state store.conn).committed) };
+    ghost finds = { λ store said after. ⟦<FileKeep<S> as Keep>⟧.clean after → IfOk said (ReportsOf (file_state store.conn).committed) };
 
-    ghost newest = { NEWEST };
+    ghost newest = { SCHEMA_VERSION };
 
     // The store is as it was opened, and the rows of our tables are those of values.
     ghost is_ours = { λ store. IsFresh (file_state store.seen.value).committed store.memo (file_state store.conn) × HaveRows (file_state store.seen.value).committed (tables_of (file_state store.seen.value).committed) };
@@ -325,7 +325,7 @@ impl<S: Start> Files<FileKeep<S>> for DiskFiles<'_, S> {
     }
 
     fn newest_schema(&self) -> u64 {
-        NEWEST
+        SCHEMA_VERSION
     }
 
     fn open(&mut self, path: &str, opening: Opening) -> Result<FileKeep<S>, OpenFault> {
@@ -350,9 +350,9 @@ impl<S: Start> Files<FileKeep<S>> for DiskFiles<'_, S> {
         store.checkpoint()
     }
 
-    fn check(&self, alloc: Global, store: &mut FileKeep<S>) -> Result<Looked, Down> {
+    fn check(&self, alloc: Global, store: &mut FileKeep<S>) -> Result<Findings, Down> {
         match checks::check(store, alloc) {
-            Ok(looked) => Ok(told(looked)),
+            Ok(findings) => Ok(reported(findings)),
             Err(refused) => Err(refused),
         }
     }

@@ -1,7 +1,7 @@
 //! The program over the files, the sockets and the clock of the system.
 ghost use Rattle.std.specs.Prelude.{◌≡◌};
 ghost use Rattle.program.specs.Exits.{status_of};
-ghost use Rattle.statements.specs.declared.making.TheConstants.{NEWEST};
+ghost use Rattle.statements.specs.declared.making.TheConstants.{SCHEMA_VERSION};
 ghost use Rattle.program.specs.Outcomes.{stream, error_stream, Prints};
 ghost use Rattle.command_line.specs.Words.{words_bytes};
 ghost use Rattle.program.specs.declared.exits.Exit.{Exit};
@@ -26,7 +26,7 @@ fn run_over<K: Keep, F: Files<K>, I: Read, O: Write, E: ErrorStream>(
     output: &mut O,
     errors: &mut E,
 ) -> u8
-    ensures { (exit : Exit) × (result ≡ status_of exit) × Prints F.newest (words_bytes words.now) (I.remaining input.old) exit (stream (O.contents output.old) (O.contents output.new)) (error_stream (E.told errors.old) (E.told errors.new)) }
+    ensures { (exit : Exit) × (result ≡ status_of exit) × Prints F.newest (words_bytes words.now) (I.remaining input.old) exit (stream (O.contents output.old) (O.contents output.new)) (error_stream (E.reported errors.old) (E.reported errors.new)) }
 {
     let mut network = TcpSockets::new(rt);
     let mut clock = SystemClock::new(rt);
@@ -51,7 +51,7 @@ fn run_from<S: Start, I: Read, O: Write, E: ErrorStream>(
     output: &mut O,
     errors: &mut E,
 ) -> u8
-    ensures { (exit : Exit) × (result ≡ status_of exit) × Prints NEWEST (words_bytes words.now) (I.remaining input.old) exit (stream (O.contents output.old) (O.contents output.new)) (error_stream (E.told errors.old) (E.told errors.new)) }
+    ensures { (exit : Exit) × (result ≡ status_of exit) × Prints SCHEMA_VERSION (words_bytes words.now) (I.remaining input.old) exit (stream (O.contents output.old) (O.contents output.new)) (error_stream (E.reported errors.old) (E.reported errors.new)) }
 {
     let mut files = DiskFiles::new(rt, start, other);
     run_over(rt, &mut files, words, input, output, errors)
@@ -65,7 +65,7 @@ pub fn run_here<I: Read, O: Write, E: ErrorStream>(
     output: &mut O,
     errors: &mut E,
 ) -> u8
-    ensures { (exit : Exit) × (result ≡ status_of exit) × Prints NEWEST (words_bytes words.now) (I.remaining input.old) exit (stream (O.contents output.old) (O.contents output.new)) (error_stream (E.told errors.old) (E.told errors.new)) }
+    ensures { (exit : Exit) × (result ≡ status_of exit) × Prints SCHEMA_VERSION (words_bytes words.now) (I.remaining input.old) exit (stream (O.contents output.old) (O.contents output.new)) (error_stream (E.reported errors.old) (E.reported errors.new)) }
 {
     run_from(rt, Unknown, Unknown, words, input, output, errors)
 }

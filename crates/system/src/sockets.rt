@@ -105,13 +105,13 @@ impl<'a> Connections for TcpSockets<'a> {
         &mut self,
         reader: FromRead<TimedStream<'a>>,
         writer: ToWrite<TimedStream<'a>>,
-        was_whole: bool,
+        was_read: bool,
     ) {
         if reader.failed() || writer.failed() {
             return;
         }
         let mut stream = reader.into_inner();
-        if was_whole && !stream.has_more() {
+        if was_read && !stream.has_more() {
             return;
         }
         let _ = linger(&mut stream);

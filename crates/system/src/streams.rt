@@ -49,7 +49,7 @@ pub struct TimedStream<'a> {
     idle: Duration,
     end: Instant,
     /// The timeout that the system has for calls of this side, once it was set.
-    told: Option<Duration>,
+    reported: Option<Duration>,
     /// Whether the last read filled its buffer, so that more bytes may be waiting.
     is_filled: bool,
 }
@@ -61,7 +61,7 @@ impl<'a> TimedStream<'a> {
             socket,
             idle,
             end,
-            told: None,
+            reported: None,
             is_filled: false,
         }
     }
@@ -96,18 +96,18 @@ impl<'a> TimedStream<'a> {
 
     // Lets reads wait for so long.
     fn let_read(&mut self, wait: Duration) -> io::Result<()> {
-        if self.told != Some(wait) {
+        if self.reported != Some(wait) {
             self.socket.stream().set_read_timeout(Some(wait))?;
-            self.told = Some(wait);
+            self.reported = Some(wait);
         }
         Ok(())
     }
 
     // Lets writes wait for so long.
     fn let_write(&mut self, wait: Duration) -> io::Result<()> {
-        if self.told != Some(wait) {
+        if self.reported != Some(wait) {
             self.socket.stream().set_write_timeout(Some(wait))?;
-            self.told = Some(wait);
+            self.reported = Some(wait);
         }
         Ok(())
     }

@@ -6,7 +6,7 @@ use Rattle.sqlite_keyed.proofs.ListLemmas.{all_weaker, none_from_any}
 use Rattle.sqlite_keyed.proofs.SliceLemmas.{any_is_found}
 use Rattle.statements.specs.Rows.{Kept, WsRow}
 use Rattle.statements.specs.Tables.{Tables}
-use Rattle.statements.specs.Changes.{is_ws, is_keeping, HasNoKeeping}
+use Rattle.statements.specs.Changes.{is_ws, is_retention, HasNoRetention}
 use Rattle.statements.specs.Finds.{workspace_of, retention_of}
 use Rattle.statements.proofs.Fresh.{none_found}
 use Rattle.tables.specs.Sound.{IsSound}
@@ -20,12 +20,12 @@ module _ (org ws : List ℕ) (t : Tables) (none : workspace_of org ws t ≡ None
   pub no_row : AllByRecursion (λ x. is_ws org ws x ≡ false) t.wss
   no_row = none_from_any (is_ws org ws) t.wss none_there
 
-  pub no_keeping : IsSound t → HasNoKeeping org ws t
-  no_keeping sound = all_weaker (λ x. list_any (is_ws x.1.org x.1.ws) t.wss ≡ true) (λ x. is_keeping org ws x ≡ false)
-      (λ x owned. false_from_ne_true (is_keeping org ws x) (λ mine.
+  pub no_retention : IsSound t → HasNoRetention org ws t
+  no_retention sound = all_weaker (λ x. list_any (is_ws x.1.org x.1.ws) t.wss ≡ true) (λ x. is_retention org ws x ≡ false)
+      (λ x owned. false_from_ne_true (is_retention org ws x) (λ mine.
       let here : list_any (is_ws org ws) t.wss ≡ true =
       subst (λ (a : List ℕ). list_any (is_ws a ws) t.wss ≡ true) (pair_first org ws x.1.org x.1.ws mine) (subst (λ (b : List ℕ). list_any (is_ws x.1.org b) t.wss ≡ true) (pair_second org ws x.1.org x.1.ws mine) owned) in
-      let no_one : ⊥ = cc (sym here ∙ none_there) in no_one)) t.keepings sound.keepings_owned
+      let no_one : ⊥ = cc (sym here ∙ none_there) in no_one)) t.retentions sound.retentions_owned
 
   pub none_kept : IsSound t → retention_of org ws t ≡ None
-  none_kept sound = none_found (is_keeping org ws) (λ x. x.1.keep) t.keepings (no_keeping sound)
+  none_kept sound = none_found (is_retention org ws) (λ x. x.1.retention) t.retentions (no_retention sound)

@@ -133,19 +133,19 @@ module _ (t : Tables) (versions : List (Kept VersionRow)) (runs : List (Kept Run
 
   stays_sound : IsSound u
   stays_sound = record {
-    told = sound.told;
+    reported = sound.reported;
     orgs_apart = sound.orgs_apart;
     tokens_apart = sound.tokens_apart;
     digests_apart = sound.digests_apart;
     wss_apart = sound.wss_apart;
     bounds_apart = sound.bounds_apart;
     tokens_bound = sound.tokens_bound;
-    keepings_apart = sound.keepings_apart;
+    retentions_apart = sound.retentions_apart;
     wss_kept = sound.wss_kept;
     tokens_owned = sound.tokens_owned;
     bounds_owned = sound.bounds_owned;
     wss_owned = sound.wss_owned;
-    keepings_owned = sound.keepings_owned;
+    retentions_owned = sound.retentions_owned;
     versions_owned = all-permutation (λ (x : Kept VersionRow). list_any (is_ws x.1.org x.1.ws) t.wss ≡ true) t.versions versions same_versions sound.versions_owned;
     runs_owned = all-permutation (λ (x : Kept RunRow). list_any (is_ws x.1.org x.1.ws) t.wss ≡ true) t.runs runs same_runs sound.runs_owned;
     org_rows = sound.org_rows;

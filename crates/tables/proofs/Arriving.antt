@@ -16,7 +16,7 @@ use Rattle.statements.specs.Changes.{token_added}
 use Rattle.statements.specs.Finds.{bound_of}
 use Rattle.statements.specs.Steps.{AnyRows, Writes, Sees}
 use Rattle.statements.specs.Tables.{Tables, Holds}
-use Rattle.pages.proofs.Looking.{still_holds, steps_by}
+use Rattle.pages.proofs.Sequences.{still_holds, steps_by}
 use Rattle.pages.proofs.Sights.{nothing_more}
 use Rattle.texts.proofs.Many.{when_done, sees_then}
 use Rattle.tables.specs.Records.{no_bounds, workspace_by}
@@ -80,23 +80,23 @@ module _ {S T : Type 0} (g : Ghosts S) (h : Ghosts T) where
       related_then g (TakesFrom h R d e) (TakesFrom h Q e k) (TakesFrom h V d k) a b c x result
       (λ t u z first second clean f holds sound. means f t u z (first (so_far clean) f holds sound) (second clean f (still_holds (state h d) (state h e) (seen.sees (so_far clean)).1.0 f holds) sound)) one last
 
-  -- behind a look, and what that told
+  -- behind a query, and what that told
   pub takes_behind : {W X D E : Type 0} (P : W → Tables → Type 0) (R V : Tables → Tables → Tables → Type 0) (a b : Transaction S) (d e k : Held T) (w : W) (result : Result X E)
       → ((f t u : Tables) → IsSound f → P w f → R f t u → V f t u) → Sees {E = D} h P d e (Ok w) → (HasCleanDisk (state h k) → HasCleanDisk (state h e))
       → RelatedSteps g (TakesFrom h R e k) a b result → RelatedSteps g (TakesFrom h V d k) a b result
   takes_behind P R V a b d e k w result means seen so_far one =
       related_as (TakesFrom h R e k) (TakesFrom h V d k) a b result
       (λ t u rows clean f holds sound.
-      let told = seen.sees (so_far clean) in
-      means f t u sound (told.0 f holds) (rows clean f (still_holds (state h d) (state h e) told.1.0 f holds) sound)) one
+      let reported = seen.sees (so_far clean) in
+      means f t u sound (reported.0 f holds) (rows clean f (still_holds (state h d) (state h e) reported.1.0 f holds) sound)) one
 
   -- a workspace that was read and came
   pub workspace_taken : {X E : Type 0} (org ws : List ℕ) (w : Workspace) (a b : Transaction S) (d e : Held T) (result : Result X E) → RelatedSteps g (Begins org ws w) a b result
       → (HasCleanDisk (state h e) → OnOk result ((f : Tables) → Holds (state h d).now f → IsSound f → workspace_by f org ws ≡ Some w)) → RelatedSteps g (TakesFrom h (WorkspaceComes org ws) d e) a b result
-  workspace_taken org ws w a b d e (Ok x) one told =
+  workspace_taken org ws w a b d e (Ok x) one reported =
       related_as (Begins org ws w) (TakesFrom h (WorkspaceComes org ws) d e) a b (Ok x)
-      (λ t u begins clean f holds sound v is. subst (λ (x : Workspace). Begins org ws x t u) (same_Some w v (sym (told clean f holds sound) ∙ is)) begins) one
-  workspace_taken org ws w a b d e (Err f) one told = record {
+      (λ t u begins clean f holds sound v is. subst (λ (x : Workspace). Begins org ws x t u) (same_Some w v (sym (reported clean f holds sound) ∙ is)) begins) one
+  workspace_taken org ws w a b d e (Err f) one reported = record {
     same_reference = one.same_reference;
     changed = λ clean inside. (tt, (one.changed clean inside).1);
     so_far = one.so_far;
@@ -107,10 +107,10 @@ module _ {S T : Type 0} (g : Ghosts S) (h : Ghosts T) where
 
 module _ {T : Type 0} (h : Ghosts T) where
   -- one after the other
-  pub looks_on : {X Y E F : Type 0} (d e k : Held T) (x : X) (result : Result Y F) → Sees {E = E} h (λ _ _. ⊤) d e (Ok x) → Sees h (λ _ _. ⊤) e k result → Sees h (λ _ _. ⊤) d k result
-  looks_on d e k x result one last = sees_then h (λ _ _. ⊤) (λ _ _. ⊤) (λ _ _. ⊤) d e k x result (λ y t p q. tt) one last
+  pub unchanged_on : {X Y E F : Type 0} (d e k : Held T) (x : X) (result : Result Y F) → Sees {E = E} h (λ _ _. ⊤) d e (Ok x) → Sees h (λ _ _. ⊤) e k result → Sees h (λ _ _. ⊤) d k result
+  unchanged_on d e k x result one last = sees_then h (λ _ _. ⊤) (λ _ _. ⊤) (λ _ _. ⊤) d e k x result (λ y t p q. tt) one last
 
   -- whatever comes behind them
-  pub looks_as : {X Y E F : Type 0} (P : X → Tables → Type 0) (d e : Held T) (x : X) (result : Result Y F) → Sees {E = E} h P d e (Ok x) → Sees h (λ _ _. ⊤) d e result
-  looks_as P d e x (Ok y) one = record { mode = one.mode; sees = λ clean. (λ t holds. tt, ((one.sees clean).1.0, tt)); so_far = one.so_far; shield = one.shield }
-  looks_as P d e x (Err f) one = record { mode = one.mode; sees = λ clean. (tt, (tt, nothing_more (state h d) (state h e) (one.sees clean).1.0)); so_far = one.so_far; shield = one.shield }
+  pub unchanged_as : {X Y E F : Type 0} (P : X → Tables → Type 0) (d e : Held T) (x : X) (result : Result Y F) → Sees {E = E} h P d e (Ok x) → Sees h (λ _ _. ⊤) d e result
+  unchanged_as P d e x (Ok y) one = record { mode = one.mode; sees = λ clean. (λ t holds. tt, ((one.sees clean).1.0, tt)); so_far = one.so_far; shield = one.shield }
+  unchanged_as P d e x (Err f) one = record { mode = one.mode; sees = λ clean. (tt, (tt, nothing_more (state h d) (state h e) (one.sees clean).1.0)); so_far = one.so_far; shield = one.shield }

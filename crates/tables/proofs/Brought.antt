@@ -31,7 +31,7 @@ use Rattle.statements.specs.Tables.{Tables}
 use Rattle.statements.specs.Changes.{is_org, is_token, is_digest_of, org_row_added}
 use Rattle.statements.specs.Finds.{cap_of, role_of_name, role_of_digest}
 use Rattle.statements.specs.Steps.{AnyRows, EqualsWhere, Writes, Sees}
-use Rattle.statements.specs.Listings.{TokensApart, NamesApart, tokens_by_name, token_row_whole, whole_tokens_of, workspaces_by_name, workspace_names_of}
+use Rattle.statements.specs.Listings.{TokensApart, NamesApart, tokens_by_name, digest_token_row, digest_tokens_of, workspaces_by_name, workspace_names_of}
 use Rattle.statements.proofs.Found.{found_passes, found_holds, apart_one}
 use Rattle.tables.specs.Records.{token_of_cells, bounds_at, token_at, is_token_of, tokens_at, workspace_at, workspace_by, workspaces_at, organization_at, record_of}
 use Rattle.tables.specs.Sound.{IsOrgRow, IsSoundWorkspace, IsSound}
@@ -234,13 +234,13 @@ module _ (f : Tables) (org : List ℕ) where
       go false e more = more
 
   -- the entries of the record's tokens, by the list of rows
-  pub token_entries : map (token_entry f org) (whole_tokens_of org f) ≡ entries (tokens_at f org)
+  pub token_entries : map (token_entry f org) (digest_tokens_of org f) ≡ entries (tokens_at f org)
   token_entries =
       mapped (entries (tokens_by_name org f))
       ∙ sym (entries_shown (λ (n : List ℕ) (cells : TokenCells). token_of_cells (bounds_at f org n) cells) (λ (x : Kept TokenRow). x.1.name) (λ (x : Kept TokenRow). x.1.it) own_rows)
       ∙ sym (ap (λ (ps : List (List ℕ × Token)). entries (from_entries {R = name_cmp} ps)) (same_tokens f.tokens))
     where
-      mapped : (es : List (List ℕ × TokenCells)) → map (token_entry f org) (map token_row_whole es) ≡ map of_row es
+      mapped : (es : List (List ℕ × TokenCells)) → map (token_entry f org) (map digest_token_row es) ≡ map of_row es
       mapped [] = refl
       mapped (e ∷ es) = ap (λ rest. of_row e ∷ rest) (mapped es)
 
@@ -310,7 +310,7 @@ module _ (f : Tables) (org : List ℕ) where
           (workspaces_lead org t f (entries (workspaces_at f org)) workspaces_are (record (new_organization cap) { tokens = tokens_at f org }) all_fit (tokens_come org (entries (tokens_at f org)) begun) u all_tokens_lead come)
 
 -- its row, then its tokens, then its workspaces
-pub is_brought : (org : List ℕ) (cap : ℕ) (list : List NamedToken) (names : List (List ℕ)) (f t m u : Tables) → IsSound f → list ≡ whole_tokens_of org f → names ≡ workspace_names_of org f → TokensCome org list f (org_row_added org cap t) m
+pub is_brought : (org : List ℕ) (cap : ℕ) (list : List NamedToken) (names : List (List ℕ)) (f t m u : Tables) → IsSound f → list ≡ digest_tokens_of org f → names ≡ workspace_names_of org f → TokensCome org list f (org_row_added org cap t) m
     → WorkspacesCome org names f m u → Brings org cap f t u
 is_brought org cap list names f t m u sound tokens workspaces first last found sound_too none = record {
   sound = leads.sound;
@@ -340,17 +340,17 @@ module _ {S T : Type 0} (g : Ghosts S) (h : Ghosts T) (org : List ℕ) (cap : �
   AllCome f t u = (m : Tables) × RowAndTokensCome f t m × WorkspacesCome org names f m u
 
   abbrev AreListed : List (List ℕ) → Tables → Type 0
-  AreListed ns f = EqualsWhere TokensApart (whole_tokens_of org) list f × EqualsWhere NamesApart (workspace_names_of org) ns f
+  AreListed ns f = EqualsWhere TokensApart (digest_tokens_of org) list f × EqualsWhere NamesApart (workspace_names_of org) ns f
 
   -- behind the lists of its tokens and of the names of its workspaces
   pub organization_taken : {X Y Z B C D E F : Type 0} (a b c d : Transaction S) (p q r s : Held T) (x : X) (y : Y) (result : Result Z F)
       → Sees {E = B} h AreListed p q (Ok names) → Writes {E = C} g AnyRows (org_row_added org cap) a b (Ok x)
       → Sees {E = D} h (λ _ _. ⊤) q r (Ok y) → RelatedSteps {E = E} g (TakesFrom h (TokensCome org list) q r) b c (Ok y)
       → Sees h (λ _ _. ⊤) r s result → RelatedSteps g (TakesFrom h (WorkspacesCome org names) r s) c d result → RelatedSteps g (TakesFrom h (Brings org cap) p s) a d result
-  organization_taken {C = C} {D = D} {E = E} a b c d p q r s x y result told added looked tokens looks workspaces =
+  organization_taken {C = C} {D = D} {E = E} a b c d p q r s x y result reported added looked tokens unchanged workspaces =
       let row : RelatedSteps {E = C} g (TakesFrom h RowComes q q) a b (Ok x) = takes_by g h (org_row_added org cap) RowComes a b q q (Ok x) (λ clean f holds t. refl) added in
       let some : RelatedSteps {E = E} g (TakesFrom h RowAndTokensCome q r) a c (Ok y) = takes_then g h (λ _ _. ⊤) RowComes (TokensCome org list) RowAndTokensCome a b c q q r y x (Ok y)
       (λ f t u z one last. subst (λ (m : Tables). TokensCome org list f m z) one last) (seen_none h {E = D} q y) looked.so_far row tokens in
-      let all : RelatedSteps g (TakesFrom h AllCome q s) a d result = takes_then g h (λ _ _. ⊤) RowAndTokensCome (WorkspacesCome org names) AllCome a c d q r s y y result (λ f t u z one last. (u, one, last)) looked looks.so_far some workspaces in
+      let all : RelatedSteps g (TakesFrom h AllCome q s) a d result = takes_then g h (λ _ _. ⊤) RowAndTokensCome (WorkspacesCome org names) AllCome a c d q r s y y result (λ f t u z one last. (u, one, last)) looked unchanged.so_far some workspaces in
       takes_behind g h AreListed AllCome (Brings org cap) a d p q s names result
-      (λ f t u sound lists come. is_brought org cap list names f t come.0 u sound (lists.0 sound.tokens_apart) (lists.1 sound.wss_apart) come.1 come.2) told (λ clean. looked.so_far (looks.so_far clean)) all
+      (λ f t u sound lists come. is_brought org cap list names f t come.0 u sound (lists.0 sound.tokens_apart) (lists.1 sound.wss_apart) come.1 come.2) reported (λ clean. looked.so_far (unchanged.so_far clean)) all

@@ -8,9 +8,9 @@ use Rattle.sqlite.specs.State.{State, KeepsCommit}
 use Rattle.sqlite.specs.declared.transaction.Transaction.{Transaction}
 use Rattle.basis.specs.declared.rows.VersionRow.{VersionRow as Head}
 use Rattle.machine.specs.declared.records.Version.{Version}
-use Rattle.statements.specs.Steps.{AnyRows, Moves, Steps, Tells, Sees}
+use Rattle.statements.specs.Steps.{AnyRows, Moves, Steps, Reports, Sees}
 use Rattle.statements.specs.Tables.{Tables, Holds}
-use Rattle.pages.proofs.Looking.{as_it_is}
+use Rattle.pages.proofs.Sequences.{as_it_is}
 use Rattle.texts.specs.Texts.{text_of}
 use Rattle.texts.proofs.Many.{when_done}
 use Rattle.tables.specs.Records.{version_of_cells, version_at}
@@ -22,9 +22,9 @@ never_done P (Ok x) failed = absurd (let none : ⊥ = cc in none)
 never_done P (Err e) failed = tt
 
 -- what is told by two clauses
-told_both : {X E : Type 0} (P Q : Tables → Type 0) (s : State) (result : Result X E) → OnOk result ((t : Tables) → Holds s.now t → P t) → OnOk result ((t : Tables) → Holds s.now t → Q t) → OnOk result ((t : Tables) → Holds s.now t → P t × Q t)
-told_both P Q s (Ok x) one two = λ t holds. (one t holds, two t holds)
-told_both P Q s (Err e) one two = tt
+reported_both : {X E : Type 0} (P Q : Tables → Type 0) (s : State) (result : Result X E) → OnOk result ((t : Tables) → Holds s.now t → P t) → OnOk result ((t : Tables) → Holds s.now t → Q t) → OnOk result ((t : Tables) → Holds s.now t → P t × Q t)
+reported_both P Q s (Ok x) one two = λ t holds. (one t holds, two t holds)
+reported_both P Q s (Err e) one two = tt
 
 -- a version with the text that was read
 pub version_read : (f : Tables) (org ws : List ℕ) (head : Head) (text : List ℕ) (v : Version) → v ≡ version_of_cells text head → text ≡ text_of org ws head.number head.size f → v ≡ version_at f org ws head
@@ -44,9 +44,9 @@ AreMadeWhere law f t u = law t × AreMadeBy f t u
 -- a change of rows, and what was told of them
 related_moves : {X E : Type 0} (law : Tables → Type 0) (f : Tables → Tables) (R : Tables → Tables → Type 0) (a b : State) (result : Result X E) → ((t : Tables) → law t → R t (f t)) → OnOk result ((t : Tables) → Holds a.now t → law t)
     → OnOk result (Moves AnyRows f a b) × OnErr result (KeepsCommit a b) → OnOk result (Relates R a b) × OnErr result (KeepsCommit a b)
-related_moves law f R a b (Ok x) means told moved =
-    (record { rows = λ t holds. (f t, moved.0.rows t holds tt, means t (told t holds)); was_open = λ _. moved.0.was_open; committed = moved.0.committed; inside = moved.0.inside }, tt)
-related_moves law f R a b (Err e) means told moved = (tt, moved.1)
+related_moves law f R a b (Ok x) means reported moved =
+    (record { rows = λ t holds. (f t, moved.0.rows t holds tt, means t (reported t holds)); was_open = λ _. moved.0.was_open; committed = moved.0.committed; inside = moved.0.inside }, tt)
+related_moves law f R a b (Err e) means reported moved = (tt, moved.1)
 
 -- one after the other
 related_more : {X E : Type 0} (R Q P : Tables → Tables → Type 0) (a b c : State) (result : Result X E) → ((t u z : Tables) → R t u → Q u z → P t z) → Relates R a b
@@ -70,19 +70,19 @@ related_more R Q P a b c (Err e) means one last = (tt, record { was_open = λ is
 module _ {S : Type 0} (g : Ghosts S) where
   -- steps that change rows, and what was told of these
   pub related_by : {X E : Type 0} (law : Tables → Type 0) (f : Tables → Tables) (R : Tables → Tables → Type 0) (a b : Transaction S) (result : Result X E) → ((t : Tables) → law t → R t (f t))
-      → Steps g f a b result → Tells (λ _. law) (state g a.conn.now) (state g b.conn.now) result → RelatedSteps g R a b result
-  related_by law f R a b result means one told = record {
+      → Steps g f a b result → Reports (λ _. law) (state g a.conn.now) (state g b.conn.now) result → RelatedSteps g R a b result
+  related_by law f R a b result means one reported = record {
     same_reference = one.same_reference;
-    changed = λ clean inside. related_moves law f R (state g a.conn.now) (state g b.conn.now) result means (told clean inside) (one.changed clean inside);
+    changed = λ clean inside. related_moves law f R (state g a.conn.now) (state g b.conn.now) result means (reported clean inside) (one.changed clean inside);
     so_far = one.so_far;
     shield = one.shield;
   }
 
   -- of rows of which two laws are told
   pub related_by_both : {X E : Type 0} (law other : Tables → Type 0) (f : Tables → Tables) (R : Tables → Tables → Type 0) (a b : Transaction S) (result : Result X E) → ((t : Tables) → law t → other t → R t (f t)) → Steps g f a b result
-      → Tells (λ _. law) (state g a.conn.now) (state g b.conn.now) result → Tells (λ _. other) (state g a.conn.now) (state g b.conn.now) result → RelatedSteps g R a b result
-  related_by_both law other f R a b result means one told said =
-      related_by (λ t. law t × other t) f R a b result (λ t both. means t both.0 both.1) one (λ clean inside. told_both law other (state g a.conn.now) result (told clean inside) (said clean inside))
+      → Reports (λ _. law) (state g a.conn.now) (state g b.conn.now) result → Reports (λ _. other) (state g a.conn.now) (state g b.conn.now) result → RelatedSteps g R a b result
+  related_by_both law other f R a b result means one reported said =
+      related_by (λ t. law t × other t) f R a b result (λ t both. means t both.0 both.1) one (λ clean inside. reported_both law other (state g a.conn.now) result (reported clean inside) (said clean inside))
 
   -- of any rows
   pub made_by_steps : {X E : Type 0} (f : Tables → Tables) (a b : Transaction S) (result : Result X E) → Steps g f a b result → RelatedSteps g (AreMadeBy f) a b result

@@ -7,7 +7,7 @@ use Rattle.tables.specs.Records.{record_of}
 use Rattle.tables.specs.Sound.{IsSound}
 use Rattle.tables.specs.Stores.{records_of, IsSoundStore}
 use Rattle.tables.specs.Versions.{HoldsSchema}
-use Rattle.statements.specs.declared.making.TheConstants.{NEWEST}
+use Rattle.statements.specs.declared.making.TheConstants.{SCHEMA_VERSION}
 
 -- a database that holds sound tables is sound
 pub store_by : (db : Database) (t : Tables) → Holds db t → IsSound t → IsSoundStore db
@@ -19,5 +19,5 @@ pub records_by : (db : Database) (t : Tables) → Holds db t → (org : List ℕ
 records_by db t holds org = ap (λ (u : Tables). record_of u org) (tables-held db t holds)
 
 -- and one of the newest version is
-pub store_is : (db : Database) → HoldsSchema NEWEST db → IsSoundStore db
+pub store_is : (db : Database) → HoldsSchema SCHEMA_VERSION db → IsSoundStore db
 store_is db h = record { holds = record { ours = h.holds.own; rows = h.holds.rows }; sound = h.sound }

@@ -50,7 +50,7 @@ use Rattle.tables.proofs.Lawful.{limit_there, token_there}
 use Rattle.tables.proofs.Managed.{record_there, record_missing}
 use Rattle.tables.proofs.Owned.{changed_are_owned}
 use Rattle.tables.proofs.Revoking.{revoke_keeps, revoke_own, revoke_other}
-use Rattle.tables.proofs.Telling.{told_changed}
+use Rattle.tables.proofs.Reporting.{reported_changed}
 use Rattle.tables.proofs.TextRows.{AreTexts, sound_texts, texts_carried, KeepsWorkspaces, workspace_carried, organization_carried}
 use Rattle.tables.proofs.Brought.{Leads, none_below, workspaces_are, token_entries, workspace_names}
 
@@ -98,7 +98,7 @@ module _ (org ws : List ℕ) (t : Tables) (sound : IsSound t) where
         (len_with o.workspaces ws None 100_000 (subst (λ (n : ℕ). n ≤ 100_000) (sym (len-entries o.workspaces)) (sound.counts org o there)) (λ none some. absurd (let no_one : ⊥ = cc in no_one)))
 
     removal_keeps : IsTrue (is_ws_name ws) → IsSound (removed_rows org ws t)
-    removal_keeps named = placed_keeps org ws None t (removed_rows org ws t) sound named tt tt o there fewer (told_changed no_keys org ws t sound removal tt) (changed_texts no_keys org ws t sound removal tt)
+    removal_keeps named = placed_keeps org ws None t (removed_rows org ws t) sound named tt tt o there fewer (reported_changed no_keys org ws t sound removal tt) (changed_texts no_keys org ws t sound removal tt)
         (changed_are_owned org ws no_keys t sound (org_there t org o.limit (limit_there t org o there)) removal tt) removal_puts
 
 module _ (org : List ℕ) (first : Tables) where
@@ -181,19 +181,19 @@ module _ (org : List ℕ) (t : Tables) where
 
     row_keeps : IsSound left
     row_keeps = record {
-      told = sound.told;
+      reported = sound.reported;
       orgs_apart = apart_delete (λ a b. is_org a.1.name b) (is_org org) t.orgs sound.orgs_apart;
       tokens_apart = sound.tokens_apart;
       digests_apart = sound.digests_apart;
       wss_apart = sound.wss_apart;
       bounds_apart = sound.bounds_apart;
       tokens_bound = sound.tokens_bound;
-      keepings_apart = sound.keepings_apart;
+      retentions_apart = sound.retentions_apart;
       wss_kept = sound.wss_kept;
       tokens_owned = all_both (λ x. list_any (is_org x.1.org) t.orgs ≡ true) (λ x. is_token_of org x ≡ false) (λ x. list_any (is_org x.1.org) left.orgs ≡ true) (λ x is other. still_there x.1.org other is) t.tokens sound.tokens_owned no_token_rows;
       bounds_owned = sound.bounds_owned;
       wss_owned = all_both (λ x. list_any (is_org x.1.org) t.orgs ≡ true) (λ x. is_ws_of org x ≡ false) (λ x. list_any (is_org x.1.org) left.orgs ≡ true) (λ x is other. still_there x.1.org other is) t.wss sound.wss_owned no_ws_rows;
-      keepings_owned = sound.keepings_owned;
+      retentions_owned = sound.retentions_owned;
       versions_owned = sound.versions_owned;
       runs_owned = sound.runs_owned;
       org_rows = all-filter IsOrgRow (λ x. not (is_org org x)) t.orgs sound.org_rows;

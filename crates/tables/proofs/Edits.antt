@@ -24,9 +24,9 @@ use Rattle.basis.specs.declared.rows.RunRow.{RunRow as Run}
 use Rattle.machine.specs.declared.records.Workspace.{Workspace}
 use Rattle.basis.specs.declared.rows.Holder.TheVariants.{Nobody, Lock, Run as HeldByRun}
 use Rattle.statements.specs.declared.rows.Workspace.{Workspace as WorkspaceCells}
-use Rattle.statements.specs.Rows.{Kept, WsRow, KeepingRow, VersionRow, RunRow}
+use Rattle.statements.specs.Rows.{Kept, WsRow, RetentionRow, VersionRow, RunRow}
 use Rattle.statements.specs.Tables.{Tables}
-use Rattle.statements.specs.Changes.{is_ws, is_keeping, is_run_of, with_run_settings, held_by, released_from, with_next_version, with_next_run, ws_changed, ws_added, runs_removed, run_made as new_run_cells, run_added, run_acted}
+use Rattle.statements.specs.Changes.{is_ws, is_retention, is_run_of, with_run_settings, held_by, released_from, with_next_version, with_next_run, ws_changed, ws_added, runs_removed, run_made as new_run_cells, run_added, run_acted}
 use Rattle.statements.specs.Finds.{workspace_of, retention_of}
 use Rattle.tables.specs.Records.{version_at, workspace_of_cells, retention_at, workspace_by}
 use Rattle.tables.proofs.Ordered.{versions_in, runs_in, workspace_of_rows, ordered, workspace_ordered, changed_ordered}
@@ -81,8 +81,8 @@ abbrev after_report : ℕ → RunAction → RunStatus → Bool → Workspace →
 after_report n action status frees w = record w { holder = cond frees Nobody w.holder; runs = map (reported n action status) w.runs }
 
 -- how many versions a workspace keeps, by rows of keeping
-abbrev kept_among : List ℕ → List ℕ → List (Kept KeepingRow) → ℕ
-kept_among a b ks = unwrap_or (option_map (λ (x : Kept KeepingRow). x.1.keep) (find (is_keeping a b) ks)) FIRST_KEPT
+abbrev kept_among : List ℕ → List ℕ → List (Kept RetentionRow) → ℕ
+kept_among a b ks = unwrap_or (option_map (λ (x : Kept RetentionRow). x.1.retention) (find (is_retention a b) ks)) FIRST_KEPT
 
 -- where the other tables stay, so do the row of each workspace, how many versions it keeps, and its runs
 module _ (t u : Tables) (rest : KeepsRest t u) (a b : List ℕ) where
@@ -90,7 +90,7 @@ module _ (t u : Tables) (rest : KeepsRest t u) (a b : List ℕ) where
   row_stays = ap (λ (wss : List (Kept WsRow)). option_map (λ (x : Kept WsRow). x.1.it) (find (is_ws a b) wss)) rest.wss
 
   retention_stays : retention_at u a b ≡ retention_at t a b
-  retention_stays = ap (λ (ks : List (Kept KeepingRow)). kept_among a b ks) rest.keepings
+  retention_stays = ap (λ (ks : List (Kept RetentionRow)). kept_among a b ks) rest.retentions
 
   runs_stay : runs_in u a b ≡ runs_in t a b
   runs_stay = ap (λ (rs : List (Kept RunRow)). map (λ (x : Kept RunRow). x.1.it) (filter (is_run_of a b) rs)) rest.runs
@@ -114,16 +114,16 @@ module _ (org ws : List ℕ) (t : Tables) where
   -- a workspace where there is no row of its name
   added_puts : (settings : Settings) → workspace_of org ws t ≡ None → retention_of org ws t ≡ None → versions_in t org ws ≡ [] → runs_in t org ws ≡ []
       → Stands org ws (Some (new_workspace settings)) t (ws_added org ws settings.runs settings.retention t)
-  added_puts settings none no_keeping_row no_version no_run =
+  added_puts settings none no_retention_row no_version no_run =
       let of_runs : RunSettings = settings.runs in
-      let keep : ℕ = settings.retention in
+      let retention : ℕ = settings.retention in
       let after : Tables = ws_added org ws settings.runs settings.retention t in
       record {
         orgs = refl;
         tokens = refl;
         bounds = refl;
-        own = same_parts _ _ _ _ _ _ _ _ (row_added org ws t of_runs keep none) (retention_added org ws t of_runs keep no_keeping_row) (versions_carried t after refl refl refl org ws ∙ no_version) no_run;
-        others = λ a b other. same_parts _ _ _ _ _ _ _ _ (row_added_other org ws t of_runs keep a b other) (retention_added_other org ws t of_runs keep a b other) (versions_carried t after refl refl refl a b) refl;
+        own = same_parts _ _ _ _ _ _ _ _ (row_added org ws t of_runs retention none) (retention_added org ws t of_runs retention no_retention_row) (versions_carried t after refl refl refl org ws ∙ no_version) no_run;
+        others = λ a b other. same_parts _ _ _ _ _ _ _ _ (row_added_other org ws t of_runs retention a b other) (retention_added_other org ws t of_runs retention a b other) (versions_carried t after refl refl refl a b) refl;
       }
 
   -- versions come and go, and nothing else
@@ -192,16 +192,16 @@ module _ (org ws : List ℕ) (t : Tables) where
   with_fewer settings outgoing w = record w { settings = settings; versions = left_above outgoing w.versions }
 
   -- a workspace that has a row has one of keeping
-  retention_there : IsSound t → (c : WorkspaceCells) → workspace_of org ws t ≡ Some c → is_some (find (is_keeping org ws) t.keepings) ≡ true
+  retention_there : IsSound t → (c : WorkspaceCells) → workspace_of org ws t ≡ Some c → is_some (find (is_retention org ws) t.retentions) ≡ true
   retention_there sound c e = by_row (find (is_ws org ws) t.wss) refl e
     where
-      by_row : (r : Option (Kept WsRow)) → find (is_ws org ws) t.wss ≡ r → option_map (λ (x : Kept WsRow). x.1.it) r ≡ Some c → is_some (find (is_keeping org ws) t.keepings) ≡ true
+      by_row : (r : Option (Kept WsRow)) → find (is_ws org ws) t.wss ≡ r → option_map (λ (x : Kept WsRow). x.1.it) r ≡ Some c → is_some (find (is_retention org ws) t.retentions) ≡ true
       by_row None f e = absurd (let none : ⊥ = cc in none)
       by_row (Some x) f e =
           let p = found_passes (is_ws org ws) t.wss x f in
-          let kept : list_any (is_keeping x.1.org x.1.name) t.keepings ≡ true = found_holds (λ (y : Kept WsRow). list_any (is_keeping y.1.org y.1.name) t.keepings ≡ true) (is_ws org ws) t.wss x sound.wss_kept f in
-          sym (any_is_found (is_keeping org ws) t.keepings)
-          ∙ subst (λ (a : List ℕ). list_any (is_keeping a ws) t.keepings ≡ true) (pair_first org ws x.1.org x.1.name p) (subst (λ (b : List ℕ). list_any (is_keeping x.1.org b) t.keepings ≡ true) (pair_second org ws x.1.org x.1.name p) kept)
+          let kept : list_any (is_retention x.1.org x.1.name) t.retentions ≡ true = found_holds (λ (y : Kept WsRow). list_any (is_retention y.1.org y.1.name) t.retentions ≡ true) (is_ws org ws) t.wss x sound.wss_kept f in
+          sym (any_is_found (is_retention org ws) t.retentions)
+          ∙ subst (λ (a : List ℕ). list_any (is_retention a ws) t.retentions ≡ true) (pair_first org ws x.1.org x.1.name p) (subst (λ (b : List ℕ). list_any (is_retention x.1.org b) t.retentions ≡ true) (pair_second org ws x.1.org x.1.name p) kept)
 
   module _ (sound : IsSound t) (settings : Settings) (outgoing : Option ℕ) where
     abbrev with_set : Tables

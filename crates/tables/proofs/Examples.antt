@@ -35,7 +35,7 @@ use Rattle.tables.specs.Records.{record_of, organization_at, workspace_at, works
 use Rattle.tables.specs.Opening.{has_versions_in}
 use Rattle.tables.specs.Sound.{IsPlaced, HasText, HasNoGap, IsSoundWorkspace, IsSound}
 use Rattle.tables.specs.Inner.Edits.{so_many_gone, gone_below, edited_rows, changed_rows}
-use Rattle.tables.specs.Inner.Lists.{versions_listed_in, runs_listed_in, tokens_told_in}
+use Rattle.tables.specs.Inner.Lists.{versions_listed_in, runs_listed_in, token_list_answer_in}
 
 abbrev acme : List ℕ
 acme = codes "acme"
@@ -88,7 +88,7 @@ two = record {
       ∷ [];
   bounds = (pos 1, record { org = acme; name = codes "ci"; until = Some 1_800_000_000; prefix = codes "pr" }) ∷ [];
   editions = (pos 1, 3) ∷ [];
-  keepings = (pos 1, record { org = globex; ws = prod; keep = 1 }) ∷ (pos 2, record { org = acme; ws = prod; keep = 2 }) ∷ [];
+  retentions = (pos 1, record { org = globex; ws = prod; retention = 1 }) ∷ (pos 2, record { org = acme; ws = prod; retention = 2 }) ∷ [];
 }
 
 -- the keys that keep a byte: each text begins with this one
@@ -144,20 +144,20 @@ restored_other = refl
 
 -- ---- changes: the organization's own record has it, and that of the other is as before
 
-abbrev keeping_five : Settings
-keeping_five = record { runs = record { auto_apply = true }; retention = 5 }
+abbrev retention_five : Settings
+retention_five = record { runs = record { auto_apply = true }; retention = 5 }
 
-configured : record_of (edited_rows first_byte acme prod (Configure keeping_five None) two) acme ≡ acme_has (record of_acme { settings = keeping_five })
+configured : record_of (edited_rows first_byte acme prod (Configure retention_five None) two) acme ≡ acme_has (record of_acme { settings = retention_five })
 configured = refl
 
-configured_other : record_of (edited_rows first_byte acme prod (Configure keeping_five None) two) globex ≡ globex_has of_globex
+configured_other : record_of (edited_rows first_byte acme prod (Configure retention_five None) two) globex ≡ globex_has of_globex
 configured_other = refl
 
 -- a lower number of versions, of which the oldest goes at once
-abbrev keeping_one : Settings
-keeping_one = record { runs = record { auto_apply = false }; retention = 1 }
+abbrev retention_one : Settings
+retention_one = record { runs = record { auto_apply = false }; retention = 1 }
 
-lowered : record_of (edited_rows first_byte acme prod (Configure keeping_one (Some 1)) two) acme ≡ acme_has (record of_acme { settings = keeping_one; versions = version 2 s2 ∷ [] })
+lowered : record_of (edited_rows first_byte acme prod (Configure retention_one (Some 1)) two) acme ≡ acme_has (record of_acme { settings = retention_one; versions = version 2 s2 ∷ [] })
 unfolding so_many_gone gone_below
 lowered = refl
 
@@ -233,10 +233,10 @@ canceled_and_freed : record_of (edited_rows first_byte acme prod (Report 1 Cance
 canceled_and_freed = refl
 
 -- a workspace more, behind the other
-made : record_of (edited_rows first_byte acme (codes "dev") (Make keeping_five) two) acme ≡ Some (record {
+made : record_of (edited_rows first_byte acme (codes "dev") (Make retention_five) two) acme ≡ Some (record {
   limit = 10;
   tokens = from_entries ((codes "ci", ci) ∷ []);
-  workspaces = from_entries ((prod, of_acme) ∷ (codes "dev", record { settings = keeping_five; holder = Nobody; released = None; next_version = 1; next_run = 1; versions = []; runs = [] }) ∷ []);
+  workspaces = from_entries ((prod, of_acme) ∷ (codes "dev", record { settings = retention_five; holder = Nobody; released = None; next_version = 1; next_run = 1; versions = []; runs = [] }) ∷ []);
 })
 unfolding so_many_gone gone_below
 made = refl
@@ -259,8 +259,8 @@ unfolding so_many_gone gone_below
 removed_other = refl
 
 -- one that is made again begins anew
-made_anew : record_of (edited_rows first_byte acme prod (Make keeping_five) (edited_rows first_byte acme prod Remove two)) acme
-    ≡ acme_has (record { settings = keeping_five; holder = Nobody; released = None; next_version = 1; next_run = 1; versions = []; runs = [] })
+made_anew : record_of (edited_rows first_byte acme prod (Make retention_five) (edited_rows first_byte acme prod Remove two)) acme
+    ≡ acme_has (record { settings = retention_five; holder = Nobody; released = None; next_version = 1; next_run = 1; versions = []; runs = [] })
 unfolding so_many_gone gone_below
 made_anew = refl
 
@@ -288,7 +288,7 @@ reach_revoked = refl
 
 -- no row tells how far its token reaches: it doesn't end, and is for all workspaces; and none how many versions its workspace keeps
 abbrev first : Tables
-first = record two { metas = (pos 1, 1) ∷ []; bounds = []; editions = []; keepings = [] }
+first = record two { metas = (pos 1, 1) ∷ []; bounds = []; editions = []; retentions = [] }
 
 first_record : record_of first acme ≡ Some (record {
   limit = 10;
@@ -305,18 +305,18 @@ raised_record : record_of (raised 1 first) acme ≡ record_of first acme
 raised_record = refl
 
 -- and as tables of the third each workspace has one
-second_raised : (raised 2 (raised 1 first)).keepings ≡ (pos 1, record { org = globex; ws = prod; keep = 100 }) ∷ (pos 2, record { org = acme; ws = prod; keep = 100 }) ∷ []
+second_raised : (raised 2 (raised 1 first)).retentions ≡ (pos 1, record { org = globex; ws = prod; retention = 100 }) ∷ (pos 2, record { org = acme; ws = prod; retention = 100 }) ∷ []
 second_raised = refl
 
 second_record : record_of (raised 2 (raised 1 first)) acme ≡ record_of first acme
 second_record = refl
 
-told_third : (raised 2 (raised 1 first)).editions ≡ (pos 1, 3) ∷ []
-told_third = refl
+reported_third : (raised 2 (raised 1 first)).editions ≡ (pos 1, 3) ∷ []
+reported_third = refl
 
 -- ---- lists
 
-tokens_of_none : tokens_told_in (codes "initech") two ≡ Absent
+tokens_of_none : token_list_answer_in (codes "initech") two ≡ Absent
 tokens_of_none = refl
 
 versions_behind : versions_listed_in 1 acme prod two ≡ record { items = record { created = 1_700_000_000; lineage = codes "a1"; number = 2; serial = 2; size = 12 } ∷ []; more = false }
@@ -343,7 +343,7 @@ one = record {
   vpages = (pos 1, record { org = acme; ws = prod; number = 1; place = 0; key = codes "{"; twin = 0 }) ∷ [];
   bounds = two.bounds;
   editions = (pos 1, 3) ∷ [];
-  keepings = (pos 1, record { org = acme; ws = prod; keep = 2 }) ∷ [];
+  retentions = (pos 1, record { org = acme; ws = prod; retention = 2 }) ∷ [];
 }
 
 abbrev of_one : Workspace
@@ -360,7 +360,7 @@ of_one_is_lawful = record {
   named = refl;
   lawful = record {
     versions = record {
-      keep = (omega arith, omega arith);
+      retention = (omega arith, omega arith);
       next = (omega arith, omega arith);
       rise = (omega arith, omega arith, tt);
       each = (record { serial = omega arith; lineage = omega arith; created = omega arith }, tt);
@@ -391,9 +391,9 @@ one_counts org o is = go (bytes_eq acme org) refl
   where
     go : (b : Bool) → bytes_eq acme org ≡ b → count_of o ≤ MAX_LIMIT
     go true e =
-        let told : Some one_has ≡ Some o = subst (λ (n : List ℕ). record_of one n ≡ Some o) (sym (equal_bytes acme org e)) is in
+        let reported : Some one_has ≡ Some o = subst (λ (n : List ℕ). record_of one n ≡ Some o) (sym (equal_bytes acme org e)) is in
         let counted : count_of one_has ≡ 1 = sym (len-entries one_has.workspaces) ∙ entries_counted acme (λ (x : Kept WsRow). workspace_at one acme x.1.name x.1.it) one.wss (tt, tt) in
-        subst (λ (x : Organization). count_of x ≤ MAX_LIMIT) (same_Some _ _ told) (omega (arith, counted))
+        subst (λ (x : Organization). count_of x ≤ MAX_LIMIT) (same_Some _ _ reported) (omega (arith, counted))
     go false e = let none : None ≡ Some o = subst (λ (b : Bool). record_if b org ≡ Some o) e is in absurd (cc)
 
 one_workspaces : (org name : List ℕ) (w : Workspace) → workspace_by one org name ≡ Some w → IsSoundWorkspace name w
@@ -403,8 +403,8 @@ one_workspaces org name w is = go (bytes_eq acme org && bytes_eq prod name) refl
     go true e =
         let parts = and_parts (bytes_eq acme org) (bytes_eq prod name) e in
         let there : workspace_by one org prod ≡ Some w = subst (λ (n : List ℕ). workspace_by one org n ≡ Some w) (sym (equal_bytes prod name parts.1)) is in
-        let told : Some of_one ≡ Some w = subst (λ (o : List ℕ). workspace_by one o prod ≡ Some w) (sym (equal_bytes acme org parts.0)) there in
-        subst (λ (n : List ℕ). IsSoundWorkspace n w) (equal_bytes prod name parts.1) (subst (IsSoundWorkspace prod) (same_Some _ _ told) of_one_is_lawful)
+        let reported : Some of_one ≡ Some w = subst (λ (o : List ℕ). workspace_by one o prod ≡ Some w) (sym (equal_bytes acme org parts.0)) there in
+        subst (λ (n : List ℕ). IsSoundWorkspace n w) (equal_bytes prod name parts.1) (subst (IsSoundWorkspace prod) (same_Some _ _ reported) of_one_is_lawful)
     go false e = let none : None ≡ Some w = subst (λ (b : Bool). workspace_if b org name ≡ Some w) e is in absurd (cc)
 
 one_use : (b : Bool) → unwrap_or (option_map (λ (x : Kept PageRow). x.1.uses) (find (λ (x : Kept PageRow). b) one.pages)) 0 ≡ length (filter (λ (x : Kept VpageRow). b) one.vpages)
@@ -417,19 +417,19 @@ one_text (suc place) low = absurd (omega (arith, low))
 
 one_is_sound : IsSound one
 one_is_sound = record {
-  told = (refl, refl);
+  reported = (refl, refl);
   orgs_apart = (tt, tt);
   tokens_apart = (tt, tt);
   digests_apart = (tt, tt);
   wss_apart = (tt, tt);
   bounds_apart = (tt, tt);
   tokens_bound = (refl, tt);
-  keepings_apart = (tt, tt);
+  retentions_apart = (tt, tt);
   wss_kept = (refl, tt);
   tokens_owned = (refl, tt);
   bounds_owned = (refl, tt);
   wss_owned = (refl, tt);
-  keepings_owned = (refl, tt);
+  retentions_owned = (refl, tt);
   versions_owned = (refl, tt);
   runs_owned = (refl, tt);
   org_rows = (record { named = refl; limit = omega arith }, tt);
@@ -466,7 +466,7 @@ of_both_is_lawful = record {
   named = refl;
   lawful = record {
     versions = record {
-      keep = (omega arith, omega arith);
+      retention = (omega arith, omega arith);
       next = (omega arith, omega arith);
       rise = (omega arith, omega arith, (omega arith, omega arith, tt));
       each = (record { serial = omega arith; lineage = omega arith; created = omega arith }, (record { serial = omega arith; lineage = omega arith; created = omega arith }, tt));
@@ -493,9 +493,9 @@ module _ (rows : List (Kept VersionRow)) where
     where
       go : (b : Bool) → bytes_eq acme org ≡ b → count_of o ≤ MAX_LIMIT
       go true e =
-          let told : Some of_org ≡ Some o = subst (λ (n : List ℕ). record_of (of_rows rows) n ≡ Some o) (sym (equal_bytes acme org e)) is in
+          let reported : Some of_org ≡ Some o = subst (λ (n : List ℕ). record_of (of_rows rows) n ≡ Some o) (sym (equal_bytes acme org e)) is in
           let counted : count_of of_org ≡ 1 = sym (len-entries of_org.workspaces) ∙ entries_counted acme (λ (x : Kept WsRow). workspace_at (of_rows rows) acme x.1.name x.1.it) (of_rows rows).wss (tt, tt) in
-          subst (λ (x : Organization). count_of x ≤ MAX_LIMIT) (same_Some _ _ told) (omega (arith, counted))
+          subst (λ (x : Organization). count_of x ≤ MAX_LIMIT) (same_Some _ _ reported) (omega (arith, counted))
       go false e = let none : None ≡ Some o = subst (λ (b : Bool). organization_if b org ≡ Some o) e is in absurd (cc)
 
   both_workspaces : workspace_by (of_rows rows) acme prod ≡ Some of_both → (org name : List ℕ) (w : Workspace) → workspace_by (of_rows rows) org name ≡ Some w → IsSoundWorkspace name w
@@ -505,8 +505,8 @@ module _ (rows : List (Kept VersionRow)) where
       go true e =
           let parts = and_parts (bytes_eq acme org) (bytes_eq prod name) e in
           let there : workspace_by (of_rows rows) org prod ≡ Some w = subst (λ (n : List ℕ). workspace_by (of_rows rows) org n ≡ Some w) (sym (equal_bytes prod name parts.1)) is in
-          let told : Some of_both ≡ Some w = sym denoted ∙ subst (λ (o : List ℕ). workspace_by (of_rows rows) o prod ≡ Some w) (sym (equal_bytes acme org parts.0)) there in
-          subst (λ (n : List ℕ). IsSoundWorkspace n w) (equal_bytes prod name parts.1) (subst (IsSoundWorkspace prod) (same_Some _ _ told) of_both_is_lawful)
+          let reported : Some of_both ≡ Some w = sym denoted ∙ subst (λ (o : List ℕ). workspace_by (of_rows rows) o prod ≡ Some w) (sym (equal_bytes acme org parts.0)) there in
+          subst (λ (n : List ℕ). IsSoundWorkspace n w) (equal_bytes prod name parts.1) (subst (IsSoundWorkspace prod) (same_Some _ _ reported) of_both_is_lawful)
       go false e = let none : None ≡ Some w = subst (λ (b : Bool). own_if b org name ≡ Some w) e is in absurd (cc)
 
   both_uses : (b : Bool) → unwrap_or (option_map (λ (x : Kept PageRow). x.1.uses) (find (λ (x : Kept PageRow). b) (of_rows rows).pages)) 0 ≡ length (filter (λ (x : Kept VpageRow). b) (of_rows rows).vpages)
@@ -524,19 +524,19 @@ module _ (rows : List (Kept VersionRow)) where
   both_are_sound : workspace_by (of_rows rows) acme prod ≡ Some of_both → AllByRecursion (λ (x : Kept VersionRow). list_any (is_ws x.1.org x.1.ws) (of_rows rows).wss ≡ true) rows
       → AllByRecursion (IsPlaced (of_rows rows)) (of_rows rows).vpages → AllByRecursion (HasText (of_rows rows)) rows → IsSound (of_rows rows)
   both_are_sound denoted owned placed texts = record {
-    told = (refl, refl);
+    reported = (refl, refl);
     orgs_apart = (tt, tt);
     tokens_apart = (tt, tt);
     digests_apart = (tt, tt);
     wss_apart = (tt, tt);
     bounds_apart = (tt, tt);
     tokens_bound = (refl, tt);
-    keepings_apart = (tt, tt);
+    retentions_apart = (tt, tt);
     wss_kept = (refl, tt);
     tokens_owned = (refl, tt);
     bounds_owned = (refl, tt);
     wss_owned = (refl, tt);
-    keepings_owned = (refl, tt);
+    retentions_owned = (refl, tt);
     versions_owned = owned;
     runs_owned = (refl, tt);
     org_rows = one_is_sound.org_rows;
@@ -599,14 +599,14 @@ abbrev later : Tables
 later = record two { editions = (pos 1, 4) ∷ [] }
 
 later_is_not : IsSound later → ⊥
-later_is_not sound = true≢false (ap (list_any (λ (x : Kept ℕ). x.1 == 4)) sound.told.0)
+later_is_not sound = true≢false (ap (list_any (λ (x : Kept ℕ). x.1 == 4)) sound.reported.0)
 
 -- a version that meta tells too
-abbrev twice_told : Tables
-twice_told = record two { metas = (pos 1, 1) ∷ [] }
+abbrev twice_reported : Tables
+twice_reported = record two { metas = (pos 1, 1) ∷ [] }
 
-twice_told_is_not : IsSound twice_told → ⊥
-twice_told_is_not sound = true≢false (ap (list_any (λ (x : Kept ℕ). x.1 == 1)) sound.told.1)
+twice_reported_is_not : IsSound twice_reported → ⊥
+twice_reported_is_not sound = true≢false (ap (list_any (λ (x : Kept ℕ). x.1 == 1)) sound.reported.1)
 
 -- a token of which no row tells how far it reaches
 abbrev unbound : Tables
@@ -624,7 +624,7 @@ tokenless_is_not sound = true≢false (sym sound.bounds_owned.0)
 
 -- a workspace of which no row tells how many versions it keeps
 abbrev unkept : Tables
-unkept = record two { keepings = [] }
+unkept = record two { retentions = [] }
 
 unkept_is_not : IsSound unkept → ⊥
 unkept_is_not sound = true≢false (sym sound.wss_kept.0)
@@ -634,14 +634,14 @@ abbrev wsless : Tables
 wsless = record two { wss = (pos 2, record { org = acme; name = prod; it = record { runs = record { auto_apply = false }; holder = Lock x1 text; released = None; next_version = 3; next_run = 2 } }) ∷ [] }
 
 wsless_is_not : IsSound wsless → ⊥
-wsless_is_not sound = true≢false (sym sound.keepings_owned.0)
+wsless_is_not sound = true≢false (sym sound.retentions_owned.0)
 
 -- a workspace that keeps none
 abbrev keepless : Tables
-keepless = record two { keepings = (pos 1, record { org = globex; ws = prod; keep = 0 }) ∷ (pos 2, record { org = acme; ws = prod; keep = 2 }) ∷ [] }
+keepless = record two { retentions = (pos 1, record { org = globex; ws = prod; retention = 0 }) ∷ (pos 2, record { org = acme; ws = prod; retention = 2 }) ∷ [] }
 
 keepless_is_not : IsSound keepless → ⊥
-keepless_is_not sound = absurd (let least = (sound.workspaces globex prod (record of_globex { settings = record { runs = record { auto_apply = true }; retention = 0 } }) refl).lawful.versions.keep.0 in omega (arith, least))
+keepless_is_not sound = absurd (let least = (sound.workspaces globex prod (record of_globex { settings = record { runs = record { auto_apply = true }; retention = 0 } }) refl).lawful.versions.retention.0 in omega (arith, least))
 
 -- two rows of one organization
 abbrev doubled : Tables

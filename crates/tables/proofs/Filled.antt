@@ -26,5 +26,5 @@ all_filled key_of t old new is = record {
   vpages = ap (λ (r : Rows). r.vpages) is;
   bounds = ap (λ (r : Rows). r.bounds) is;
   editions = ap (λ (r : Rows). r.editions) is;
-  keepings = ap (λ (r : Rows). r.keepings) is;
+  retentions = ap (λ (r : Rows). r.retentions) is;
 }

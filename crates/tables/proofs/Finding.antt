@@ -37,7 +37,7 @@ use Rattle.basis.specs.declared.rows.RunRow.{RunRow as Run}
 use Rattle.machine.specs.declared.records.Workspace.{Workspace}
 use Rattle.machine.specs.declared.records.Organization.{Organization}
 use Rattle.machine.proofs.MapLemmas.{names_total}
-use Rattle.machine.proofs.LookLemmas.{version_of-newest}
+use Rattle.machine.proofs.QueryLemmas.{version_of-newest}
 use Rattle.machine.proofs.KeepLemmas.{apart_from}
 use Rattle.basis.specs.declared.rows.VersionRow.{VersionRow as Head}
 use Rattle.basis.specs.declared.rows.Holder.{Holder}
@@ -382,10 +382,10 @@ module _ (t : Tables) (org ws : List ℕ) where
           ∙ kept_in_range (next - 1 - staying) (omega (arith, most)) (nat_le 1 (next - 1 - staying)) (nat_le (next - 1 - staying) 1_000_000_000) refl refl
           ∙ sym (outgoing_by_number staying next (versions_at t org ws) rise follow)
 
-      pub outgoing_found : (staying : Staying) (keep : ℕ) → outgoing_in staying keep next org ws t ≡ outgoing_by staying keep (versions_at t org ws)
-      outgoing_found StayAll keep = refl
-      outgoing_found MakeRoom keep = behind_found (keep - 1)
-      outgoing_found (StayAtMost staying) keep = behind_found staying
+      pub outgoing_found : (staying : Staying) (retention : ℕ) → outgoing_in staying retention next org ws t ≡ outgoing_by staying retention (versions_at t org ws)
+      outgoing_found StayAll retention = refl
+      outgoing_found MakeRoom retention = behind_found (retention - 1)
+      outgoing_found (StayAtMost staying) retention = behind_found staying
 
 -- ---- counts
 

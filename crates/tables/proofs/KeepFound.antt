@@ -28,19 +28,19 @@ module _ {S : Type 0} (g : Ghosts S) where
         let first = seen_both (Equals p) (Equals q) a b c x y one two in
         let second = seen_both (λ v t. Equals p x t × Equals q v t) (Equals r) a c d y z first three in
         let third = seen_both (λ v t. (Equals p x t × Equals q y t) × Equals r v t) (Equals s) a d e z w second four in
-        sees_as g (λ v t. ((Equals p x t × Equals q y t) × Equals r z t) × Equals s v t) (Equals (λ t. make (p t) (q t) (r t) (s t))) a e w (make x y z w) (λ t told i. make (told.0.0.0 i) (told.0.0.1 i) (told.0.1 i) (told.1 i)) third
+        sees_as g (λ v t. ((Equals p x t × Equals q y t) × Equals r z t) × Equals s v t) (Equals (λ t. make (p t) (q t) (r t) (s t))) a e w (make x y z w) (λ t reported i. make (reported.0.0.0 i) (reported.0.0.1 i) (reported.0.1 i) (reported.1 i)) third
 
   -- what is found by what was found first
   pub seen_by_first : {P Q X : Type 0} (E F G : Type 0) (p : Tables → P) (q : P → Tables → Q) (make : P → Q → X) (x : P) (y : Q) (a b c : Held S)
       → Sees {E = E} g (Equals p) a b (Ok x) → Sees {E = F} g (Equals (q x)) b c (Ok y) → Sees {E = G} g (Equals (λ t. make (p t) (q (p t) t))) a c (Ok (make x y))
   seen_by_first E F G p q make x y a b c one two =
-      sees_as g (λ v t. Equals p x t × Equals (q x) v t) (Equals (λ t. make (p t) (q (p t) t))) a c y (make x y) (λ t told. ap (make x) told.1 ∙ (λ i. make (told.0 i) (q (told.0 i) t))) (seen_both (Equals p) (Equals (q x)) a b c x y one two)
+      sees_as g (λ v t. Equals p x t × Equals (q x) v t) (Equals (λ t. make (p t) (q (p t) t))) a c y (make x y) (λ t reported. ap (make x) reported.1 ∙ (λ i. make (reported.0 i) (q (reported.0 i) t))) (seen_both (Equals p) (Equals (q x)) a b c x y one two)
 
   -- what is looked up for a row that was found
   pub seen_mapped : {A X : Type 0} (E F G : Type 0) (q : Tables → Option A) (f : Tables → A → X) (x : A) (y : X) (o : Option A) (a b d : Held S) → o ≡ Some x
       → Sees {E = E} g (Equals q) a b (Ok o) → Sees {E = F} g (Equals (λ t. f t x)) b d (Ok y) → Sees {E = G} g (Equals (λ t. option_map (f t) (q t))) a d (Ok (Some y))
   seen_mapped E F G q f x y o a b d is one two =
-      sees_as g (λ v t. Equals q o t × Equals (λ u. f u x) v t) (Equals (λ t. option_map (f t) (q t))) a d y (Some y) (λ t told. ap Some told.1 ∙ ap (option_map (f t)) (sym is ∙ told.0)) (seen_both (Equals q) (Equals (λ t. f t x)) a b d o y one two)
+      sees_as g (λ v t. Equals q o t × Equals (λ u. f u x) v t) (Equals (λ t. option_map (f t) (q t))) a d y (Some y) (λ t reported. ap Some reported.1 ∙ ap (option_map (f t)) (sym is ∙ reported.0)) (seen_both (Equals q) (Equals (λ t. f t x)) a b d o y one two)
 
 -- ---- a token has its row of bound
 
@@ -55,10 +55,10 @@ found_there q x a o (Err e) is found = tt
 module _ (org digest : List ℕ) (t : Tables) where
   -- the token that was found with how far it reaches is who asks
   pub asker_found : (found : Option BoundedRole) → IsBoundedRoleOf org digest found t → option_map asker_by found ≡ asker_in org digest t
-  asker_found None told = ap (option_map (token_row_in org t)) told.0
-  asker_found (Some b) told =
-      ap (λ (o : Option Bounds). Some (asker_by (record b { bounds = unwrap_or o no_bounds }))) (sym told.1) ∙ ap (option_map (token_row_in org t)) told.0
+  asker_found None reported = ap (option_map (token_row_in org t)) reported.0
+  asker_found (Some b) reported =
+      ap (λ (o : Option Bounds). Some (asker_by (record b { bounds = unwrap_or o no_bounds }))) (sym reported.1) ∙ ap (option_map (token_row_in org t)) reported.0
 
   pub bound_found : (found : Option BoundedRole) → IsBoundedRoleOf org digest found t → IsBound org digest t
-  bound_found None told = subst (λ (o : Option NamedRole). IfSome o (λ x. IsSome (bound_of org x.name t))) told.0 tt
-  bound_found (Some b) told = subst (λ (o : Option NamedRole). IfSome o (λ x. IsSome (bound_of org x.name t))) told.0 (ap is_some told.1)
+  bound_found None reported = subst (λ (o : Option NamedRole). IfSome o (λ x. IsSome (bound_of org x.name t))) reported.0 tt
+  bound_found (Some b) reported = subst (λ (o : Option NamedRole). IfSome o (λ x. IsSome (bound_of org x.name t))) reported.0 (ap is_some reported.1)

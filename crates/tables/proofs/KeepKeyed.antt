@@ -22,10 +22,10 @@ module _ (key_of : List ℕ → List ℕ) {memo : Memo} (db : Database) (a b : S
   pub keyed_related : CommitsRelated (KeepsKeys key_of) a b → ArePagesKeyed key_of (tables_of b.committed)
   keyed_related m = let u = m.rows (tables_of db) (held m.was_open) in keyed_held key_of b.committed u.0 u.1 (u.2 keyed)
 
-  pub keyed_committed : (f : Tables → Tables) (told : Tables → Type 0) → Commits f told a b → ((t : Tables) → KeepsKeys key_of t (f t)) → ArePagesKeyed key_of (tables_of b.committed)
-  keyed_committed f told m keeps = keyed_held key_of b.committed (f (tables_of db)) (m.rows (tables_of db) (held m.was_open)) (keeps (tables_of db) keyed)
+  pub keyed_committed : (f : Tables → Tables) (reported : Tables → Type 0) → Commits f reported a b → ((t : Tables) → KeepsKeys key_of t (f t)) → ArePagesKeyed key_of (tables_of b.committed)
+  keyed_committed f reported m keeps = keyed_held key_of b.committed (f (tables_of db)) (m.rows (tables_of db) (held m.was_open)) (keeps (tables_of db) keyed)
 
--- ---- behind a look
+-- ---- behind a query
 
 module _ (key_of : List ℕ → List ℕ) (a b : State) (same : IsUnchanged a b) where
   pub keyed_unchanged : CommitsRelated (KeepsKeys key_of) a b

@@ -1,4 +1,4 @@
--- A list that is made row by row, with a look at the tables for each.
+-- A list that is made row by row, with a read of the tables for each.
 use Rattle.std.proofs.Common.{◌≡◌, ℕ, ◌+◌, ◌<◌, List, [], ◌∷◌, ◌++◌, map, take, length, get_or, Ok, sym, ap, ◌∙◌}
 use Rattle.std.proofs.lemmas.List.{map_more}
 use Rattle.sqlite_trees.specs.declared.store.Store.{Ghosts}
@@ -14,7 +14,7 @@ pub seen_more : {S A R L : Type 0} (g : Ghosts S) (D E : Type 0) (f : List R →
     → Sees {E = D} g (Equals (λ t. f (map (row t) (take (i + 1) xs)))) a c (Ok new)
 seen_more g D E f row xs i x a b c old new r within is before one more =
     sees_as g (λ s t. Equals (λ u. f (map (row u) (take i xs))) old t × Equals (λ u. row u x) s t) (Equals (λ t. f (map (row t) (take (i + 1) xs)))) a c r new
-    (λ t told. more (map (row t) (take i xs)) told.0
-    ∙ ap (λ y. f (map (row t) (take i xs) ++ y ∷ [])) told.1
+    (λ t reported. more (map (row t) (take i xs)) reported.0
+    ∙ ap (λ y. f (map (row t) (take i xs) ++ y ∷ [])) reported.1
     ∙ sym (ap f (map_more (row t) xs i x within ∙ ap (λ y. map (row t) (take i xs) ++ row t y ∷ []) (sym is))))
     (seen_both g (Equals (λ t. f (map (row t) (take i xs)))) (Equals (λ t. row t x)) a b c old r before one)

@@ -11,15 +11,15 @@ use Rattle.statements.specs.Changes.{org_row_added, org_capped, token_added, tok
 use Rattle.statements.specs.Finds.{cap_of, role_of_name}
 use Rattle.statements.specs.Steps.{AnyRows, LeavesAsIs}
 use Rattle.statements.specs.Tables.{Tables, Holds}
-use Rattle.tables.specs.Inner.Steps.{IsSettled, Commits, org_managed_by, org_managed, limit_managed_by, limit_managed, is_taken, token_managed_by, token_managed, revocation_managed_by, revocation_managed}
+use Rattle.tables.specs.Inner.Steps.{IsAllCommitted, Commits, org_managed_by, org_managed, limit_managed_by, limit_managed, is_taken, token_managed_by, token_managed, revocation_managed_by, revocation_managed}
 
-module _ (command : Tables → Effect AdminAnswer Tables) (a b d : State) (settled : IsSettled a) where
+module _ (command : Tables → Effect AdminAnswer Tables) (a b d : State) (all_committed : IsAllCommitted a) where
   -- nothing was changed
   pub manages_none : (answer : AdminAnswer) → IsTrue a.is_open → IsTrue b.is_open → LeavesAsIs a b → ((t : Tables) → Holds a.now t → command t ≡ effect answer t) → Commits (λ t. (command t).left) (λ t. answer ≡ (command t).answer) a b
   manages_none answer was is stays means = record {
-    tells = λ t held. sym (ap (λ (m : Effect AdminAnswer Tables). m.answer) (means t (subst (λ (db : Database). Holds db t) (sym (settled was)) held)));
+    reports = λ t held. sym (ap (λ (m : Effect AdminAnswer Tables). m.answer) (means t (subst (λ (db : Database). Holds db t) (sym (all_committed was)) held)));
     rows = λ t held.
-        subst (Holds b.committed) (sym (ap (λ (m : Effect AdminAnswer Tables). m.left) (means t (subst (λ (db : Database). Holds db t) (sym (settled was)) held))))
+        subst (Holds b.committed) (sym (ap (λ (m : Effect AdminAnswer Tables). m.left) (means t (subst (λ (db : Database). Holds db t) (sym (all_committed was)) held))))
         (subst (λ (db : Database). Holds db t) (sym stays.committed) held);
     was_open = was;
     is_open = is;
@@ -30,9 +30,9 @@ module _ (command : Tables → Effect AdminAnswer Tables) (a b d : State) (settl
   manages_one f answer stays done means =
       let was = stays.was_open done.was_open in
       record {
-        tells = λ t held. sym (ap (λ (m : Effect AdminAnswer Tables). m.answer) (means t (subst (λ (db : Database). Holds db t) (sym (settled was)) held)));
+        reports = λ t held. sym (ap (λ (m : Effect AdminAnswer Tables). m.answer) (means t (subst (λ (db : Database). Holds db t) (sym (all_committed was)) held)));
         rows = λ t held.
-            subst (Holds d.committed) (sym (ap (λ (m : Effect AdminAnswer Tables). m.left) (means t (subst (λ (db : Database). Holds db t) (sym (settled was)) held))))
+            subst (Holds d.committed) (sym (ap (λ (m : Effect AdminAnswer Tables). m.left) (means t (subst (λ (db : Database). Holds db t) (sym (all_committed was)) held))))
             (done.rows t (subst (λ (db : Database). Holds db t) (sym stays.committed) held));
         was_open = was;
         is_open = done.is_open;

@@ -7,11 +7,11 @@ use Rattle.sqlite.specs.declared.transaction.Transaction.{Transaction}
 use Rattle.machine.specs.declared.records.Version.{Version}
 use Rattle.statements.specs.declared.rows.Workspace.{Workspace}
 use Rattle.statements.specs.Finds.{workspace_of, size_of}
-use Rattle.statements.specs.Steps.{AnyRows, Moves, Steps, Tells}
+use Rattle.statements.specs.Steps.{AnyRows, Moves, Steps, Reports}
 use Rattle.statements.specs.Tables.{Tables, Holds}
 use Rattle.statements.proofs.Transactions.{moves_more}
 use Rattle.texts.specs.Texts.{GoesOn}
-use Rattle.pages.proofs.Looking.{steps_then}
+use Rattle.pages.proofs.Sequences.{steps_then}
 use Rattle.texts.proofs.Many.{moves_as}
 use Rattle.tables.specs.Inner.Edits.{if_there, numbered_rows, FitsTwins, TakesVersion}
 
@@ -66,12 +66,12 @@ module _ {S : Type 0} (g : Ghosts S) where
   }
 
   -- what writes tell behind a step, they tell of the rows before it
-  pub told_then : {X Y E F : Type 0} (f : Tables → Tables) (law : Tables → Type 0) (a b c : Transaction S) (x : X) (result : Result Y F) → Steps {E = E} g f a b (Ok x) → (HasCleanDisk (state g c.conn.now) → HasCleanDisk (state g b.conn.now))
-      → (IsTrue (state g b.conn.now).is_open → Tells (λ _. law) (state g b.conn.now) (state g c.conn.now) result) → Tells (λ _ t. law (f t)) (state g a.conn.now) (state g c.conn.now) result
-  told_then f law a b c x (Ok y) one so_far told clean inside =
+  pub reported_then : {X Y E F : Type 0} (f : Tables → Tables) (law : Tables → Type 0) (a b c : Transaction S) (x : X) (result : Result Y F) → Steps {E = E} g f a b (Ok x) → (HasCleanDisk (state g c.conn.now) → HasCleanDisk (state g b.conn.now))
+      → (IsTrue (state g b.conn.now).is_open → Reports (λ _. law) (state g b.conn.now) (state g c.conn.now) result) → Reports (λ _ t. law (f t)) (state g a.conn.now) (state g c.conn.now) result
+  reported_then f law a b c x (Ok y) one so_far reported clean inside =
       let first = (one.changed (so_far clean) inside).0 in
-      λ t holds. told first.is_open clean first.inside (f t) (first.rows t holds tt)
-  told_then f law a b c x (Err e) one so_far told clean inside = tt
+      λ t holds. reported first.is_open clean first.inside (f t) (first.rows t holds tt)
+  reported_then f law a b c x (Err e) one so_far reported clean inside = tt
 
   -- steps that come to another one, by what the last of them told
   module _ {Y E : Type 0} (h k : Tables → Tables) (b c : Transaction S) (y : Y) (last : Steps {E = E} g h b c (Ok y)) where
@@ -85,20 +85,20 @@ module _ {S : Type 0} (g : Ghosts S) where
 
     pub steps_as : {X Z D F : Type 0} (f : Tables → Tables) (a : Transaction S) (x : X) (z : Z) → Steps {E = D} g f a b (Ok x) → (law : Tables → Type 0)
         → (HasCleanDisk (state g c.conn.now) → IsTrue (state g b.conn.now).in_transaction → (t : Tables) → Holds (state g b.conn.now).now t → law t) → ((t : Tables) → law (f t) → h (f t) ≡ k t) → Steps {E = F} g k a c (Ok z)
-    steps_as f a x z one law told is =
+    steps_as f a x z one law reported is =
         let both = steps_then g f h a b c x (Ok y) one last in
         record {
           same_reference = both.same_reference;
           changed = λ clean inside.
               let first = (one.changed (last.so_far clean) inside).0 in
-              (moves_as (λ t. h (f t)) k (state g a.conn.now) (state g c.conn.now) (λ t holds. is t (told clean first.inside (f t) (first.rows t holds tt))) (both.changed clean inside).0, tt);
+              (moves_as (λ t. h (f t)) k (state g a.conn.now) (state g c.conn.now) (λ t holds. is t (reported clean first.inside (f t) (first.rows t holds tt))) (both.changed clean inside).0, tt);
           so_far = both.so_far;
           shield = both.shield;
         }
 
   -- what the steps tell by which a version comes
   pub takes_by : {X D : Type 0} (keys : ℕ → List ℕ) (org ws : List ℕ) (v : Version) (a b c : Transaction S) (x : X)
-      → Steps {E = D} g (numbered_rows org ws v) a b (Ok x) → Tells {E = D} (λ _ t. is_some (workspace_of org ws t) ≡ true) (state g a.conn.now) (state g b.conn.now) (Ok x)
+      → Steps {E = D} g (numbered_rows org ws v) a b (Ok x) → Reports {E = D} (λ _ t. is_some (workspace_of org ws t) ≡ true) (state g a.conn.now) (state g b.conn.now) (Ok x)
       → (HasCleanDisk (state g c.conn.now) → HasCleanDisk (state g b.conn.now))
       → (HasCleanDisk (state g c.conn.now) → IsTrue (state g b.conn.now).in_transaction → (t : Tables) → Holds (state g b.conn.now).now t → size_of org ws v.number t ≡ None)
       → (HasCleanDisk (state g c.conn.now) → IsTrue (state g b.conn.now).in_transaction → (t : Tables) → Holds (state g b.conn.now).now t → FitsTwins keys org ws v t)

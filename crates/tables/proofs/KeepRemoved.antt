@@ -23,7 +23,7 @@ use Rattle.tables.specs.declared.removals.Possessions.{Possessions}
 use Rattle.tables.specs.Inner.Imports.{CommitsRelated}
 use Rattle.tables.specs.Inner.Copies.{AreMadeBy}
 use Rattle.tables.specs.Inner.Removals.{is_kept_back, all_gone_of, AreAllOf, Departs, Leaves}
-use Rattle.tables.specs.Inner.Steps.{IsSettled}
+use Rattle.tables.specs.Inner.Steps.{IsAllCommitted}
 use Rattle.tables.proofs.KeptInMemory.{nothing_is}
 use Rattle.tables.proofs.Databases.{store_by, records_by}
 use Rattle.tables.proofs.KeepFound.{seen_both}
@@ -37,16 +37,16 @@ none_is None e = refl
 none_is (Some x) e = absurd (cc)
 
 -- the limit, what it has, and whether that keeps it back
-pub looked : {S B C D : Type 0} (g : Ghosts S) (is_forced : Bool) (org : List ℕ) (p q r s : Held S) (cap : Option ℕ) (all : Possessions) (is_kept : Bool) → Queries {E = B} g (Equals (cap_of org)) p q (Ok cap)
+pub all_read : {S B C D : Type 0} (g : Ghosts S) (is_forced : Bool) (org : List ℕ) (p q r s : Held S) (cap : Option ℕ) (all : Possessions) (is_kept : Bool) → Queries {E = B} g (Equals (cap_of org)) p q (Ok cap)
     → Sees {E = C} g (λ (has : Possessions). AreAllOf org has.names has.tokens) q r (Ok all) → Sees {E = D} g (Equals (is_kept_back org is_forced all.names)) r s (Ok is_kept)
     → Sees {E = D} g (λ k t. (Equals (cap_of org) cap t × AreAllOf org all.names all.tokens t) × Equals (is_kept_back org is_forced all.names) k t) p s (Ok is_kept)
-looked g is_forced org p q r s cap all is_kept one two three =
+all_read g is_forced org p q r s cap all is_kept one two three =
     let both = seen_both g (Equals (cap_of org)) (λ (has : Possessions). AreAllOf org has.names has.tokens) p q r cap all (sees_by g (Equals (cap_of org)) p q (Ok cap) one) two in
     seen_both g (λ (has : Possessions) t. Equals (cap_of org) cap t × AreAllOf org has.names has.tokens t) (Equals (is_kept_back org is_forced all.names)) p r s all is_kept both three
 
-module _ (is_forced : Bool) (org : List ℕ) (a b : State) (settled : IsSettled a) (was : IsTrue a.is_open) (stays : LeavesAsIs a b) where
+module _ (is_forced : Bool) (org : List ℕ) (a b : State) (all_committed : IsAllCommitted a) (was : IsTrue a.is_open) (stays : LeavesAsIs a b) where
   at_first : (t : Tables) → Holds a.committed t → Holds a.now t
-  at_first t holds = subst (λ (db : Database). Holds db t) (sym (settled was)) holds
+  at_first t holds = subst (λ (db : Database). Holds db t) (sym (all_committed was)) holds
 
   -- nothing was changed
   leaves_none : (answer : AdminAnswer) → ((t : Tables) → Holds a.now t → Leaves answer is_forced org t t) → CommitsRelated (Leaves answer is_forced org) a b
@@ -57,18 +57,18 @@ module _ (is_forced : Bool) (org : List ℕ) (a b : State) (settled : IsSettled 
   }
 
   pub leaves_absent : (cap : Option ℕ) → is_none cap ≡ true → ((t : Tables) → Holds a.now t → cap ≡ cap_of org t) → CommitsRelated (Leaves Absent is_forced org) a b
-  leaves_absent cap none told = leaves_none Absent (λ t holds sound. departs_absent org is_forced t (sym (told t holds) ∙ none_is cap none) sound)
+  leaves_absent cap none reported = leaves_none Absent (λ t holds sound. departs_absent org is_forced t (sym (reported t holds) ∙ none_is cap none) sound)
 
   module _ (cap : Option ℕ) (some : is_none cap ≡ false) (names : List (List ℕ)) (list : List NamedToken) (is_kept : Bool)
-      (told : (t : Tables) → Holds a.now t → (Equals (cap_of org) cap t × AreAllOf org names list t) × Equals (is_kept_back org is_forced names) is_kept t) where
+      (reported : (t : Tables) → Holds a.now t → (Equals (cap_of org) cap t × AreAllOf org names list t) × Equals (is_kept_back org is_forced names) is_kept t) where
     -- it is there
     by_cap : (answer : AdminAnswer) (f : Tables → Tables) → ((t : Tables) → IsSound t → AreAllOf org names list t → (limit : ℕ) → cap_of org t ≡ Some limit → is_kept ≡ is_kept_back org is_forced names t → Departs answer is_forced org t (f t))
         → (t : Tables) → Holds a.now t → Leaves answer is_forced org t (f t)
-    by_cap answer f is t holds sound = go cap some (told t holds).0.0
+    by_cap answer f is t holds sound = go cap some (reported t holds).0.0
       where
         go : (o : Option ℕ) → is_none o ≡ false → o ≡ cap_of org t → Departs answer is_forced org t (f t)
         go None e same = absurd (let none : ⊥ = cc in none)
-        go (Some limit) e same = is t sound (told t holds).0.1 limit (sym same) (told t holds).1
+        go (Some limit) e same = is t sound (reported t holds).0.1 limit (sym same) (reported t holds).1
 
     pub leaves_kept : is_kept ≡ true → CommitsRelated (Leaves InUse is_forced org) a b
     leaves_kept is_true = leaves_none InUse (by_cap InUse (λ t. t) (λ t sound are limit found is. departs_kept org is_forced t sound names list are limit found (sym is_true ∙ is)))

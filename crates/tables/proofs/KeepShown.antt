@@ -18,7 +18,7 @@ use Rattle.machine.specs.declared.keeps.TokenRow.{TokenRow}
 use Rattle.statements.specs.Changes.{edition_moved}
 use Rattle.statements.specs.Steps.{AnyRows}
 use Rattle.statements.specs.Tables.{Tables, Holds, tables_of}
-use Rattle.statements.specs.declared.making.TheConstants.{NEWEST}
+use Rattle.statements.specs.declared.making.TheConstants.{SCHEMA_VERSION}
 use Rattle.statements.proofs.Decoding.{tables-held}
 use Rattle.tables.specs.Inner.Edits.{changed_rows, TakesEdit}
 use Rattle.tables.specs.Records.{record_of}
@@ -32,27 +32,27 @@ use Rattle.machine.specs.Showing as showing
 use Rattle.machine.specs.Tokens.{AreOrganizations}
 use Rattle.machine.specs.declared.keeps.OrgRow.{OrgRow}
 use Rattle.statements.specs.Listings.{OrgsApart, TokensApart, WorkspacesApart, VersionsApart, RunsApart}
-use Rattle.tables.specs.Inner.Lists.{versions_listed_in, runs_listed_in, workspaces_listed_in, asker_in, tokens_told_in, organizations_listed_in}
+use Rattle.tables.specs.Inner.Lists.{versions_listed_in, runs_listed_in, workspaces_listed_in, asker_in, token_list_answer_in, organizations_listed_in}
 use Rattle.tables.specs.Inner.Units.{unit_in}
 use Rattle.tables.specs.Stores.{records_of}
 use Rattle.tables.specs.Opening.{IsSoundKeep}
-use Rattle.tables.specs.declared.counts.Counted.{Counted}
+use Rattle.tables.specs.declared.counts.WorkspaceCount.{WorkspaceCount}
 use Rattle.tables.specs.declared.askers.Asked.{Asked}
-use Rattle.tables.specs.declared.looks.Looked.{Looked}
+use Rattle.tables.specs.declared.points.UnitRead.{UnitRead}
 use Rattle.tables.specs.declared.memo.Memo.{Memo}
 use Rattle.tables.specs.declared.sizes.SizedVersion.{SizedVersion}
 use Rattle.tables.specs.Remembered.{IsRemembered}
-use Rattle.tables.specs.Inner.Counting.{known_of, looked}
-use Rattle.tables.specs.Inner.Looks.{looked_in, text_by}
+use Rattle.tables.specs.Inner.Counting.{known_of, count_after}
+use Rattle.tables.specs.Inner.Points.{unit_read_in, text_by}
 use Rattle.tables.specs.Inner.Remembering.{size_kept, Notes, asker_kept, asker_noted, changed_memo}
 use Rattle.tables.proofs.Remembering.{known_is, kept_is, changed_is}
 use Rattle.tables.proofs.KeptInMemory.{noted_size, sized_text, kept_asker, noted_asker, same_asker}
 use Rattle.tables.specs.Inner.Steps.{Commits}
 use Rattle.tables.proofs.Managed.{asker_found}
 use Rattle.tables.proofs.Finding.{unit_found}
-use Rattle.tables.proofs.Listed.{workspaces_apart, versions_told, runs_told, versions_apart, runs_apart, no_versions_after, no_runs_after, workspaces_told}
-use Rattle.tables.proofs.OrgLists.{organizations_told}
-use Rattle.tables.proofs.TokenLists.{tokens_told}
+use Rattle.tables.proofs.Listed.{workspaces_apart, versions_reported, runs_reported, versions_apart, runs_apart, no_versions_after, no_runs_after, workspaces_reported}
+use Rattle.tables.proofs.OrgLists.{organizations_reported}
+use Rattle.tables.proofs.TokenLists.{token_list_answer}
 use Rattle.tables.proofs.Databases.{store_by}
 use Rattle.tables.proofs.Stores.{store_changed_own, store_changed_other, store_changed_keeps}
 
@@ -66,9 +66,9 @@ module _ {memo : Memo} (db : Database) (a : State) (s : IsSoundKeep db memo a) w
 
   -- ---- looks
 
-  pub asker_told : (org digest : List ℕ) (asker : Option TokenRow) → IsTrue a.is_open × ((t : Tables) → Holds a.committed t → asker ≡ asker_in org digest t)
+  pub asker_reported : (org digest : List ℕ) (asker : Option TokenRow) → IsTrue a.is_open × ((t : Tables) → Holds a.committed t → asker ≡ asker_in org digest t)
       → asker ≡ asker_of (records_of db org) digest
-  asker_told org digest asker told = told.1 now (held told.0) ∙ asker_found now s.store.sound org digest
+  asker_reported org digest asker reported = reported.1 now (held reported.0) ∙ asker_found now s.store.sound org digest
 
   -- the token that is kept is who asks
   pub asker_known : (org digest : List ℕ) (row : TokenRow) → asker_kept memo.asked org digest ≡ Some row → Some row ≡ asker_of (records_of db org) digest
@@ -77,49 +77,49 @@ module _ {memo : Memo} (db : Database) (a : State) (s : IsSoundKeep db memo a) w
   -- what is kept in memory after it is so
   pub asker_keeps : (b : State) (org digest : List ℕ) (asker : Option TokenRow) → IsTrue a.is_open × ((t : Tables) → Holds a.committed t → asker ≡ asker_in org digest t) → KeepsCommit a b
       → (asked : Option Asked) → IfSome asked (λ kept. asker_noted memo.asked org digest asker ≡ Some kept) → IsSoundKeep db (record memo { asked = asked }) b
-  asker_keeps b org digest asker told stays asked noted = record {
+  asker_keeps b org digest asker reported stays asked noted = record {
     store = s.store;
     remembered = record {
       counts = s.remembered.counts;
       sizes = s.remembered.sizes;
-      askers = noted_asker now memo.asked asked org digest asker s.remembered.askers (asker_told org digest asker told) noted;
+      askers = noted_asker now memo.asked asked org digest asker s.remembered.askers (asker_reported org digest asker reported) noted;
     };
     tied = λ is. stays.committed is ∙ s.tied (stays.was_open is);
   }
 
-  pub unit_told : (org ws : List ℕ) (act : Act) (need : Needed) → need ≡ needs act → (it : Looked) → IsTrue a.is_open × ((t : Tables) → Holds a.committed t → it ≡ looked_in need (known_of memo.counted org) org ws t)
+  pub unit_reported : (org ws : List ℕ) (act : Act) (need : Needed) → need ≡ needs act → (it : UnitRead) → IsTrue a.is_open × ((t : Tables) → Holds a.committed t → it ≡ unit_read_in need (known_of memo.cached org) org ws t)
       → (o : Organization) → records_of db org ≡ Some o → it.unit ≡ unit_of o ws act
-  unit_told org ws act need same it told o there =
-      ap (λ (l : Looked). l.unit) (told.1 now (held told.0)) ∙ ap (λ (n : Needed). unit_in n (known_of memo.counted org) org ws now) same
-      ∙ unit_found now s.store.sound org o ws act (known_of memo.counted org) (known_is (records_of db) memo.counted org s.remembered.counts o there) there
+  unit_reported org ws act need same it reported o there =
+      ap (λ (l : UnitRead). l.unit) (reported.1 now (held reported.0)) ∙ ap (λ (n : Needed). unit_in n (known_of memo.cached org) org ws now) same
+      ∙ unit_found now s.store.sound org o ws act (known_of memo.cached org) (known_is (records_of db) memo.cached org s.remembered.counts o there) there
 
   -- what is kept in memory after it is so
-  pub unit_keeps : (b : State) (org ws : List ℕ) (act : Act) (need : Needed) → need ≡ needs act → (it : Looked) → IsTrue a.is_open × ((t : Tables) → Holds a.committed t → it ≡ looked_in need (known_of memo.counted org) org ws t)
-      → KeepsCommit a b → (after : Option Counted) → IfSome after (λ kept. looked memo.counted need.makes org ws it.unit ≡ Some kept)
-      → (sized : Option SizedVersion) → IfSome sized (Notes org ws it.size) → IsSoundKeep db (record { counted = after; sized = sized; asked = memo.asked }) b
-  unit_keeps b org ws act need same it told stays after kept sized notes = record {
+  pub unit_keeps : (b : State) (org ws : List ℕ) (act : Act) (need : Needed) → need ≡ needs act → (it : UnitRead) → IsTrue a.is_open × ((t : Tables) → Holds a.committed t → it ≡ unit_read_in need (known_of memo.cached org) org ws t)
+      → KeepsCommit a b → (after : Option WorkspaceCount) → IfSome after (λ kept. count_after memo.cached need.makes org ws it.unit ≡ Some kept)
+      → (sized : Option SizedVersion) → IfSome sized (Notes org ws it.size) → IsSoundKeep db (record { cached = after; sized = sized; asked = memo.asked }) b
+  unit_keeps b org ws act need same it reported stays after kept sized notes = record {
     store = s.store;
     remembered = record {
-      counts = kept_is (records_of db) memo.counted after need.makes org ws act it.unit kept (ap (λ (n : Needed). n.makes) same) s.remembered.counts (unit_told org ws act need same it told);
-      sizes = noted_size now s.store.sound org ws need it.size sized (ap (λ (l : Looked). l.size) (told.1 now (held told.0))) notes;
+      counts = kept_is (records_of db) memo.cached after need.makes org ws act it.unit kept (ap (λ (n : Needed). n.makes) same) s.remembered.counts (unit_reported org ws act need same it reported);
+      sizes = noted_size now s.store.sound org ws need it.size sized (ap (λ (l : UnitRead). l.size) (reported.1 now (held reported.0))) notes;
       askers = s.remembered.askers;
     };
     tied = λ is. stays.committed is ∙ s.tied (stays.was_open is);
   }
 
-  pub text_told : (org ws : List ℕ) (n : ℕ) (text : Option (List ℕ)) → IsTrue a.is_open × ((t : Tables) → Holds a.committed t → text ≡ text_by (size_kept memo.sized org ws n) org ws n t)
+  pub text_reported : (org ws : List ℕ) (n : ℕ) (text : Option (List ℕ)) → IsTrue a.is_open × ((t : Tables) → Holds a.committed t → text ≡ text_by (size_kept memo.sized org ws n) org ws n t)
       → text ≡ version_text n (workspace_in (records_of db org) ws)
-  text_told org ws n text told = told.1 now (held told.0) ∙ sized_text now s.store.sound org ws n memo.sized s.remembered.sizes
+  text_reported org ws n text reported = reported.1 now (held reported.0) ∙ sized_text now s.store.sound org ws n memo.sized s.remembered.sizes
 
   -- ---- lists
 
   pub versions_shown : (org ws : List ℕ) (after : ℕ) (list : Listing VersionRow) → IsTrue a.is_open × ((t : Tables) → Holds a.committed t → VersionsApart org ws t → list ≡ versions_listed_in after org ws t)
       → list ≡ showing.versions_after after (workspace_in (records_of db org) ws)
-  versions_shown org ws after list told = told.1 now (held told.0) (versions_apart now org ws s.store.sound) ∙ versions_told now org ws s.store.sound after
+  versions_shown org ws after list reported = reported.1 now (held reported.0) (versions_apart now org ws s.store.sound) ∙ versions_reported now org ws s.store.sound after
 
   pub runs_shown : (org ws : List ℕ) (after : ℕ) (list : Listing RunRow) → IsTrue a.is_open × ((t : Tables) → Holds a.committed t → RunsApart org ws t → list ≡ runs_listed_in after org ws t)
       → list ≡ showing.runs_after after (workspace_in (records_of db org) ws)
-  runs_shown org ws after list told = told.1 now (held told.0) (runs_apart now org ws s.store.sound) ∙ runs_told now org ws s.store.sound after
+  runs_shown org ws after list reported = reported.1 now (held reported.0) (runs_apart now org ws s.store.sound) ∙ runs_reported now org ws s.store.sound after
 
   -- no version and no run comes after the greatest number
   pub no_versions_shown : (org ws : List ℕ) (after : ℕ) (list : Listing VersionRow) → 1_000_000_000 < after → list ≡ listing_of [] → list ≡ showing.versions_after after (workspace_in (records_of db org) ws)
@@ -130,13 +130,13 @@ module _ {memo : Memo} (db : Database) (a : State) (s : IsSoundKeep db memo a) w
 
   pub workspaces_shown : (org : List ℕ) (after : Option (List ℕ)) (prefix : List ℕ) (list : Listing WsRow)
       → IsTrue a.is_open × ((t : Tables) → Holds a.committed t → WorkspacesApart t → list ≡ workspaces_listed_in (unwrap_or after []) prefix org t) → list ≡ showing.workspaces_after after prefix (records_of db org)
-  workspaces_shown org after prefix list told = told.1 now (held told.0) (workspaces_apart now s.store.sound) ∙ workspaces_told now org s.store.sound after prefix
+  workspaces_shown org after prefix list reported = reported.1 now (held reported.0) (workspaces_apart now s.store.sound) ∙ workspaces_reported now org s.store.sound after prefix
 
-  pub tokens_shown : (org : List ℕ) (answer : AdminAnswer) → IsTrue a.is_open × ((t : Tables) → Holds a.committed t → TokensApart t → answer ≡ tokens_told_in org t) → answer ≡ tokens.tokens_told (records_of db org)
-  tokens_shown org answer told = told.1 now (held told.0) s.store.sound.tokens_apart ∙ tokens_told now org
+  pub tokens_shown : (org : List ℕ) (answer : AdminAnswer) → IsTrue a.is_open × ((t : Tables) → Holds a.committed t → TokensApart t → answer ≡ token_list_answer_in org t) → answer ≡ tokens.token_list_answer (records_of db org)
+  tokens_shown org answer reported = reported.1 now (held reported.0) s.store.sound.tokens_apart ∙ token_list_answer now org
 
   pub organizations_shown : (rows : List OrgRow) → IsTrue a.is_open × ((t : Tables) → Holds a.committed t → OrgsApart t → rows ≡ organizations_listed_in t) → AreOrganizations (records_of db) rows
-  organizations_shown rows told = subst (AreOrganizations (records_of db)) (sym (told.1 now (held told.0) s.store.sound.orgs_apart)) (organizations_told now s.store.sound)
+  organizations_shown rows reported = subst (AreOrganizations (records_of db)) (sym (reported.1 now (held reported.0) s.store.sound.orgs_apart)) (organizations_reported now s.store.sound)
 
   module _ (b : State) where
     -- ---- a change of a workspace
@@ -146,7 +146,7 @@ module _ {memo : Memo} (db : Database) (a : State) (s : IsSoundKeep db memo a) w
       moves t h = done.rows t (subst (λ (d : Database). Holds d t) (sym (s.tied done.was_open)) h)
 
       takes : (t : Tables) → Holds db t → TakesEdit keys org ws change.edit t
-      takes t h = done.tells t (subst (λ (d : Database). Holds d t) (sym (s.tied done.was_open)) h)
+      takes t h = done.reports t (subst (λ (d : Database). Holds d t) (sym (s.tied done.was_open)) h)
 
       pub applied_own : (o : Organization) → records_of db org ≡ Some o → IsDue (seen_in o ws) change → records_of b.committed org ≡ Some (placed o ws (changed_by change (get o.workspaces ws)))
       applied_own o there due = store_changed_own db b.committed s.store keys org ws change moves takes o there due
@@ -158,7 +158,7 @@ module _ {memo : Memo} (db : Database) (a : State) (s : IsSoundKeep db memo a) w
       applied_keeps o named there due = record {
         store = store_changed_keeps db b.committed s.store keys org ws change moves takes o named there due;
         remembered = record {
-          counts = changed_is (records_of db) (records_of b.committed) org ws change applied_other o there (applied_own o there due) memo.counted s.remembered.counts;
+          counts = changed_is (records_of db) (records_of b.committed) org ws change applied_other o there (applied_own o there due) memo.cached s.remembered.counts;
           sizes = tt;
           askers = same_asker now (tables_of b.committed) org ws change applied_other o there (applied_own o there due) memo.asked s.remembered.askers;
         };
@@ -167,11 +167,11 @@ module _ {memo : Memo} (db : Database) (a : State) (s : IsSoundKeep db memo a) w
 
     -- ---- the version is said once more
 
-    module _ (done : Commits (edition_moved NEWEST) AnyRows a b) where
+    module _ (done : Commits (edition_moved SCHEMA_VERSION) AnyRows a b) where
       retold_holds : Holds b.committed now
       retold_holds =
-          let told = s.store.sound.told.0 in
-          let same : edition_moved NEWEST now ≡ now = ap (λ es. record now { editions = es }) (ap (map (λ x. (x.0, NEWEST))) told ∙ sym told) in
+          let reported = s.store.sound.reported.0 in
+          let same : edition_moved SCHEMA_VERSION now ≡ now = ap (λ es. record now { editions = es }) (ap (map (λ x. (x.0, SCHEMA_VERSION))) reported ∙ sym reported) in
           subst (Holds b.committed) same (done.rows now (held done.was_open))
 
       retold_tables : tables_of b.committed ≡ now

@@ -23,19 +23,19 @@ use Rattle.machine.specs.declared.records.Workspace.{Workspace}
 use Rattle.machine.specs.declared.records.Organization.{Organization}
 use Rattle.machine.proofs.KeepLemmas.{apart_from}
 use Rattle.statements.specs.Rows.{Kept, id_of, OrgRow, TokenRow, BoundRow}
-use Rattle.statements.specs.declared.making.TheConstants.{NEWEST}
+use Rattle.statements.specs.declared.making.TheConstants.{SCHEMA_VERSION}
 use Rattle.statements.specs.Tables.{Tables, no_rows}
 use Rattle.statements.specs.Changes.{is_org, is_token, is_digest_of, is_bound, org_row_added, token_added}
 use Rattle.statements.specs.Finds.{cap_of, role_of_name, role_of_digest}
 use Rattle.statements.proofs.Found.{apart_pushed}
 use Rattle.tables.specs.Records.{workspace_by, tokens_at, organization_at, record_of}
-use Rattle.tables.specs.Sound.{TellsVersion, IsOrgRow, IsTokenRow, IsBoundRow, IsGapless, IsSoundWorkspace, IsSound}
+use Rattle.tables.specs.Sound.{StoresVersion, IsOrgRow, IsTokenRow, IsBoundRow, IsGapless, IsSoundWorkspace, IsSound}
 use Rattle.tables.specs.Inner.Edits.{changed_rows, TakesEdit}
 use Rattle.texts.proofs.TextLaws.{carried_sound, no_rows_sound}
 use Rattle.tables.proofs.TextRows.{AreTexts, sound_texts, texts_carried, KeepsWorkspaces, workspace_carried, workspaces_carried}
 use Rattle.tables.proofs.KeptTexts.{changed_texts}
 use Rattle.tables.proofs.Names.{is_pair, pair_is, pair_first, pair_second, turned_apart}
-use Rattle.tables.proofs.Telling.{told_changed}
+use Rattle.tables.proofs.Reporting.{reported_changed}
 use Rattle.tables.proofs.Parts.{none_mapped}
 use Rattle.tables.proofs.Sets.{Puts, workspace_there, put_own, put_other}
 use Rattle.tables.proofs.Edits.{changed_puts}
@@ -83,7 +83,7 @@ org_there t org cap e = any_is_found (is_org org) t.orgs ∙ sym (is_some-map (�
 
 -- a lawful workspace that is put in its place, or goes from it, leaves sound tables sound, where what they say of texts and of owners holds
 module _ (org ws : List ℕ) (after : Option Workspace) (t u : Tables) (sound : IsSound t) (named : IsTrue (is_ws_name ws)) (lawful : IsLawfulIfThere after) (gapless : IfSome after IsGapless) (o : Organization) (there : record_of t org ≡ Some o)
-    (few : count_of (placed o ws after) ≤ 100_000) (told : TellsVersion NEWEST u) (texts : AreTexts u) (owned : AreOwned u) (puts : Puts org ws after t u) where
+    (few : count_of (placed o ws after) ≤ 100_000) (reported : StoresVersion SCHEMA_VERSION u) (texts : AreTexts u) (owned : AreOwned u) (puts : Puts org ws after t u) where
   put_in_order : AreInOrder u.orgs u.tokens u.bounds
   put_in_order = subst (λ os. AreInOrder os u.tokens u.bounds) (sym puts.orgs) (subst (λ ts. AreInOrder t.orgs ts u.bounds) (sym puts.tokens) (subst (λ bs. AreInOrder t.orgs t.tokens bs) (sym puts.bounds) (sound_in_order t sound)))
 
@@ -106,7 +106,7 @@ module _ (org ws : List ℕ) (after : Option Workspace) (t u : Tables) (sound : 
 
   pub placed_keeps : IsSound u
   placed_keeps = record {
-    told = told;
+    reported = reported;
     orgs_apart = put_in_order.orgs_apart;
     tokens_apart = put_in_order.tokens_apart;
     digests_apart = put_in_order.digests_apart;
@@ -115,10 +115,10 @@ module _ (org ws : List ℕ) (after : Option Workspace) (t u : Tables) (sound : 
     tokens_bound = put_in_order.tokens_bound;
     tokens_owned = put_in_order.tokens_owned;
     bounds_owned = put_in_order.bounds_owned;
-    keepings_apart = owned.keepings_apart;
+    retentions_apart = owned.retentions_apart;
     wss_kept = owned.wss_kept;
     wss_owned = owned.wss_owned;
-    keepings_owned = owned.keepings_owned;
+    retentions_owned = owned.retentions_owned;
     versions_owned = owned.versions_owned;
     runs_owned = owned.runs_owned;
     org_rows = put_in_order.org_rows;
@@ -138,7 +138,7 @@ changed_keeps keys org ws t sound change takes o named there due =
     let lawful : IsLawfulIfThere (changed_by change (workspace_by t org ws)) = lawful_after org ws t sound change o there due in
     let counted : count_of (placed o ws (changed_by change (get o.workspaces ws))) ≤ 100_000 = count_within o ws change due 100_000 (limit_is t sound org o there) (sound.counts org o there) in
     placed_keeps org ws (changed_by change (workspace_by t org ws)) t (changed_rows keys org ws change t) sound named lawful (gapless_after org ws t sound change o there due) o there
-    (subst (λ (w : Option Workspace). count_of (placed o ws (changed_by change w)) ≤ 100_000) (workspace_there t org ws o there) counted) (told_changed keys org ws t sound change takes)
+    (subst (λ (w : Option Workspace). count_of (placed o ws (changed_by change w)) ≤ 100_000) (workspace_there t org ws o there) counted) (reported_changed keys org ws t sound change takes)
     (changed_texts keys org ws t sound change takes) (changed_are_owned org ws keys t sound (org_there t org o.limit (limit_there t org o there)) change takes) (changed_puts keys org ws t sound change takes lawful)
 
 -- ---- an operator's command
@@ -149,7 +149,7 @@ no_row t org e = none_from_any (is_org org) t.orgs (any_is_found (is_org org) t.
 -- an organization more leaves sound tables sound
 pub org_added_keeps : (org : List ℕ) (limit : ℕ) (t : Tables) → IsSound t → IsTrue (is_org_name org) → limit ≤ 100_000 → cap_of org t ≡ None → IsSound (org_row_added org limit t)
 org_added_keeps org limit t sound named most none = record {
-  told = sound.told;
+  reported = sound.reported;
   orgs_apart = apart_pushed (λ a b. is_org a.1.name b) t.orgs new sound.orgs_apart (all_weaker (λ x. is_org org x ≡ false) (λ x. is_org x.1.name new ≡ false) (λ x e. turned_apart x.1.name org e) t.orgs (no_row t org none));
   tokens_apart = sound.tokens_apart;
   digests_apart = sound.digests_apart;
@@ -159,9 +159,9 @@ org_added_keeps org limit t sound named most none = record {
   bounds_owned = sound.bounds_owned;
   tokens_owned = all_weaker (λ x. list_any (is_org x.1.org) t.orgs ≡ true) (λ x. list_any (is_org x.1.org) (t.orgs ++ new ∷ []) ≡ true) (λ x e. any_pushed (is_org x.1.org) t.orgs new e) t.tokens sound.tokens_owned;
   wss_owned = all_weaker (λ x. list_any (is_org x.1.org) t.orgs ≡ true) (λ x. list_any (is_org x.1.org) (t.orgs ++ new ∷ []) ≡ true) (λ x e. any_pushed (is_org x.1.org) t.orgs new e) t.wss sound.wss_owned;
-  keepings_apart = sound.keepings_apart;
+  retentions_apart = sound.retentions_apart;
   wss_kept = sound.wss_kept;
-  keepings_owned = sound.keepings_owned;
+  retentions_owned = sound.retentions_owned;
   versions_owned = sound.versions_owned;
   runs_owned = sound.runs_owned;
   org_rows = all-append IsOrgRow t.orgs (new ∷ []) sound.org_rows (record { named = named; limit = most }, tt);
@@ -193,7 +193,7 @@ org_added_keeps org limit t sound named most none = record {
 pub token_added_keeps : (org name digest : List ℕ) (role : Role) (bounds : Bounds) (t : Tables) → IsSound t → IsTrue (is_org_name name) → length digest ≡ 32 → IfSome bounds.until IsMoment → IsTrue (is_prefix bounds.prefix) → (cap : ℕ) → cap_of org t ≡ Some cap
     → role_of_name org name t ≡ None → role_of_digest org digest t ≡ None → IsSound (token_added org name digest role bounds.until bounds.prefix t)
 token_added_keeps org name digest role bounds t sound named long ends begins cap there unnamed unknown = record {
-  told = sound.told;
+  reported = sound.reported;
   orgs_apart = sound.orgs_apart;
   tokens_apart = apart_pushed (λ a b. is_token a.1.org a.1.name b) t.tokens new sound.tokens_apart
       (all_weaker (λ x. is_token org name x ≡ false) (λ x. is_token x.1.org x.1.name new ≡ false) (λ x e. pair_turned org name x.1.org x.1.name e) t.tokens
@@ -213,9 +213,9 @@ token_added_keeps org name digest role bounds t sound named long ends begins cap
       (all_weaker (λ x. list_any (is_token x.1.org x.1.name) t.tokens ≡ true) (λ x. list_any (is_token x.1.org x.1.name) (t.tokens ++ new ∷ []) ≡ true) (λ x e. any_pushed (is_token x.1.org x.1.name) t.tokens new e) t.bounds sound.bounds_owned)
       (last_found (is_token org name) t.tokens new (pair_is org name), tt);
   wss_owned = sound.wss_owned;
-  keepings_apart = sound.keepings_apart;
+  retentions_apart = sound.retentions_apart;
   wss_kept = sound.wss_kept;
-  keepings_owned = sound.keepings_owned;
+  retentions_owned = sound.retentions_owned;
   versions_owned = sound.versions_owned;
   runs_owned = sound.runs_owned;
   org_rows = sound.org_rows;
@@ -254,21 +254,21 @@ token_added_keeps org name digest role bounds t sound named long ends begins cap
 pub no_record : (editions : List (Kept ℕ)) (org : List ℕ) → record_of (record no_rows { editions = editions }) org ≡ None
 no_record editions org = refl
 
-pub no_rows_are_sound : (editions : List (Kept ℕ)) → TellsVersion NEWEST (record no_rows { editions = editions }) → IsSound (record no_rows { editions = editions })
-no_rows_are_sound editions told = record {
-  told = told;
+pub no_rows_are_sound : (editions : List (Kept ℕ)) → StoresVersion SCHEMA_VERSION (record no_rows { editions = editions }) → IsSound (record no_rows { editions = editions })
+no_rows_are_sound editions reported = record {
+  reported = reported;
   orgs_apart = tt;
   tokens_apart = tt;
   digests_apart = tt;
   wss_apart = tt;
   bounds_apart = tt;
   tokens_bound = tt;
-  keepings_apart = tt;
+  retentions_apart = tt;
   wss_kept = tt;
   tokens_owned = tt;
   bounds_owned = tt;
   wss_owned = tt;
-  keepings_owned = tt;
+  retentions_owned = tt;
   versions_owned = tt;
   runs_owned = tt;
   org_rows = tt;

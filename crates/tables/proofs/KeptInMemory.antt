@@ -25,7 +25,7 @@ use Rattle.texts.specs.Texts.{text_of}
 use Rattle.tables.specs.Records.{settings_of_cells, workspace_at, workspace_by, record_of}
 use Rattle.tables.specs.Remembered.{IsSize, IsAsker, IsRemembered, nothing_kept}
 use Rattle.tables.specs.Sound.{IsSound}
-use Rattle.tables.specs.Inner.Looks.{sized_by, sized_in, size_asked, size_from, size_seen, present_in, looked_at, text_by}
+use Rattle.tables.specs.Inner.Points.{sized_by, sized_in, size_asked, size_from, size_seen, present_in, unit_read_at, text_by}
 use Rattle.tables.specs.Inner.Remembering.{size_kept, Notes, asker_kept, asker_noted}
 use Rattle.tables.specs.Inner.Units.{holder_status_in, newest_by, retention_in, has_version_in, outgoing_in, asked_run_in}
 use Rattle.tables.specs.declared.askers.Asked.{Asked}
@@ -51,8 +51,8 @@ module _ (need : Needed) (known : Option ℕ) (org ws : List ℕ) (t : Tables) (
   asked_there (Some n) = is_some-map (λ (size : ℕ). record { number = n; size = size }) (size_of org ws n t)
 
   -- of a workspace that is there
-  pub present_looked : present_in need org ws w t ≡ looked_at need known org ws t (Some w)
-  present_looked = λ i. record {
+  pub present_read : present_in need org ws w t ≡ unit_read_at need known org ws t (Some w)
+  present_read = λ i. record {
     unit = Present (record {
       settings = settings_of_cells (retention_in need.retention org ws t) w;
       holder = w.holder;
@@ -139,12 +139,12 @@ kept_asker t (Some a) org digest row is kept = by_name (bytes_eq a.org org) (byt
     by_name true false e f own = absurd (let none : ⊥ = cc in none)
     by_name false c e f own = absurd (let none : ⊥ = cc in none)
 
--- after a look
+-- after a query
 pub noted_asker : (t : Tables) (before after : Option Asked) (org digest : List ℕ) (found : Option TokenRow) → IfSome before (IsAsker t) → found ≡ asker_of (record_of t org) digest
     → IfSome after (λ kept. asker_noted before org digest found ≡ Some kept) → IfSome after (IsAsker t)
-noted_asker t before None org digest found is told noted = tt
-noted_asker t before (Some a) org digest None is told noted = subst (λ (o : Option Asked). IfSome o (IsAsker t)) noted is
-noted_asker t before (Some a) org digest (Some row) is told noted = subst (IsAsker t) (same_Some _ _ noted) (sym told)
+noted_asker t before None org digest found is reported noted = tt
+noted_asker t before (Some a) org digest None is reported noted = subst (λ (o : Option Asked). IfSome o (IsAsker t)) noted is
+noted_asker t before (Some a) org digest (Some row) is reported noted = subst (IsAsker t) (same_Some _ _ noted) (sym reported)
 
 -- a workspace that changes changes no token
 module _ (t u : Tables) (org ws : List ℕ) (change : Change) (others : (q : List ℕ) → q ≢ org → record_of u q ≡ record_of t q) (o : Organization) (there : record_of t org ≡ Some o)

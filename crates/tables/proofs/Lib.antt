@@ -38,7 +38,7 @@ pub mod Shut
 pub mod Filled
 pub mod Sets
 pub mod Stores
-pub mod Telling
+pub mod Reporting
 pub mod Sorted
 pub mod Standing
 pub mod AnyOrder

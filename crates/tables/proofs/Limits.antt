@@ -61,7 +61,7 @@ module _ (org : List ℕ) (limit : ℕ) where
       -- it leaves sound tables sound
       pub limit_keeps : IsSound t → limit ≤ 100_000 → IsSound (org_capped org limit t)
       limit_keeps sound most = record {
-        told = sound.told;
+        reported = sound.reported;
         orgs_apart = apart_update (λ a b. is_org a.1.name b) (is_org org) recapped (λ a b. refl) (λ a b. refl) t.orgs sound.orgs_apart;
         tokens_apart = sound.tokens_apart;
         digests_apart = sound.digests_apart;
@@ -71,9 +71,9 @@ module _ (org : List ℕ) (limit : ℕ) where
         bounds_owned = sound.bounds_owned;
         tokens_owned = all_weaker (λ x. list_any (is_org x.1.org) t.orgs ≡ true) (λ x. list_any (is_org x.1.org) (update_where (is_org org) recapped t.orgs) ≡ true) (λ x h. still x.1.org ∙ h) t.tokens sound.tokens_owned;
         wss_owned = all_weaker (λ x. list_any (is_org x.1.org) t.orgs ≡ true) (λ x. list_any (is_org x.1.org) (update_where (is_org org) recapped t.orgs) ≡ true) (λ x h. still x.1.org ∙ h) t.wss sound.wss_owned;
-        keepings_apart = sound.keepings_apart;
+        retentions_apart = sound.retentions_apart;
         wss_kept = sound.wss_kept;
-        keepings_owned = sound.keepings_owned;
+        retentions_owned = sound.retentions_owned;
         versions_owned = sound.versions_owned;
         runs_owned = sound.runs_owned;
         org_rows = all_updated IsOrgRow (is_org org) recapped (λ x is. record { named = is.named; limit = most }) t.orgs sound.org_rows;

@@ -46,11 +46,11 @@ use Rattle.tables.proofs.Sorted.{found_sorted, rise_apart}
 use Rattle.tables.proofs.Ordered.{rise_below}
 use Rattle.tables.proofs.Managed.{no_workspaces}
 use Rattle.tables.proofs.Finding.{find_same, newest_number_found, own_whole, no_version_rows, no_versions, no_run_rows, no_runs, seen_in_rows}
-use Rattle.tables.proofs.Ranks.{last_in, newest_told, none_after, first_rows_tell, shown_rows, same_names, no_entries, all_found, entries_shown}
+use Rattle.tables.proofs.Ranks.{last_in, newest_reported, none_after, first_rows_report, shown_rows, same_names, no_entries, all_found, entries_shown}
 
 -- the list of the first rows is the list of all
 listed_all : {A B : Type 0} (f : A → B) (xs : List A) → listing_of (map f (take 51 xs)) ≡ listing_of (map f xs)
-listed_all f xs = ap listing_of (sym (take-map f 51 xs)) ∙ first_rows_tell (map f xs)
+listed_all f xs = ap listing_of (sym (take-map f 51 xs)) ∙ first_rows_report (map f xs)
 
 -- ---- versions and runs
 
@@ -70,7 +70,7 @@ module _ (t : Tables) (org ws : List ℕ) where
 
   versions_rows : AreTexts t → (after : ℕ) → versions_listed_in after org ws t ≡ showing.versions_listed after (versions_at t org ws)
   versions_rows a after =
-      first_rows_tell heads
+      first_rows_report heads
       ∙ ap listing_of (sym (map-id heads) ∙ shown_rows (λ (x : Kept VersionRow). x.1.it) (λ v. v) (λ (x : Kept VersionRow). version_at t org ws x.1.it) showing.version_row (λ v. nat_lt after v.number) (λ (v : Version). nat_lt after v.number)
       rows (all_weaker (λ x. IsWhole org ws x.1.it.number x.1.it.size t) _ (λ x whole. (shown x whole, refl)) rows (all_sorted version_cmp (λ x. IsWhole org ws x.1.it.number x.1.it.size t) (filter (is_version_of org ws) t.versions) (own_whole t org ws a))))
     where
@@ -81,7 +81,7 @@ module _ (t : Tables) (org ws : List ℕ) where
       shown x whole = ap (λ (size : ℕ). record { created = x.1.it.created; lineage = x.1.it.lineage; number = x.1.it.number; serial = x.1.it.serial; size = size }) (sym (whole_size org ws x.1.it.number t x.1.it.size whole))
 
   runs_rows : (after : ℕ) → runs_listed_in after org ws t ≡ showing.runs_listed after (runs_at t org ws)
-  runs_rows after = first_rows_tell (filter (λ (r : Run). nat_lt after r.number) (runs_at t org ws))
+  runs_rows after = first_rows_report (filter (λ (r : Run). nat_lt after r.number) (runs_at t org ws))
 
   -- where numbers rise, the newest version is that of the number before the next one, if there is such a version
   module _ (next : ℕ) (most : next ≤ 1_000_000_001) (rise : Rises 0 (version_numbers (versions_at t org ws)) next) where
@@ -109,7 +109,7 @@ module _ (t : Tables) (org ws : List ℕ) where
     newest_is_shown =
         let last = newest_number_found t org ws next rise ∙ last_shown rows in
         let rising = subst (λ (ns : List ℕ). Rises 0 ns next) (same_names (λ (x : Kept VersionRow). version_at t org ws x.1.it) (λ (v : Version). v.number) (λ (x : Kept VersionRow). x.1.it.number) (λ x. refl) rows) rise in
-        (λ i. newest_by (before_found i) next (last i)) ∙ newest_told next (map (λ (x : Kept VersionRow). x.1.it.number) rows) rising ∙ sym last
+        (λ i. newest_by (before_found i) next (last i)) ∙ newest_reported next (map (λ (x : Kept VersionRow). x.1.it.number) rows) rising ∙ sym last
 
   module _ (sound : IsSound t) where
     versions_row : (after : ℕ) (r : Option WorkspaceCells) → workspace_of org ws t ≡ r → showing.versions_listed after (versions_at t org ws) ≡ showing.versions_after after (option_map (workspace_at t org ws) r)
@@ -117,16 +117,16 @@ module _ (t : Tables) (org ws : List ℕ) where
     versions_row after (Some w) e = refl
 
     -- the list of the versions is that of the record
-    pub versions_told : (after : ℕ) → versions_listed_in after org ws t ≡ showing.versions_after after (seen_workspace (record_of t org) ws)
-    versions_told after = versions_rows (sound_texts t sound) after ∙ versions_row after (workspace_of org ws t) refl ∙ ap (showing.versions_after after) (sym (seen_in_rows t sound org ws))
+    pub versions_reported : (after : ℕ) → versions_listed_in after org ws t ≡ showing.versions_after after (seen_workspace (record_of t org) ws)
+    versions_reported after = versions_rows (sound_texts t sound) after ∙ versions_row after (workspace_of org ws t) refl ∙ ap (showing.versions_after after) (sym (seen_in_rows t sound org ws))
 
     runs_row : (after : ℕ) (r : Option WorkspaceCells) → workspace_of org ws t ≡ r → showing.runs_listed after (runs_at t org ws) ≡ showing.runs_after after (option_map (workspace_at t org ws) r)
     runs_row after None e = ap (showing.runs_listed after) (no_runs t sound org ws e)
     runs_row after (Some w) e = refl
 
     -- the list of the runs is that of the record
-    pub runs_told : (after : ℕ) → runs_listed_in after org ws t ≡ showing.runs_after after (seen_workspace (record_of t org) ws)
-    runs_told after = runs_rows after ∙ runs_row after (workspace_of org ws t) refl ∙ ap (showing.runs_after after) (sym (seen_in_rows t sound org ws))
+    pub runs_reported : (after : ℕ) → runs_listed_in after org ws t ≡ showing.runs_after after (seen_workspace (record_of t org) ws)
+    runs_reported after = runs_rows after ∙ runs_row after (workspace_of org ws t) refl ∙ ap (showing.runs_after after) (sym (seen_in_rows t sound org ws))
 
     -- no two have one number
     pub versions_apart : VersionsApart org ws t
@@ -209,7 +209,7 @@ rows_apart (x ∷ xs) apart = (numbered_apart x xs own.0, rows_apart xs (λ org 
     own = subst (λ (b : Bool). AreApart (λ (a c : Kept VersionRow). a.1.it.number == c.1.it.number) (cond b (x ∷ filter (is_version_of x.1.org x.1.ws) xs) (filter (is_version_of x.1.org x.1.ws) xs))) (pair_is x.1.org x.1.ws) (apart x.1.org x.1.ws)
 
 pub workspaces_apart : (t : Tables) → IsSound t → WorkspacesApart t
-workspaces_apart t sound = record { wss = sound.wss_apart; keepings = sound.keepings_apart; versions = rows_apart t.versions (λ org ws. versions_apart t org ws sound) }
+workspaces_apart t sound = record { wss = sound.wss_apart; retentions = sound.retentions_apart; versions = rows_apart t.versions (λ org ws. versions_apart t org ws sound) }
 
 comes_after_all : (name : List ℕ) → IsTrue (is_ws_name name) → is_behind [] name ≡ true
 comes_after_all [] named = absurd (let none : ⊥ = cc in none)
@@ -263,8 +263,8 @@ module _ (t : Tables) (org : List ℕ) where
         itself (e ∷ es) = ap (λ rest. e ∷ rest) (itself es)
 
     -- the list of the workspaces is that of the record
-    pub workspaces_told : (after : Option (List ℕ)) (prefix : List ℕ) → workspaces_listed_in (unwrap_or after []) prefix org t ≡ showing.workspaces_after after prefix (record_of t org)
-    workspaces_told after prefix = workspaces_rows after prefix ∙ by_limit (cap_of org t) refl
+    pub workspaces_reported : (after : Option (List ℕ)) (prefix : List ℕ) → workspaces_listed_in (unwrap_or after []) prefix org t ≡ showing.workspaces_after after prefix (record_of t org)
+    workspaces_reported after prefix = workspaces_rows after prefix ∙ by_limit (cap_of org t) refl
       where
         by_limit : (c : Option ℕ) → cap_of org t ≡ c → showing.workspaces_listed after prefix (entries (workspaces_at t org)) ≡ showing.workspaces_after after prefix (option_map (organization_at t org) c)
         by_limit None e =

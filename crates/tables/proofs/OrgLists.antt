@@ -6,7 +6,7 @@ use Rattle.std.specs.FinMap.{entries, get, entries_sorted, get-entries, get-from
 use Rattle.std.specs.FinMap.Entries.{find as find_entry, is_sorted}
 use Rattle.machine.specs.Order.{name_cmp}
 use Rattle.machine.specs.Records.{count_of}
-use Rattle.machine.specs.Tokens.{is_row_of, Ascend, TellsOrganization, AreOrganizations}
+use Rattle.machine.specs.Tokens.{is_row_of, Ascend, ShowsOrganization, AreOrganizations}
 use Rattle.machine.specs.declared.keeps.OrgRow.{OrgRow}
 use Rattle.machine.specs.declared.records.Organization.{Organization}
 use Rattle.machine.proofs.MapLemmas.{names_total, both_first, both_second}
@@ -57,19 +57,19 @@ module _ (t : Tables) where
   rows_mapped (e ∷ es) = ap (λ rows. row_at e ∷ rows) (rows_mapped es)
 
   module _ (sound : IsSound t) where
-    tells : (e : List ℕ × ℕ) → find_entry name_cmp e.0 (entries (caps t)) ≡ Some e.1 → TellsOrganization (record_of t) (row_at e)
-    tells e found =
+    reports : (e : List ℕ × ℕ) → find_entry name_cmp e.0 (entries (caps t)) ≡ Some e.1 → ShowsOrganization (record_of t) (row_at e)
+    reports e found =
         let there : record_of t e.0 ≡ Some (organization_at t e.0 e.1) = record_there t e.0 e.1 (sym (cap_found e.0) ∙ get-entries (caps t) e.0 ∙ found) in
         subst (λ (r : Option Organization). IsSomeAnd r (λ o. (workspaces_of e.0 t ≡ count_of o) × (e.1 ≡ o.limit))) (sym there) (count_found t sound e.0 (organization_at t e.0 e.1) there, refl)
 
-    all_told : (es : List (List ℕ × ℕ)) → AllByRecursion (λ (e : List ℕ × ℕ). find_entry name_cmp e.0 (entries (caps t)) ≡ Some e.1) es → AllByRecursion (TellsOrganization (record_of t)) (map row_at es)
-    all_told [] found = tt
-    all_told (e ∷ es) found = (tells e found.0, all_told es found.1)
+    all_reported : (es : List (List ℕ × ℕ)) → AllByRecursion (λ (e : List ℕ × ℕ). find_entry name_cmp e.0 (entries (caps t)) ≡ Some e.1) es → AllByRecursion (ShowsOrganization (record_of t)) (map row_at es)
+    all_reported [] found = tt
+    all_reported (e ∷ es) found = (reports e found.0, all_reported es found.1)
 
     -- the rows are the organizations that are there
-    pub organizations_told : AreOrganizations (record_of t) (organizations_listed_in t)
-    organizations_told = subst (AreOrganizations (record_of t)) (sym (rows_mapped (entries (caps t)))) (record {
+    pub organizations_reported : AreOrganizations (record_of t) (organizations_listed_in t)
+    organizations_reported = subst (AreOrganizations (record_of t)) (sym (rows_mapped (entries (caps t)))) (record {
       ascend = rows_ascend (entries (caps t)) (entries_sorted (caps t));
-      told = all_told (entries (caps t)) (all_found (entries (caps t)) (entries_sorted (caps t)));
+      reported = all_reported (entries (caps t)) (all_found (entries (caps t)) (entries_sorted (caps t)));
       whole = λ org o e. row_found org o.limit (entries (caps t)) (sym (get-entries (caps t) org) ∙ cap_found org ∙ limit_there t org o e);
     })

@@ -21,16 +21,16 @@ use Rattle.machine.specs.declared.records.Version.{Version}
 use Rattle.basis.specs.declared.rows.Holder.TheVariants.{Nobody, Lock, Run as HeldByRun}
 use Rattle.statements.specs.declared.rows.Workspace.{Workspace as WorkspaceCells}
 use Rattle.basis.specs.declared.rows.RunRow.{RunRow as Run}
-use Rattle.statements.specs.Rows.{Kept, id_of, WsRow, KeepingRow, VersionRow, RunRow}
+use Rattle.statements.specs.Rows.{Kept, id_of, WsRow, RetentionRow, VersionRow, RunRow}
 use Rattle.statements.specs.Tables.{Tables}
-use Rattle.statements.specs.Changes.{is_org, is_ws, is_keeping, HasNoKeeping, keeping_changed, is_version_of, is_run_of, is_run_row, with_run_settings, held_by, released_from, with_next_version, with_next_run, ws_changed, ws_added, ws_removed, workspace_made, runs_removed, run_made, run_added, run_changed_to, run_acted}
+use Rattle.statements.specs.Changes.{is_org, is_ws, is_retention, HasNoRetention, retention_changed, is_version_of, is_run_of, is_run_row, with_run_settings, held_by, released_from, with_next_version, with_next_run, ws_changed, ws_added, ws_removed, workspace_made, runs_removed, run_made, run_added, run_changed_to, run_acted}
 use Rattle.statements.specs.Finds.{workspace_of}
 use Rattle.statements.proofs.Found.{all_updated, apart_pushed, all_deleted}
 use Rattle.tables.specs.Sound.{IsSound}
 use Rattle.tables.specs.Inner.Edits.{all_gone, removed_rows, made_rows, settings_rows, configured_rows, numbered_rows, versioned_rows, if_there, run_put, run_counted, freed_rows, edited_rows, started_rows, changed_rows, TakesVersion, TakesEdit}
 use Rattle.tables.proofs.Ordered.{versions_in}
 use Rattle.machine.specs.Changes.{left_above}
-use Rattle.tables.proofs.Absent.{no_row, no_keeping}
+use Rattle.tables.proofs.Absent.{no_row, no_retention}
 use Rattle.tables.proofs.TextRows.{Becomes, versions_counted}
 use Rattle.tables.proofs.VersionEdits.{all_go, settings_leave, versions_come}
 use Rattle.tables.proofs.Lists.{any_updated}
@@ -77,10 +77,10 @@ pair_turned a b p q e = false_from_ne_true (is_pair p q a b) (λ same.
 pub sound_are_owned : (t : Tables) → IsSound t → AreOwned t
 sound_are_owned t sound = record {
   wss_apart = sound.wss_apart;
-  keepings_apart = sound.keepings_apart;
+  retentions_apart = sound.retentions_apart;
   wss_kept = sound.wss_kept;
   wss_owned = sound.wss_owned;
-  keepings_owned = sound.keepings_owned;
+  retentions_owned = sound.retentions_owned;
   versions_owned = sound.versions_owned;
   runs_owned = sound.runs_owned;
 }
@@ -91,25 +91,25 @@ module _ (org ws : List ℕ) (t : Tables) (owned : AreOwned t) where
       let f : Kept WsRow → Kept WsRow = λ x. (x.0, record x.1 { it = g x.1.it }) in
       record {
         wss_apart = apart_update (λ a b. is_ws a.1.org a.1.name b) (is_ws org ws) (λ x. (x.0, record x.1 { it = g x.1.it })) (λ a b. refl) (λ a b. refl) t.wss owned.wss_apart;
-        keepings_apart = owned.keepings_apart;
-        wss_kept = all_updated (λ x. list_any (is_keeping x.1.org x.1.name) t.keepings ≡ true) (is_ws org ws) (λ x. (x.0, record x.1 { it = g x.1.it })) (λ x h. h) t.wss owned.wss_kept;
+        retentions_apart = owned.retentions_apart;
+        wss_kept = all_updated (λ x. list_any (is_retention x.1.org x.1.name) t.retentions ≡ true) (is_ws org ws) (λ x. (x.0, record x.1 { it = g x.1.it })) (λ x h. h) t.wss owned.wss_kept;
         wss_owned = all_updated (λ x. list_any (is_org x.1.org) t.orgs ≡ true) (is_ws org ws) (λ x. (x.0, record x.1 { it = g x.1.it })) (λ x h. h) t.wss owned.wss_owned;
-        keepings_owned = all_weaker (λ x. list_any (is_ws x.1.org x.1.ws) t.wss ≡ true) (λ x. list_any (is_ws x.1.org x.1.ws) (update_where (is_ws org ws) (λ y. (y.0, record y.1 { it = g y.1.it })) t.wss) ≡ true)
-            (λ x h. any_updated (is_ws x.1.org x.1.ws) (is_ws org ws) (λ y. (y.0, record y.1 { it = g y.1.it })) (λ y. refl) t.wss ∙ h) t.keepings owned.keepings_owned;
+        retentions_owned = all_weaker (λ x. list_any (is_ws x.1.org x.1.ws) t.wss ≡ true) (λ x. list_any (is_ws x.1.org x.1.ws) (update_where (is_ws org ws) (λ y. (y.0, record y.1 { it = g y.1.it })) t.wss) ≡ true)
+            (λ x h. any_updated (is_ws x.1.org x.1.ws) (is_ws org ws) (λ y. (y.0, record y.1 { it = g y.1.it })) (λ y. refl) t.wss ∙ h) t.retentions owned.retentions_owned;
         versions_owned = all_weaker (λ x. list_any (is_ws x.1.org x.1.ws) t.wss ≡ true) (λ x. list_any (is_ws x.1.org x.1.ws) (update_where (is_ws org ws) (λ y. (y.0, record y.1 { it = g y.1.it })) t.wss) ≡ true)
             (λ x h. any_updated (is_ws x.1.org x.1.ws) (is_ws org ws) (λ y. (y.0, record y.1 { it = g y.1.it })) (λ y. refl) t.wss ∙ h) t.versions owned.versions_owned;
         runs_owned = all_weaker (λ x. list_any (is_ws x.1.org x.1.ws) t.wss ≡ true) (λ x. list_any (is_ws x.1.org x.1.ws) (update_where (is_ws org ws) (λ y. (y.0, record y.1 { it = g y.1.it })) t.wss) ≡ true)
             (λ x h. any_updated (is_ws x.1.org x.1.ws) (is_ws org ws) (λ y. (y.0, record y.1 { it = g y.1.it })) (λ y. refl) t.wss ∙ h) t.runs owned.runs_owned;
       }
 
-  owned_kept : (keep : ℕ) → AreOwned (keeping_changed keep org ws t)
-  owned_kept keep = record {
+  owned_kept : (retention : ℕ) → AreOwned (retention_changed retention org ws t)
+  owned_kept retention = record {
     wss_apart = owned.wss_apart;
-    keepings_apart = apart_update (λ a b. is_keeping a.1.org a.1.ws b) (is_keeping org ws) (λ x. (x.0, record x.1 { keep = keep })) (λ a b. refl) (λ a b. refl) t.keepings owned.keepings_apart;
-    wss_kept = all_weaker (λ x. list_any (is_keeping x.1.org x.1.name) t.keepings ≡ true) (λ x. list_any (is_keeping x.1.org x.1.name) (update_where (is_keeping org ws) (λ y. (y.0, record y.1 { keep = keep })) t.keepings) ≡ true)
-        (λ x h. any_updated (is_keeping x.1.org x.1.name) (is_keeping org ws) (λ y. (y.0, record y.1 { keep = keep })) (λ y. refl) t.keepings ∙ h) t.wss owned.wss_kept;
+    retentions_apart = apart_update (λ a b. is_retention a.1.org a.1.ws b) (is_retention org ws) (λ x. (x.0, record x.1 { retention = retention })) (λ a b. refl) (λ a b. refl) t.retentions owned.retentions_apart;
+    wss_kept = all_weaker (λ x. list_any (is_retention x.1.org x.1.name) t.retentions ≡ true) (λ x. list_any (is_retention x.1.org x.1.name) (update_where (is_retention org ws) (λ y. (y.0, record y.1 { retention = retention })) t.retentions) ≡ true)
+        (λ x h. any_updated (is_retention x.1.org x.1.name) (is_retention org ws) (λ y. (y.0, record y.1 { retention = retention })) (λ y. refl) t.retentions ∙ h) t.wss owned.wss_kept;
     wss_owned = owned.wss_owned;
-    keepings_owned = all_updated (λ x. list_any (is_ws x.1.org x.1.ws) t.wss ≡ true) (is_keeping org ws) (λ x. (x.0, record x.1 { keep = keep })) (λ x h. h) t.keepings owned.keepings_owned;
+    retentions_owned = all_updated (λ x. list_any (is_ws x.1.org x.1.ws) t.wss ≡ true) (is_retention org ws) (λ x. (x.0, record x.1 { retention = retention })) (λ x h. h) t.retentions owned.retentions_owned;
     versions_owned = owned.versions_owned;
     runs_owned = owned.runs_owned;
   }
@@ -118,11 +118,11 @@ module _ (org ws : List ℕ) (t : Tables) (owned : AreOwned t) where
   pub owned_becomes : (f : List Version → List Version) (o w : List ℕ) (u : Tables) → Becomes f o w t u → AreOwned u
   owned_becomes f o w u made = record {
     wss_apart = subst (AreApart (λ (a b : Kept WsRow). is_ws a.1.org a.1.name b)) (sym made.rest.wss) owned.wss_apart;
-    keepings_apart = subst (AreApart (λ (a b : Kept KeepingRow). is_keeping a.1.org a.1.ws b)) (sym made.rest.keepings) owned.keepings_apart;
-    wss_kept = subst (λ ks. AllByRecursion (λ (x : Kept WsRow). list_any (is_keeping x.1.org x.1.name) ks ≡ true) u.wss) (sym made.rest.keepings)
-        (subst (AllByRecursion (λ (x : Kept WsRow). list_any (is_keeping x.1.org x.1.name) t.keepings ≡ true)) (sym made.rest.wss) owned.wss_kept);
-    keepings_owned = subst (λ wss. AllByRecursion (λ (x : Kept KeepingRow). list_any (is_ws x.1.org x.1.ws) wss ≡ true) u.keepings) (sym made.rest.wss)
-        (subst (AllByRecursion (λ (x : Kept KeepingRow). list_any (is_ws x.1.org x.1.ws) t.wss ≡ true)) (sym made.rest.keepings) owned.keepings_owned);
+    retentions_apart = subst (AreApart (λ (a b : Kept RetentionRow). is_retention a.1.org a.1.ws b)) (sym made.rest.retentions) owned.retentions_apart;
+    wss_kept = subst (λ ks. AllByRecursion (λ (x : Kept WsRow). list_any (is_retention x.1.org x.1.name) ks ≡ true) u.wss) (sym made.rest.retentions)
+        (subst (AllByRecursion (λ (x : Kept WsRow). list_any (is_retention x.1.org x.1.name) t.retentions ≡ true)) (sym made.rest.wss) owned.wss_kept);
+    retentions_owned = subst (λ wss. AllByRecursion (λ (x : Kept RetentionRow). list_any (is_ws x.1.org x.1.ws) wss ≡ true) u.retentions) (sym made.rest.wss)
+        (subst (AllByRecursion (λ (x : Kept RetentionRow). list_any (is_ws x.1.org x.1.ws) t.wss ≡ true)) (sym made.rest.retentions) owned.retentions_owned);
     wss_owned = subst (λ orgs. AllByRecursion (λ (x : Kept WsRow). list_any (is_org x.1.org) orgs ≡ true) u.wss) (sym made.rest.orgs) (subst (AllByRecursion (λ (x : Kept WsRow). list_any (is_org x.1.org) t.orgs ≡ true)) (sym made.rest.wss) owned.wss_owned);
     versions_owned = subst (λ wss. AllByRecursion (λ (x : Kept VersionRow). list_any (is_ws x.1.org x.1.ws) wss ≡ true) u.versions) (sym made.rest.wss) (made.owned owned.versions_owned);
     runs_owned = subst (λ wss. AllByRecursion (λ (x : Kept RunRow). list_any (is_ws x.1.org x.1.ws) wss ≡ true) u.runs) (sym made.rest.wss) (subst (AllByRecursion (λ (x : Kept RunRow). list_any (is_ws x.1.org x.1.ws) t.wss ≡ true)) (sym made.rest.runs) owned.runs_owned);
@@ -131,10 +131,10 @@ module _ (org ws : List ℕ) (t : Tables) (owned : AreOwned t) where
   owned_begun : (n : ℕ) → AreOwned (run_changed_to Planning org ws n t)
   owned_begun n = record {
     wss_apart = owned.wss_apart;
-    keepings_apart = owned.keepings_apart;
+    retentions_apart = owned.retentions_apart;
     wss_kept = owned.wss_kept;
     wss_owned = owned.wss_owned;
-    keepings_owned = owned.keepings_owned;
+    retentions_owned = owned.retentions_owned;
     versions_owned = owned.versions_owned;
     runs_owned = all_updated (λ x. list_any (is_ws x.1.org x.1.ws) t.wss ≡ true) (is_run_row org ws n) (λ x. (x.0, record x.1 { it = record x.1.it { status = Planning } })) (λ x h. h) t.runs owned.runs_owned;
   }
@@ -142,10 +142,10 @@ module _ (org ws : List ℕ) (t : Tables) (owned : AreOwned t) where
   pub owned_run : (r : Run) → list_any (is_ws org ws) t.wss ≡ true → AreOwned (run_added org ws r t)
   owned_run r there = record {
     wss_apart = owned.wss_apart;
-    keepings_apart = owned.keepings_apart;
+    retentions_apart = owned.retentions_apart;
     wss_kept = owned.wss_kept;
     wss_owned = owned.wss_owned;
-    keepings_owned = owned.keepings_owned;
+    retentions_owned = owned.retentions_owned;
     versions_owned = owned.versions_owned;
     runs_owned = all-append (λ x. list_any (is_ws x.1.org x.1.ws) t.wss ≡ true) t.runs ((next_key id_of t.runs, record { org = org; ws = ws; it = r }) ∷ []) owned.runs_owned (there, tt);
   }
@@ -153,10 +153,10 @@ module _ (org ws : List ℕ) (t : Tables) (owned : AreOwned t) where
   owned_acted : (status : RunStatus) (action : RunAction) (n : ℕ) → AreOwned (run_acted status action org ws n t)
   owned_acted status action n = record {
     wss_apart = owned.wss_apart;
-    keepings_apart = owned.keepings_apart;
+    retentions_apart = owned.retentions_apart;
     wss_kept = owned.wss_kept;
     wss_owned = owned.wss_owned;
-    keepings_owned = owned.keepings_owned;
+    retentions_owned = owned.retentions_owned;
     versions_owned = owned.versions_owned;
     runs_owned = all_updated (λ x. list_any (is_ws x.1.org x.1.ws) t.wss ≡ true) (is_run_row org ws n) (λ x. (x.0, record x.1 { it = record x.1.it { status = status; action = Some action } })) (λ x h. h) t.runs owned.runs_owned;
   }
@@ -165,14 +165,14 @@ module _ (org ws : List ℕ) (t : Tables) (owned : AreOwned t) where
   owned_taken : versions_in t org ws ≡ [] → AreOwned (ws_removed org ws (runs_removed org ws t))
   owned_taken none = record {
     wss_apart = apart_delete (λ a b. is_ws a.1.org a.1.name b) (is_ws org ws) t.wss owned.wss_apart;
-    keepings_apart = apart_delete (λ a b. is_keeping a.1.org a.1.ws b) (is_keeping org ws) t.keepings owned.keepings_apart;
-    wss_kept = all_both (λ x. list_any (is_keeping x.1.org x.1.name) t.keepings ≡ true) (λ x. is_ws org ws x ≡ false) (λ x. list_any (is_keeping x.1.org x.1.name) (delete_where (is_keeping org ws) t.keepings) ≡ true)
-        (λ x h e. any_left (is_keeping x.1.org x.1.name) (is_keeping org ws) (λ y f. pair_apart org ws x.1.org x.1.name y.1.org y.1.ws e f) t.keepings ∙ h) (delete_where (is_ws org ws) t.wss)
-        (all-filter (λ x. list_any (is_keeping x.1.org x.1.name) t.keepings ≡ true) (λ x. not (is_ws org ws x)) t.wss owned.wss_kept) (all_deleted (is_ws org ws) t.wss);
+    retentions_apart = apart_delete (λ a b. is_retention a.1.org a.1.ws b) (is_retention org ws) t.retentions owned.retentions_apart;
+    wss_kept = all_both (λ x. list_any (is_retention x.1.org x.1.name) t.retentions ≡ true) (λ x. is_ws org ws x ≡ false) (λ x. list_any (is_retention x.1.org x.1.name) (delete_where (is_retention org ws) t.retentions) ≡ true)
+        (λ x h e. any_left (is_retention x.1.org x.1.name) (is_retention org ws) (λ y f. pair_apart org ws x.1.org x.1.name y.1.org y.1.ws e f) t.retentions ∙ h) (delete_where (is_ws org ws) t.wss)
+        (all-filter (λ x. list_any (is_retention x.1.org x.1.name) t.retentions ≡ true) (λ x. not (is_ws org ws x)) t.wss owned.wss_kept) (all_deleted (is_ws org ws) t.wss);
     wss_owned = all-filter (λ x. list_any (is_org x.1.org) t.orgs ≡ true) (λ x. not (is_ws org ws x)) t.wss owned.wss_owned;
-    keepings_owned = all_both (λ x. list_any (is_ws x.1.org x.1.ws) t.wss ≡ true) (λ x. is_keeping org ws x ≡ false) (λ x. list_any (is_ws x.1.org x.1.ws) (delete_where (is_ws org ws) t.wss) ≡ true)
-        (λ x h e. still x.1.org x.1.ws e h) (delete_where (is_keeping org ws) t.keepings)
-        (all-filter (λ x. list_any (is_ws x.1.org x.1.ws) t.wss ≡ true) (λ x. not (is_keeping org ws x)) t.keepings owned.keepings_owned) (all_deleted (is_keeping org ws) t.keepings);
+    retentions_owned = all_both (λ x. list_any (is_ws x.1.org x.1.ws) t.wss ≡ true) (λ x. is_retention org ws x ≡ false) (λ x. list_any (is_ws x.1.org x.1.ws) (delete_where (is_ws org ws) t.wss) ≡ true)
+        (λ x h e. still x.1.org x.1.ws e h) (delete_where (is_retention org ws) t.retentions)
+        (all-filter (λ x. list_any (is_ws x.1.org x.1.ws) t.wss ≡ true) (λ x. not (is_retention org ws x)) t.retentions owned.retentions_owned) (all_deleted (is_retention org ws) t.retentions);
     versions_owned = all_both (λ x. list_any (is_ws x.1.org x.1.ws) t.wss ≡ true) (λ x. is_version_of org ws x ≡ false) (λ x. list_any (is_ws x.1.org x.1.ws) (delete_where (is_ws org ws) t.wss) ≡ true)
         (λ x h e. still x.1.org x.1.ws e h) t.versions owned.versions_owned (none_of (is_version_of org ws) t.versions (let length_none : length (filter (is_version_of org ws) t.versions) ≡ 0 = versions_counted t org ws ∙ ap length none in length_none));
     runs_owned = all_both (λ x. list_any (is_ws x.1.org x.1.ws) t.wss ≡ true) (λ x. is_run_of org ws x ≡ false) (λ x. list_any (is_ws x.1.org x.1.ws) (delete_where (is_ws org ws) t.wss) ≡ true)
@@ -185,18 +185,18 @@ module _ (org ws : List ℕ) (t : Tables) (owned : AreOwned t) where
       still a b e h = any_left (is_ws a b) (is_ws org ws) (λ x f. pair_apart org ws a b x.1.org x.1.name e f) t.wss ∙ h
 
   -- a workspace where there is no row of its name
-  owned_added : (of_runs : RunSettings) (keep : ℕ) → AllByRecursion (λ x. is_ws org ws x ≡ false) t.wss → HasNoKeeping org ws t → list_any (is_org org) t.orgs ≡ true → AreOwned (ws_added org ws of_runs keep t)
-  owned_added of_runs keep none no_keeping_row there = record {
+  owned_added : (of_runs : RunSettings) (retention : ℕ) → AllByRecursion (λ x. is_ws org ws x ≡ false) t.wss → HasNoRetention org ws t → list_any (is_org org) t.orgs ≡ true → AreOwned (ws_added org ws of_runs retention t)
+  owned_added of_runs retention none no_retention_row there = record {
     wss_apart = apart_pushed (λ a b. is_ws a.1.org a.1.name b) t.wss new owned.wss_apart
         (all_weaker (λ x. is_ws org ws x ≡ false) (λ x. is_ws x.1.org x.1.name new ≡ false) (λ x e. pair_turned org ws x.1.org x.1.name e) t.wss none);
-    keepings_apart = apart_pushed (λ a b. is_keeping a.1.org a.1.ws b) t.keepings new_keeping owned.keepings_apart
-        (all_weaker (λ x. is_keeping org ws x ≡ false) (λ x. is_keeping x.1.org x.1.ws new_keeping ≡ false) (λ x e. pair_turned org ws x.1.org x.1.ws e) t.keepings no_keeping_row);
-    wss_kept = all-append (λ x. list_any (is_keeping x.1.org x.1.name) (t.keepings ++ new_keeping ∷ []) ≡ true) t.wss (new ∷ [])
-        (all_weaker (λ x. list_any (is_keeping x.1.org x.1.name) t.keepings ≡ true) (λ x. list_any (is_keeping x.1.org x.1.name) (t.keepings ++ new_keeping ∷ []) ≡ true) (λ x h. any_pushed (is_keeping x.1.org x.1.name) t.keepings new_keeping h) t.wss owned.wss_kept)
-        (last_found (is_keeping org ws) t.keepings new_keeping (pair_is org ws), tt);
+    retentions_apart = apart_pushed (λ a b. is_retention a.1.org a.1.ws b) t.retentions new_retention owned.retentions_apart
+        (all_weaker (λ x. is_retention org ws x ≡ false) (λ x. is_retention x.1.org x.1.ws new_retention ≡ false) (λ x e. pair_turned org ws x.1.org x.1.ws e) t.retentions no_retention_row);
+    wss_kept = all-append (λ x. list_any (is_retention x.1.org x.1.name) (t.retentions ++ new_retention ∷ []) ≡ true) t.wss (new ∷ [])
+        (all_weaker (λ x. list_any (is_retention x.1.org x.1.name) t.retentions ≡ true) (λ x. list_any (is_retention x.1.org x.1.name) (t.retentions ++ new_retention ∷ []) ≡ true) (λ x h. any_pushed (is_retention x.1.org x.1.name) t.retentions new_retention h) t.wss owned.wss_kept)
+        (last_found (is_retention org ws) t.retentions new_retention (pair_is org ws), tt);
     wss_owned = all-append (λ x. list_any (is_org x.1.org) t.orgs ≡ true) t.wss (new ∷ []) owned.wss_owned (there, tt);
-    keepings_owned = all-append (λ x. list_any (is_ws x.1.org x.1.ws) (t.wss ++ new ∷ []) ≡ true) t.keepings (new_keeping ∷ [])
-        (all_weaker (λ x. list_any (is_ws x.1.org x.1.ws) t.wss ≡ true) (λ x. list_any (is_ws x.1.org x.1.ws) (t.wss ++ new ∷ []) ≡ true) (λ x h. any_pushed (is_ws x.1.org x.1.ws) t.wss new h) t.keepings owned.keepings_owned)
+    retentions_owned = all-append (λ x. list_any (is_ws x.1.org x.1.ws) (t.wss ++ new ∷ []) ≡ true) t.retentions (new_retention ∷ [])
+        (all_weaker (λ x. list_any (is_ws x.1.org x.1.ws) t.wss ≡ true) (λ x. list_any (is_ws x.1.org x.1.ws) (t.wss ++ new ∷ []) ≡ true) (λ x h. any_pushed (is_ws x.1.org x.1.ws) t.wss new h) t.retentions owned.retentions_owned)
         (last_found (is_ws org ws) t.wss new (pair_is org ws), tt);
     versions_owned = all_weaker (λ x. list_any (is_ws x.1.org x.1.ws) t.wss ≡ true) (λ x. list_any (is_ws x.1.org x.1.ws) (t.wss ++ new ∷ []) ≡ true) (λ x h. any_pushed (is_ws x.1.org x.1.ws) t.wss new h) t.versions owned.versions_owned;
     runs_owned = all_weaker (λ x. list_any (is_ws x.1.org x.1.ws) t.wss ≡ true) (λ x. list_any (is_ws x.1.org x.1.ws) (t.wss ++ new ∷ []) ≡ true) (λ x h. any_pushed (is_ws x.1.org x.1.ws) t.wss new h) t.runs owned.runs_owned;
@@ -205,8 +205,8 @@ module _ (org ws : List ℕ) (t : Tables) (owned : AreOwned t) where
       new : Kept WsRow
       new = (next_key id_of t.wss, record { org = org; name = ws; it = workspace_made of_runs })
 
-      new_keeping : Kept KeepingRow
-      new_keeping = (next_key id_of t.keepings, record { org = org; ws = ws; keep = keep })
+      new_retention : Kept RetentionRow
+      new_retention = (next_key id_of t.retentions, record { org = org; ws = ws; retention = retention })
 
 module _ (org ws : List ℕ) (t : Tables) (sound : IsSound t) where
   abbrev purged_rows : Tables
@@ -219,7 +219,7 @@ module _ (org ws : List ℕ) (t : Tables) (sound : IsSound t) where
   owned_removed = owned_taken org ws purged_rows owned_purged (all_go org ws t sound).own
 
   pub owned_made : (settings : Settings) → workspace_of org ws t ≡ None → list_any (is_org org) t.orgs ≡ true → AreOwned (made_rows org ws settings t)
-  owned_made settings none there = owned_added org ws t (sound_are_owned t sound) settings.runs settings.retention (no_row org ws t none) (no_keeping org ws t none sound) there
+  owned_made settings none there = owned_added org ws t (sound_are_owned t sound) settings.runs settings.retention (no_row org ws t none) (no_retention org ws t none sound) there
 
   owned_configured : (settings : Settings) (outgoing : Option ℕ) → AreOwned (configured_rows org ws settings outgoing t)
   owned_configured settings outgoing =

@@ -14,9 +14,9 @@ use Rattle.machine.specs.Rules.{reported}
 use Rattle.machine.specs.Settling.{begun}
 use Rattle.basis.specs.declared.rows.RunRow.{RunRow as Run}
 use Rattle.statements.specs.declared.rows.Workspace.{Workspace as WorkspaceCells}
-use Rattle.statements.specs.Rows.{Kept, id_of, WsRow, KeepingRow, RunRow}
+use Rattle.statements.specs.Rows.{Kept, id_of, WsRow, RetentionRow, RunRow}
 use Rattle.statements.specs.Tables.{Tables}
-use Rattle.statements.specs.Changes.{is_ws, is_keeping, ws_changed, ws_added, ws_removed, keeping_changed, workspace_made, is_run_of, is_run_row, run_changed_to, run_acted, run_added, runs_removed}
+use Rattle.statements.specs.Changes.{is_ws, is_retention, ws_changed, ws_added, ws_removed, retention_changed, workspace_made, is_run_of, is_run_row, run_changed_to, run_acted, run_added, runs_removed}
 use Rattle.statements.specs.Finds.{workspace_of, retention_of}
 use Rattle.statements.proofs.Found.{find_changed, find_unchanged, find_deleted, find_left, find_pushed, find_pushed_other, filter_deleted}
 use Rattle.basis.specs.declared.numbers.TheConstants.{FIRST_KEPT}
@@ -51,8 +51,8 @@ planned x = (x.0, record x.1 { it = record x.1.it { status = Planning } })
 abbrev acted : RunStatus → RunAction → Kept RunRow → Kept RunRow
 acted status action x = (x.0, record x.1 { it = record x.1.it { status = status; action = Some action } })
 
-abbrev kept_in : Option (Kept KeepingRow) → ℕ
-kept_in r = unwrap_or (option_map (λ (x : Kept KeepingRow). x.1.keep) r) FIRST_KEPT
+abbrev kept_in : Option (Kept RetentionRow) → ℕ
+kept_in r = unwrap_or (option_map (λ (x : Kept RetentionRow). x.1.retention) r) FIRST_KEPT
 
 module _ (org ws : List ℕ) where
   -- ---- the row
@@ -74,37 +74,37 @@ module _ (org ws : List ℕ) where
     pub row_left : (a b : List ℕ) → is_pair org ws a b ≡ false → workspace_of a b (ws_removed org ws t) ≡ workspace_of a b t
     row_left a b other = ap (option_map (λ (x : Kept WsRow). x.1.it)) (find_left (is_ws a b) (is_ws org ws) (λ x. pair_apart org ws a b x.1.org x.1.name other) t.wss)
 
-    pub row_added : (of_runs : RunSettings) (keep : ℕ) → workspace_of org ws t ≡ None → workspace_of org ws (ws_added org ws of_runs keep t) ≡ Some (workspace_made of_runs)
-    row_added of_runs keep none = ap (option_map (λ (x : Kept WsRow). x.1.it)) (find_pushed (is_ws org ws) t.wss _ (none_mapped (λ (x : Kept WsRow). x.1.it) _ none) (pair_is org ws))
+    pub row_added : (of_runs : RunSettings) (retention : ℕ) → workspace_of org ws t ≡ None → workspace_of org ws (ws_added org ws of_runs retention t) ≡ Some (workspace_made of_runs)
+    row_added of_runs retention none = ap (option_map (λ (x : Kept WsRow). x.1.it)) (find_pushed (is_ws org ws) t.wss _ (none_mapped (λ (x : Kept WsRow). x.1.it) _ none) (pair_is org ws))
 
-    pub row_added_other : (of_runs : RunSettings) (keep : ℕ) (a b : List ℕ) → is_pair org ws a b ≡ false → workspace_of a b (ws_added org ws of_runs keep t) ≡ workspace_of a b t
-    row_added_other of_runs keep a b other =
+    pub row_added_other : (of_runs : RunSettings) (retention : ℕ) (a b : List ℕ) → is_pair org ws a b ≡ false → workspace_of a b (ws_added org ws of_runs retention t) ≡ workspace_of a b t
+    row_added_other of_runs retention a b other =
         ap (option_map (λ (x : Kept WsRow). x.1.it)) (find_pushed_other (is_ws a b) t.wss (next_key id_of t.wss, record { org = org; name = ws; it = workspace_made of_runs }) (pair_apart org ws a b org ws other (pair_is org ws)))
 
     -- ---- how many versions it keeps
 
     pub retention_left : (a b : List ℕ) → is_pair org ws a b ≡ false → retention_at (ws_removed org ws t) a b ≡ retention_at t a b
-    retention_left a b other = ap kept_in (find_left (is_keeping a b) (is_keeping org ws) (λ x. pair_apart org ws a b x.1.org x.1.ws other) t.keepings)
+    retention_left a b other = ap kept_in (find_left (is_retention a b) (is_retention org ws) (λ x. pair_apart org ws a b x.1.org x.1.ws other) t.retentions)
 
-    pub retention_added : (of_runs : RunSettings) (keep : ℕ) → retention_of org ws t ≡ None → retention_at (ws_added org ws of_runs keep t) org ws ≡ keep
-    retention_added of_runs keep none =
-        ap kept_in (find_pushed (is_keeping org ws) t.keepings (next_key id_of t.keepings, record { org = org; ws = ws; keep = keep }) (none_mapped (λ (x : Kept KeepingRow). x.1.keep) _ none) (pair_is org ws))
+    pub retention_added : (of_runs : RunSettings) (retention : ℕ) → retention_of org ws t ≡ None → retention_at (ws_added org ws of_runs retention t) org ws ≡ retention
+    retention_added of_runs retention none =
+        ap kept_in (find_pushed (is_retention org ws) t.retentions (next_key id_of t.retentions, record { org = org; ws = ws; retention = retention }) (none_mapped (λ (x : Kept RetentionRow). x.1.retention) _ none) (pair_is org ws))
 
-    pub retention_added_other : (of_runs : RunSettings) (keep : ℕ) (a b : List ℕ) → is_pair org ws a b ≡ false → retention_at (ws_added org ws of_runs keep t) a b ≡ retention_at t a b
-    retention_added_other of_runs keep a b other =
-        ap kept_in (find_pushed_other (is_keeping a b) t.keepings (next_key id_of t.keepings, record { org = org; ws = ws; keep = keep }) (pair_apart org ws a b org ws other (pair_is org ws)))
+    pub retention_added_other : (of_runs : RunSettings) (retention : ℕ) (a b : List ℕ) → is_pair org ws a b ≡ false → retention_at (ws_added org ws of_runs retention t) a b ≡ retention_at t a b
+    retention_added_other of_runs retention a b other =
+        ap kept_in (find_pushed_other (is_retention a b) t.retentions (next_key id_of t.retentions, record { org = org; ws = ws; retention = retention }) (pair_apart org ws a b org ws other (pair_is org ws)))
 
     -- a number is set where there is a row for it
-    pub retention_set : (keep : ℕ) → is_some (find (is_keeping org ws) t.keepings) ≡ true → retention_at (keeping_changed keep org ws t) org ws ≡ keep
-    retention_set keep there = ap kept_in (find_changed (is_keeping org ws) (λ x. (x.0, record x.1 { keep = keep })) (λ x. refl) t.keepings) ∙ by_row (find (is_keeping org ws) t.keepings) there
+    pub retention_set : (retention : ℕ) → is_some (find (is_retention org ws) t.retentions) ≡ true → retention_at (retention_changed retention org ws t) org ws ≡ retention
+    retention_set retention there = ap kept_in (find_changed (is_retention org ws) (λ x. (x.0, record x.1 { retention = retention })) (λ x. refl) t.retentions) ∙ by_row (find (is_retention org ws) t.retentions) there
       where
-        by_row : (r : Option (Kept KeepingRow)) → is_some r ≡ true → kept_in (option_map (λ (x : Kept KeepingRow). (x.0, record x.1 { keep = keep })) r) ≡ keep
+        by_row : (r : Option (Kept RetentionRow)) → is_some r ≡ true → kept_in (option_map (λ (x : Kept RetentionRow). (x.0, record x.1 { retention = retention })) r) ≡ retention
         by_row None e = absurd (let none : ⊥ = cc in none)
         by_row (Some x) e = refl
 
-    pub retention_set_other : (keep : ℕ) (a b : List ℕ) → is_pair org ws a b ≡ false → retention_at (keeping_changed keep org ws t) a b ≡ retention_at t a b
-    retention_set_other keep a b other =
-        ap kept_in (find_unchanged (is_keeping a b) (is_keeping org ws) (λ x. pair_apart org ws a b x.1.org x.1.ws other) (λ x. (x.0, record x.1 { keep = keep })) (λ x. refl) t.keepings)
+    pub retention_set_other : (retention : ℕ) (a b : List ℕ) → is_pair org ws a b ≡ false → retention_at (retention_changed retention org ws t) a b ≡ retention_at t a b
+    retention_set_other retention a b other =
+        ap kept_in (find_unchanged (is_retention a b) (is_retention org ws) (λ x. pair_apart org ws a b x.1.org x.1.ws other) (λ x. (x.0, record x.1 { retention = retention })) (λ x. refl) t.retentions)
 
     -- ---- its runs
 

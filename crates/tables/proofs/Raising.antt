@@ -17,10 +17,10 @@ use Rattle.basis.specs.declared.numbers.TheConstants.{FIRST_KEPT}
 use Rattle.machine.specs.Order.{name_cmp}
 use Rattle.machine.specs.Ranges.{IsMoment}
 use Rattle.sqlite.specs.Effect.{Database}
-use Rattle.statements.specs.Rows.{Kept, id_of, TokenRow, WsRow, BoundRow, KeepingRow}
-use Rattle.statements.specs.declared.making.TheConstants.{NEWEST}
+use Rattle.statements.specs.Rows.{Kept, id_of, TokenRow, WsRow, BoundRow, RetentionRow}
+use Rattle.statements.specs.declared.making.TheConstants.{SCHEMA_VERSION}
 use Rattle.statements.specs.Tables.{Tables, HoldsIn, is_known, count_in, our_tables, later_tables, added_by, up_to, tables_of, tables_at}
-use Rattle.statements.specs.Changes.{is_bound, is_keeping, with_next, with_all, unbounded, kept_first}
+use Rattle.statements.specs.Changes.{is_bound, is_retention, with_next, with_all, unbounded, kept_first}
 use Rattle.statements.specs.Finds.{cap_of, bound_in}
 use Rattle.statements.specs.Making.{sequence_name, IsNotNamed, NamesNoOther, raised, Raises}
 use Rattle.statements.proofs.Counts.{next_version, more_tables}
@@ -110,8 +110,8 @@ bound_pair r = (r.org, r.name)
 abbrev ws_pair : WsRow → Pair
 ws_pair r = (r.org, r.name)
 
-abbrev keeping_pair : KeepingRow → Pair
-keeping_pair r = (r.org, r.ws)
+abbrev retention_pair : RetentionRow → Pair
+retention_pair r = (r.org, r.ws)
 
 abbrev IsUnbounded : Kept BoundRow → Type 0
 IsUnbounded x = (x.1.until ≡ None) × (x.1.prefix ≡ [])
@@ -122,8 +122,8 @@ all_unbounded ts = all_filled unbounded IsUnbounded (λ k r. (refl, refl)) ts []
 filled_rows : (ts : List (Kept TokenRow)) → AllByRecursion IsBoundRow (filled unbounded ts [])
 filled_rows ts = all_weaker IsUnbounded IsBoundRow (λ x is. record { until = subst (λ (u : Option ℕ). IfSome u IsMoment) (sym is.0) tt; prefix = subst (λ (p : List ℕ). IsTrue (is_prefix p)) (sym is.1) refl }) (filled unbounded ts []) (all_unbounded ts)
 
-abbrev KeepsFirst : Kept KeepingRow → Type 0
-KeepsFirst x = x.1.keep ≡ FIRST_KEPT
+abbrev KeepsFirst : Kept RetentionRow → Type 0
+KeepsFirst x = x.1.retention ≡ FIRST_KEPT
 
 all_kept_first : (ts : List (Kept WsRow)) → AllByRecursion KeepsFirst (filled kept_first ts [])
 all_kept_first ts = all_filled kept_first KeepsFirst (λ k r. refl) ts [] tt
@@ -160,19 +160,19 @@ module _ (t : Tables) (none : t.bounds ≡ []) where
   -- sound tables of the first version become sound ones of the second
   pub raised_sound : IsSoundIn 1 t → IsSoundIn 2 second
   raised_sound sound = record {
-    told = (refl, refl);
+    reported = (refl, refl);
     orgs_apart = sound.orgs_apart;
     tokens_apart = sound.tokens_apart;
     digests_apart = sound.digests_apart;
     wss_apart = sound.wss_apart;
     bounds_apart = filled_apart unbounded token_pair bound_pair (λ r. refl) t.tokens sound.tokens_apart;
     tokens_bound = each_has unbounded token_pair bound_pair (λ r. refl) t.tokens;
-    keepings_apart = sound.keepings_apart;
+    retentions_apart = sound.retentions_apart;
     wss_kept = tt;
     tokens_owned = sound.tokens_owned;
     bounds_owned = each_owned unbounded token_pair bound_pair (λ r. refl) t.tokens;
     wss_owned = sound.wss_owned;
-    keepings_owned = sound.keepings_owned;
+    retentions_owned = sound.retentions_owned;
     versions_owned = sound.versions_owned;
     runs_owned = sound.runs_owned;
     org_rows = sound.org_rows;
@@ -190,20 +190,20 @@ module _ (t : Tables) (none : t.bounds ≡ []) where
 
 -- ---- the second version's as those of the third: how many versions each workspace keeps is told by a row
 
-module _ (t : Tables) (none : t.keepings ≡ []) where
+module _ (t : Tables) (none : t.retentions ≡ []) where
   abbrev third : Tables
   third = raised 2 t
 
   -- each workspace keeps what one keeps at first
   retention_filled : (org ws : List ℕ) → retention_at third org ws ≡ FIRST_KEPT
-  retention_filled org ws = by_row (find (is_keeping org ws) third.keepings) refl
+  retention_filled org ws = by_row (find (is_retention org ws) third.retentions) refl
     where
-      by_row : (o : Option (Kept KeepingRow)) → find (is_keeping org ws) third.keepings ≡ o → unwrap_or (option_map (λ (x : Kept KeepingRow). x.1.keep) o) FIRST_KEPT ≡ FIRST_KEPT
+      by_row : (o : Option (Kept RetentionRow)) → find (is_retention org ws) third.retentions ≡ o → unwrap_or (option_map (λ (x : Kept RetentionRow). x.1.retention) o) FIRST_KEPT ≡ FIRST_KEPT
       by_row None e = refl
-      by_row (Some x) e = found_holds KeepsFirst (is_keeping org ws) third.keepings x (all_kept_first t.wss) e
+      by_row (Some x) e = found_holds KeepsFirst (is_retention org ws) third.retentions x (all_kept_first t.wss) e
 
   retention_none : (org ws : List ℕ) → retention_at t org ws ≡ FIRST_KEPT
-  retention_none org ws = ap (λ (ks : List (Kept KeepingRow)). unwrap_or (option_map (λ (x : Kept KeepingRow). x.1.keep) (find (is_keeping org ws) ks)) FIRST_KEPT) none
+  retention_none org ws = ap (λ (ks : List (Kept RetentionRow)). unwrap_or (option_map (λ (x : Kept RetentionRow). x.1.retention) (find (is_retention org ws) ks)) FIRST_KEPT) none
 
   kept_workspaces : KeepsWorkspaces t third
   kept_workspaces = record { wss = refl; versions = refl; runs = refl; pages = refl; vpages = refl; kept = λ org ws. retention_filled org ws ∙ sym (retention_none org ws) }
@@ -214,19 +214,19 @@ module _ (t : Tables) (none : t.keepings ≡ []) where
   -- sound tables of the second version become sound ones of the third
   pub third_sound : IsSoundIn 2 t → IsSoundIn 3 third
   third_sound sound = record {
-    told = (ap (map (λ x. (x.0, 3))) sound.told.0, sound.told.1);
+    reported = (ap (map (λ x. (x.0, 3))) sound.reported.0, sound.reported.1);
     orgs_apart = sound.orgs_apart;
     tokens_apart = sound.tokens_apart;
     digests_apart = sound.digests_apart;
     wss_apart = sound.wss_apart;
     bounds_apart = sound.bounds_apart;
     tokens_bound = sound.tokens_bound;
-    keepings_apart = filled_apart kept_first ws_pair keeping_pair (λ r. refl) t.wss sound.wss_apart;
-    wss_kept = each_has kept_first ws_pair keeping_pair (λ r. refl) t.wss;
+    retentions_apart = filled_apart kept_first ws_pair retention_pair (λ r. refl) t.wss sound.wss_apart;
+    wss_kept = each_has kept_first ws_pair retention_pair (λ r. refl) t.wss;
     tokens_owned = sound.tokens_owned;
     bounds_owned = sound.bounds_owned;
     wss_owned = sound.wss_owned;
-    keepings_owned = each_owned kept_first ws_pair keeping_pair (λ r. refl) t.wss;
+    retentions_owned = each_owned kept_first ws_pair retention_pair (λ r. refl) t.wss;
     versions_owned = sound.versions_owned;
     runs_owned = sound.runs_owned;
     org_rows = sound.org_rows;
@@ -264,7 +264,7 @@ second_step : Step 2
 unfolding same_name
 second_step = record { same = λ t. third_record (up_to 2 t) refl; sound = λ t. third_sound (up_to 2 t) refl; still = λ t. refl; apart = refl; pages = λ t. refl }
 
-step_of : (n : ℕ) → is_known n ≡ true → n < NEWEST → Step n
+step_of : (n : ℕ) → is_known n ≡ true → n < SCHEMA_VERSION → Step n
 step_of zero known low = absurd (cc)
 step_of (suc zero) known low = first_step
 step_of (suc (suc zero)) known low = second_step
@@ -295,7 +295,7 @@ still_absent old new added names (x ∷ xs) apart none =
     let lacks = or_parts (is_in_schema old.schema x) (list_any (is_in_schema old.schema) xs) none in
     or_from _ _ (ap is_some (names x.name (not-true _ own.0) (not_named x.name added own.1) (none_if _ lacks.0))) (still_absent old new added names xs parts.1 lacks.1)
 
-module _ (n : ℕ) (low : n < NEWEST) (old new : Database) (raises : Raises n old new) where
+module _ (n : ℕ) (low : n < SCHEMA_VERSION) (old new : Database) (raises : Raises n old new) where
   abbrev rows : Tables
   rows = tables_at n old
 

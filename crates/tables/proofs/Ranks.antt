@@ -58,8 +58,8 @@ found_last low next m (n ∷ k ∷ ns) rise e = go (n + 1 == next) refl (found_l
     go true is later e = absurd (let same : n + 1 ≡ next = eqb-true (n + 1) next is in omega (arith, same, rise.2.0, rise.2.1))
     go false is later e = later e
 
-pub newest_told : (next : ℕ) (ns : List ℕ) → Rises 0 ns next → newest_by (find (λ (n : ℕ). n + 1 == next) ns) next (last_in ns) ≡ last_in ns
-newest_told next ns rise = by_found (find (λ (n : ℕ). n + 1 == next) ns) refl
+pub newest_reported : (next : ℕ) (ns : List ℕ) → Rises 0 ns next → newest_by (find (λ (n : ℕ). n + 1 == next) ns) next (last_in ns) ≡ last_in ns
+newest_reported next ns rise = by_found (find (λ (n : ℕ). n + 1 == next) ns) refl
   where
     none_below : (ms : List ℕ) → Rises 0 ms next → next ≡ 1 → None ≡ last_in ms
     none_below [] rise is = refl
@@ -83,8 +83,8 @@ more_of n m e = go (nat_lt 50 n) refl
     go false f = le-ltb 50 m (let short : n ≤ 50 = ltb-false 50 n f in omega (arith, e, short)) ∙ sym f
 
 -- one row more than a listing has tells as much as all
-pub first_rows_tell : {X : Type 0} (xs : List X) → listing_of (take 51 xs) ≡ listing_of xs
-first_rows_tell xs = λ i. record { items = take-take 50 51 xs (omega arith) i; more = more_of (length xs) (length (take 51 xs)) (length-take 51 xs) i }
+pub first_rows_report : {X : Type 0} (xs : List X) → listing_of (take 51 xs) ≡ listing_of xs
+first_rows_report xs = λ i. record { items = take-take 50 51 xs (omega arith) i; more = more_of (length xs) (length (take 51 xs)) (length-take 51 xs) i }
 
 -- rows that are read and shown, of those that pass a test
 pub shown_rows : {A B C D : Type 0} (g : A → B) (f : B → C) (h : A → D) (k : D → C) (p : B → Bool) (q : D → Bool) → (xs : List A)

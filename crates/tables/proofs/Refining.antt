@@ -95,7 +95,7 @@ module _ {memo : Memo} (db : Database) (a b : State) (s : IsSoundKeep db memo a)
   behind = m.rows (tables_of db) before
 
   pub managed_own : effect answer (records_of b.committed org) ≡ after
-  managed_own = (λ i. effect (m.tells (tables_of db) before i) (records_by b.committed (command (tables_of db)).left behind org i)) ∙ is.own
+  managed_own = (λ i. effect (m.reports (tables_of db) before i) (records_by b.committed (command (tables_of db)).left behind org i)) ∙ is.own
 
   pub managed_others : (q : List ℕ) → q ≢ org → records_of b.committed q ≡ records_of db q
   managed_others q apart = records_by b.committed (command (tables_of db)).left behind q ∙ is.others q apart

@@ -22,9 +22,9 @@ use Rattle.machine.specs.declared.records.Organization.{Organization}
 use Rattle.machine.specs.declared.records.Workspace.{Workspace}
 use Rattle.machine.proofs.KeepLemmas.{own_workspace, other_workspace, apart_from}
 use Rattle.machine.proofs.MapLemmas.{names_total}
-use Rattle.tables.specs.declared.counts.Counted.{Counted}
-use Rattle.tables.specs.Counting.{IsCount, IsCounted}
-use Rattle.tables.specs.Inner.Counting.{known_of, looked, one_more_of, edited_count, changed_count}
+use Rattle.tables.specs.declared.counts.WorkspaceCount.{WorkspaceCount}
+use Rattle.tables.specs.Counting.{IsCount, IsCachedCount}
+use Rattle.tables.specs.Inner.Counting.{known_of, count_after, one_more_of, edited_count, changed_count}
 
 -- ---- workspaces of a map
 
@@ -54,7 +54,7 @@ stays_absent m ws w absent same none = by_name (bytes_eq absent ws) refl
 
 -- ---- what is known
 
-pub known_is : (rows : List ℕ → Option Organization) (counted : Option Counted) (org : List ℕ) → IsCounted rows counted → (o : Organization) → rows org ≡ Some o → IfSome (known_of counted org) (λ n. n ≡ count_of o)
+pub known_is : (rows : List ℕ → Option Organization) (counted : Option WorkspaceCount) (org : List ℕ) → IsCachedCount rows counted → (o : Organization) → rows org ≡ Some o → IfSome (known_of counted org) (λ n. n ≡ count_of o)
 known_is rows None org is o there = tt
 known_is rows (Some c) org is o there = by_name (bytes_eq c.org org) refl
   where
@@ -62,27 +62,27 @@ known_is rows (Some c) org is o there = by_name (bytes_eq c.org org) refl
     by_name true e = is.count o (ap rows (equal_bytes c.org org e) ∙ there)
     by_name false e = tt
 
--- ---- a look
+-- ---- a query
 
 abbrev counted_in : Unit → ℕ
 counted_in (Absent count limit) = count
 counted_in (Present w) = 0
 
-looked_is : (rows : List ℕ → Option Organization) (before : Option Counted) (makes : Bool) (org ws : List ℕ) (act : Act) (unit : Unit) → makes ≡ (needs act).makes → IsCounted rows before
-    → ((o : Organization) → rows org ≡ Some o → unit ≡ unit_of o ws act) → IsCounted rows (looked before makes org ws unit)
-looked_is rows before makes org ws act (Present w) same is told = is
-looked_is rows before false org ws act (Absent count limit) same is told = is
-looked_is rows before true org ws act (Absent count limit) same is told = record { count = λ o there. (of_workspace o (get o.workspaces ws) (told o there)).0; absent = λ o there. (of_workspace o (get o.workspaces ws) (told o there)).1 }
+count_after_is : (rows : List ℕ → Option Organization) (before : Option WorkspaceCount) (makes : Bool) (org ws : List ℕ) (act : Act) (unit : Unit) → makes ≡ (needs act).makes → IsCachedCount rows before
+    → ((o : Organization) → rows org ≡ Some o → unit ≡ unit_of o ws act) → IsCachedCount rows (count_after before makes org ws unit)
+count_after_is rows before makes org ws act (Present w) same is reported = is
+count_after_is rows before false org ws act (Absent count limit) same is reported = is
+count_after_is rows before true org ws act (Absent count limit) same is reported = record { count = λ o there. (of_workspace o (get o.workspaces ws) (reported o there)).0; absent = λ o there. (of_workspace o (get o.workspaces ws) (reported o there)).1 }
   where
     of_workspace : (o : Organization) (w : Option Workspace) → Absent count limit ≡ unit_by o act w → (count ≡ count_of o) × (w ≡ None)
     of_workspace o None e = (ap counted_in e ∙ ap (λ (b : Bool). cond b (count_of o) 0) (sym same), refl)
     of_workspace o (Some w) e = absurd (let none : ⊥ = cc in none)
 
--- what is kept after a look is what was found, or nothing
-pub kept_is : (rows : List ℕ → Option Organization) (before after : Option Counted) (makes : Bool) (org ws : List ℕ) (act : Act) (unit : Unit) → IfSome after (λ kept. looked before makes org ws unit ≡ Some kept) → makes ≡ (needs act).makes
-    → IsCounted rows before → ((o : Organization) → rows org ≡ Some o → unit ≡ unit_of o ws act) → IsCounted rows after
-kept_is rows before None makes org ws act unit kept same is told = tt
-kept_is rows before (Some c) makes org ws act unit kept same is told = subst (IsCounted rows) kept (looked_is rows before makes org ws act unit same is told)
+-- what is kept after a query is what was found, or nothing
+pub kept_is : (rows : List ℕ → Option Organization) (before after : Option WorkspaceCount) (makes : Bool) (org ws : List ℕ) (act : Act) (unit : Unit) → IfSome after (λ kept. count_after before makes org ws unit ≡ Some kept) → makes ≡ (needs act).makes
+    → IsCachedCount rows before → ((o : Organization) → rows org ≡ Some o → unit ≡ unit_of o ws act) → IsCachedCount rows after
+kept_is rows before None makes org ws act unit kept same is reported = tt
+kept_is rows before (Some c) makes org ws act unit kept same is reported = subst (IsCachedCount rows) kept (count_after_is rows before makes org ws act unit same is reported)
 
 -- ---- a change
 
@@ -101,7 +101,7 @@ module _ (rows after : List ℕ → Option Organization) (org ws : List ℕ) (ch
   is_placed name e p is = same_Some (placed o ws left) p (sym own ∙ ap after (sym e) ∙ is)
 
   -- as many workspaces as before, and the absent one is absent
-  as_many : (c : Counted) → c.org ≡ org → IsCount rows c → is_some (get o.workspaces ws) ≡ is_some left → IsCount after c
+  as_many : (c : WorkspaceCount) → c.org ≡ org → IsCount rows c → is_some (get o.workspaces ws) ≡ is_some left → IsCount after c
   as_many c e is same = record {
     count = λ p h.
         is.count o (ap rows e ∙ there) ∙ sym (len-entries o.workspaces) ∙ sym (len_kept o.workspaces ws left same) ∙ len-entries (with_workspace o.workspaces ws left) ∙ ap count_of (is_placed c.org e p h);
@@ -113,7 +113,7 @@ module _ (rows after : List ℕ → Option Organization) (org ws : List ℕ) (ch
       by_absent p h (Some n) none = ap (λ (q : Organization). get q.workspaces n) (sym h) ∙ stays_absent o.workspaces ws left n same none
 
   -- one more than before
-  more : (c : Counted) → c.org ≡ org → IsCount rows c → (absent : Option (List ℕ)) → IfSome absent (λ n. get o.workspaces n ≡ None) → (w : Workspace) → left ≡ Some w → IsCounted after (one_more_of c absent ws)
+  more : (c : WorkspaceCount) → c.org ≡ org → IsCount rows c → (absent : Option (List ℕ)) → IfSome absent (λ n. get o.workspaces n ≡ None) → (w : Workspace) → left ≡ Some w → IsCachedCount after (one_more_of c absent ws)
   more c e is None none w made = tt
   more c e is (Some n) none w made = by_name (bytes_eq n ws) (nat_lt c.count MAX_LIMIT) refl
     where
@@ -125,7 +125,7 @@ module _ (rows after : List ℕ → Option Organization) (org ws : List ℕ) (ch
           ∙ ap (λ (v : Option Workspace). count_of (placed o ws v)) (sym made)
           ∙ ap count_of h
 
-      by_name : (b room : Bool) → bytes_eq n ws ≡ b → IsCounted after (cond b (cond room (Some (record { org = c.org; count = c.count + 1; absent = None })) None) None)
+      by_name : (b room : Bool) → bytes_eq n ws ≡ b → IsCachedCount after (cond b (cond room (Some (record { org = c.org; count = c.count + 1; absent = None })) None) None)
       by_name false room f = tt
       by_name true false f = tt
       by_name true true f = record { count = λ p h. counted f p (is_placed c.org e p h); absent = λ p h. tt }
@@ -135,7 +135,7 @@ module _ (rows after : List ℕ → Option Organization) (org ws : List ℕ) (ch
   stays edit f same = sym (started_there change.start (edited change.edit (get o.workspaces ws)) ∙ ap (λ (x : Edit). is_some (edited x (get o.workspaces ws))) f ∙ same)
 
   -- after an edit, and the run that starts
-  by_edit : (c : Counted) → c.org ≡ org → IsCount rows c → (edit : Edit) → change.edit ≡ edit → IsCounted after (edited_count c ws edit)
+  by_edit : (c : WorkspaceCount) → c.org ≡ org → IsCount rows c → (edit : Edit) → change.edit ≡ edit → IsCachedCount after (edited_count c ws edit)
   by_edit c e is (Make settings) f = more c e is c.absent (is.absent o (ap rows e ∙ there)) _ (ap (λ (x : Edit). option_map (started_if change.start) (edited x (get o.workspaces ws))) f)
   by_edit c e is Remove f = tt
   by_edit c e is (Configure settings outgoing) f = as_many c e is (stays (Configure settings outgoing) f (is_some-map _ (get o.workspaces ws)))
@@ -146,10 +146,10 @@ module _ (rows after : List ℕ → Option Organization) (org ws : List ℕ) (ch
   by_edit c e is (AddRun number ask created) f = as_many c e is (stays (AddRun number ask created) f (is_some-map _ (get o.workspaces ws)))
   by_edit c e is (Report number action status frees) f = as_many c e is (stays (Report number action status frees) f (is_some-map _ (get o.workspaces ws)))
 
-  pub changed_is : (counted : Option Counted) → IsCounted rows counted → IsCounted after (changed_count counted org ws change.edit)
+  pub changed_is : (counted : Option WorkspaceCount) → IsCachedCount rows counted → IsCachedCount after (changed_count counted org ws change.edit)
   changed_is None is = tt
   changed_is (Some c) is = by_name (bytes_eq c.org org) refl
     where
-      by_name : (b : Bool) → bytes_eq c.org org ≡ b → IsCounted after (cond b (edited_count c ws change.edit) (Some c))
+      by_name : (b : Bool) → bytes_eq c.org org ≡ b → IsCachedCount after (cond b (edited_count c ws change.edit) (Some c))
       by_name true e = by_edit c (equal_bytes c.org org e) is change.edit refl
       by_name false e = let same = others c.org (apart_from c.org org e) in record { count = λ p h. is.count p (sym same ∙ h); absent = λ p h. is.absent p (sym same ∙ h) }

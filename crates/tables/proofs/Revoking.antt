@@ -108,7 +108,7 @@ module _ (org name : List ℕ) (t : Tables) where
   -- it leaves sound tables sound
   pub revoke_keeps : IsSound t → IsSound left
   revoke_keeps sound = record {
-    told = sound.told;
+    reported = sound.reported;
     orgs_apart = sound.orgs_apart;
     tokens_apart = apart_delete (λ a b. is_token a.1.org a.1.name b) (is_token org name) t.tokens sound.tokens_apart;
     digests_apart = apart_delete (λ a b. is_digest_of a.1.org a.1.it.digest b) (is_token org name) t.tokens sound.digests_apart;
@@ -122,9 +122,9 @@ module _ (org name : List ℕ) (t : Tables) where
         (λ x other any. token_left x.1.org x.1.name other ∙ any) left.bounds (all_deleted (is_bound org name) t.bounds)
         (all-filter (λ x. list_any (is_token x.1.org x.1.name) t.tokens ≡ true) (λ x. not (is_bound org name x)) t.bounds sound.bounds_owned);
     wss_owned = sound.wss_owned;
-    keepings_apart = sound.keepings_apart;
+    retentions_apart = sound.retentions_apart;
     wss_kept = sound.wss_kept;
-    keepings_owned = sound.keepings_owned;
+    retentions_owned = sound.retentions_owned;
     versions_owned = sound.versions_owned;
     runs_owned = sound.runs_owned;
     org_rows = sound.org_rows;

@@ -64,7 +64,7 @@ workspace_there t org name o e = by_limit (cap_of org t) e
 -- ---- a workspace from its parts
 
 abbrev by_parts : Option WorkspaceCells → ℕ → List Version → List Run → Option Workspace
-by_parts row keep versions runs = option_map (λ (w : WorkspaceCells). workspace_of_cells keep w versions runs) row
+by_parts row retention versions runs = option_map (λ (w : WorkspaceCells). workspace_of_cells retention w versions runs) row
 
 pub same_parts : (row other : Option WorkspaceCells) (k l : ℕ) (vs us : List Version) (rs ss : List Run) → row ≡ other → k ≡ l → vs ≡ us → rs ≡ ss → by_parts row k vs rs ≡ by_parts other l us ss
 same_parts row other k l vs us rs ss e h f g = λ i. by_parts (e i) (h i) (f i) (g i)

@@ -27,9 +27,9 @@ broken old new Unstorable is h = absurd h
 
 pub closed_shut : (old new : State) (text : List ℕ) (params : Row) (e : Error) → e ≡ SqliteFailure Closed → IsNotRun old new text params e → old.is_open ≡ false
 unfolding IsNotRun
-closed_shut old new text params e is (inl (inl fault, same)) = let told = fault.2 in cc
+closed_shut old new text params e is (inl (inl fault, same)) = let reported = fault.2 in cc
 closed_shut old new text params e is (inl (inr bad, same)) = elim bad.2 [
-  | inl many ↦ let told = many.1 in cc
-  | inr other ↦ elim other [ inl count ↦ let told = count.1 in cc | inr clock ↦ let told = clock.1 in cc ]
+  | inl many ↦ let reported = many.1 in cc
+  | inr other ↦ elim other [ inl count ↦ let reported = count.1 in cc | inr clock ↦ let reported = clock.1 in cc ]
 ]
 closed_shut old new text params e is (inr failed) = broken old new failed.0 (sym is ∙ failed.1) failed.2

@@ -131,26 +131,26 @@ module _ (org ws : List ℕ) where
   hold_carries (Lock id text) t = row_carries (held_by (Lock id text)) (held_after (Lock id text)) (λ c k vs rs. refl) t
   hold_carries (HeldByRun n) t = row_carries (held_by (HeldByRun n)) (held_after (HeldByRun n)) (λ c k vs rs. refl) t
 
-  head_is : (holder : Holder) (released : Option (List ℕ)) (of_runs : RunSettings) (version run keep : ℕ)
-      → held_after holder (released_after released (counted version run (new_workspace (record { runs = of_runs; retention = keep }))))
-      ≡ workspace_of_cells keep (record { runs = of_runs; holder = holder; released = released; next_version = version; next_run = run }) [] []
-  head_is Nobody None of_runs version run keep = refl
-  head_is Nobody (Some id) of_runs version run keep = refl
-  head_is (Lock id text) None of_runs version run keep = refl
-  head_is (Lock id text) (Some last) of_runs version run keep = refl
-  head_is (HeldByRun n) None of_runs version run keep = refl
-  head_is (HeldByRun n) (Some last) of_runs version run keep = refl
+  head_is : (holder : Holder) (released : Option (List ℕ)) (of_runs : RunSettings) (version run retention : ℕ)
+      → held_after holder (released_after released (counted version run (new_workspace (record { runs = of_runs; retention = retention }))))
+      ≡ workspace_of_cells retention (record { runs = of_runs; holder = holder; released = released; next_version = version; next_run = run }) [] []
+  head_is Nobody None of_runs version run retention = refl
+  head_is Nobody (Some id) of_runs version run retention = refl
+  head_is (Lock id text) None of_runs version run retention = refl
+  head_is (Lock id text) (Some last) of_runs version run retention = refl
+  head_is (HeldByRun n) None of_runs version run retention = refl
+  head_is (HeldByRun n) (Some last) of_runs version run retention = refl
 
   -- a workspace comes without its versions and runs
-  pub head_begins : (c : WorkspaceCells) (keep : ℕ) (t : Tables) → workspace_of org ws t ≡ None → Begins org ws (workspace_of_cells keep c [] []) t (head_rows org ws c keep t)
-  head_begins c keep t none =
-      let settings : Settings = record { runs = c.runs; retention = keep } in
-      let made : Tables = ws_added org ws c.runs keep t in
+  pub head_begins : (c : WorkspaceCells) (retention : ℕ) (t : Tables) → workspace_of org ws t ≡ None → Begins org ws (workspace_of_cells retention c [] []) t (head_rows org ws c retention t)
+  head_begins c retention t none =
+      let settings : Settings = record { runs = c.runs; retention = retention } in
+      let made : Tables = ws_added org ws c.runs retention t in
       let numbered : Tables = ws_changed (with_next_run c.next_run) org ws (ws_changed (with_next_version c.next_version) org ws made) in
       let freed : Tables = released_rows org ws c.released numbered in
       let start : Workspace = new_workspace settings in
-      subst (λ (w : Workspace). Begins org ws w t (head_rows org ws c keep t)) (head_is c.holder c.released c.runs c.next_version c.next_run keep)
-      (begins_then (released_after c.released (counted c.next_version c.next_run start)) (held_after c.holder) t freed (head_rows org ws c keep t)
+      subst (λ (w : Workspace). Begins org ws w t (head_rows org ws c retention t)) (head_is c.holder c.released c.runs c.next_version c.next_run retention)
+      (begins_then (released_after c.released (counted c.next_version c.next_run start)) (held_after c.holder) t freed (head_rows org ws c retention t)
       (begins_then (counted c.next_version c.next_run start) (released_after c.released) t numbered freed
       (begins_then start (counted c.next_version c.next_run) t made numbered (made_begins settings t none) (counts_carry c.next_version c.next_run made)) (release_carries c.released numbered)) (hold_carries c.holder freed))
 
@@ -184,4 +184,4 @@ module _ (org ws : List ℕ) (w : Workspace) (t u : Tables) (lawful : IsLawful w
 -- tables are sound with it
 pub stands_sound : (org ws : List ℕ) (w : Workspace) (t u : Tables) → IsSound t → IsTrue (is_ws_name ws) → IsLawful w → IsGapless w → (o : Organization) → record_of t org ≡ Some o → count_of (placed o ws (Some w)) ≤ 100_000 → StandsSoFar org ws w t u → IsSound u
 stands_sound org ws w t u sound named lawful gapless o there few stands =
-    placed_keeps org ws (Some w) t u sound named lawful gapless o there few (stands.editions ∙ sound.told.0, stands.metas ∙ sound.told.1) stands.texts stands.owned (stands_puts org ws w t u lawful stands)
+    placed_keeps org ws (Some w) t u sound named lawful gapless o there few (stands.editions ∙ sound.reported.0, stands.metas ∙ sound.reported.1) stands.texts stands.owned (stands_puts org ws w t u lawful stands)

@@ -8,7 +8,7 @@ use Rattle.machine.specs.Records.{placed, seen_in}
 use Rattle.machine.specs.Changes.{changed_by, IsDue}
 use Rattle.machine.specs.declared.acts.Change.{Change}
 use Rattle.machine.specs.declared.records.Organization.{Organization}
-use Rattle.statements.specs.declared.making.TheConstants.{NEWEST}
+use Rattle.statements.specs.declared.making.TheConstants.{SCHEMA_VERSION}
 use Rattle.statements.specs.Tables.{Tables, Holds, no_rows, tables_of}
 use Rattle.tables.specs.Inner.Edits.{changed_rows, TakesEdit}
 use Rattle.tables.specs.Stores.{records_of, IsSoundStore}
@@ -22,7 +22,7 @@ store_is_lawful db s = sound_is_lawful (tables_of db) s.sound
 
 -- the tables that were just made
 abbrev just_made : Tables
-just_made = record no_rows { editions = (pos 1, NEWEST) ∷ [] }
+just_made = record no_rows { editions = (pos 1, SCHEMA_VERSION) ∷ [] }
 
 module _ (db : Database) (made : Holds db just_made) where
   pub made_store_is_sound : IsSoundStore db

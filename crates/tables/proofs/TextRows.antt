@@ -25,7 +25,7 @@ use Rattle.statements.proofs.Found.{find_pushed, find_left, none_passes, none_fo
 use Rattle.statements.proofs.Grown.{find_front}
 use Rattle.texts.specs.Texts.{is_place_of, pages_for, text_removed, text_of, IsWhole, HasNoPlaces, HasSoundPlaces}
 use Rattle.texts.proofs.PlaceLaws.{IsOtherVersion, version_parts, version_from}
-use Rattle.texts.proofs.TextLaws.{text_added_keeps, text_added_whole, text_added_text, text_added_others_whole, text_added_others_text, text_added_places, text_added_metas, text_added_orgs, text_added_tokens, text_added_wss, text_added_versions, text_added_runs, text_added_bounds, text_added_editions, text_added_keepings, text_removed_keeps, text_removed_others_whole, text_removed_others_text, text_removed_places, text_removed_none, text_removed_metas, text_removed_orgs, text_removed_tokens, text_removed_wss, text_removed_versions, text_removed_runs, text_removed_bounds, text_removed_editions, text_removed_keepings, carried_whole, carried_text, carried_sound}
+use Rattle.texts.proofs.TextLaws.{text_added_keeps, text_added_whole, text_added_text, text_added_others_whole, text_added_others_text, text_added_places, text_added_metas, text_added_orgs, text_added_tokens, text_added_wss, text_added_versions, text_added_runs, text_added_bounds, text_added_editions, text_added_retentions, text_removed_keeps, text_removed_others_whole, text_removed_others_text, text_removed_places, text_removed_none, text_removed_metas, text_removed_orgs, text_removed_tokens, text_removed_wss, text_removed_versions, text_removed_runs, text_removed_bounds, text_removed_editions, text_removed_retentions, carried_whole, carried_text, carried_sound}
 use Rattle.tables.specs.Records.{version_of_cells, no_bounds, token_of_cells, workspace_of_cells, retention_at, version_at, versions_at, workspace_by, is_token_of, tokens_at, workspaces_at, organization_at}
 use Rattle.tables.specs.Sound.{IsPlaced, HasText, IsSound}
 use Rattle.tables.specs.Inner.Edits.{first_gone, so_many_gone, gone_below, row_added, added_rows, FitsTwins}
@@ -50,10 +50,10 @@ pub record KeepsRest (t u : Tables) : Type 0 where
   pub runs : u.runs ≡ t.runs
   pub bounds : u.bounds ≡ t.bounds
   pub editions : u.editions ≡ t.editions
-  pub keepings : u.keepings ≡ t.keepings
+  pub retentions : u.retentions ≡ t.retentions
 
 pub rest_stays : (t : Tables) → KeepsRest t t
-rest_stays t = record { metas = refl; orgs = refl; tokens = refl; wss = refl; runs = refl; bounds = refl; editions = refl; keepings = refl }
+rest_stays t = record { metas = refl; orgs = refl; tokens = refl; wss = refl; runs = refl; bounds = refl; editions = refl; retentions = refl }
 
 pub rest_then : (t u z : Tables) → KeepsRest t u → KeepsRest u z → KeepsRest t z
 rest_then t u z one two = record {
@@ -64,7 +64,7 @@ rest_then t u z one two = record {
   runs = two.runs ∙ one.runs;
   bounds = two.bounds ∙ one.bounds;
   editions = two.editions ∙ one.editions;
-  keepings = two.keepings ∙ one.keepings;
+  retentions = two.retentions ∙ one.retentions;
 }
 
 -- ---- rows of a version
@@ -217,7 +217,7 @@ module _ (org ws : List ℕ) (below : ℕ) (t : Tables) (a : AreTexts t) (x : Ke
     tokens = text_removed_tokens org ws n size without;
     bounds = text_removed_bounds org ws n size without;
     editions = text_removed_editions org ws n size without;
-    keepings = text_removed_keepings org ws n size without;
+    retentions = text_removed_retentions org ws n size without;
     wss = text_removed_wss org ws n size without;
     runs = text_removed_runs org ws n size without;
   }
@@ -476,7 +476,7 @@ module _ (keys : ℕ → List ℕ) (org ws : List ℕ) (v : Version) (t : Tables
       tokens = text_added_tokens keys org ws v.number v.text mid;
       bounds = text_added_bounds keys org ws v.number v.text mid;
       editions = text_added_editions keys org ws v.number v.text mid;
-      keepings = text_added_keepings keys org ws v.number v.text mid;
+      retentions = text_added_retentions keys org ws v.number v.text mid;
       wss = text_added_wss keys org ws v.number v.text mid;
       runs = text_added_runs keys org ws v.number v.text mid;
     };

@@ -14,7 +14,7 @@ use Rattle.statements.specs.Tables.{Tables}
 use Rattle.statements.specs.Finds.{cap_of}
 use Rattle.statements.specs.Listings.{roles_by_name, role_row}
 use Rattle.tables.specs.Records.{caller_with, bounds_at, token_at, is_token_of, tokens_at, organization_at, record_of}
-use Rattle.tables.specs.Inner.Lists.{token_row_in, tokens_listed_in, tokens_told_by, tokens_told_in}
+use Rattle.tables.specs.Inner.Lists.{token_row_in, tokens_listed_in, token_list_answer_by, token_list_answer_in}
 use Rattle.tables.proofs.Ranks.{entries_shown}
 
 module _ (t : Tables) (org : List ℕ) where
@@ -65,9 +65,9 @@ module _ (t : Tables) (org : List ℕ) where
   listed = sym (by_rows (entries (roles_by_name org t))) ∙ ap (map row_of) (sym entries_same) ∙ sym (by_record (entries (tokens_at t org)))
 
   -- the list is that of the record
-  pub tokens_told : tokens_told_in org t ≡ tokens.tokens_told (record_of t org)
-  tokens_told = by_limit (cap_of org t)
+  pub token_list_answer : token_list_answer_in org t ≡ tokens.token_list_answer (record_of t org)
+  token_list_answer = by_limit (cap_of org t)
     where
-      by_limit : (c : Option ℕ) → tokens_told_by c org t ≡ tokens.tokens_told (option_map (organization_at t org) c)
+      by_limit : (c : Option ℕ) → token_list_answer_by c org t ≡ tokens.token_list_answer (option_map (organization_at t org) c)
       by_limit None = refl
       by_limit (Some cap) = ap Tokens listed

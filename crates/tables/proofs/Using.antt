@@ -43,12 +43,12 @@ module _ {S A : Type 0} (g : Ghosts S) (p : Tables → A → Bool) (xs : List A)
     pub still_none : (used : Bool) → used ≡ false → Sees {E = D} g (Equals (λ t. list_any (p t) (take i xs))) a b (Ok false) → Sees {E = E} g (Equals (λ t. p t x)) b c (Ok used)
         → Sees {E = F} g (Equals (λ t. list_any (p t) (take (i + 1) xs))) a c (Ok false)
     still_none used is_false so one = sees_as g (λ v t. Equals (λ u. list_any (p u) (take i xs)) false t × Equals (λ u. p u x) v t) (Equals (λ t. list_any (p t) (take (i + 1) xs))) a c used false
-        (λ t told. sym is_false ∙ one_more used t told.0 told.1) (seen_both g (Equals (λ t. list_any (p t) (take i xs))) (Equals (λ t. p t x)) a b c false used so one)
+        (λ t reported. sym is_false ∙ one_more used t reported.0 reported.1) (seen_both g (Equals (λ t. list_any (p t) (take i xs))) (Equals (λ t. p t x)) a b c false used so one)
 
     pub one_found : (used : Bool) → used ≡ true → Sees {E = D} g (Equals (λ t. list_any (p t) (take i xs))) a b (Ok false) → Sees {E = E} g (Equals (λ t. p t x)) b c (Ok used)
         → Sees {E = F} g (Equals (λ t. list_any (p t) xs)) a c (Ok true)
     one_found used is_true so one = sees_as g (λ v t. Equals (λ u. list_any (p u) (take i xs)) false t × Equals (λ u. p u x) v t) (Equals (λ t. list_any (p t) xs)) a c used true
-        (λ t told. sym (any_taken (p t) (i + 1) xs (sym (one_more used t told.0 told.1) ∙ is_true))) (seen_both g (Equals (λ t. list_any (p t) (take i xs))) (Equals (λ t. p t x)) a b c false used so one)
+        (λ t reported. sym (any_taken (p t) (i + 1) xs (sym (one_more used t reported.0 reported.1) ∙ is_true))) (seen_both g (Equals (λ t. list_any (p t) (take i xs))) (Equals (λ t. p t x)) a b c false used so one)
 
   pub none_found : (D : Type 0) (i : ℕ) (a b : Held S) → length xs ≤ i → Sees {E = D} g (Equals (λ t. list_any (p t) (take i xs))) a b (Ok false) → Sees {E = D} g (Equals (λ t. list_any (p t) xs)) a b (Ok false)
   none_found D i a b all so = subst (λ (ys : List A). Sees {E = D} g (Equals (λ t. list_any (p t) ys)) a b (Ok false)) (take_all i xs all) so

@@ -55,9 +55,9 @@ module _ (org ws : List ℕ) (t : Tables) (sound : IsSound t) where
       by_row (Some w) e =
           let lawful = (sound.workspaces org ws (workspace_at t org ws w) (ap (option_map (workspace_at t org ws)) e)).lawful.versions in
           let kept = lawful.kept in
-          let keep = lawful.keep in
+          let retention = lawful.retention in
           let same = as_many in
-          omega (arith, kept, keep.1, same)
+          omega (arith, kept, retention.1, same)
 
   all_below : delete_where (λ (v : Version). nat_lt v.number 1_000_000_001) (versions_in t org ws) ≡ []
   all_below =

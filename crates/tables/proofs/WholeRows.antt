@@ -60,7 +60,7 @@ module _ (org ws : List ℕ) (t : Tables) (sound : IsSound t) (it : WorkspaceCel
   versions_read : version_rows_after org ws 0 1_000 t ≡ map (λ (x : Kept VersionRow). x.1.it) version_rows
   versions_read =
       let kept = lawful.versions.kept in
-      let keep = lawful.versions.keep in
+      let retention = lawful.versions.retention in
       let as_heads : length (map (λ (x : Kept VersionRow). x.1.it) version_rows) ≡ length version_rows = length-map version_rows (λ x. x.1.it) in
       let as_versions : length (versions_at t org ws) ≡ length version_rows = length-map version_rows (λ x. version_at t org ws x.1.it) in
       first_are_all (λ (head : Head). head.number) 1_000 it.next_version (map (λ (x : Kept VersionRow). x.1.it) version_rows)
@@ -68,7 +68,7 @@ module _ (org ws : List ℕ) (t : Tables) (sound : IsSound t) (it : WorkspaceCel
       (same_names (λ (x : Kept VersionRow). version_at t org ws x.1.it) (λ (v : Version). v.number) (λ (x : Kept VersionRow). x.1.it.number) (λ x. refl) version_rows
       ∙ sym (same_names (λ (x : Kept VersionRow). x.1.it) (λ (head : Head). head.number) (λ (x : Kept VersionRow). x.1.it.number) (λ x. refl) version_rows))
       lawful.versions.rise)
-      (omega (arith, kept, keep.1, as_heads, as_versions))
+      (omega (arith, kept, retention.1, as_heads, as_versions))
 
   runs_read : run_rows_after org ws 0 1_000_000_000 t ≡ runs_at t org ws
   runs_read =
@@ -78,10 +78,10 @@ module _ (org ws : List ℕ) (t : Tables) (sound : IsSound t) (it : WorkspaceCel
       first_are_all (λ (r : Run). r.number) 1_000_000_000 it.next_run (runs_at t org ws) lawful.runs.rise (omega (arith, few, next.1, as_runs))
 
   -- what four queries read of it is the workspace
-  whole_read : (keep : ℕ) (versions : List Head) (runs : List Run) → retention_of org ws t ≡ Some keep → versions ≡ version_rows_after org ws 0 1_000 t → runs ≡ run_rows_after org ws 0 1_000_000_000 t → IsWhole org ws t it keep versions runs
-  whole_read keep versions runs kept heads rows = record { is = ap (option_map (workspace_at t org ws)) there ∙ (λ i. Some (workspace_of_cells (keeps i) it (versions_are i) (runs_are i))) }
+  whole_read : (retention : ℕ) (versions : List Head) (runs : List Run) → retention_of org ws t ≡ Some retention → versions ≡ version_rows_after org ws 0 1_000 t → runs ≡ run_rows_after org ws 0 1_000_000_000 t → IsWhole org ws t it retention versions runs
+  whole_read retention versions runs kept heads rows = record { is = ap (option_map (workspace_at t org ws)) there ∙ (λ i. Some (workspace_of_cells (keeps i) it (versions_are i) (runs_are i))) }
     where
-      keeps : retention_at t org ws ≡ keep
+      keeps : retention_at t org ws ≡ retention
       keeps = ap (λ (o : Option ℕ). unwrap_or o FIRST_KEPT) kept
 
       versions_are : versions_at t org ws ≡ map (version_at t org ws) versions
@@ -105,12 +105,12 @@ module _ {S : Type 0} (g : Ghosts S) (E : Type 0) (org ws : List ℕ) where
   abbrev runs_are : List Run → Tables → Type 0
   runs_are = EqualsWhere (RunsApart org ws) (run_rows_after org ws 0 1_000_000_000)
 
-  pub whole_seen : (row : Option WorkspaceCells) (kept : Option ℕ) (it : WorkspaceCells) (keep : ℕ) (versions : List Head) (runs : List Run) (a b c d e : Held S) → row ≡ Some it → kept ≡ Some keep
+  pub whole_seen : (row : Option WorkspaceCells) (kept : Option ℕ) (it : WorkspaceCells) (retention : ℕ) (versions : List Head) (runs : List Run) (a b c d e : Held S) → row ≡ Some it → kept ≡ Some retention
       → Queries {E = E} g row_is a b (Ok row) → Queries {E = E} g retention_is b c (Ok kept) → Queries {E = E} g versions_are c d (Ok versions) → Queries {E = E} g runs_are d e (Ok runs)
-      → Sees {E = E} g (λ (whole : LoadedWorkspace) f. IsSound f → IsWhole org ws f whole.it whole.retention whole.versions whole.runs) a e (Ok (record { it = it; retention = keep; versions = versions; runs = runs }))
-  whole_seen row kept it keep versions runs a b c d e is keeps one two three four =
+      → Sees {E = E} g (λ (whole : LoadedWorkspace) f. IsSound f → IsWhole org ws f whole.it whole.retention whole.versions whole.runs) a e (Ok (record { it = it; retention = retention; versions = versions; runs = runs }))
+  whole_seen row kept it retention versions runs a b c d e is keeps one two three four =
       let first = seen_both g row_is retention_is a b c row kept (sees_by g row_is a b (Ok row) one) (sees_by g retention_is b c (Ok kept) two) in
       let second = seen_both g (λ k t. row_is row t × retention_is k t) versions_are a c d kept versions first (sees_by g versions_are c d (Ok versions) three) in
       let third = seen_both g (λ vs t. (row_is row t × retention_is kept t) × versions_are vs t) runs_are a d e versions runs second (sees_by g runs_are d e (Ok runs) four) in
-      sees_as g (λ rs t. ((row_is row t × retention_is kept t) × versions_are versions t) × runs_are rs t) (λ (whole : LoadedWorkspace) f. IsSound f → IsWhole org ws f whole.it whole.retention whole.versions whole.runs) a e runs (record { it = it; retention = keep; versions = versions; runs = runs })
-      (λ t told sound. whole_read org ws t sound it (sym told.0.0.0 ∙ is) keep versions runs (sym told.0.0.1 ∙ keeps) (told.0.1 (versions_apart t org ws sound)) (told.1 (runs_apart t org ws sound))) third
+      sees_as g (λ rs t. ((row_is row t × retention_is kept t) × versions_are versions t) × runs_are rs t) (λ (whole : LoadedWorkspace) f. IsSound f → IsWhole org ws f whole.it whole.retention whole.versions whole.runs) a e runs (record { it = it; retention = retention; versions = versions; runs = runs })
+      (λ t reported sound. whole_read org ws t sound it (sym reported.0.0.0 ∙ is) retention versions runs (sym reported.0.0.1 ∙ keeps) (reported.0.1 (versions_apart t org ws sound)) (reported.1 (runs_apart t org ws sound))) third

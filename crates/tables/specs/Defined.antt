@@ -7,7 +7,7 @@ use Rattle.definitions.specs.Others.{IsOther}
 
 -- There is no name exactly if the committed database has our tables as they are defined. Each name is that of a table that it lacks or
 -- defines differently. Nothing is committed.
-pub record TellsTables (old new : State) (names : List (List ℕ)) : Type 0 where
+pub record ReportsTables (old new : State) (names : List (List ℕ)) : Type 0 where
   pub none : (names ≡ []) ↔ IsOurs old.committed.schema
   pub named : AllByRecursion (IsOther old.committed.schema our_tables) names
   pub same : new.committed ≡ old.committed

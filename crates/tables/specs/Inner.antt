@@ -6,7 +6,7 @@ pub mod Removals
 pub mod Edits
 pub mod Keys
 pub mod Lists
-pub mod Looks
+pub mod Points
 pub mod Making
 pub mod Remembering
 pub mod Scans

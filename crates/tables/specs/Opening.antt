@@ -16,8 +16,8 @@ use Rattle.sqlite.specs.Effect.{Database}
 use Rattle.sqlite.specs.State.{State}
 use Rattle.statements.specs.Schema.{meta_table, version_table, edition_table}
 use Rattle.statements.specs.Rows.{Kept}
-use Rattle.statements.specs.Making.{HasMeta, told_schema_version, schema_version_in, HasEdition, edition_in}
-use Rattle.statements.specs.declared.making.TheConstants.{NEWEST}
+use Rattle.statements.specs.Making.{HasMeta, stored_schema_version, schema_version_in, HasEdition, edition_in}
+use Rattle.statements.specs.declared.making.TheConstants.{SCHEMA_VERSION}
 use Rattle.statements.specs.Tables.{Tables, HoldsIn, is_known, schema_tables, later_tables, our_tables, tables_of}
 use Rattle.tables.specs.declared.memo.Memo.{Memo}
 use Rattle.tables.specs.Remembered.{IsRemembered, nothing_kept}
@@ -45,7 +45,7 @@ abbrev pub all_there : ℕ → Schema → Bool
 all_there n s = is_known n && (list_all (is_in_schema s) (schema_tables n) && not (list_any (is_in_schema s) (later_tables n)))
 
 abbrev pub newest_there : Schema → Bool
-newest_there = all_there NEWEST
+newest_there = all_there SCHEMA_VERSION
 
 -- whether they are those of a version from the second up to this one
 abbrev pub later_there : ℕ → Schema → Bool
@@ -54,8 +54,8 @@ later_there (suc zero) s = false
 later_there (suc (suc n)) s = later_there (suc n) s || all_there (suc (suc n)) s
 
 -- whether edition has the version of these tables
-abbrev pub tells_edition : Schema → Bool
-tells_edition = later_there NEWEST
+abbrev pub has_edition : Schema → Bool
+has_edition = later_there SCHEMA_VERSION
 
 -- ---- whether the tables that store the version have the columns of ours
 
@@ -86,10 +86,10 @@ is_integer_column c name = (c.is_strict && is_integer c.kind) && bytes_eq c.name
 abbrev pub is_plain_column : Column → Bool
 is_plain_column c = is_null c.default && is_binary c.collation
 
-abbrev pub tells_schema_version : List Column → Bool
-tells_schema_version (one ∷ version ∷ []) =
+abbrev pub has_schema_version_columns : List Column → Bool
+has_schema_version_columns (one ∷ version ∷ []) =
     ((is_integer_column one (codes "one") && is_plain_column one) && not one.not_null) && ((is_integer_column version (codes "version") && is_plain_column version) && version.not_null)
-tells_schema_version _ = false
+has_schema_version_columns _ = false
 
 -- the first column is the rowid
 abbrev pub is_first_key : Option ℕ → Bool
@@ -101,7 +101,7 @@ has_none [] = true
 has_none (x ∷ xs) = false
 
 abbrev pub is_meta_table : Table → Bool
-is_meta_table t = (is_first_key t.key && has_none t.computed) && tells_schema_version t.columns
+is_meta_table t = (is_first_key t.key && has_none t.computed) && has_schema_version_columns t.columns
 
 abbrev pub is_meta_in : Option Table → Bool
 is_meta_in None = false
@@ -146,27 +146,27 @@ has_versions s = has_versions_at s (table_named s version_table.name)
 -- ---- where the version is stored
 
 -- the version in meta, for tables of the first version; the version in edition, for those of each later one
-abbrev pub told_in : ℕ → Tables → Option ℕ
-told_in zero t = None
-told_in (suc zero) t = schema_version_in t
-told_in (suc (suc n)) t = edition_in t
+abbrev pub stored_in : ℕ → Tables → Option ℕ
+stored_in zero t = None
+stored_in (suc zero) t = schema_version_in t
+stored_in (suc (suc n)) t = edition_in t
 
 -- A database that has the tables of this version stores this version.
-abbrev pub TellsIn : ℕ → Database → Type 0
-TellsIn n db = (t : Tables) → HoldsIn n db t → told_in n t ≡ Some n
+abbrev pub StoresVersionIn : ℕ → Database → Type 0
+StoresVersionIn n db = (t : Tables) → HoldsIn n db t → stored_in n t ≡ Some n
 
-abbrev pub EditionTells : ℕ → Database → Type 0
-EditionTells n db = (table : Table) (editions : List (Kept ℕ)) → HasEdition db table editions → told_schema_version editions ≡ Some n
+abbrev pub EditionStores : ℕ → Database → Type 0
+EditionStores n db = (table : Table) (editions : List (Kept ℕ)) → HasEdition db table editions → stored_schema_version editions ≡ Some n
 
 -- the same, whatever else the table is that stores it
-abbrev pub ToldBy : ℕ → Database → Type 0
-ToldBy zero db = ⊥
-ToldBy (suc zero) db = (table : Table) (metas : List (Kept ℕ)) → HasMeta db table metas → told_schema_version metas ≡ Some 1
-ToldBy (suc (suc n)) db = EditionTells (suc (suc n)) db
+abbrev pub StoredBy : ℕ → Database → Type 0
+StoredBy zero db = ⊥
+StoredBy (suc zero) db = (table : Table) (metas : List (Kept ℕ)) → HasMeta db table metas → stored_schema_version metas ≡ Some 1
+StoredBy (suc (suc n)) db = EditionStores (suc (suc n)) db
 
 -- The database stores no version, or another version than that of the tables that it has.
 abbrev pub IsOther : State → Type 0
-IsOther s = (n : ℕ) → all_there n s.now.schema ≡ true → (t : Tables) → HoldsIn n s.now t → told_in n t ≢ Some n
+IsOther s = (n : ℕ) → all_there n s.now.schema ≡ true → (t : Tables) → HoldsIn n s.now t → stored_in n t ≢ Some n
 
 -- ---- what is returned if the database was not opened
 
@@ -175,7 +175,7 @@ pub record IsOnTheWay (old new : Database) : Type 0 where
   pub from : ℕ
   pub to : ℕ
   pub later : from < to
-  pub most : to < NEWEST
+  pub most : to < SCHEMA_VERSION
   pub there : all_there from old.schema ≡ true
   pub becomes : Becomes from to old new
   pub beside : KeepsBeside from to old new

@@ -28,7 +28,7 @@ use Rattle.texts.specs.Texts.{text_of}
 
 -- the number of versions that a workspace keeps is in a row of its own
 abbrev pub settings_of_cells : ℕ → WorkspaceCells → Settings
-settings_of_cells keep w = record { runs = w.runs; retention = keep }
+settings_of_cells retention w = record { runs = w.runs; retention = retention }
 
 -- the cells have the number of the text's bytes; the text is in pages
 abbrev pub version_of_cells : List ℕ → VersionCells → Version
@@ -46,8 +46,8 @@ token_of_cells bounds t = record { digest = t.digest; caller = caller_with t.rol
 
 -- a workspace with its versions and runs, which have rows of their own
 abbrev pub workspace_of_cells : ℕ → WorkspaceCells → List Version → List Run → Workspace
-workspace_of_cells keep w versions runs = record {
-  settings = settings_of_cells keep w;
+workspace_of_cells retention w versions runs = record {
+  settings = settings_of_cells retention w;
   holder = w.holder;
   released = w.released;
   next_version = w.next_version;

@@ -5,7 +5,7 @@ use Rattle.machine.specs.Tokens.{asker_of}
 use Rattle.machine.specs.Units.{version_text}
 use Rattle.statements.specs.Tables.{Tables}
 use Rattle.texts.specs.Texts.{text_of}
-use Rattle.tables.specs.Counting.{IsCounted}
+use Rattle.tables.specs.Counting.{IsCachedCount}
 use Rattle.tables.specs.Records.{record_of}
 use Rattle.tables.specs.declared.askers.Asked.{Asked}
 use Rattle.tables.specs.declared.memo.Memo.{Memo}
@@ -21,9 +21,9 @@ IsAsker t a = asker_of (record_of t a.org) a.digest ≡ Some a.row
 
 -- everything that is kept is correct for the tables
 pub record IsRemembered (t : Tables) (memo : Memo) : Type 0 where
-  pub counts : IsCounted (record_of t) memo.counted
+  pub counts : IsCachedCount (record_of t) memo.cached
   pub sizes : IfSome memo.sized (IsSize t)
   pub askers : IfSome memo.asked (IsAsker t)
 
 abbrev pub nothing_kept : Memo
-nothing_kept = record { counted = None; sized = None; asked = None }
+nothing_kept = record { cached = None; sized = None; asked = None }

@@ -16,7 +16,7 @@ pub record AreRowsOf (key_of : List ℕ → List ℕ) (t : Tables) (rows : Rows)
   pub vpages : rows.vpages ≡ t.vpages
   pub bounds : rows.bounds ≡ t.bounds
   pub editions : rows.editions ≡ t.editions
-  pub keepings : rows.keepings ≡ t.keepings
+  pub retentions : rows.retentions ≡ t.retentions
 
 -- each page's key is that of its bytes
 abbrev pub ArePagesKeyed : (List ℕ → List ℕ) → Tables → Type 0

@@ -11,9 +11,9 @@ use Rattle.machine.specs.declared.records.Version.{Version}
 use Rattle.machine.specs.declared.records.Workspace.{Workspace}
 use Rattle.machine.specs.declared.records.Organization.{Organization}
 use Rattle.statements.specs.Rows.{Kept, OrgRow, TokenRow, BoundRow, VersionRow, VpageRow}
-use Rattle.statements.specs.declared.making.TheConstants.{NEWEST}
+use Rattle.statements.specs.declared.making.TheConstants.{SCHEMA_VERSION}
 use Rattle.statements.specs.Tables.{Tables, rows_in}
-use Rattle.statements.specs.Changes.{is_org, is_token, is_digest_of, is_bound, is_ws, is_keeping}
+use Rattle.statements.specs.Changes.{is_org, is_token, is_digest_of, is_bound, is_ws, is_retention}
 use Rattle.statements.specs.Finds.{size_of}
 use Rattle.texts.specs.Texts.{pages_for, IsWhole, HasSoundPlaces}
 use Rattle.tables.specs.Records.{workspace_by, record_of}
@@ -33,10 +33,10 @@ pub record IsBoundRow (x : Kept BoundRow) : Type 0 where
   pub prefix : IsTrue (is_prefix x.1.prefix)
 
 -- The one row with the version: in the first version it is in meta; in each later version it is in edition, and meta is empty.
-abbrev pub TellsVersion : ℕ → Tables → Type 0
-TellsVersion zero t = ⊥
-TellsVersion (suc zero) t = t.metas ≡ (pos 1, 1) ∷ []
-TellsVersion (suc (suc n)) t = (t.editions ≡ (pos 1, suc (suc n)) ∷ []) × (t.metas ≡ [])
+abbrev pub StoresVersion : ℕ → Tables → Type 0
+StoresVersion zero t = ⊥
+StoresVersion (suc zero) t = t.metas ≡ (pos 1, 1) ∷ []
+StoresVersion (suc (suc n)) t = (t.editions ≡ (pos 1, suc (suc n)) ∷ []) × (t.metas ≡ [])
 
 -- the row's version exists, and the row's place is below the number of pages of its text
 abbrev pub IsPlaced : Tables → Kept VpageRow → Type 0
@@ -66,7 +66,7 @@ pub record IsSoundWorkspace (name : List ℕ) (w : Workspace) : Type 0 where
 -- rows.
 pub record IsSoundIn (n : ℕ) (t : Tables) : Type 0 where
   -- the tables are those of this version, and store it
-  pub told : TellsVersion n t
+  pub reported : StoresVersion n t
   -- an organization, a token and a workspace each have one row; no two tokens of an organization have the same digest
   pub orgs_apart : AreApart (λ a b. is_org a.1.name b) t.orgs
   pub tokens_apart : AreApart (λ a b. is_token a.1.org a.1.name b) t.tokens
@@ -76,13 +76,13 @@ pub record IsSoundIn (n : ℕ) (t : Tables) : Type 0 where
   pub bounds_apart : AreApart (λ a b. is_bound a.1.org a.1.name b) t.bounds
   pub tokens_bound : AllByRecursion (λ x. list_any (is_bound x.1.org x.1.name) t.bounds ≡ true) (rows_in n 8 t.tokens)
   -- each workspace has one row of keeping, in a version that has that table
-  pub keepings_apart : AreApart (λ a b. is_keeping a.1.org a.1.ws b) t.keepings
-  pub wss_kept : AllByRecursion (λ x. list_any (is_keeping x.1.org x.1.name) t.keepings ≡ true) (rows_in n 10 t.wss)
+  pub retentions_apart : AreApart (λ a b. is_retention a.1.org a.1.ws b) t.retentions
+  pub wss_kept : AllByRecursion (λ x. list_any (is_retention x.1.org x.1.name) t.retentions ≡ true) (rows_in n 10 t.wss)
   -- each row has the row that it belongs to
   pub tokens_owned : AllByRecursion (λ x. list_any (is_org x.1.org) t.orgs ≡ true) t.tokens
   pub bounds_owned : AllByRecursion (λ x. list_any (is_token x.1.org x.1.name) t.tokens ≡ true) t.bounds
   pub wss_owned : AllByRecursion (λ x. list_any (is_org x.1.org) t.orgs ≡ true) t.wss
-  pub keepings_owned : AllByRecursion (λ x. list_any (is_ws x.1.org x.1.ws) t.wss ≡ true) t.keepings
+  pub retentions_owned : AllByRecursion (λ x. list_any (is_ws x.1.org x.1.ws) t.wss ≡ true) t.retentions
   pub versions_owned : AllByRecursion (λ x. list_any (is_ws x.1.org x.1.ws) t.wss ≡ true) t.versions
   pub runs_owned : AllByRecursion (λ x. list_any (is_ws x.1.org x.1.ws) t.wss ≡ true) t.runs
   -- names, limits, digests, expiries and prefixes are valid
@@ -102,4 +102,4 @@ pub record IsSoundIn (n : ℕ) (t : Tables) : Type 0 where
 
 -- when tables of the newest version are sound
 abbrev pub IsSound : Tables → Type 0
-IsSound = IsSoundIn NEWEST
+IsSound = IsSoundIn SCHEMA_VERSION

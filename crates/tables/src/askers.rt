@@ -56,7 +56,7 @@ fn note(alloc: Global, org: &str, digest: &[u8; 32], row: &TokenRow) -> Option<A
 }
 
 /// Keeps the token that was found in memory. If allocating fails, nothing is kept.
-pub(crate) fn keep(
+pub(crate) fn cache_asker(
     asked: &mut Option<Asked>,
     alloc: Global,
     org: &str,

@@ -7,7 +7,7 @@ ghost use Rattle.statements.specs.Steps.{Equals, Sees};
 ghost use Rattle.statements.specs.Tables.{Tables, Holds};
 ghost use Rattle.tables.specs.Records.{caller_with, bounds_at, IsBound};
 ghost use Rattle.tables.specs.Inner.Lists.{asker_in};
-ghost use Rattle.tables.specs.Inner.Steps.{EndsIdle, LooksAt};
+ghost use Rattle.tables.specs.Inner.Steps.{EndsIdle, ReadsCommitted};
 
 use crate::transactions::assert_committed;
 use basis::{Bounds, Caller, Role};
@@ -18,7 +18,7 @@ use statements::{bounds, tokens};
 
 /// The expiry and the prefix of a token. Fails if the token has no row of bound.
 fn bounds_of<S: Alter>(conn: &mut Connection<S>, org: &str, name: &str) -> Result<Bounds, Error>
-    ensures looks { Sees S.Store (Equals (λ t. bounds_at t org.now name.now)) conn.old conn.new result }
+    ensures unchanged { Sees S.Store (Equals (λ t. bounds_at t org.now name.now)) conn.old conn.new result }
     ensures there { HasCleanDisk (state S.Store conn.new) → OnOk result ((t : Tables) → Holds (state S.Store conn.old).now t → IsSome (bound_of org.now name.now t)) }
 {
     match bounds::find(conn, org, name)? {
@@ -43,7 +43,7 @@ pub(crate) fn caller_as<S: Alter>(
     org: &str,
     token: &NamedRole,
 ) -> Result<Caller, Error>
-    ensures looks { Sees S.Store (Equals (λ t. caller_with token.now.role (bounds_at t org.now token.now.name))) conn.old conn.new result }
+    ensures unchanged { Sees S.Store (Equals (λ t. caller_with token.now.role (bounds_at t org.now token.now.name))) conn.old conn.new result }
     ensures there { HasCleanDisk (state S.Store conn.new) → OnOk result ((t : Tables) → Holds (state S.Store conn.old).now t → IsSome (bound_of org.now token.now.name t)) }
 {
     let bounds = bounds_of(conn, org, token.name.as_str())?;
@@ -59,7 +59,7 @@ pub(crate) fn caller<S: Alter>(
 ) -> Result<Option<TokenRow>, Error>
     requires idle { conn.old.in_transaction ≡ false }
     ensures ends { EndsIdle S.Store conn.old conn.new }
-    ensures looks { LooksAt (Equals (asker_in org.now digest.now)) (state S.Store conn.old) (state S.Store conn.new) result }
+    ensures unchanged { ReadsCommitted (Equals (asker_in org.now digest.now)) (state S.Store conn.old) (state S.Store conn.new) result }
     ensures bound { HasCleanDisk (state S.Store conn.new) → OnOk result ((t : Tables) → Holds (state S.Store conn.old).now t → IsBound org.now digest.now t) }
 {
     assert_committed(conn);

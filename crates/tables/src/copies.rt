@@ -115,7 +115,7 @@ fn copy_version<T: Alter, K: PageKey, S: Alter>(
     ws: &str,
     head: &VersionRow,
 ) -> Result<(), Error>
-    ensures looks { Sees T.Store (λ _ _. ⊤) from.old from.new result }
+    ensures unchanged { Sees T.Store (λ _ _. ⊤) from.old from.new result }
     ensures copies { (version : AnyVersion) × RelatedSteps S.Store (Carries org.now ws.now (with_versions (version ∷ []))) tx.old tx.new result
         × (HasCleanDisk (state T.Store from.new) → OnOk result ((f : Tables) → Holds (state T.Store from.old).now f → version ≡ version_at f org.now ws.now head.now)) }
     ensures keyed { RelatedSteps S.Store (KeepsKeys K.key_of) tx.old tx.new result }
@@ -134,7 +134,7 @@ fn copy_versions<T: Alter, K: PageKey, S: Alter>(
     ws: &str,
     heads: &[VersionRow],
 ) -> Result<(), Error>
-    ensures looks { Sees T.Store (λ _ _. ⊤) from.old from.new result }
+    ensures unchanged { Sees T.Store (λ _ _. ⊤) from.old from.new result }
     ensures copies { (versions : List AnyVersion) × RelatedSteps S.Store (Carries org.now ws.now (with_versions versions)) tx.old tx.new result
         × (HasCleanDisk (state T.Store from.new) → OnOk result ((f : Tables) → Holds (state T.Store from.old).now f → versions ≡ map (version_at f org.now ws.now) heads.now)) }
     ensures keyed { RelatedSteps S.Store (KeepsKeys K.key_of) tx.old tx.new result }
@@ -194,17 +194,17 @@ fn copy_parts<T: Alter, K: PageKey, S: Alter>(
     from: &mut Connection<T>,
     org: &str,
     ws: &str,
-    whole: &LoadedWorkspace,
+    loaded: &LoadedWorkspace,
 ) -> Result<(), Error>
-    ensures looks { Sees T.Store (λ _ _. ⊤) from.old from.new result }
+    ensures unchanged { Sees T.Store (λ _ _. ⊤) from.old from.new result }
     ensures copies { (w : AnyWorkspace) × RelatedSteps S.Store (Begins org.now ws.now w) tx.old tx.new result
         × (HasCleanDisk (state T.Store from.new) → OnOk result ((f : Tables) → Holds (state T.Store from.old).now f
-        → w ≡ workspace_of_cells whole.now.retention whole.now.it (map (version_at f org.now ws.now) whole.now.versions) whole.now.runs)) }
+        → w ≡ workspace_of_cells loaded.now.retention loaded.now.it (map (version_at f org.now ws.now) loaded.now.versions) loaded.now.runs)) }
     ensures keyed { RelatedSteps S.Store (KeepsKeys K.key_of) tx.old tx.new result }
 {
-    put_head(tx, org, ws, &whole.it, whole.retention)?;
-    copy_versions::<T, K, S>(tx, alloc, from, org, ws, whole.versions.as_slice())?;
-    put_runs(tx, org, ws, whole.runs.as_slice())
+    put_head(tx, org, ws, &loaded.it, loaded.retention)?;
+    copy_versions::<T, K, S>(tx, alloc, from, org, ws, loaded.versions.as_slice())?;
+    put_runs(tx, org, ws, loaded.runs.as_slice())
 }
 
 /// Copies a workspace of an organization. If this succeeds, its name did not exist before.
@@ -215,11 +215,11 @@ pub(crate) fn copy_workspace<T: Alter, K: PageKey, S: Alter>(
     org: &str,
     ws: &str,
 ) -> Result<(), Error>
-    ensures looks { Sees T.Store (λ _ _. ⊤) from.old from.new result }
+    ensures unchanged { Sees T.Store (λ _ _. ⊤) from.old from.new result }
     ensures copies { (w : AnyWorkspace) × RelatedSteps S.Store (Begins org.now ws.now w) tx.old tx.new result
         × (HasCleanDisk (state T.Store from.new) → OnOk result ((f : Tables) → Holds (state T.Store from.old).now f → IsSound f → workspace_by f org.now ws.now ≡ Some w)) }
     ensures keyed { RelatedSteps S.Store (KeepsKeys K.key_of) tx.old tx.new result }
 {
-    let whole = load_workspace(alloc, from, org, ws)?;
-    copy_parts::<T, K, S>(tx, alloc, from, org, ws, &whole)
+    let loaded = load_workspace(alloc, from, org, ws)?;
+    copy_parts::<T, K, S>(tx, alloc, from, org, ws, &loaded)
 }

@@ -2,7 +2,7 @@
 //! is created.
 ghost use Rattle.std.specs.Prelude.{◌≡◌, false, Some, IfSome};
 ghost use Rattle.basis.specs.declared.numbers.TheConstants.{MAX_LIMIT};
-ghost use Rattle.tables.specs.Inner.Counting.{known_of, looked, one_more, edited_count, changed_count};
+ghost use Rattle.tables.specs.Inner.Counting.{known_of, count_after, one_more, edited_count, changed_count};
 
 use basis::Text;
 use basis::numbers::MAX_LIMIT;
@@ -11,7 +11,7 @@ use std::alloc::Global;
 
 /// The number of an organization's workspaces. It is kept for one organization at a time.
 #[derive(Drop)]
-pub(crate) struct Counted {
+pub(crate) struct WorkspaceCount {
     org: Text,
     count: u64,
     /// The name of a workspace that does not exist.
@@ -19,14 +19,14 @@ pub(crate) struct Counted {
 }
 
 /// The number of the organization's workspaces, if it is in memory.
-pub(crate) fn known(counted: &Option<Counted>, org: &str) -> Option<u64>
-    ensures { result ≡ known_of counted.now org.now }
+pub(crate) fn known(cached: &Option<WorkspaceCount>, org: &str) -> Option<u64>
+    ensures { result ≡ known_of cached.now org.now }
 {
-    match counted {
+    match cached {
         None => None,
-        Some(counted) => {
-            if counted.org.as_str() == org {
-                Some(counted.count)
+        Some(cached) => {
+            if cached.org.as_str() == org {
+                Some(cached.count)
             } else {
                 None
             }
@@ -35,8 +35,8 @@ pub(crate) fn known(counted: &Option<Counted>, org: &str) -> Option<u64>
 }
 
 /// What is kept after a workspace was found to be missing; nothing if allocating fails.
-fn note_absent(alloc: Global, org: &str, ws: &str, count: u64) -> Option<Counted>
-    ensures { IfSome result (λ counted. counted ≡ record { org = org.now; count = count; absent = Some ws.now }) }
+fn note_absent(alloc: Global, org: &str, ws: &str, count: u64) -> Option<WorkspaceCount>
+    ensures { IfSome result (λ cached. cached ≡ record { org = org.now; count = count; absent = Some ws.now }) }
 {
     let Ok(org) = Text::copy_of(alloc, org) else {
         return None;
@@ -44,7 +44,7 @@ fn note_absent(alloc: Global, org: &str, ws: &str, count: u64) -> Option<Counted
     let Ok(ws) = Text::copy_of(alloc, ws) else {
         return None;
     };
-    Some(Counted {
+    Some(WorkspaceCount {
         org,
         count,
         absent: Some(ws),
@@ -53,22 +53,22 @@ fn note_absent(alloc: Global, org: &str, ws: &str, count: u64) -> Option<Counted
 
 /// Keeps what was found for a workspace: if it is missing and the act creates it, the number of workspaces.
 /// If allocating fails, nothing is kept.
-pub(crate) fn keep(
-    counted: &mut Option<Counted>,
+pub(crate) fn cache_count(
+    cached: &mut Option<WorkspaceCount>,
     alloc: Global,
     org: &str,
     ws: &str,
     makes: bool,
     unit: &Unit,
 )
-    ensures stays { makes ≡ false → counted.new ≡ counted.old }
-    ensures kept { IfSome counted.new (λ kept. looked counted.old makes org.now ws.now unit.now ≡ Some kept) }
+    ensures stays { makes ≡ false → cached.new ≡ cached.old }
+    ensures kept { IfSome cached.new (λ kept. count_after cached.old makes org.now ws.now unit.now ≡ Some kept) }
 {
     if !makes {
         return;
     }
     match unit {
-        Unit::Absent { workspaces, .. } => *counted = note_absent(
+        Unit::Absent { workspaces, .. } => *cached = note_absent(
             alloc,
             org,
             ws,
@@ -80,17 +80,17 @@ pub(crate) fn keep(
 
 /// What is kept after a workspace was created. Nothing, unless it was known to be missing: it may have
 /// existed.
-fn one_more(counted: Counted, ws: &str) -> Option<Counted>
-    ensures { result ≡ one_more counted ws.now }
+fn one_more(cached: WorkspaceCount, ws: &str) -> Option<WorkspaceCount>
+    ensures { result ≡ one_more cached ws.now }
 {
-    let Counted { org, count, absent } = counted;
+    let WorkspaceCount { org, count, absent } = cached;
     let Some(absent) = absent else {
         return None;
     };
     if absent.as_str() != ws || count >= MAX_LIMIT as u64 {
         return None;
     }
-    Some(Counted {
+    Some(WorkspaceCount {
         org,
         count: count + 1,
         absent: None,
@@ -98,36 +98,36 @@ fn one_more(counted: Counted, ws: &str) -> Option<Counted>
 }
 
 /// What is kept after a workspace of the organization was edited.
-fn edited(counted: Counted, ws: &str, edit: &Edit) -> Option<Counted>
-    ensures { result ≡ edited_count counted ws.now edit.now }
+fn edited(cached: WorkspaceCount, ws: &str, edit: &Edit) -> Option<WorkspaceCount>
+    ensures { result ≡ edited_count cached ws.now edit.now }
 {
     match edit {
-        Edit::Make(_) => one_more(counted, ws),
+        Edit::Make(_) => one_more(cached, ws),
         Edit::Remove => None,
-        Edit::Configure { .. } => Some(counted),
-        Edit::AddVersion { .. } => Some(counted),
-        Edit::Purge => Some(counted),
-        Edit::Hold { .. } => Some(counted),
-        Edit::Release(_) => Some(counted),
-        Edit::AddRun { .. } => Some(counted),
-        Edit::Report { .. } => Some(counted),
+        Edit::Configure { .. } => Some(cached),
+        Edit::AddVersion { .. } => Some(cached),
+        Edit::Purge => Some(cached),
+        Edit::Hold { .. } => Some(cached),
+        Edit::Release(_) => Some(cached),
+        Edit::AddRun { .. } => Some(cached),
+        Edit::Report { .. } => Some(cached),
     }
 }
 
 /// What is kept after a workspace was changed. A workspace of another organization does not matter.
 pub(crate) fn changed(
-    counted: Option<Counted>,
+    cached: Option<WorkspaceCount>,
     org: &str,
     ws: &str,
     change: &Change,
-) -> Option<Counted>
-    ensures { result ≡ changed_count counted org.now ws.now change.now.edit }
+) -> Option<WorkspaceCount>
+    ensures { result ≡ changed_count cached org.now ws.now change.now.edit }
 {
-    let Some(counted) = counted else {
+    let Some(cached) = cached else {
         return None;
     };
-    if counted.org.as_str() != org {
-        return Some(counted);
+    if cached.org.as_str() != org {
+        return Some(cached);
     }
-    edited(counted, ws, &change.edit)
+    edited(cached, ws, &change.edit)
 }

@@ -20,7 +20,7 @@ fn copy_token<T: Alter, S: Alter>(
     org: &str,
     token: &NamedToken,
 ) -> Result<(), Error>
-    ensures looks { Sees T.Store (λ _ _. ⊤) from.old from.new result }
+    ensures unchanged { Sees T.Store (λ _ _. ⊤) from.old from.new result }
     ensures copies { RelatedSteps S.Store (TakesFrom T.Store (TokenComes org.now token.now) from.old from.new) tx.old tx.new result }
     ensures pages { RelatedSteps S.Store KeepsPages tx.old tx.new result }
 {
@@ -45,7 +45,7 @@ fn copy_tokens<T: Alter, S: Alter>(
     org: &str,
     list: &[NamedToken],
 ) -> Result<(), Error>
-    ensures looks { Sees T.Store (λ _ _. ⊤) from.old from.new result }
+    ensures unchanged { Sees T.Store (λ _ _. ⊤) from.old from.new result }
     ensures copies { RelatedSteps S.Store (TakesFrom T.Store (TokensCome org.now list.now) from.old from.new) tx.old tx.new result }
     ensures pages { RelatedSteps S.Store KeepsPages tx.old tx.new result }
 {
@@ -63,7 +63,7 @@ fn copy_workspaces<T: Alter, K: PageKey, S: Alter>(
     org: &str,
     names: &[WsName],
 ) -> Result<(), Error>
-    ensures looks { Sees T.Store (λ _ _. ⊤) from.old from.new result }
+    ensures unchanged { Sees T.Store (λ _ _. ⊤) from.old from.new result }
     ensures copies { RelatedSteps S.Store (TakesFrom T.Store (WorkspacesCome org.now names.now) from.old from.new) tx.old tx.new result }
     ensures keyed { RelatedSteps S.Store (KeepsKeys K.key_of) tx.old tx.new result }
 {
@@ -81,11 +81,11 @@ pub(crate) fn bring<T: Alter, K: PageKey, S: Alter>(
     org: &str,
     cap: Limit,
 ) -> Result<(), Error>
-    ensures looks { Sees T.Store (λ _ _. ⊤) from.old from.new result }
+    ensures unchanged { Sees T.Store (λ _ _. ⊤) from.old from.new result }
     ensures brings { RelatedSteps S.Store (TakesFrom T.Store (Brings org.now cap) from.old from.new) tx.old tx.new result }
     ensures keyed { RelatedSteps S.Store (KeepsKeys K.key_of) tx.old tx.new result }
 {
-    let list = tokens::list_whole(alloc, from, org)?;
+    let list = tokens::list_with_digests(alloc, from, org)?;
     let names = workspaces::names(alloc, from, org)?;
     organizations::add(tx, org, cap)?;
     copy_tokens(tx, from, org, list.as_slice())?;

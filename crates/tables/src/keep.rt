@@ -17,10 +17,10 @@ ghost use Rattle.tables.specs.Logs.{text_bytes};
 
 use crate::memo::Memo;
 use crate::store::SqlKeep;
-use crate::{askers, callers, counts, listings, looks, operators, sizes, transactions, versions};
+use crate::{askers, callers, counts, listings, operators, points, sizes, transactions, versions};
 use basis::numbers::{MAX_LIMIT, MAX_MOMENT, MAX_NUMBER};
 use basis::{
-    Bounds, Bytes, Down, Limit, Listing, Look, Number, OrgName, Role, RunRow, VersionRow, WsName,
+    Bounds, Bytes, Down, Limit, Listing, Number, OrgName, Query, Role, RunRow, VersionRow, WsName,
     WsPrefix, WsRow,
 };
 use machine::{Act, AdminAnswer, Change, Edit, Keep, TokenRow, Unit};
@@ -43,8 +43,8 @@ fn name_after(after: Option<&WsName>) -> &str
 /// Whether an act answers with the text of a version, so that this text is read next.
 fn reads_text(act: &Act) -> bool {
     match act {
-        Act::Look(Look::State) => true,
-        Act::Look(Look::Version(_)) => true,
+        Act::Query(Query::State) => true,
+        Act::Query(Query::Version(_)) => true,
         _ => false,
     }
 }
@@ -102,7 +102,7 @@ impl<S: Alter, K: PageKey> Keep for SqlKeep<S, K> {
         }
         match callers::caller(&mut self.conn, org, digest.as_slice()) {
             Ok(asker) => {
-                askers::keep(&mut self.memo.asked, alloc, org, digest, &asker);
+                askers::cache_asker(&mut self.memo.asked, alloc, org, digest, &asker);
                 Ok(asker)
             }
             Err(_) => Err(Down),
@@ -112,19 +112,19 @@ impl<S: Alter, K: PageKey> Keep for SqlKeep<S, K> {
     fn unit(&mut self, alloc: Global, org: &OrgName, ws: &WsName, act: &Act) -> Result<Unit, Down> {
         let needs = act.needs();
         let (org, ws) = (org.as_str(), ws.as_str());
-        let known = counts::known(&self.memo.counted, org);
-        match looks::unit(&mut self.conn, org, ws, &needs, known) {
-            Ok(looked) => {
-                counts::keep(
-                    &mut self.memo.counted,
+        let known = counts::known(&self.memo.cached, org);
+        match points::unit(&mut self.conn, org, ws, &needs, known) {
+            Ok(unit_read) => {
+                counts::cache_count(
+                    &mut self.memo.cached,
                     alloc,
                     org,
                     ws,
                     needs.makes,
-                    &looked.unit,
+                    &unit_read.unit,
                 );
-                self.memo.sized = sizes::note(alloc, org, ws, reads_text(act), &looked.size);
-                Ok(looked.unit)
+                self.memo.sized = sizes::note(alloc, org, ws, reads_text(act), &unit_read.size);
+                Ok(unit_read.unit)
             }
             Err(_) => {
                 self.memo = Memo::new();
@@ -348,7 +348,7 @@ impl<S: Alter, K: PageKey> Keep for SqlKeep<S, K> {
     }
 
     fn token_list(&mut self, alloc: Global, org: &OrgName) -> Result<AdminAnswer, Down> {
-        match listings::tokens_told(&mut self.conn, alloc, org.as_str()) {
+        match listings::token_list_answer(&mut self.conn, alloc, org.as_str()) {
             Ok(answer) => Ok(answer),
             Err(_) => Err(Down),
         }

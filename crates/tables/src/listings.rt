@@ -5,8 +5,8 @@ ghost use Rattle.basis.specs.Listings.{listing_of};
 ghost use Rattle.machine.specs.Showing.{holder_id};
 ghost use Rattle.statements.specs.Steps.{Equals, EqualsWhere, Sees};
 ghost use Rattle.statements.specs.Listings.{OrgsApart, TokensApart, WorkspacesApart, VersionsApart, RunsApart};
-ghost use Rattle.tables.specs.Inner.Lists.{versions_listed_in, runs_listed_in, newest_number_in, newest_by, newest_shown_in, ws_row_in, workspaces_listed_in, token_row_in, tokens_listed_in, tokens_told_in, org_row_in, organizations_listed_in};
-ghost use Rattle.tables.specs.Inner.Steps.{EndsIdle, LooksAt};
+ghost use Rattle.tables.specs.Inner.Lists.{versions_listed_in, runs_listed_in, newest_number_in, newest_by, newest_shown_in, ws_row_in, workspaces_listed_in, token_row_in, tokens_listed_in, token_list_answer_in, org_row_in, organizations_listed_in};
+ghost use Rattle.tables.specs.Inner.Steps.{EndsIdle, ReadsCommitted};
 
 use crate::callers::caller_as;
 use crate::transactions::assert_committed;
@@ -44,7 +44,7 @@ pub(crate) fn list_of_versions<S: Alter>(
 ) -> Result<Listing<VersionRow>, Error>
     requires idle { conn.old.in_transaction ≡ false }
     ensures ends { EndsIdle S.Store conn.old conn.new }
-    ensures looks { LooksAt (EqualsWhere (VersionsApart org.now ws.now) (versions_listed_in after org.now ws.now)) (state S.Store conn.old) (state S.Store conn.new) result }
+    ensures unchanged { ReadsCommitted (EqualsWhere (VersionsApart org.now ws.now) (versions_listed_in after org.now ws.now)) (state S.Store conn.old) (state S.Store conn.new) result }
 {
     assert_committed(conn);
     let rows = versions::list(alloc, conn, org, ws, after, ASKED_ROWS)?;
@@ -61,7 +61,7 @@ pub(crate) fn list_of_runs<S: Alter>(
 ) -> Result<Listing<RunRow>, Error>
     requires idle { conn.old.in_transaction ≡ false }
     ensures ends { EndsIdle S.Store conn.old conn.new }
-    ensures looks { LooksAt (EqualsWhere (RunsApart org.now ws.now) (runs_listed_in after org.now ws.now)) (state S.Store conn.old) (state S.Store conn.new) result }
+    ensures unchanged { ReadsCommitted (EqualsWhere (RunsApart org.now ws.now) (runs_listed_in after org.now ws.now)) (state S.Store conn.old) (state S.Store conn.new) result }
 {
     assert_committed(conn);
     let rows = runs::list(alloc, conn, org, ws, after, ASKED_ROWS)?;
@@ -84,7 +84,7 @@ fn newest_number<S: Alter>(
 
 /// The number of the newest version, if no version has the number before the next. It is found by a query,
 /// unless no version was ever created.
-fn newest_looked_for<S: Alter>(
+fn find_newest<S: Alter>(
     conn: &mut Connection<S>,
     org: &str,
     ws: &str,
@@ -108,7 +108,7 @@ fn newest_shown<S: Alter>(
 {
     match workspace.last {
         Some(last) => Ok(Some(last)),
-        None => newest_looked_for(
+        None => find_newest(
             conn,
             org,
             workspace.name.as_str(),
@@ -147,7 +147,7 @@ fn ws_row<S: Alter>(
     Ok(WsRow {
         settings: Settings {
             runs: workspace.it.runs,
-            retention: kept(workspace.keep),
+            retention: kept(workspace.retention),
         },
         holder,
         name,
@@ -182,7 +182,7 @@ pub(crate) fn list_of_workspaces<S: Alter>(
 ) -> Result<Listing<WsRow>, Error>
     requires idle { conn.old.in_transaction ≡ false }
     ensures ends { EndsIdle S.Store conn.old conn.new }
-    ensures looks { LooksAt (EqualsWhere WorkspacesApart (workspaces_listed_in after.now prefix.now org.now)) (state S.Store conn.old) (state S.Store conn.new) result }
+    ensures unchanged { ReadsCommitted (EqualsWhere WorkspacesApart (workspaces_listed_in after.now prefix.now org.now)) (state S.Store conn.old) (state S.Store conn.new) result }
 {
     assert_committed(conn);
     let rows = workspaces::list(alloc, conn, org, after, prefix, ASKED_ROWS)?;
@@ -237,7 +237,7 @@ pub(crate) fn list_of_organizations<S: Alter>(
 ) -> Result<Items<OrgRow>, Error>
     requires idle { conn.old.in_transaction ≡ false }
     ensures ends { EndsIdle S.Store conn.old conn.new }
-    ensures looks { LooksAt (EqualsWhere OrgsApart organizations_listed_in) (state S.Store conn.old) (state S.Store conn.new) result }
+    ensures unchanged { ReadsCommitted (EqualsWhere OrgsApart organizations_listed_in) (state S.Store conn.old) (state S.Store conn.new) result }
 {
     assert_committed(conn);
     let rows = organizations::list(alloc, conn)?;
@@ -286,14 +286,14 @@ fn list_of_tokens<S: Alter>(
 }
 
 /// The answer to the list of an organization's tokens.
-pub(crate) fn tokens_told<S: Alter>(
+pub(crate) fn token_list_answer<S: Alter>(
     conn: &mut Connection<S>,
     alloc: Global,
     org: &str,
 ) -> Result<AdminAnswer, Error>
     requires idle { conn.old.in_transaction ≡ false }
     ensures ends { EndsIdle S.Store conn.old conn.new }
-    ensures looks { LooksAt (EqualsWhere TokensApart (tokens_told_in org.now)) (state S.Store conn.old) (state S.Store conn.new) result }
+    ensures unchanged { ReadsCommitted (EqualsWhere TokensApart (token_list_answer_in org.now)) (state S.Store conn.old) (state S.Store conn.new) result }
 {
     assert_committed(conn);
     let cap = organizations::cap(conn, org)?;

@@ -7,7 +7,7 @@ use basis::numbers::{MAX_KEPT, MAX_NUMBER};
 use basis::{Items, KeepCount, RunRow, VersionRow};
 use sqlite::{Alter, Connection, Error};
 use statements::rows::Workspace;
-use statements::{keepings, runs, versions, workspaces};
+use statements::{retentions, runs, versions, workspaces};
 use std::alloc::Global;
 
 /// The greatest number of versions of a workspace.
@@ -37,7 +37,7 @@ pub(crate) fn load_workspace<S: Alter>(
     let Some(it) = workspaces::find(conn, org, ws)? else {
         return Err(Error::QueryReturnedNoRows);
     };
-    let Some(retention) = keepings::find(conn, org, ws)? else {
+    let Some(retention) = retentions::find(conn, org, ws)? else {
         return Err(Error::QueryReturnedNoRows);
     };
     let versions = versions::list(alloc, conn, org, ws, 0, MOST_VERSIONS)?;

@@ -5,7 +5,7 @@ ghost use Rattle.tables.specs.Inner.Remembering.{changed_memo};
 
 use crate::askers::Asked;
 use crate::counts;
-use crate::counts::Counted;
+use crate::counts::WorkspaceCount;
 use crate::sizes::SizedVersion;
 use machine::Change;
 
@@ -14,7 +14,7 @@ use machine::Change;
 #[derive(Drop)]
 pub(crate) struct Memo {
     /// The number of workspaces of the organization in which one was created last.
-    pub(crate) counted: Option<Counted>,
+    pub(crate) cached: Option<WorkspaceCount>,
     /// The version that was read last and whose text is read next.
     pub(crate) sized: Option<SizedVersion>,
     /// The token that was used last.
@@ -27,7 +27,7 @@ impl Memo {
         ensures { result ≡ nothing_kept }
     {
         Memo {
-            counted: None,
+            cached: None,
             sized: None,
             asked: None,
         }
@@ -38,12 +38,12 @@ impl Memo {
         ensures { result ≡ changed_memo self org.now ws.now change.now.edit }
     {
         let Memo {
-            counted,
+            cached,
             sized: _,
             asked,
         } = self;
         Memo {
-            counted: counts::changed(counted, org, ws, change),
+            cached: counts::changed(cached, org, ws, change),
             sized: None,
             asked,
         }

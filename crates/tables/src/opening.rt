@@ -7,10 +7,10 @@ ghost use Rattle.sqlite.specs.State.{HasCleanDisk, KeepsCommit};
 ghost use Rattle.statements.specs.Place.{IsOwn};
 ghost use Rattle.statements.specs.Schema.{meta_table, version_table, edition_table};
 ghost use Rattle.statements.specs.Tables.{our_tables, table_counts, tables_at};
-ghost use Rattle.statements.specs.declared.making.TheConstants.{NEWEST};
-ghost use Rattle.tables.specs.Opening.{any_there, all_there, newest_there, tells_edition, is_integer_column, is_null, is_plain_column, tells_schema_version, is_first_key, has_none, is_meta_table, is_meta, is_edition, have_names, version_names, has_versions, TellsIn, ToldBy, IsOther, GivesBack};
+ghost use Rattle.statements.specs.declared.making.TheConstants.{SCHEMA_VERSION};
+ghost use Rattle.tables.specs.Opening.{any_there, all_there, newest_there, has_edition, is_integer_column, is_null, is_plain_column, has_schema_version_columns, is_first_key, has_none, is_meta_table, is_meta, is_edition, have_names, version_names, has_versions, StoresVersionIn, StoredBy, IsOther, GivesBack};
 ghost use Rattle.tables.specs.Stores.{is_in_schema};
-ghost use Rattle.tables.specs.Inner.Making.{is_there, IsMade, found_in, TellsFound, FindsOurs, IsClimbed, IsOnWay};
+ghost use Rattle.tables.specs.Inner.Making.{is_there, IsMade, found_in, ReportsFound, FindsOurs, IsClimbed, IsOnWay};
 ghost use Rattle.tables.specs.Inner.Steps.{EndsIdle};
 ghost use Rattle.tables.specs.Versions.{HoldsSchema, schema_records, KeepsBeside};
 
@@ -20,7 +20,7 @@ use sqlite::{Alter, Connection, Error};
 use sqlite_schema::schema::{Column, Kind, Schema, Table};
 use sqlite_value::keys::Collation;
 use sqlite_value::value::Value;
-use statements::making::{self, NEWEST, TABLE_COUNTS, TABLES};
+use statements::making::{self, SCHEMA_VERSION, TABLE_COUNTS, TABLES};
 
 /// The first version of the schema, which is stored in meta. Later versions are stored in edition.
 const FIRST: u64 = 1;
@@ -103,9 +103,9 @@ fn all_there(schema: &Schema, schema_version: u64) -> bool
 /// The version, from the second on, whose tables exist, if there is one.
 fn later_there(schema: &Schema) -> Option<u64>
     ensures there { IfSome result (λ n. (2 ≤ n) × (all_there n schema.now ≡ true)) }
-    ensures told { is_some result ≡ tells_edition schema.now }
+    ensures reported { is_some result ≡ has_edition schema.now }
 {
-    for schema_version in FIRST..NEWEST {
+    for schema_version in FIRST..SCHEMA_VERSION {
         if all_there(schema, schema_version + 1) {
             return Some(schema_version + 1);
         }
@@ -140,8 +140,8 @@ fn is_plain_column(column: &Column) -> bool
 }
 
 /// Whether these are the columns of a table that stores a version.
-fn tells_schema_version(columns: &[Column]) -> bool
-    ensures { result ≡ tells_schema_version columns.now }
+fn has_schema_version_columns(columns: &[Column]) -> bool
+    ensures { result ≡ has_schema_version_columns columns.now }
 {
     match columns {
         [one, schema_version] => {
@@ -178,7 +178,7 @@ fn is_meta_table(table: &Table) -> bool
 {
     is_first_key(table.key)
         && has_none(table.computed.as_slice())
-        && tells_schema_version(table.columns.as_slice())
+        && has_schema_version_columns(table.columns.as_slice())
 }
 
 /// Whether the table meta has the columns of ours.
@@ -249,13 +249,13 @@ fn has_versions(schema: &Schema) -> bool
 }
 
 /// What is found if the tables of a version exist and this version, or none, is stored.
-fn found_in(schema_version: u64, told: Option<u64>) -> Found
-    ensures { result ≡ found_in schema_version told }
+fn found_in(schema_version: u64, reported: Option<u64>) -> Found
+    ensures { result ≡ found_in schema_version reported }
 {
-    match told {
+    match reported {
         None => Found::Other,
-        Some(told) => {
-            if told == schema_version {
+        Some(reported) => {
+            if reported == schema_version {
                 Found::Version(schema_version)
             } else {
                 Found::Other
@@ -269,12 +269,12 @@ fn find_first<S: Alter>(conn: &mut Connection<S>) -> Result<Found, Error>
     requires idle { conn.old.in_transaction ≡ false }
     requires there { all_there 1 (state S.Store conn.old).now.schema ≡ true }
     ensures ends { EndsIdle S.Store conn.old conn.new }
-    ensures found { HasCleanDisk (state S.Store conn.new) → IfOk result (λ found. TellsFound found (state S.Store conn.old) (state S.Store conn.new)) }
+    ensures found { HasCleanDisk (state S.Store conn.new) → IfOk result (λ found. ReportsFound found (state S.Store conn.old) (state S.Store conn.new)) }
     ensures err { HasCleanDisk (state S.Store conn.new) → OnErr result (KeepsCommit (state S.Store conn.old) (state S.Store conn.new)) }
 {
     assert_committed(conn);
     match making::schema_version(conn) {
-        Ok(told) => Ok(found_in(FIRST, told)),
+        Ok(reported) => Ok(found_in(FIRST, reported)),
         Err(error) => Err(error),
     }
 }
@@ -285,12 +285,12 @@ fn find_later<S: Alter>(conn: &mut Connection<S>, schema_version: u64) -> Result
     requires there { all_there schema_version (state S.Store conn.old).now.schema ≡ true }
     requires later { 2 ≤ schema_version }
     ensures ends { EndsIdle S.Store conn.old conn.new }
-    ensures found { HasCleanDisk (state S.Store conn.new) → IfOk result (λ found. TellsFound found (state S.Store conn.old) (state S.Store conn.new)) }
+    ensures found { HasCleanDisk (state S.Store conn.new) → IfOk result (λ found. ReportsFound found (state S.Store conn.old) (state S.Store conn.new)) }
     ensures err { HasCleanDisk (state S.Store conn.new) → OnErr result (KeepsCommit (state S.Store conn.old) (state S.Store conn.new)) }
 {
     assert_committed(conn);
     match making::edition(conn) {
-        Ok(told) => Ok(found_in(schema_version, told)),
+        Ok(reported) => Ok(found_in(schema_version, reported)),
         Err(error) => Err(error),
     }
 }
@@ -299,10 +299,10 @@ fn find_later<S: Alter>(conn: &mut Connection<S>, schema_version: u64) -> Result
 fn find_schema_version<S: Alter>(conn: &mut Connection<S>) -> Result<Found, Error>
     requires idle { conn.old.in_transaction ≡ false }
     ensures ends { EndsIdle S.Store conn.old conn.new }
-    ensures found { HasCleanDisk (state S.Store conn.new) → IfOk result (λ found. TellsFound found (state S.Store conn.old) (state S.Store conn.new)) }
+    ensures found { HasCleanDisk (state S.Store conn.new) → IfOk result (λ found. ReportsFound found (state S.Store conn.old) (state S.Store conn.new)) }
     ensures err { HasCleanDisk (state S.Store conn.new) → OnErr result (KeepsCommit (state S.Store conn.old) (state S.Store conn.new)) }
-    ensures edition { tells_edition (state S.Store conn.old).now.schema ≡ true → is_edition (state S.Store conn.old).now.schema ≡ false → IfOk result (λ found. found ≡ Found.Other) × IfErr result (λ _. ⊥) }
-    ensures missing { all_there 1 (state S.Store conn.old).now.schema ≡ false → tells_edition (state S.Store conn.old).now.schema ≡ false → IfOk result (λ found. found ≡ Found.Other) × IfErr result (λ _. ⊥) }
+    ensures edition { has_edition (state S.Store conn.old).now.schema ≡ true → is_edition (state S.Store conn.old).now.schema ≡ false → IfOk result (λ found. found ≡ Found.Other) × IfErr result (λ _. ⊥) }
+    ensures missing { all_there 1 (state S.Store conn.old).now.schema ≡ false → has_edition (state S.Store conn.old).now.schema ≡ false → IfOk result (λ found. found ≡ Found.Other) × IfErr result (λ _. ⊥) }
 {
     let later = later_there(conn.schema());
     match later {
@@ -329,9 +329,9 @@ fn find<S: Alter>(conn: &mut Connection<S>) -> Result<Found, Error>
     ensures err { HasCleanDisk (state S.Store conn.new) → OnErr result (KeepsCommit (state S.Store conn.old) (state S.Store conn.new)) }
     ensures nothing { HasCleanDisk (state S.Store conn.new) → IfOk result (λ found. found ≡ Found.Nothing → conn.new ≡ conn.old) }
     ensures foreign { any_there (state S.Store conn.old).now.schema ≡ true → is_meta (state S.Store conn.old).now.schema ≡ false → IfOk result (λ found. found ≡ Found.Other) × IfErr result (λ _. ⊥) }
-    ensures edition { any_there (state S.Store conn.old).now.schema ≡ true → tells_edition (state S.Store conn.old).now.schema ≡ true → is_edition (state S.Store conn.old).now.schema ≡ false
+    ensures edition { any_there (state S.Store conn.old).now.schema ≡ true → has_edition (state S.Store conn.old).now.schema ≡ true → is_edition (state S.Store conn.old).now.schema ≡ false
         → IfOk result (λ found. found ≡ Found.Other) × IfErr result (λ _. ⊥) }
-    ensures missing { any_there (state S.Store conn.old).now.schema ≡ true → all_there 1 (state S.Store conn.old).now.schema ≡ false → tells_edition (state S.Store conn.old).now.schema ≡ false
+    ensures missing { any_there (state S.Store conn.old).now.schema ≡ true → all_there 1 (state S.Store conn.old).now.schema ≡ false → has_edition (state S.Store conn.old).now.schema ≡ false
         → IfOk result (λ found. found ≡ Found.Other) × IfErr result (λ _. ⊥) }
     ensures older { any_there (state S.Store conn.old).now.schema ≡ true → has_versions (state S.Store conn.old).now.schema ≡ false → IfOk result (λ found. found ≡ Found.Other) × IfErr result (λ _. ⊥) }
 {
@@ -352,9 +352,9 @@ fn climb<S: Alter>(conn: &mut Connection<S>, from: u64) -> Result<(), Error>
     requires idle { conn.old.in_transaction ≡ false }
     ensures ends { EndsIdle S.Store conn.old conn.new }
     ensures climbed { HasCleanDisk (state S.Store conn.new) → OnOk result (IsClimbed from (state S.Store conn.old) (state S.Store conn.new)) × OnErr result (IsOnWay from (state S.Store conn.old) (state S.Store conn.new)) }
-    ensures newest { from ≡ NEWEST → (conn.new ≡ conn.old) × IfErr result (λ _. ⊥) }
+    ensures newest { from ≡ SCHEMA_VERSION → (conn.new ≡ conn.old) × IfErr result (λ _. ⊥) }
 {
-    for at in from..NEWEST {
+    for at in from..SCHEMA_VERSION {
         transactions::raise(conn, at)?;
     }
     Ok(())
@@ -365,20 +365,20 @@ pub(crate) fn ready<S: Alter>(conn: &mut Connection<S>) -> Result<(), Fault>
     requires idle { conn.old.in_transaction ≡ false }
     ensures ends { EndsIdle S.Store conn.old conn.new }
     ensures made { HasCleanDisk (state S.Store conn.new) → OnOk result (any_there (state S.Store conn.old).now.schema ≡ false → IsMade (state S.Store conn.old) (state S.Store conn.new)) }
-    ensures told { HasCleanDisk (state S.Store conn.new) → OnOk result ((n : ℕ) → all_there n (state S.Store conn.old).now.schema ≡ true
-        → TellsIn n (state S.Store conn.old).now × ToldBy n (state S.Store conn.old).now) }
+    ensures reported { HasCleanDisk (state S.Store conn.new) → OnOk result ((n : ℕ) → all_there n (state S.Store conn.old).now.schema ≡ true
+        → StoresVersionIn n (state S.Store conn.old).now × StoredBy n (state S.Store conn.old).now) }
     ensures stays { HasCleanDisk (state S.Store conn.new) → OnOk result (newest_there (state S.Store conn.old).now.schema ≡ true → (state S.Store conn.new).committed ≡ (state S.Store conn.old).now) }
-    ensures beside { HasCleanDisk (state S.Store conn.new) → OnOk result ((n : ℕ) → all_there n (state S.Store conn.old).now.schema ≡ true → KeepsBeside n NEWEST (state S.Store conn.old).now (state S.Store conn.new).committed) }
+    ensures beside { HasCleanDisk (state S.Store conn.new) → OnOk result ((n : ℕ) → all_there n (state S.Store conn.old).now.schema ≡ true → KeepsBeside n SCHEMA_VERSION (state S.Store conn.old).now (state S.Store conn.new).committed) }
     ensures climbed { HasCleanDisk (state S.Store conn.new) → OnOk result ((n : ℕ) → HoldsSchema n (state S.Store conn.old).now
-        → HoldsSchema NEWEST (state S.Store conn.new).committed × ((o : List ℕ) → schema_records NEWEST (state S.Store conn.new).committed o ≡ schema_records n (state S.Store conn.old).now o)
-        × ((tables_at NEWEST (state S.Store conn.new).committed).pages ≡ (tables_at n (state S.Store conn.old).now).pages)) }
+        → HoldsSchema SCHEMA_VERSION (state S.Store conn.new).committed × ((o : List ℕ) → schema_records SCHEMA_VERSION (state S.Store conn.new).committed o ≡ schema_records n (state S.Store conn.old).now o)
+        × ((tables_at SCHEMA_VERSION (state S.Store conn.new).committed).pages ≡ (tables_at n (state S.Store conn.old).now).pages)) }
     ensures err { HasCleanDisk (state S.Store conn.new) → OnErr result (GivesBack (state S.Store conn.old) (state S.Store conn.new)) }
     ensures other { HasCleanDisk (state S.Store conn.new) → IfErr result (λ fault. fault ≡ Fault.Schema → (any_there (state S.Store conn.old).now.schema ≡ true) × IsOther (state S.Store conn.old)) }
     ensures kept { HasCleanDisk (state S.Store conn.new) → IfErr result (λ fault. fault ≡ Fault.Schema → KeepsCommit (state S.Store conn.old) (state S.Store conn.new)) }
     ensures foreign { any_there (state S.Store conn.old).now.schema ≡ true → is_meta (state S.Store conn.old).now.schema ≡ false → IfErr result (λ fault. fault ≡ Fault.Schema) × IfOk result (λ _. ⊥) }
-    ensures edition { any_there (state S.Store conn.old).now.schema ≡ true → tells_edition (state S.Store conn.old).now.schema ≡ true → is_edition (state S.Store conn.old).now.schema ≡ false
+    ensures edition { any_there (state S.Store conn.old).now.schema ≡ true → has_edition (state S.Store conn.old).now.schema ≡ true → is_edition (state S.Store conn.old).now.schema ≡ false
         → IfErr result (λ fault. fault ≡ Fault.Schema) × IfOk result (λ _. ⊥) }
-    ensures missing { any_there (state S.Store conn.old).now.schema ≡ true → all_there 1 (state S.Store conn.old).now.schema ≡ false → tells_edition (state S.Store conn.old).now.schema ≡ false
+    ensures missing { any_there (state S.Store conn.old).now.schema ≡ true → all_there 1 (state S.Store conn.old).now.schema ≡ false → has_edition (state S.Store conn.old).now.schema ≡ false
         → IfErr result (λ fault. fault ≡ Fault.Schema) × IfOk result (λ _. ⊥) }
     ensures older { any_there (state S.Store conn.old).now.schema ≡ true → has_versions (state S.Store conn.old).now.schema ≡ false → IfErr result (λ fault. fault ≡ Fault.Schema) × IfOk result (λ _. ⊥) }
 {

@@ -47,7 +47,7 @@ pub(crate) fn copy<T: Alter, K: PageKey, S: Alter>(
     requires idle { conn.old.in_transaction ≡ false }
     requires source_idle { from.old.in_transaction ≡ false }
     ensures ends { EndsIdle S.Store conn.old conn.new }
-    ensures looks { Sees T.Store (λ _ _. ⊤) from.old from.new result }
+    ensures unchanged { Sees T.Store (λ _ _. ⊤) from.old from.new result }
     ensures done { HasCleanDisk (state S.Store conn.new)
         → IfOk result (λ answer. CommitsRelated (TakesCommitted T.Store (Copies answer org.now) from.old from.new) (state S.Store conn.old) (state S.Store conn.new)) × OnErr result (KeepsCommit (state S.Store conn.old) (state S.Store conn.new)) }
     ensures keyed { HasCleanDisk (state S.Store conn.new) → OnOk result (CommitsRelated (KeepsKeys K.key_of) (state S.Store conn.old) (state S.Store conn.new)) }

@@ -29,7 +29,7 @@ pub(crate) fn read_possessions<S: Alter>(
     ensures { Sees S.Store (λ all. AreAllOf org.now all.names all.tokens) conn.old conn.new result }
 {
     let names = workspaces::names(alloc, conn, org)?;
-    let tokens = tokens::list_whole(alloc, conn, org)?;
+    let tokens = tokens::list_with_digests(alloc, conn, org)?;
     Ok(Possessions { names, tokens })
 }
 
@@ -46,7 +46,7 @@ fn is_used(holder: &Holder, open_runs: u64) -> bool
 
 /// Whether a lock holds a workspace, or one of its runs is open.
 fn is_in_use<S: Alter>(conn: &mut Connection<S>, org: &str, ws: &str) -> Result<bool, Error>
-    ensures looks { Sees S.Store (Equals (is_used_in org.now ws.now)) conn.old conn.new result }
+    ensures unchanged { Sees S.Store (Equals (is_used_in org.now ws.now)) conn.old conn.new result }
 {
     match workspaces::find(conn, org, ws)? {
         None => Ok(false),
@@ -63,7 +63,7 @@ fn is_one_in_use<S: Alter>(
     org: &str,
     names: &[WsName],
 ) -> Result<bool, Error>
-    ensures looks { Sees S.Store (Equals (λ t. list_any (λ ws. is_used_in org.now ws t) names.now)) conn.old conn.new result }
+    ensures unchanged { Sees S.Store (Equals (λ t. list_any (λ ws. is_used_in org.now ws t) names.now)) conn.old conn.new result }
 {
     'workspaces: for name in names {
         if is_in_use(conn, org, name.as_str())? {
@@ -81,7 +81,7 @@ pub(crate) fn is_kept_back<S: Alter>(
     is_forced: bool,
     names: &[WsName],
 ) -> Result<bool, Error>
-    ensures looks { Sees S.Store (Equals (is_kept_back org.now is_forced names.now)) conn.old conn.new result }
+    ensures unchanged { Sees S.Store (Equals (is_kept_back org.now is_forced names.now)) conn.old conn.new result }
 {
     if is_forced {
         Ok(false)

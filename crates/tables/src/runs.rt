@@ -5,7 +5,7 @@ ghost use Rattle.statements.specs.Steps.{Equals, Sees};
 ghost use Rattle.machine.specs.Needs.{needed_of};
 ghost use Rattle.machine.specs.Units.{if_needed};
 ghost use Rattle.tables.specs.Inner.Units.{holder_status_in, keyed_run_in, asked_run_in};
-ghost use Rattle.tables.specs.Inner.Looks.{runs_in};
+ghost use Rattle.tables.specs.Inner.Points.{runs_in};
 
 use basis::{Holder, Number, RunRow, RunStatus, Text};
 use machine::Needs;
@@ -29,7 +29,7 @@ fn holder_status<S: Alter>(
     needed: bool,
     holder: &Holder,
 ) -> Result<Option<RunStatus>, Error>
-    ensures looks { Sees S.Store (Equals (λ t. if_needed needed (holder_status_in org.now ws.now holder.now t))) conn.old conn.new result }
+    ensures unchanged { Sees S.Store (Equals (λ t. if_needed needed (holder_status_in org.now ws.now holder.now t))) conn.old conn.new result }
 {
     if !needed {
         return Ok(None);
@@ -48,7 +48,7 @@ fn keyed_run<S: Alter>(
     ws: &str,
     key: Option<&Text>,
 ) -> Result<Option<RunRow>, Error>
-    ensures looks { Sees S.Store (Equals (keyed_run_in (option_copied key.entry) org.now ws.now)) conn.old conn.new result }
+    ensures unchanged { Sees S.Store (Equals (keyed_run_in (option_copied key.entry) org.now ws.now)) conn.old conn.new result }
 {
     match key {
         None => Ok(None),
@@ -64,7 +64,7 @@ fn asked_run<S: Alter>(
     number: Option<Number>,
     key: Option<&Text>,
 ) -> Result<Option<RunRow>, Error>
-    ensures looks { Sees S.Store (Equals (asked_run_in number (option_copied key.entry) org.now ws.now)) conn.old conn.new result }
+    ensures unchanged { Sees S.Store (Equals (asked_run_in number (option_copied key.entry) org.now ws.now)) conn.old conn.new result }
 {
     match number {
         None => keyed_run(conn, org, ws, key),
@@ -79,7 +79,7 @@ fn first_waiting_if<S: Alter>(
     ws: &str,
     needed: bool,
 ) -> Result<Option<Number>, Error>
-    ensures looks { Sees S.Store (Equals (λ t. if_needed needed (first_waiting_of org.now ws.now t))) conn.old conn.new result }
+    ensures unchanged { Sees S.Store (Equals (λ t. if_needed needed (first_waiting_of org.now ws.now t))) conn.old conn.new result }
 {
     if needed {
         runs::first_waiting(conn, org, ws)
@@ -95,7 +95,7 @@ fn open_runs_if<S: Alter>(
     ws: &str,
     needed: bool,
 ) -> Result<u64, Error>
-    ensures looks { Sees S.Store (Equals (λ t. cond needed (open_runs_of org.now ws.now t) 0)) conn.old conn.new result }
+    ensures unchanged { Sees S.Store (Equals (λ t. cond needed (open_runs_of org.now ws.now t) 0)) conn.old conn.new result }
 {
     if needed {
         runs::count_open(conn, org, ws)
@@ -112,7 +112,7 @@ pub(crate) fn runs_around<S: Alter>(
     needs: &Needs<'_>,
     holder: &Holder,
 ) -> Result<RunsAround, Error>
-    ensures looks { Sees S.Store (Equals (runs_in (needed_of needs.now) org.now ws.now holder.now)) conn.old conn.new result }
+    ensures unchanged { Sees S.Store (Equals (runs_in (needed_of needs.now) org.now ws.now holder.now)) conn.old conn.new result }
 {
     let holder_status = holder_status(conn, org, ws, needs.holder_status, holder)?;
     let first_waiting = first_waiting_if(conn, org, ws, needs.waiting)?;

@@ -6,7 +6,7 @@ ghost use Rattle.pages.specs.Heads.{head_in};
 ghost use Rattle.statements.specs.Steps.{Sees};
 ghost use Rattle.tables.specs.Scans.{AreRowsOf};
 ghost use Rattle.tables.specs.Inner.Scans.{no_rows, with_first, with_workspaces, with_others};
-ghost use Rattle.tables.specs.Inner.Steps.{EndsIdle, LooksAt};
+ghost use Rattle.tables.specs.Inner.Steps.{EndsIdle, ReadsCommitted};
 
 use crate::transactions::assert_committed;
 use basis::Items;
@@ -30,7 +30,7 @@ fn no_rows(alloc: Global) -> Rows
         vpages: Items::new(Vec::new(alloc)),
         bounds: Items::new(Vec::new(alloc)),
         editions: Items::new(Vec::new(alloc)),
-        keepings: Items::new(Vec::new(alloc)),
+        retentions: Items::new(Vec::new(alloc)),
     }
 }
 
@@ -96,14 +96,14 @@ fn read_wss<S: Alter>(conn: &mut Connection<S>, alloc: Global, rows: &mut Rows) 
     Ok(())
 }
 
-fn read_keepings<S: Alter>(
+fn read_retentions<S: Alter>(
     conn: &mut Connection<S>,
     alloc: Global,
     rows: &mut Rows,
 ) -> Result<(), Error>
-    ensures { Sees S.Store (λ _ t. rows.new ≡ record rows.old { keepings = t.keepings }) conn.old conn.new result }
+    ensures { Sees S.Store (λ _ t. rows.new ≡ record rows.old { retentions = t.retentions }) conn.old conn.new result }
 {
-    rows.keepings = scans::keepings(alloc, conn)?;
+    rows.retentions = scans::retentions(alloc, conn)?;
     Ok(())
 }
 
@@ -176,7 +176,7 @@ fn read_workspaces<S: Alter>(
 {
     read_bounds(conn, alloc, rows)?;
     read_wss(conn, alloc, rows)?;
-    read_keepings(conn, alloc, rows)?;
+    read_retentions(conn, alloc, rows)?;
     read_versions(conn, alloc, rows)
 }
 
@@ -214,7 +214,7 @@ pub(crate) fn scan<S: Alter, K: PageKey>(
 ) -> Result<Rows, Error>
     requires idle { conn.old.in_transaction ≡ false }
     ensures ends { EndsIdle S.Store conn.old conn.new }
-    ensures looks { LooksAt (λ rows t. AreRowsOf K.key_of t rows) (state S.Store conn.old) (state S.Store conn.new) result }
+    ensures unchanged { ReadsCommitted (λ rows t. AreRowsOf K.key_of t rows) (state S.Store conn.old) (state S.Store conn.new) result }
 {
     assert_committed(conn);
     let mut rows = no_rows(alloc);

@@ -3,7 +3,7 @@ ghost use Rattle.std.specs.Prelude.{◌≡◌, ◌+◌, true, false, cond, is_so
 ghost use Rattle.sqlite.specs.Held.{state};
 ghost use Rattle.statements.specs.Changes.{run_acted};
 ghost use Rattle.statements.specs.Finds.{size_of, workspace_of, oldest_below};
-ghost use Rattle.statements.specs.Steps.{Steps, Tells};
+ghost use Rattle.statements.specs.Steps.{Steps, Reports};
 ghost use Rattle.tables.specs.Inner.Edits.{version_gone, oldest_gone, gone_below, all_gone, removed_rows, made_rows, configured_rows, numbered_rows, row_added, added_rows, versioned_rows, run_put, run_counted, run_rows, freed_rows, edited_rows, begun_rows, changed_rows, FitsTwins, TakesVersion, TakesEdit};
 ghost use Rattle.tables.specs.Inner.Copies.{RelatedSteps};
 ghost use Rattle.tables.specs.Inner.Keys.{KeepsKeys};
@@ -14,7 +14,7 @@ use basis::{Holder, Moment, Number, RunAction, RunAsk, RunStatus, Settings, Text
 use machine::{Change, Edit, Version};
 use pages::PageKey;
 use sqlite::{Alter, Error, Transaction};
-use statements::{keepings, runs, versions, workspaces};
+use statements::{retentions, runs, versions, workspaces};
 
 /// The greatest number of versions that are removed at once: a workspace keeps no more, and one more has been
 /// added before others are removed.
@@ -45,7 +45,7 @@ fn remove_oldest<S: Alter>(
     below: u32,
 ) -> Result<bool, Error>
     ensures steps { Steps S.Store (oldest_gone org.now ws.now below) tx.old tx.new result }
-    ensures left { Tells (λ more t. more ≡ false → oldest_below org.now ws.now below (oldest_gone org.now ws.now below t) ≡ None) (state S.Store tx.old.conn.now) (state S.Store tx.new.conn.now) result }
+    ensures left { Reports (λ more t. more ≡ false → oldest_below org.now ws.now below (oldest_gone org.now ws.now below t) ≡ None) (state S.Store tx.old.conn.now) (state S.Store tx.new.conn.now) result }
 {
     match versions::oldest_below(tx, org, ws, below)? {
         None => Ok(false),
@@ -105,7 +105,7 @@ fn make_workspace<S: Alter>(
     settings: &Settings,
 ) -> Result<(), Error>
     ensures steps { Steps S.Store (made_rows org.now ws.now settings.now) tx.old tx.new result }
-    ensures fresh { Tells (λ _ t. workspace_of org.now ws.now t ≡ None) (state S.Store tx.old.conn.now) (state S.Store tx.new.conn.now) result }
+    ensures fresh { Reports (λ _ t. workspace_of org.now ws.now t ≡ None) (state S.Store tx.old.conn.now) (state S.Store tx.new.conn.now) result }
 {
     workspaces::add(tx, org, ws, settings.runs, settings.retention)
 }
@@ -118,7 +118,7 @@ fn add_row<S: Alter>(
     version: &Version,
 ) -> Result<(), Error>
     ensures steps { Steps S.Store (row_added org.now ws.now version.now) tx.old tx.new result }
-    ensures fresh { Tells (λ _ t. size_of org.now ws.now version.now.number t ≡ None) (state S.Store tx.old.conn.now) (state S.Store tx.new.conn.now) result }
+    ensures fresh { Reports (λ _ t. size_of org.now ws.now version.now.number t ≡ None) (state S.Store tx.old.conn.now) (state S.Store tx.new.conn.now) result }
 {
     let lineage = version.lineage.as_str();
     let size = version.text.as_slice().len() as u64;
@@ -147,7 +147,7 @@ pub(crate) fn add<K: PageKey, S: Alter>(
     version: &Version,
 ) -> Result<(), Error>
     ensures adds { KeyedSteps S.Store (λ keys. added_rows keys org.now ws.now version.now) (λ keys. FitsTwins keys org.now ws.now version.now) tx.old tx.new result }
-    ensures fresh { Tells (λ _ t. size_of org.now ws.now version.now.number t ≡ None) (state S.Store tx.old.conn.now) (state S.Store tx.new.conn.now) result }
+    ensures fresh { Reports (λ _ t. size_of org.now ws.now version.now.number t ≡ None) (state S.Store tx.old.conn.now) (state S.Store tx.new.conn.now) result }
     ensures keyed { RelatedSteps S.Store (KeepsKeys K.key_of) tx.old tx.new result }
 {
     let text = version.text.as_slice();
@@ -164,7 +164,7 @@ fn count_on<S: Alter>(
     version: &Version,
 ) -> Result<(), Error>
     ensures steps { Steps S.Store (numbered_rows org.now ws.now version.now) tx.old tx.new result }
-    ensures found { Tells (λ _ t. is_some (workspace_of org.now ws.now t) ≡ true) (state S.Store tx.old.conn.now) (state S.Store tx.new.conn.now) result }
+    ensures found { Reports (λ _ t. is_some (workspace_of org.now ws.now t) ≡ true) (state S.Store tx.old.conn.now) (state S.Store tx.new.conn.now) result }
 {
     let number = version.number.get();
     if !workspaces::set_next_version(tx, org, ws, number + 1)? {
@@ -197,7 +197,7 @@ fn configure<S: Alter>(
     ensures { Steps S.Store (configured_rows org.now ws.now settings.now outgoing) tx.old tx.new result }
 {
     workspaces::set_run_settings(tx, org, ws, settings.runs)?;
-    keepings::set(tx, org, ws, settings.retention)?;
+    retentions::set(tx, org, ws, settings.retention)?;
     match outgoing {
         None => Ok(()),
         Some(last) => forget(tx, org, ws, last),
@@ -279,7 +279,7 @@ fn count_run<S: Alter>(
     number: Number,
 ) -> Result<(), Error>
     ensures steps { Steps S.Store (run_counted org.now ws.now number) tx.old tx.new result }
-    ensures found { Tells (λ _ t. is_some (workspace_of org.now ws.now t) ≡ true) (state S.Store tx.old.conn.now) (state S.Store tx.new.conn.now) result }
+    ensures found { Reports (λ _ t. is_some (workspace_of org.now ws.now t) ≡ true) (state S.Store tx.old.conn.now) (state S.Store tx.new.conn.now) result }
 {
     let number = number.get();
     if !workspaces::set_next_run(tx, org, ws, number + 1)? {

@@ -6,16 +6,16 @@ ghost use Rattle.tables.specs.Stores.{records_of};
 ghost use Rattle.statements.specs.Tables.{Tables, Holds};
 ghost use Rattle.tables.specs.Opened.{IsOpened, IsLeft, RefusesOthers};
 ghost use Rattle.tables.specs.Opening.{IsFresh};
-ghost use Rattle.machine.specs.Keeping.{Looks, Lasts, LastsWhere};
+ghost use Rattle.machine.specs.StoreCalls.{Unchanged, Lasts, LastsWhere};
 ghost use Rattle.tables.specs.Copying.{IsCopied};
-ghost use Rattle.tables.specs.Defined.{TellsTables};
+ghost use Rattle.tables.specs.Defined.{ReportsTables};
 ghost use Rattle.tables.specs.Scans.{AreRowsOf};
 ghost use Rattle.tables.specs.Logs.{CopiesLog};
 ghost use Rattle.tables.specs.declared.store.TheConstants.{LONG_LOG};
 
 use crate::memo::Memo;
 use crate::opening::ready;
-use crate::{looks, operators, scans, transactions};
+use crate::{operators, points, scans, transactions};
 use basis::{Down, Items, OrgName, Text};
 use machine::{AdminAnswer, Fault, Keep};
 use pages::PageKey;
@@ -110,10 +110,10 @@ impl<S: Alter, K: PageKey> SqlKeep<S, K> {
 
     /// Whether a disk error has closed the store, so that it refuses every call. Fails if memory is refused.
     pub fn is_shut(&mut self) -> Result<bool, Down>
-        ensures told { HasCleanDisk (state S.Store self.new.conn) → IfOk result (λ is_shut. (state S.Store self.old.conn).is_open ≡ not is_shut) }
-        ensures looks { Looks ⟦<SqlKeep<S, K> as Keep>⟧.rows ⟦<SqlKeep<S, K> as Keep>⟧.clean ⟦<SqlKeep<S, K> as Keep>⟧.sound ⟦<SqlKeep<S, K> as Keep>⟧.keyed ⟦<SqlKeep<S, K> as Keep>⟧.shielded self.old self.new }
+        ensures reported { HasCleanDisk (state S.Store self.new.conn) → IfOk result (λ is_shut. (state S.Store self.old.conn).is_open ≡ not is_shut) }
+        ensures unchanged { Unchanged ⟦<SqlKeep<S, K> as Keep>⟧.rows ⟦<SqlKeep<S, K> as Keep>⟧.clean ⟦<SqlKeep<S, K> as Keep>⟧.sound ⟦<SqlKeep<S, K> as Keep>⟧.keyed ⟦<SqlKeep<S, K> as Keep>⟧.shielded self.old self.new }
     {
-        match looks::is_shut(&mut self.conn) {
+        match points::is_shut(&mut self.conn) {
             Ok(is_shut) => Ok(is_shut),
             Err(_) => Err(Down),
         }
@@ -122,10 +122,10 @@ impl<S: Alter, K: PageKey> SqlKeep<S, K> {
     /// The names of our tables that the database lacks or defines differently. Fails if memory or the store
     /// refuses.
     pub fn other_tables(&mut self, alloc: Global) -> Result<Items<Text>, Down>
-        ensures told { HasCleanDisk (state S.Store self.new.conn) → IfOk result (TellsTables (state S.Store self.old.conn) (state S.Store self.new.conn)) }
-        ensures looks { Looks ⟦<SqlKeep<S, K> as Keep>⟧.rows ⟦<SqlKeep<S, K> as Keep>⟧.clean ⟦<SqlKeep<S, K> as Keep>⟧.sound ⟦<SqlKeep<S, K> as Keep>⟧.keyed ⟦<SqlKeep<S, K> as Keep>⟧.shielded self.old self.new }
+        ensures reported { HasCleanDisk (state S.Store self.new.conn) → IfOk result (ReportsTables (state S.Store self.old.conn) (state S.Store self.new.conn)) }
+        ensures unchanged { Unchanged ⟦<SqlKeep<S, K> as Keep>⟧.rows ⟦<SqlKeep<S, K> as Keep>⟧.clean ⟦<SqlKeep<S, K> as Keep>⟧.sound ⟦<SqlKeep<S, K> as Keep>⟧.keyed ⟦<SqlKeep<S, K> as Keep>⟧.shielded self.old self.new }
     {
-        match looks::other_tables(&mut self.conn, alloc) {
+        match points::other_tables(&mut self.conn, alloc) {
             Ok(names) => Ok(names),
             Err(_) => Err(Down),
         }
@@ -144,7 +144,7 @@ impl<S: Alter, K: PageKey> SqlKeep<S, K> {
             return Ok(());
         }
         self.logged = 0;
-        match transactions::retell(&mut self.conn) {
+        match transactions::touch_version(&mut self.conn) {
             Ok(()) => {
                 self.seen = Snapshot::of(&self.conn);
                 Ok(())
@@ -159,8 +159,8 @@ impl<S: Alter, K: PageKey> SqlKeep<S, K> {
     /// The rows of all tables, each with its rowid; of pages, their heads. Fails if memory or the store
     /// refuses.
     pub fn scan(&mut self, alloc: Global) -> Result<Rows, Down>
-        ensures told { HasCleanDisk (state S.Store self.new.conn) → IfOk result (λ rows. (t : Tables) → Holds (state S.Store self.old.conn).committed t → AreRowsOf K.key_of t rows) }
-        ensures looks { Looks ⟦<SqlKeep<S, K> as Keep>⟧.rows ⟦<SqlKeep<S, K> as Keep>⟧.clean ⟦<SqlKeep<S, K> as Keep>⟧.sound ⟦<SqlKeep<S, K> as Keep>⟧.keyed ⟦<SqlKeep<S, K> as Keep>⟧.shielded self.old self.new }
+        ensures reported { HasCleanDisk (state S.Store self.new.conn) → IfOk result (λ rows. (t : Tables) → Holds (state S.Store self.old.conn).committed t → AreRowsOf K.key_of t rows) }
+        ensures unchanged { Unchanged ⟦<SqlKeep<S, K> as Keep>⟧.rows ⟦<SqlKeep<S, K> as Keep>⟧.clean ⟦<SqlKeep<S, K> as Keep>⟧.sound ⟦<SqlKeep<S, K> as Keep>⟧.keyed ⟦<SqlKeep<S, K> as Keep>⟧.shielded self.old self.new }
     {
         match scans::scan::<S, K>(&mut self.conn, alloc) {
             Ok(rows) => Ok(rows),
@@ -177,7 +177,7 @@ impl<S: Alter, K: PageKey> SqlKeep<S, K> {
         org: &OrgName,
         from: &mut SqlKeep<T, K>,
     ) -> Result<AdminAnswer, Down>
-        ensures source { Looks ⟦<SqlKeep<T, K> as Keep>⟧.rows ⟦<SqlKeep<T, K> as Keep>⟧.clean ⟦<SqlKeep<T, K> as Keep>⟧.sound ⟦<SqlKeep<T, K> as Keep>⟧.keyed ⟦<SqlKeep<T, K> as Keep>⟧.shielded from.old from.new }
+        ensures source { Unchanged ⟦<SqlKeep<T, K> as Keep>⟧.rows ⟦<SqlKeep<T, K> as Keep>⟧.clean ⟦<SqlKeep<T, K> as Keep>⟧.sound ⟦<SqlKeep<T, K> as Keep>⟧.keyed ⟦<SqlKeep<T, K> as Keep>⟧.shielded from.old from.new }
         ensures lasts { LastsWhere (⟦<SqlKeep<T, K> as Keep>⟧.clean from.new × ⟦<SqlKeep<T, K> as Keep>⟧.sound from.old) ⟦<SqlKeep<S, K> as Keep>⟧.clean ⟦<SqlKeep<S, K> as Keep>⟧.sound ⟦<SqlKeep<S, K> as Keep>⟧.keyed ⟦<SqlKeep<S, K> as Keep>⟧.shielded self.old self.new }
         ensures own { ⟦<SqlKeep<S, K> as Keep>⟧.clean self.new → ⟦<SqlKeep<S, K> as Keep>⟧.sound self.old → ⟦<SqlKeep<T, K> as Keep>⟧.clean from.new → ⟦<SqlKeep<T, K> as Keep>⟧.sound from.old
             → IfOk result (λ answer. IsCopied answer (⟦<SqlKeep<T, K> as Keep>⟧.rows from.old org.now) (⟦<SqlKeep<S, K> as Keep>⟧.rows self.old org.now) (⟦<SqlKeep<S, K> as Keep>⟧.rows self.new org.now)) }

@@ -2,7 +2,7 @@
 ghost use Rattle.std.specs.Prelude.{◌≡◌, ◌<◌, ℕ, true, false, List, ⊤, OnOk, OnErr};
 ghost use Rattle.sqlite.specs.Held.{state};
 ghost use Rattle.sqlite.specs.State.{HasCleanDisk, KeepsCommit};
-ghost use Rattle.statements.specs.declared.making.TheConstants.{NEWEST};
+ghost use Rattle.statements.specs.declared.making.TheConstants.{SCHEMA_VERSION};
 ghost use Rattle.statements.specs.Changes.{edition_moved, org_row_added, org_capped, token_added, token_removed};
 ghost use Rattle.statements.specs.Steps.{AnyRows, Sees};
 ghost use Rattle.tables.specs.Inner.Imports.{TakesFrom, Brings, CommitsRelated};
@@ -11,7 +11,7 @@ ghost use Rattle.tables.specs.Inner.Removals.{all_gone_of};
 ghost use Rattle.tables.specs.Inner.Edits.{changed_rows, TakesEdit};
 ghost use Rattle.tables.specs.Inner.Keys.{KeepsKeys};
 ghost use Rattle.tables.specs.Inner.Making.{IsMade, StepsFrom};
-ghost use Rattle.tables.specs.Inner.Steps.{IsSettled, EndsIdle, Transacts};
+ghost use Rattle.tables.specs.Inner.Steps.{IsAllCommitted, EndsIdle, Transacts};
 
 use crate::{imports, removals, steps};
 use basis::{Bounds, Limit, Role, WsName};
@@ -25,7 +25,7 @@ use std::alloc::Global;
 /// While no transaction is open, nothing is uncommitted. The function does nothing; its contract says so.
 pub(crate) fn assert_committed<S: Alter>(conn: &Connection<S>)
     requires idle { conn.now.in_transaction ≡ false }
-    ensures { IsSettled (state S.Store conn.now) }
+    ensures { IsAllCommitted (state S.Store conn.now) }
 {
     let idle = conn.is_autocommit();
     prove!(idle);
@@ -36,7 +36,7 @@ fn begin<S: Alter>(conn: &mut Connection<S>) -> Transaction<'_, S>
     requires idle { conn.old.in_transaction ≡ false }
     ensures same_reference { result.conn.ghost_name ≡ conn.entry.ghost_name }
     ensures begun { result.conn.now ≡ record conn.old { in_transaction = true } }
-    ensures settled { IsSettled (state S.Store conn.old) }
+    ensures all_committed { IsAllCommitted (state S.Store conn.old) }
 {
     assert_committed(conn);
     conn.transaction()
@@ -56,7 +56,7 @@ pub(crate) fn make<S: Alter>(conn: &mut Connection<S>) -> Result<(), Error>
 /// Upgrades a database to the next version.
 pub(crate) fn raise<S: Alter>(conn: &mut Connection<S>, from: u64) -> Result<(), Error>
     requires idle { conn.old.in_transaction ≡ false }
-    requires older { from < NEWEST }
+    requires older { from < SCHEMA_VERSION }
     ensures ends { EndsIdle S.Store conn.old conn.new }
     ensures done { HasCleanDisk (state S.Store conn.new) → StepsFrom from (state S.Store conn.old) (state S.Store conn.new) result }
 {
@@ -66,13 +66,13 @@ pub(crate) fn raise<S: Alter>(conn: &mut Connection<S>, from: u64) -> Result<(),
 }
 
 /// Stores the newest version again.
-pub(crate) fn retell<S: Alter>(conn: &mut Connection<S>) -> Result<(), Error>
+pub(crate) fn touch_version<S: Alter>(conn: &mut Connection<S>) -> Result<(), Error>
     requires idle { conn.old.in_transaction ≡ false }
     ensures ends { EndsIdle S.Store conn.old conn.new }
-    ensures done { Transacts (edition_moved NEWEST) (λ _. AnyRows) (state S.Store conn.old) (state S.Store conn.new) result }
+    ensures done { Transacts (edition_moved SCHEMA_VERSION) (λ _. AnyRows) (state S.Store conn.old) (state S.Store conn.new) result }
 {
     let mut tx = begin(conn);
-    making::retell_newest(&mut tx)?;
+    making::touch_schema_version(&mut tx)?;
     tx.commit()
 }
 
@@ -118,7 +118,7 @@ pub(crate) fn copy_organization<T: Alter, K: PageKey, S: Alter>(
 ) -> Result<(), Error>
     requires idle { conn.old.in_transaction ≡ false }
     ensures ends { EndsIdle S.Store conn.old conn.new }
-    ensures looks { Sees T.Store (λ _ _. ⊤) from.old from.new result }
+    ensures unchanged { Sees T.Store (λ _ _. ⊤) from.old from.new result }
     ensures done { HasCleanDisk (state S.Store conn.new)
         → OnOk result (CommitsRelated (TakesFrom T.Store (Brings org.now cap) from.old from.new) (state S.Store conn.old) (state S.Store conn.new)) × OnErr result (KeepsCommit (state S.Store conn.old) (state S.Store conn.new)) }
     ensures keyed { HasCleanDisk (state S.Store conn.new) → OnOk result (CommitsRelated (KeepsKeys K.key_of) (state S.Store conn.old) (state S.Store conn.new)) }

@@ -6,15 +6,15 @@ ghost use Rattle.statements.specs.Finds.{size_of};
 ghost use Rattle.statements.specs.Steps.{Equals, Sees};
 ghost use Rattle.texts.specs.Texts.{text_of};
 ghost use Rattle.machine.specs.Units.{if_needed};
-ghost use Rattle.tables.specs.Inner.Steps.{EndsIdle, LooksAt};
+ghost use Rattle.tables.specs.Inner.Steps.{EndsIdle, ReadsCommitted};
 ghost use Rattle.tables.specs.Inner.Units.{text_in, has_text, retention_in, number_before, has_version_in, number_behind, outgoing_in};
-ghost use Rattle.tables.specs.Inner.Looks.{sized_by, sized_in, size_asked, size_from, text_by};
+ghost use Rattle.tables.specs.Inner.Points.{sized_by, sized_in, size_asked, size_from, text_by};
 
 use crate::transactions::assert_committed;
 use basis::{Bytes, KeepCount, Number, VersionRow};
 use machine::{Newest, Staying};
 use sqlite::{Alter, Connection, Error};
-use statements::{keepings, versions};
+use statements::{retentions, versions};
 use std::alloc::Global;
 
 /// The number of a version, and the number of bytes of its text.
@@ -41,7 +41,7 @@ fn text_found<S: Alter>(
 ) -> Result<Option<Bytes>, Error>
     requires idle { conn.old.in_transaction ≡ false }
     ensures ends { EndsIdle S.Store conn.old conn.new }
-    ensures looks { LooksAt (Equals (text_in org.now ws.now number)) (state S.Store conn.old) (state S.Store conn.new) result }
+    ensures unchanged { ReadsCommitted (Equals (text_in org.now ws.now number)) (state S.Store conn.old) (state S.Store conn.new) result }
 {
     assert_committed(conn);
     match versions::size(conn, org, ws, number)? {
@@ -61,7 +61,7 @@ fn text_sized<S: Alter>(
 ) -> Result<Option<Bytes>, Error>
     requires idle { conn.old.in_transaction ≡ false }
     ensures ends { EndsIdle S.Store conn.old conn.new }
-    ensures looks { LooksAt (Equals (λ t. Some (text_of org.now ws.now number size t))) (state S.Store conn.old) (state S.Store conn.new) result }
+    ensures unchanged { ReadsCommitted (Equals (λ t. Some (text_of org.now ws.now number size t))) (state S.Store conn.old) (state S.Store conn.new) result }
 {
     assert_committed(conn);
     let text = texts::text(alloc, conn, org, ws, number, size)?;
@@ -79,7 +79,7 @@ pub(crate) fn text<S: Alter>(
 ) -> Result<Option<Bytes>, Error>
     requires idle { conn.old.in_transaction ≡ false }
     ensures ends { EndsIdle S.Store conn.old conn.new }
-    ensures looks { LooksAt (Equals (text_by known org.now ws.now number)) (state S.Store conn.old) (state S.Store conn.new) result }
+    ensures unchanged { ReadsCommitted (Equals (text_by known org.now ws.now number)) (state S.Store conn.old) (state S.Store conn.new) result }
 {
     match known {
         None => text_found(conn, alloc, org, ws, number),
@@ -96,7 +96,7 @@ fn has_text<S: Alter>(
     text: Option<&[u8]>,
     head: &VersionRow,
 ) -> Result<bool, Error>
-    ensures looks { Sees S.Store (Equals (has_text (option_copied text.entry) org.now ws.now head.now)) conn.old conn.new result }
+    ensures unchanged { Sees S.Store (Equals (has_text (option_copied text.entry) org.now ws.now head.now)) conn.old conn.new result }
 {
     let Some(text) = text else {
         return Ok(false);
@@ -116,7 +116,7 @@ fn newest_as<S: Alter>(
     text: Option<&[u8]>,
     head: VersionRow,
 ) -> Result<SizedNewest, Error>
-    ensures looks { Sees S.Store (Equals (λ t. sized_by (option_copied text.entry) org.now ws.now t head)) conn.old conn.new result }
+    ensures unchanged { Sees S.Store (Equals (λ t. sized_by (option_copied text.entry) org.now ws.now t head)) conn.old conn.new result }
 {
     let is_same = has_text(conn, org, ws, text, &head)?;
     Ok(SizedNewest {
@@ -139,7 +139,7 @@ pub(crate) fn newest<S: Alter>(
     needed: bool,
     text: Option<&[u8]>,
 ) -> Result<Option<SizedNewest>, Error>
-    ensures looks { Sees S.Store (Equals (λ t. if_needed needed (sized_in (option_copied text.entry) org.now ws.now t))) conn.old conn.new result }
+    ensures unchanged { Sees S.Store (Equals (λ t. if_needed needed (sized_in (option_copied text.entry) org.now ws.now t))) conn.old conn.new result }
 {
     if !needed {
         return Ok(None);
@@ -168,12 +168,12 @@ pub(crate) fn retention<S: Alter>(
     ws: &str,
     needed: bool,
 ) -> Result<KeepCount, Error>
-    ensures looks { Sees S.Store (Equals (retention_in needed org.now ws.now)) conn.old conn.new result }
+    ensures unchanged { Sees S.Store (Equals (retention_in needed org.now ws.now)) conn.old conn.new result }
 {
     if !needed {
         return Ok(KeepCount::first());
     }
-    let found = keepings::find(conn, org, ws)?;
+    let found = retentions::find(conn, org, ws)?;
     Ok(kept(found))
 }
 
@@ -199,7 +199,7 @@ fn number_behind<S: Alter>(
     next_version: u64,
     staying: u32,
 ) -> Result<Option<Number>, Error>
-    ensures looks { Sees S.Store (Equals (number_behind next_version staying org.now ws.now)) conn.old conn.new result }
+    ensures unchanged { Sees S.Store (Equals (number_behind next_version staying org.now ws.now)) conn.old conn.new result }
 {
     let is_kept = has_version(conn, org, ws, number_before(next_version, staying))?;
     Ok(number_if(is_kept, number_before(next_version, staying)))
@@ -215,7 +215,7 @@ pub(crate) fn outgoing<S: Alter>(
     retention: KeepCount,
     next_version: u64,
 ) -> Result<Option<Number>, Error>
-    ensures looks { Sees S.Store (Equals (outgoing_in staying retention next_version org.now ws.now)) conn.old conn.new result }
+    ensures unchanged { Sees S.Store (Equals (outgoing_in staying retention next_version org.now ws.now)) conn.old conn.new result }
 {
     match staying {
         Staying::StayAll => Ok(None),
@@ -231,7 +231,7 @@ fn is_kept<S: Alter>(
     ws: &str,
     number: Number,
 ) -> Result<bool, Error>
-    ensures looks { Sees S.Store (Equals (λ t. is_some (size_of org.now ws.now number t))) conn.old conn.new result }
+    ensures unchanged { Sees S.Store (Equals (λ t. is_some (size_of org.now ws.now number t))) conn.old conn.new result }
 {
     let size = versions::size(conn, org, ws, number)?;
     Ok(size.is_some())
@@ -244,7 +244,7 @@ fn version_found<S: Alter>(
     ws: &str,
     number: Number,
 ) -> Result<Option<VersionSize>, Error>
-    ensures looks { Sees S.Store (Equals (size_asked (Some number) org.now ws.now)) conn.old conn.new result }
+    ensures unchanged { Sees S.Store (Equals (size_asked (Some number) org.now ws.now)) conn.old conn.new result }
 {
     match versions::size(conn, org, ws, number)? {
         None => Ok(None),
@@ -259,7 +259,7 @@ pub(crate) fn asked_version<S: Alter>(
     ws: &str,
     number: Option<Number>,
 ) -> Result<Option<VersionSize>, Error>
-    ensures looks { Sees S.Store (Equals (size_asked number org.now ws.now)) conn.old conn.new result }
+    ensures unchanged { Sees S.Store (Equals (size_asked number org.now ws.now)) conn.old conn.new result }
 {
     match number {
         None => Ok(None),
@@ -274,7 +274,7 @@ fn has_version<S: Alter>(
     ws: &str,
     number: Option<Number>,
 ) -> Result<bool, Error>
-    ensures looks { Sees S.Store (Equals (has_version_in number org.now ws.now)) conn.old conn.new result }
+    ensures unchanged { Sees S.Store (Equals (has_version_in number org.now ws.now)) conn.old conn.new result }
 {
     match number {
         None => Ok(false),

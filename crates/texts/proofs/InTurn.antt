@@ -18,7 +18,7 @@ use Rattle.statements.proofs.Taking.{Takes, takes_none, takes_all, takes_more, c
 use Rattle.sqlite.proofs.InsideLemmas.{unchanged_keeps}
 use Rattle.statements.specs.Steps.{LeavesAsIs}
 use Rattle.statements.proofs.Transactions.{clean_before}
-use Rattle.pages.proofs.Looking.{as_it_is, one_look, looks_then}
+use Rattle.pages.proofs.Sequences.{as_it_is, one_query, unchanged_then}
 use Rattle.texts.proofs.Many.{nothing_more}
 use Rattle.texts.specs.Inner.Calls.{ShowsPlace, AreInTurn, JoinsRows}
 use Rattle.texts.proofs.NextPiece.{none_there, there_more, joined_more}
@@ -84,7 +84,7 @@ module _ {S : Type 0} (g : Ghosts S) (sql : List ℕ) (params : Row) (old : Held
   joins_none all result err = errs_at all result old old err refl (λ e. record {
     mode = λ idle. idle;
     joins = λ query clean. tt;
-    looks = λ query clean. (tt, nothing_more (state g old) (state g old) (as_it_is (state g old)));
+    unchanged = λ query clean. (tt, nothing_more (state g old) (state g old) (as_it_is (state g old)));
     was_open = λ query clean. tt;
     so_far = λ query clean. clean;
     shield = λ query s. s;
@@ -96,7 +96,7 @@ module _ {S : Type 0} (g : Ghosts S) (sql : List ℕ) (params : Row) (old : Held
   joins_refused now all f result err mode survives refused = errs_at all result now now err refl (λ e. record {
     mode = mode;
     joins = λ query clean. tt;
-    looks = λ query clean. (tt, unchanged_keeps (state g old) (state g now) (failed_calm sql query params (state g old) (state g now) f (refused clean)));
+    unchanged = λ query clean. (tt, unchanged_keeps (state g old) (state g now) (failed_calm sql query params (state g old) (state g now) f (refused clean)));
     was_open = λ query clean. tt;
     so_far = λ query. clean_before (state g old) (state g now) _ survives;
     shield = λ query. survives.shield;
@@ -113,8 +113,8 @@ module _ {S : Type 0} (g : Ghosts S) (sql : List ℕ) (params : Row) (old : Held
     so_far_on : IsQuery sql → HasCleanDisk (state g next) → HasCleanDisk (state g old)
     so_far_on is clean = clean_before (state g old) (state g now) _ (so.taken.survives is) (clean_on is clean)
 
-    looks_on : (HasCleanDisk (state g next) → IsUnchanged (state g now) (state g next)) → IsQuery sql → HasCleanDisk (state g next) → LeavesAsIs (state g old) (state g next)
-    looks_on same is clean = looks_then (state g old) (state g now) (state g next) (one_look (state g old) (state g now) (so.taken.given is (clean_on is clean)).1) (one_look (state g now) (state g next) (same clean))
+    unchanged_on : (HasCleanDisk (state g next) → IsUnchanged (state g now) (state g next)) → IsQuery sql → HasCleanDisk (state g next) → LeavesAsIs (state g old) (state g next)
+    unchanged_on same is clean = unchanged_then (state g old) (state g now) (state g next) (one_query (state g old) (state g now) (so.taken.given is (clean_on is clean)).1) (one_query (state g now) (state g next) (same clean))
 
     kept_failed : (e : Error) → (HasCleanDisk (state g next) → Fails (state g now) (state g next) ⊥ e ⊎ IsUnchanged (state g now) (state g next)) → IsQuery sql → HasCleanDisk (state g next) → KeepsCommit (state g old) (state g next)
     kept_failed e kept is clean = unchanged_keeps (state g old) (state g next) (calm_failed g sql params old now so.rows places so.taken next mode survives e kept is clean)
@@ -127,14 +127,14 @@ module _ {S : Type 0} (g : Ghosts S) (sql : List ℕ) (params : Row) (old : Held
     joins_stopped all result end err is same = errs_at all result next end err is (λ e. record {
       mode = mode_on;
       joins = λ query clean. tt;
-      looks = λ query clean. (tt, nothing_more (state g old) (state g next) (looks_on same query clean));
+      unchanged = λ query clean. (tt, nothing_more (state g old) (state g next) (unchanged_on same query clean));
       was_open = λ query clean. tt;
       so_far = so_far_on;
       shield = shield_on;
     })
 
     pub joins_failed : (all : ℕ) (f : Error) (result : Result (List ℕ) Error) (end : Held S) → IsErr result → end ≡ next → (HasCleanDisk (state g next) → Fails (state g now) (state g next) ⊥ f ⊎ IsUnchanged (state g now) (state g next)) → JoinsRows g sql params all old end result
-    joins_failed all f result end err is kept = errs_at all result next end err is (λ e. record { mode = mode_on; joins = λ query clean. tt; looks = λ query clean. (tt, kept_failed f kept query clean); was_open = λ query clean. tt; so_far = so_far_on; shield = shield_on })
+    joins_failed all f result end err is kept = errs_at all result next end err is (λ e. record { mode = mode_on; joins = λ query clean. tt; unchanged = λ query clean. (tt, kept_failed f kept query clean); was_open = λ query clean. tt; so_far = so_far_on; shield = shield_on })
 
     pub more_in_turn : (row : Row) → (HasCleanDisk (state g next) → Advances g now next (Some row)) → (HasCleanDisk (state g next) → IsUnchanged (state g now) (state g next))
         → (bytes longer : List ℕ) → column row 0 ≡ number places → column row 1 ≡ Blob bytes → longer ≡ text ++ bytes → TakesInTurn g sql params old next (places + 1) longer
@@ -157,7 +157,7 @@ module _ {S : Type 0} (g : Ghosts S) (sql : List ℕ) (params : Row) (old : Held
     joins_all all whole end is last is_text advances same = subst (λ (h : Held S). JoinsRows {E = Error} g sql params all old h (Ok whole)) (sym is) (record {
       mode = mode_on;
       joins = λ query clean. (so.rows, shown_on advances query clean, subst (λ (m : ℕ). AreInTurn so.rows m whole) last (subst (λ (b : List ℕ). AreInTurn so.rows places b) (sym is_text) so.in_turn));
-      looks = λ query clean. (looks_on same query clean, tt);
+      unchanged = λ query clean. (unchanged_on same query clean, tt);
       was_open = λ query clean. (so.taken.given query (clean_on query clean)).1.0.was_open;
       so_far = so_far_on;
       shield = shield_on;

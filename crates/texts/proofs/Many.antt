@@ -6,7 +6,7 @@ use Rattle.sqlite.specs.State.{State, HasCleanDisk, IsUnchanged}
 use Rattle.statements.specs.Steps.{AnyRows, LeavesAsIs, Moves, Queries, Sees}
 use Rattle.statements.specs.Tables.{Tables, Holds}
 use Rattle.statements.proofs.Transactions.{clean_before, moves_then}
-use Rattle.pages.proofs.Looking.{as_it_is, one_look, looks_then, still_holds, failed_behind, moved_behind}
+use Rattle.pages.proofs.Sequences.{as_it_is, one_query, unchanged_then, still_holds, failed_behind, moved_behind}
 pub use Rattle.pages.proofs.Sights.{reads_failed, nothing_more}
 
 -- whatever holds, holds where a call was done
@@ -25,11 +25,11 @@ pub record WritesSoFar (change : Tables → Tables) (law : Tables → Type 0) (o
   pub so_far : HasCleanDisk new → HasCleanDisk old
   pub shield : old.IsShielded → new.IsShielded
   pub moves : HasCleanDisk new → IsTrue old.is_open → IsTrue old.in_transaction → Moves AnyRows change old new
-  pub told : HasCleanDisk new → IsTrue old.is_open → IsTrue old.in_transaction → (t : Tables) → Holds old.now t → law t
+  pub reported : HasCleanDisk new → IsTrue old.is_open → IsTrue old.in_transaction → (t : Tables) → Holds old.now t → law t
 
 -- none yet
 pub writes_none : (f : Tables → Tables) (law : Tables → Type 0) (a : State) → ((t : Tables) → t ≡ f t) → ((t : Tables) → law t) → WritesSoFar f law a a
-writes_none f law a is tells = record {
+writes_none f law a is reports = record {
   so_far = λ clean. clean;
   shield = λ s. s;
   moves = λ clean open_is inside. moves_as (λ t. t) f a a (λ t holds. is t) (record {
@@ -40,21 +40,21 @@ writes_none f law a is tells = record {
     committed = refl;
     inside = inside;
   });
-  told = λ clean open_is inside t holds. tells t;
+  reported = λ clean open_is inside t holds. reports t;
 }
 
 -- one more
-pub writes_more : (f g h : Tables → Tables) (law next told : Tables → Type 0) (a b c : State) → ((t : Tables) → g (f t) ≡ h t) → ((t : Tables) → law t → next (f t) → told t)
-    → WritesSoFar f law a b → (HasCleanDisk c → HasCleanDisk b) → (b.IsShielded → c.IsShielded) → (HasCleanDisk c → IsTrue b.in_transaction → Moves AnyRows g b c × ((t : Tables) → Holds b.now t → next t)) → WritesSoFar h told a c
-writes_more f g h law next told a b c is tells some before after last = record {
+pub writes_more : (f g h : Tables → Tables) (law next reported : Tables → Type 0) (a b c : State) → ((t : Tables) → g (f t) ≡ h t) → ((t : Tables) → law t → next (f t) → reported t)
+    → WritesSoFar f law a b → (HasCleanDisk c → HasCleanDisk b) → (b.IsShielded → c.IsShielded) → (HasCleanDisk c → IsTrue b.in_transaction → Moves AnyRows g b c × ((t : Tables) → Holds b.now t → next t)) → WritesSoFar h reported a c
+writes_more f g h law next reported a b c is reports some before after last = record {
   so_far = λ clean. some.so_far (before clean);
   shield = λ s. after (some.shield s);
   moves = λ clean open_is inside.
       let one = some.moves (before clean) open_is inside in
       moves_as (λ t. g (f t)) h a c (λ t holds. is t) (moves_then AnyRows AnyRows f g a b c (λ t any. any) one (last clean one.inside).0);
-  told = λ clean open_is inside t holds.
+  reported = λ clean open_is inside t holds.
       let one = some.moves (before clean) open_is inside in
-      tells t (some.told (before clean) open_is inside t holds) ((last clean one.inside).1 (f t) (one.rows t holds tt));
+      reports t (some.reported (before clean) open_is inside t holds) ((last clean one.inside).1 (f t) (one.rows t holds tt));
 }
 
 -- ---- reads so far
@@ -63,20 +63,20 @@ writes_more f g h law next told a b c is tells some before after last = record {
 pub record ReadsSoFar {X : Type 0} (value : Tables → X) (law : Tables → Type 0) (old new : State) (x : X) : Type 0 where
   pub so_far : HasCleanDisk new → HasCleanDisk old
   pub shield : old.IsShielded → new.IsShielded
-  pub looks : HasCleanDisk new → LeavesAsIs old new
+  pub unchanged : HasCleanDisk new → LeavesAsIs old new
   pub read : HasCleanDisk new → (t : Tables) → Holds old.now t → x ≡ value t
-  pub told : HasCleanDisk new → (t : Tables) → Holds old.now t → law t
+  pub reported : HasCleanDisk new → (t : Tables) → Holds old.now t → law t
 
 -- one more
-pub reads_more : {X Y : Type 0} (value next : Tables → X) (law told : Tables → Type 0) (one : Tables → Option Y) (a b c : State) (x z : X) (y : Y) → ((t : Tables) → x ≡ value t → one t ≡ Some y → z ≡ next t)
-    → ((t : Tables) → law t → one t ≡ Some y → told t) → ReadsSoFar value law a b x → (HasCleanDisk c → HasCleanDisk b) → (b.IsShielded → c.IsShielded) → (HasCleanDisk c → ((t : Tables) → Holds b.now t → one t ≡ Some y) × IsUnchanged b c)
-    → ReadsSoFar next told a c z
-reads_more value next law told one a b c x z y is tells some before after last = record {
+pub reads_more : {X Y : Type 0} (value next : Tables → X) (law reported : Tables → Type 0) (one : Tables → Option Y) (a b c : State) (x z : X) (y : Y) → ((t : Tables) → x ≡ value t → one t ≡ Some y → z ≡ next t)
+    → ((t : Tables) → law t → one t ≡ Some y → reported t) → ReadsSoFar value law a b x → (HasCleanDisk c → HasCleanDisk b) → (b.IsShielded → c.IsShielded) → (HasCleanDisk c → ((t : Tables) → Holds b.now t → one t ≡ Some y) × IsUnchanged b c)
+    → ReadsSoFar next reported a c z
+reads_more value next law reported one a b c x z y is reports some before after last = record {
   so_far = λ clean. some.so_far (before clean);
   shield = λ s. after (some.shield s);
-  looks = λ clean. looks_then a b c (some.looks (before clean)) (one_look b c (last clean).1);
-  read = λ clean t holds. is t (some.read (before clean) t holds) ((last clean).0 t (still_holds a b (some.looks (before clean)) t holds));
-  told = λ clean t holds. tells t (some.told (before clean) t holds) ((last clean).0 t (still_holds a b (some.looks (before clean)) t holds));
+  unchanged = λ clean. unchanged_then a b c (some.unchanged (before clean)) (one_query b c (last clean).1);
+  read = λ clean t holds. is t (some.read (before clean) t holds) ((last clean).0 t (still_holds a b (some.unchanged (before clean)) t holds));
+  reported = λ clean t holds. reports t (some.reported (before clean) t holds) ((last clean).0 t (still_holds a b (some.unchanged (before clean)) t holds));
 }
 
 -- ---- reads as one clause
@@ -86,7 +86,7 @@ module _ {S : Type 0} (g : Ghosts S) where
   pub sees_by : {X E : Type 0} (says : X → Tables → Type 0) (a b : Held S) (result : Result X E) → Queries g says a b result → Sees g says a b result
   sees_by says a b (Ok x) one = record {
     mode = one.mode;
-    sees = λ clean. let read = one.read clean in (read.0, (one_look (state g a) (state g b) read.1.0, tt));
+    sees = λ clean. let read = one.read clean in (read.0, (one_query (state g a) (state g b) read.1.0, tt));
     so_far = clean_before (state g a) (state g b) _ one.survives;
     shield = one.survives.shield;
   }
@@ -105,7 +105,7 @@ module _ {S : Type 0} (g : Ghosts S) where
     sees = λ clean.
         let first = one.sees (last.so_far clean) in
         let second = last.sees clean in
-        (λ t holds. means y t (first.0 t holds) (second.0 t (still_holds (state g a) (state g b) first.1.0 t holds)), (looks_then (state g a) (state g b) (state g c) first.1.0 second.1.0, tt));
+        (λ t holds. means y t (first.0 t holds) (second.0 t (still_holds (state g a) (state g b) first.1.0 t holds)), (unchanged_then (state g a) (state g b) (state g c) first.1.0 second.1.0, tt));
     so_far = λ clean. one.so_far (last.so_far clean);
     shield = λ s. last.shield (one.shield s);
   }

@@ -7,7 +7,7 @@ use Rattle.statements.specs.Steps.{AnyRows, Moves}
 use Rattle.statements.specs.Tables.{Tables, Holds}
 use Rattle.pages.specs.Rows.{is_page, page_bytes}
 use Rattle.pages.specs.Pages.{pages_in, HasSoundPages, ReleasesPage}
-use Rattle.pages.proofs.Looking.{one_look, still_holds}
+use Rattle.pages.proofs.Sequences.{one_query, still_holds}
 use Rattle.pages.specs.Puts.{twin_limit, twin_for, page_put, page_released}
 use Rattle.texts.specs.Texts.{place_added}
 use Rattle.texts.specs.Inner.Calls.{piece_placed}
@@ -18,13 +18,13 @@ some_of f g None b is = absurd (let none : ⊥ = cc in none)
 some_of f g (Some a) b is = refl
 
 -- the row of a page that was put names it by the key and the twin number that it was told
-pub placed_as_told : (own org ws : List ℕ) (n place : ℕ) (piece key : List ℕ) (twin : ℕ) (t : Tables) → key ≡ own → twin ≡ twin_for own piece t
+pub placed_as_reported : (own org ws : List ℕ) (n place : ℕ) (piece key : List ℕ) (twin : ℕ) (t : Tables) → key ≡ own → twin ≡ twin_for own piece t
     → place_added org ws n place key twin (page_put own piece t) ≡ piece_placed own org ws n place piece t
-placed_as_told own org ws n place piece key twin t key_is twin_is i = place_added org ws n place (key_is i) (twin_is i) (page_put own piece t)
+placed_as_reported own org ws n place piece key twin t key_is twin_is i = place_added org ws n place (key_is i) (twin_is i) (page_put own piece t)
 
 -- and the twin number that it was told is one that SQL has
-pub told_fits : (own piece : List ℕ) (twin : ℕ) (t : Tables) → twin ≡ twin_for own piece t → twin < twin_limit → twin_for own piece t < twin_limit
-told_fits own piece twin t twin_is low = subst (λ m. m < twin_limit) twin_is low
+pub reported_fits : (own piece : List ℕ) (twin : ℕ) (t : Tables) → twin ≡ twin_for own piece t → twin < twin_limit → twin_for own piece t < twin_limit
+reported_fits own piece twin t twin_is low = subst (λ m. m < twin_limit) twin_is low
 
 -- a page of which a use was taken was there
 pub released_there : (key : List ℕ) (twin : ℕ) (a b : State) → Moves AnyRows (page_released key twin) a b → ((t u : Tables) → Holds a.now t → Holds b.now u → ReleasesPage key twin (pages_in t) (pages_in u) × (HasSoundPages t → HasSoundPages u))
@@ -37,5 +37,5 @@ released_there key twin a b moved releases t holds =
 pub got_behind : {X E : Type 0} (one whole : Tables → Option X) (a b c : State) (result : Result X E) → ((t : Tables) → Holds a.now t → one t ≡ whole t) → IsUnchanged a b
     → IfOk result (λ x. (t : Tables) → Holds b.now t → one t ≡ Some x) × (OnOk result (IsUnchanged b c) × OnErr result (KeepsCommit b c))
     → IfOk result (λ x. (t : Tables) → Holds a.now t → whole t ≡ Some x) × (OnOk result (IsUnchanged a c) × OnErr result (KeepsCommit a c))
-got_behind one whole a b c (Ok x) is same got = (λ t holds. sym (is t holds) ∙ got.0 t (still_holds a b (one_look a b same) t holds), (unchanged_then a b c same got.1.0, tt))
-got_behind one whole a b c (Err e) is same got = (tt, (tt, reads_failed a b c (one_look a b same) got.1.1))
+got_behind one whole a b c (Ok x) is same got = (λ t holds. sym (is t holds) ∙ got.0 t (still_holds a b (one_query a b same) t holds), (unchanged_then a b c same got.1.0, tt))
+got_behind one whole a b c (Err e) is same got = (tt, (tt, reads_failed a b c (one_query a b same) got.1.1))

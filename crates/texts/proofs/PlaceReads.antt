@@ -28,7 +28,7 @@ use Rattle.texts.proofs.PlaceTexts.{page_at_asks, page_at_rest, places_names, pl
 use Rattle.texts.proofs.PlaceWrites.{two_texts_two_numbers}
 
 page_name_read : (key : List ℕ) (twin : ℕ) (id : PageId) → IsPageName (Blob key ∷ number twin ∷ []) id → id ≡ record { key = key; twin = twin }
-page_name_read key twin id told = λ i. record { key = blob_read key id.key told.key i; twin = number_read twin id.twin told.twin i }
+page_name_read key twin id reported = λ i. record { key = blob_read key id.key reported.key i; twin = number_read twin id.twin reported.twin i }
 
 module _ (old new : State) (t : Tables) (h : Holds old.now t) where
   abbrev held : IsHeld vpage_layout old.now t.vpages
@@ -37,7 +37,7 @@ module _ (old new : State) (t : Tables) (h : Holds old.now t) where
   pub page_at_shows : (org ws : List ℕ) (n place : ℕ) (row : Option Row) → FirstRow PAGE_AT.now (Text org ∷ Text ws ∷ number n ∷ number place ∷ []) old new row → Pins IsPageName row (page_at org ws n place t)
   page_at_shows org ws n place row first =
       first_own vpage_cells vpage_table old new held.own t.vpages held.rows held.keyed PAGE_AT.now (Text org ∷ Text ws ∷ number n ∷ number place ∷ []) row first page_at_rest (codes "pkey" ∷ codes "twin" ∷ [])
-      (is_place org ws n place) (λ x. two_texts_two_numbers x.1.org org x.1.ws ws x.1.number n x.1.place place) IsPageName page_name (λ x y told. page_name_read x.1.key x.1.twin y told) (page_at_asks.meaning old.now.schema _ _ held.own.place) (λ l. refl)
+      (is_place org ws n place) (λ x. two_texts_two_numbers x.1.org org x.1.ws ws x.1.number n x.1.place place) IsPageName page_name (λ x y reported. page_name_read x.1.key x.1.twin y reported) (page_at_asks.meaning old.now.schema _ _ held.own.place) (λ l. refl)
 
   pub places_show : (org ws : List ℕ) (n : ℕ) (rows : List Row) → Shown PLACES.now (Text org ∷ Text ws ∷ number n ∷ []) old new rows → AreRowsOf org ws n t rows
   places_show org ws n rows shown =

@@ -22,7 +22,7 @@ use Rattle.pages.specs.Rows.{page_bytes, page_uses, page_used, page_removed}
 use Rattle.pages.specs.Puts.{released_found, page_released}
 use Rattle.statements.proofs.Transactions.{moves_then}
 use Rattle.statements.proofs.Found.{none_passes}
-use Rattle.pages.proofs.Looking.{as_it_is, one_look, still_holds, failed_behind, moved_behind}
+use Rattle.pages.proofs.Sequences.{as_it_is, one_query, still_holds, failed_behind, moved_behind}
 use Rattle.texts.specs.Texts.{pages_for, text_removed, is_place_of, is_place, place_removed, page_name, page_at, released_at, bytes_named, piece_of, pieces_removed, WereThere}
 use Rattle.texts.specs.Inner.Calls.{places_removed, place_shown, AreRowsOf, name_in, row_at, name_at, released_by, WereReleased}
 use Rattle.texts.proofs.NextPiece.{one_more, each_more}
@@ -32,10 +32,10 @@ use Rattle.texts.proofs.WholeReads.{all_found}
 
 -- ---- a query inside a transaction
 
-pub query_looks : {X : Type 0} (items : X → List Row) (text : List ℕ) (is : IsQuery text) (params : Row) (old new : State) (result : Result X Error) → IfOk result (λ x. Shown text params old new (items x))
+pub query_reads : {X : Type 0} (items : X → List Row) (text : List ℕ) (is : IsQuery text) (params : Row) (old new : State) (result : Result X Error) → IfOk result (λ x. Shown text params old new (items x))
     → IfErr result (λ e. FailsToQuery text params old new e ⊎ IsTooLate text params old new e) → OnOk result (LeavesAsIs old new) × OnErr result (KeepsCommit old new)
-query_looks items text is params old new (Ok x) shown failed = (one_look old new (shown_calm text is params old new (items x) shown), tt)
-query_looks items text is params old new (Err e) shown failed = (tt, failed_behind old old new (as_it_is old) (calm failed))
+query_reads items text is params old new (Ok x) shown failed = (one_query old new (shown_calm text is params old new (items x) shown), tt)
+query_reads items text is params old new (Err e) shown failed = (tt, failed_behind old old new (as_it_is old) (calm failed))
   where
     calm : FailsToQuery text params old new e ⊎ IsTooLate text params old new e → IsUnchanged old new ⊎ IsRolledBack old new
     calm (inl fails) = failed_calm text is params old new e fails
@@ -254,21 +254,21 @@ module _ (org ws : List ℕ) (n : ℕ) (t : Tables) (rows : List Row) (are : Are
 
 -- ---- the call
 
-module _ (org ws : List ℕ) (n size places : ℕ) (rows : List Row) (many : length rows ≡ places) (due : places ≡ pages_for size) (a b c d : State) (look : LeavesAsIs a b) (are : (t : Tables) → Holds a.now t → AreRowsOf org ws n t rows)
+module _ (org ws : List ℕ) (n size places : ℕ) (rows : List Row) (many : length rows ≡ places) (due : places ≡ pages_for size) (a b c d : State) (unchanged : LeavesAsIs a b) (are : (t : Tables) → Holds a.now t → AreRowsOf org ws n t rows)
     (removed : Moves AnyRows (places_removed org ws n) b c) where
-  -- the rows behind the first write, from those before the look
+  -- the rows behind the first write, from those before the query
   abbrev held_then : (t : Tables) → Holds a.now t → Holds c.now (places_removed org ws n t)
-  held_then t holds = removed.rows t (still_holds a b look t holds) tt
+  held_then t holds = removed.rows t (still_holds a b unchanged t holds) tt
 
   gone_is : (t : Tables) → Holds a.now t → WereReleased rows places (places_removed org ws n t) → released_by rows places (places_removed org ws n t) ≡ text_removed org ws n size t
-  gone_is t holds told =
-      ap (λ m. released_by rows m (places_removed org ws n t)) (sym many) ∙ released_is org ws n t rows (are t holds) (λ place low. (told place (omega (arith, low, many))).0) ∙ ap (λ m. pieces_removed org ws n m t) (many ∙ due)
+  gone_is t holds reported =
+      ap (λ m. released_by rows m (places_removed org ws n t)) (sym many) ∙ released_is org ws n t rows (are t holds) (λ place low. (reported place (omega (arith, low, many))).0) ∙ ap (λ m. pieces_removed org ws n m t) (many ∙ due)
 
   pub text_gone : {X E : Type 0} (result : Result X E) → OnOk result (Moves AnyRows (released_by rows places) c d) × OnErr result (KeepsCommit c d) → OnOk result ((t : Tables) → Holds c.now t → WereReleased rows places t)
       → OnOk result (Moves AnyRows (text_removed org ws n size) a d) × OnErr result (KeepsCommit a d)
   text_gone (Ok x) done there =
       let f = λ (t : Tables). released_by rows places (places_removed org ws n t) in
-      let all = moved_behind f f a b d look (λ t holds. refl) (moves_then AnyRows AnyRows (places_removed org ws n) (released_by rows places) b c d (λ t any. tt) removed done.0) in (
+      let all = moved_behind f f a b d unchanged (λ t holds. refl) (moves_then AnyRows AnyRows (places_removed org ws n) (released_by rows places) b c d (λ t any. tt) removed done.0) in (
         record {
           rows = λ t holds any. subst (Holds d.now) (gone_is t holds (there (places_removed org ws n t) (held_then t holds))) (all.rows t holds tt);
           others = all.others;
@@ -279,10 +279,10 @@ module _ (org ws : List ℕ) (n size places : ℕ) (rows : List Row) (many : len
         },
         tt,
       )
-  text_gone (Err e) done there = (tt, record { was_open = λ _. look.was_open removed.was_open; committed = λ is. done.1.committed is ∙ removed.committed ∙ look.committed })
+  text_gone (Err e) done there = (tt, record { was_open = λ _. unchanged.was_open removed.was_open; committed = λ is. done.1.committed is ∙ removed.committed ∙ unchanged.committed })
 
   pub text_was_there : {X E : Type 0} (result : Result X E) → OnOk result ((t : Tables) → Holds c.now t → WereReleased rows places t) → OnOk result ((t : Tables) → Holds a.now t → WereThere org ws n (pages_for size) t)
   text_was_there (Ok x) there = λ t holds.
-      let told = there (places_removed org ws n t) (held_then t holds) in
-      subst (λ m. WereThere org ws n m t) (many ∙ due) (were_there org ws n t rows (are t holds) (λ place low. (told place (omega (arith, low, many))).0) (subst (λ m. WereReleased rows m (places_removed org ws n t)) (sym many) told))
+      let reported = there (places_removed org ws n t) (held_then t holds) in
+      subst (λ m. WereThere org ws n m t) (many ∙ due) (were_there org ws n t rows (are t holds) (λ place low. (reported place (omega (arith, low, many))).0) (subst (λ m. WereReleased rows m (places_removed org ws n t)) (sym many) reported))
   text_was_there (Err e) there = tt

@@ -93,8 +93,8 @@ module _ (keys : ℕ → List ℕ) (org ws : List ℕ) (n : ℕ) (text : List �
   pub text_added_editions : (text_added keys org ws n text t).editions ≡ t.editions
   text_added_editions = ap (λ (u : Tables). u.editions) text_added_rest
 
-  pub text_added_keepings : (text_added keys org ws n text t).keepings ≡ t.keepings
-  text_added_keepings = ap (λ (u : Tables). u.keepings) text_added_rest
+  pub text_added_retentions : (text_added keys org ws n text t).retentions ≡ t.retentions
+  text_added_retentions = ap (λ (u : Tables). u.retentions) text_added_rest
 
 -- ---- a text that is taken away
 
@@ -173,8 +173,8 @@ module _ (org ws : List ℕ) (n size : ℕ) (t : Tables) where
   pub text_removed_editions : (text_removed org ws n size t).editions ≡ t.editions
   text_removed_editions = ap (λ (u : Tables). u.editions) text_removed_rest
 
-  pub text_removed_keepings : (text_removed org ws n size t).keepings ≡ t.keepings
-  text_removed_keepings = ap (λ (u : Tables). u.keepings) text_removed_rest
+  pub text_removed_retentions : (text_removed org ws n size t).retentions ≡ t.retentions
+  text_removed_retentions = ap (λ (u : Tables). u.retentions) text_removed_rest
 
 -- ---- tables with the same pages and rows of vpage
 

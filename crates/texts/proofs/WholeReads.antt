@@ -18,7 +18,7 @@ use Rattle.statements.specs.Place.{tree_of}
 use Rattle.statements.specs.Schema.{vpage_table, page_table}
 use Rattle.statements.specs.Rows.{Kept, VpageRow, PageRow, stored, vpage_cells, page_cells, number}
 use Rattle.statements.specs.Tables.{Tables, Holds, vpage_layout, page_layout}
-use Rattle.texts.specs.declared.whole.TheConstants.{WHOLE_TEXT}
+use Rattle.texts.specs.declared.reading.TheConstants.{TEXT_PIECES}
 use Rattle.statements.proofs.Held.{IsHeld, vpages_held, pages_held}
 use Rattle.statements.proofs.Listed.{joined_listing}
 use Rattle.statements.proofs.Lefts.{row_or}
@@ -167,19 +167,19 @@ module _ (old new : State) (t : Tables) (h : Holds old.now t) (org ws : List ℕ
       let parts = place_parts org ws n x place one.1 in
       bytes_found bytes x (find (is_page x.1.key x.1.twin) t.pages) (one_given x (version_from org ws n x parts.0 parts.1.0 parts.1.1.0) (λ e. P (show e)) one.0 (ap number parts.1.1.1))
 
-  pub whole_shows : (rows : List Row) → Shown WHOLE_TEXT.now (Text org ∷ Text ws ∷ number n ∷ []) old new rows → (place : ℕ) (bytes : List ℕ) → ShowsPlace rows place bytes → piece_of org ws n place t ≡ Some bytes
+  pub whole_shows : (rows : List Row) → Shown TEXT_PIECES.now (Text org ∷ Text ws ∷ number n ∷ []) old new rows → (place : ℕ) (bytes : List ℕ) → ShowsPlace rows place bytes → piece_of org ws n place t ≡ Some bytes
   whole_shows rows shown place bytes shows =
       let means = whole_means old.now.schema _ _ vpages.own.place _ _ pages.own.place in
-      let a = (reads_as WHOLE_TEXT.now params old new old.now.schema refl (Select (plain_program asked) whole_names) means.0 means.1 means.2 rows shown).answer Null in
+      let a = (reads_as TEXT_PIECES.now params old new old.now.schema refl (Select (plain_program asked) whole_names) means.0 means.1 means.2 rows shown).answer Null in
       piece_shown rows a place bytes shows (find (is_place org ws n place) t.vpages) refl
 
 -- ---- what the call promises
 
 pub whole_read : {E : Type 0} (old new : State) (org ws : List ℕ) (n places : ℕ) (result : Result (List ℕ) E)
-    → IfOk result (λ text. (rows : List Row) × Shown WHOLE_TEXT.now (Text org ∷ Text ws ∷ number n ∷ []) old new rows × AreInTurn rows places text) → OnOk result (LeavesAsIs old new) × OnErr result (KeepsCommit old new)
+    → IfOk result (λ text. (rows : List Row) × Shown TEXT_PIECES.now (Text org ∷ Text ws ∷ number n ∷ []) old new rows × AreInTurn rows places text) → OnOk result (LeavesAsIs old new) × OnErr result (KeepsCommit old new)
     → (IfOk result (λ x. (t : Tables) → Holds old.now t → x ≡ joined org ws n places t) × (OnOk result (LeavesAsIs old new) × OnErr result (KeepsCommit old new)))
     × OnOk result ((t : Tables) → Holds old.now t → AreThere org ws n places t)
-whole_read old new org ws n places (Ok text) got looks =
+whole_read old new org ws n places (Ok text) got unchanged =
     let is = λ (t : Tables) (h : Holds old.now t). got.2.text_is org ws n t (whole_shows old new t h org ws n got.0 got.1) in
-    ((λ t h. (is t h).0, looks), λ t h. (is t h).1)
-whole_read old new org ws n places (Err e) got looks = ((tt, looks), tt)
+    ((λ t h. (is t h).0, unchanged), λ t h. (is t h).1)
+whole_read old new org ws n places (Err e) got unchanged = ((tt, unchanged), tt)

@@ -23,7 +23,7 @@ use Rattle.statements.proofs.Selects.{IsSelect, asks_query, select_means}
 use Rattle.statements.proofs.Writes.{plain_program}
 use Rattle.statements.proofs.Listed.{joined_listing}
 use Rattle.statements.proofs.Commands.{is_at, point_rest, joined_draft, no_page}
-use Rattle.texts.specs.declared.whole.TheConstants.{WHOLE_TEXT}
+use Rattle.texts.specs.declared.reading.TheConstants.{TEXT_PIECES}
 
 -- the row of page is the one that the row of vpage names
 abbrev same_column : List ℕ → Expr
@@ -36,12 +36,12 @@ whole_core =
     let test = st.also (st.at_key (codes "org") (codes "ws")) (st.is_given (codes "number") 3) in
     roll-Core (record { distinct = false; shown = st.shown_columns (codes "place" ∷ codes "bytes" ∷ []); from = vpage ∷ page ∷ []; filter = Some test; group = []; having = None })
 
-whole_reads : IsSelect WHOLE_TEXT.now whole_core (st.by_column (codes "place")) None
+whole_reads : IsSelect TEXT_PIECES.now whole_core (st.by_column (codes "place")) None
 unfolding everything
 whole_reads = refl
 
-pub whole_is_query : IsQuery WHOLE_TEXT.now
-whole_is_query = asks_query WHOLE_TEXT.now whole_core (st.by_column (codes "place")) None whole_reads
+pub whole_is_query : IsQuery TEXT_PIECES.now
+whole_is_query = asks_query TEXT_PIECES.now whole_core (st.by_column (codes "place")) None whole_reads
 
 abbrev pub names_it : List Term
 names_it = op2 (Compare Eq Binary) (col 2 1) (col 1 5) ∷ op2 (Compare Eq Binary) (col 2 2) (col 1 6) ∷ []
@@ -56,8 +56,8 @@ abbrev pub whole_names : List (List ℕ)
 whole_names = codes "place" ∷ codes "bytes" ∷ []
 
 module _ (s : Schema) (at tree : ℕ) (h : StandsAt s (codes "vpage") vpage_table at tree) (page_at pages : ℕ) (k : StandsAt s (codes "page") page_table page_at pages) where
-  pub whole_means : Means s (Select (plain_program (joined_listing whole_rest tree (with_page pages) 4)) whole_names) WHOLE_TEXT.now
+  pub whole_means : Means s (Select (plain_program (joined_listing whole_rest tree (with_page pages) 4)) whole_names) TEXT_PIECES.now
   unfolding everything
   whole_means =
-      select_means WHOLE_TEXT.now whole_core (st.by_column (codes "place")) None whole_reads s no_page (joined_draft whole_rest tree (with_page pages) 4) (joined_listing whole_rest tree (with_page pages) 4) whole_names (Some Binary ∷ Some Binary ∷ []) refl refl (λ again. refl)
+      select_means TEXT_PIECES.now whole_core (st.by_column (codes "place")) None whole_reads s no_page (joined_draft whole_rest tree (with_page pages) 4) (joined_listing whole_rest tree (with_page pages) 4) whole_names (Some Binary ∷ Some Binary ∷ []) refl refl (λ again. refl)
       (rw (h.named, k.named, h.found, k.found, h.found, k.found) (rw (h.found, k.found, h.found, k.found, h.found) refl)) (rw (h.low, k.low, h.treed, k.treed) refl)

@@ -8,7 +8,7 @@ use Rattle.sqlite.specs.Held.{state}
 use Rattle.sqlite.specs.State.{HasCleanDisk}
 use Rattle.sqlite.specs.declared.transaction.Transaction.{Transaction}
 use Rattle.statements.specs.Rows.{Kept, VpageRow}
-use Rattle.statements.specs.Steps.{Steps, Tells}
+use Rattle.statements.specs.Steps.{Steps, Reports}
 use Rattle.statements.specs.Tables.{Tables}
 use Rattle.statements.specs.Changes.{with_next}
 use Rattle.pages.specs.Rows.{page_bytes, page_uses}
@@ -90,8 +90,8 @@ pub record GoesOn {S : Type 0} (g : Ghosts S) (old new : Transaction S) : Type 0
 -- What adding a text under these keys promises: each piece is added, under a key that it may have and a twin number that SQL has.
 pub record AddsText {S E : Type 0} (g : Ghosts S) (key_of : List ℕ → List ℕ) (keys : ℕ → List ℕ) (org ws : List ℕ) (n : ℕ) (text : List ℕ) (old new : Transaction S) (result : Result ⊤ E) : Type 0 where
   pub steps : Steps g (text_added keys org ws n text) old new result
-  pub fits : Tells (λ _. TwinsFit keys org ws n text (pages_for (length text))) (state g old.conn.now) (state g new.conn.now) result
-  pub keyed : Tells (λ _. KeysFit key_of keys org ws n text (pages_for (length text))) (state g old.conn.now) (state g new.conn.now) result
+  pub fits : Reports (λ _. TwinsFit keys org ws n text (pages_for (length text))) (state g old.conn.now) (state g new.conn.now) result
+  pub keyed : Reports (λ _. KeysFit key_of keys org ws n text (pages_for (length text))) (state g old.conn.now) (state g new.conn.now) result
 
 -- ---- removing a text
 

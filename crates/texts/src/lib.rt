@@ -3,9 +3,9 @@
 
 mod ahead;
 mod places;
+mod reading;
 mod scans;
 mod texts;
-mod whole;
 
 pub use scans::vpages;
 pub use texts::{PAGE_BYTES, add_text, remove_text, same_text, text};

@@ -3,7 +3,7 @@ ghost use Rattle.std.specs.Prelude.{◌≡◌, ◌≤◌, ◌*◌, ⊤, ℕ, Lis
 ghost use Rattle.sqlite_value.specs.Order.{column};
 ghost use Rattle.sqlite.specs.Held.{state};
 ghost use Rattle.sqlite.specs.State.{HasCleanDisk};
-ghost use Rattle.statements.specs.Steps.{Equals, Steps, Tells, Sees};
+ghost use Rattle.statements.specs.Steps.{Equals, Steps, Reports, Sees};
 ghost use Rattle.statements.specs.Tables.{Tables, Holds};
 ghost use Rattle.pages.specs.Pages.{Gets, IsKeyFor, PutsUnder};
 ghost use Rattle.pages.specs.Inner.Calls.{SeesInside};
@@ -14,7 +14,7 @@ ghost use Rattle.texts.specs.Inner.Calls.{AddsPiece, name_in, released_by, WereR
 
 use crate::ahead::Ahead;
 use crate::places::{Place, add, all, find, find_inside, remove_all};
-use crate::whole::read_whole;
+use crate::reading::read_text;
 use basis::{Bytes, Number};
 use pages::{PageId, PageKey, put_known, put_own, release, same};
 use sqlite::{Alter, Connection, Error, Row, Transaction};
@@ -205,7 +205,7 @@ fn release_each<S: Alter>(
     requires as_many { length rows.now ≡ places }
     ensures goes_on { GoesOn S.Store tx.old tx.new }
     ensures steps { IsTrue (state S.Store tx.old.conn.now).is_open → Steps S.Store (released_by rows.now places) tx.old tx.new result }
-    ensures there { IsTrue (state S.Store tx.old.conn.now).is_open → Tells (λ _. WereReleased rows.now places) (state S.Store tx.old.conn.now) (state S.Store tx.new.conn.now) result }
+    ensures there { IsTrue (state S.Store tx.old.conn.now).is_open → Reports (λ _. WereReleased rows.now places) (state S.Store tx.old.conn.now) (state S.Store tx.new.conn.now) result }
 {
     let mut shared = false;
     'places: for place in 0..places {
@@ -226,7 +226,7 @@ pub fn remove_text<S: Alter>(
 ) -> Result<(), Error>
     ensures goes_on { GoesOn S.Store tx.old tx.new }
     ensures steps { IsTrue (state S.Store tx.old.conn.now).is_open → Steps S.Store (text_removed org.now ws.now number size) tx.old tx.new result }
-    ensures there { IsTrue (state S.Store tx.old.conn.now).is_open → Tells (λ _. WereThere org.now ws.now number (pages_for size)) (state S.Store tx.old.conn.now) (state S.Store tx.new.conn.now) result }
+    ensures there { IsTrue (state S.Store tx.old.conn.now).is_open → Reports (λ _. WereThere org.now ws.now number (pages_for size)) (state S.Store tx.old.conn.now) (state S.Store tx.new.conn.now) result }
 {
     let pages = pages_for(size);
     let rows = all(tx, org, ws, number)?;
@@ -251,7 +251,7 @@ pub fn text<S: Alter>(
     ensures there { HasCleanDisk (state S.Store conn.new) → OnOk result ((t : Tables) → Holds (state S.Store conn.old).now t → AreThere org.now ws.now number (pages_for size) t) }
     ensures was_open { HasCleanDisk (state S.Store conn.new) → OnOk result (IsTrue (state S.Store conn.old).is_open) }
 {
-    read_whole(alloc, conn, org, ws, number, pages_for(size), size as usize)
+    read_text(alloc, conn, org, ws, number, pages_for(size), size as usize)
 }
 
 /// Whether the page at a place of a version's text has these bytes. Fails if there is no such page.

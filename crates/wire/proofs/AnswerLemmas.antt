@@ -129,8 +129,8 @@ reports_all bytes received rest old new (Err (Refused refusal is_head)) e a =
     (subst R (sym e) (reads_more received rest (refused refusal is_head) a.0 (λ z. cc)), a.1)
 reports_all bytes received rest old new (Err Down) e a = a
 
-pub tells : (known left : Option (List ℕ)) (received : List ℕ) (old new : Option (List ℕ)) (result : Result Message WireFault) → Consumes known left received
+pub reports : (known left : Option (List ℕ)) (received : List ℕ) (old new : Option (List ℕ)) (result : Result Message WireFault) → Consumes known left received
     → ReportsReceived received left old new result → IfSome known (λ bytes. ReportsInput bytes old new result)
-tells None left received old new result c a = tt
-tells (Some bytes) None received old new result c a = absurd c
-tells (Some bytes) (Some rest) received old new result c a = reports_all bytes received rest old new result c a
+reports None left received old new result c a = tt
+reports (Some bytes) None received old new result c a = absurd c
+reports (Some bytes) (Some rest) received old new result c a = reports_all bytes received rest old new result c a

@@ -7,9 +7,9 @@ use Rattle.wire.specs.declared.messages.WireFault.TheVariants.{Ended, Read, Cont
 use Rattle.wire.specs.Messages.{Reads, unfinished, refused, whole, AwaitsContinue, IsAwaited}
 
 -- a read told the end of the input: it gave nothing, and there was room
-abbrev pub tells_end : {E : Type 0} → Result ℕ E → ℕ → Bool
-tells_end (Ok count) room = count == 0 && nat_lt 0 room
-tells_end (Err fault) room = false
+abbrev pub is_end : {E : Type 0} → Result ℕ E → ℕ → Bool
+is_end (Ok count) room = count == 0 && nat_lt 0 room
+is_end (Err fault) room = false
 
 -- a writer took nothing of a piece that has bytes
 abbrev pub takes_nothing : {E : Type 0} → Result ℕ E → ℕ → Bool

@@ -2,7 +2,7 @@
 ghost use Rattle.std.specs.Prelude.{◌≡◌, ◌||◌, ℕ, ◌<◌, List, Bool, false, length, Option, Ok, IfOk, OnOk, is_err};
 ghost use Rattle.std.specs.Io.{ReadsAtMost, WritesAtMost};
 ghost use Rattle.std.specs.Io.KnownBytes.{ReadConsumes, WriteAppends};
-ghost use Rattle.wire.specs.Links.{tells_end, takes_nothing};
+ghost use Rattle.wire.specs.Links.{is_end, takes_nothing};
 
 use std::error::Error;
 use std::io::{Read, Write};
@@ -42,7 +42,7 @@ pub trait Inlet {
         requires { broken self.old ≡ false }
         ensures bound { ReadsAtMost result buf.new }
         ensures bytes { ReadConsumes (left self.old) (left self.new) result buf.new }
-        ensures end { ended self.new ≡ (tells_end result (length buf.new) || ended self.old) }
+        ensures end { ended self.new ≡ (is_end result (length buf.new) || ended self.old) }
         ensures cause { broken self.new ≡ is_err result };
 }
 
@@ -66,14 +66,14 @@ pub trait Outlet {
 }
 
 /// Whether a read told the input's end: it gave nothing into a buffer that has room.
-pub fn tells_end(count: usize, room: usize) -> bool
-    ensures { result ≡ tells_end {E = Broken} (Ok count) room }
+pub fn is_end(count: usize, room: usize) -> bool
+    ensures { result ≡ is_end {E = Broken} (Ok count) room }
 {
     count == 0 && room > 0
 }
 
 /// A reader's answer, as it is told: as many bytes, and a failure where the reader failed.
-fn told_of_read(answer: io::Result<usize>) -> Result<usize, Broken>
+fn read_outcome(answer: io::Result<usize>) -> Result<usize, Broken>
     ensures count { IfOk answer (λ count. result ≡ Ok count) }
     ensures failed { is_err result ≡ is_err answer }
 {
@@ -85,7 +85,7 @@ fn told_of_read(answer: io::Result<usize>) -> Result<usize, Broken>
 
 /// A writer's answer to a piece of this length, as it is told: as many bytes, and a failure where the writer failed,
 /// or took nothing of a piece that isn't empty.
-fn told_of_write(answer: io::Result<usize>, length: usize) -> Result<usize, Broken>
+fn write_outcome(answer: io::Result<usize>, length: usize) -> Result<usize, Broken>
     ensures count { IfOk answer (λ count. OnOk result (result ≡ Ok count)) }
     ensures failed { is_err result ≡ (is_err answer || takes_nothing answer length) }
 {
@@ -135,12 +135,12 @@ impl<R: Read> Inlet for FromRead<R> {
     }
 
     fn read(&mut self, buf: &mut [u8]) -> Result<usize, Broken> {
-        let told = told_of_read(self.reader.read(buf));
-        match told {
-            Ok(count) => self.has_ended = tells_end(count, buf.len()) || self.has_ended,
+        let outcome = read_outcome(self.reader.read(buf));
+        match outcome {
+            Ok(count) => self.has_ended = is_end(count, buf.len()) || self.has_ended,
             Err(_) => self.has_failed = true,
         }
-        told
+        outcome
     }
 }
 
@@ -179,8 +179,8 @@ impl<W: Write> Outlet for ToWrite<W> {
     }
 
     fn write(&mut self, piece: &[u8]) -> Result<usize, Broken> {
-        let told = told_of_write(self.writer.write(piece), piece.len());
-        self.has_failed = told.is_err();
-        told
+        let outcome = write_outcome(self.writer.write(piece), piece.len());
+        self.has_failed = outcome.is_err();
+        outcome
     }
 }

@@ -11,7 +11,7 @@ mod laws;
 mod messages;
 mod replies;
 
-pub use devices::{Broken, FromRead, Inlet, Outlet, ToWrite, tells_end};
+pub use devices::{Broken, FromRead, Inlet, Outlet, ToWrite, is_end};
 pub use laws::{one_reading, one_text, retargeted_reads, some_reading, stays_awaited, stays_read};
 pub use messages::{Message, WireFault, read_message};
 pub use replies::{Reply, WriteFault, write_reply};

@@ -176,7 +176,7 @@ fn read_body<I: Inlet, O: Outlet>(
     ensures end { I.ended inlet.old ≡ false → ((I.ended inlet.new ≡ true) ↔ IsErrOf result WireFault.Ended) }
     ensures written { (O.broken outlet.new ≡ true) ↔ IsErrOf result WireFault.Continue }
 {
-    let Some(mut body) = begun(alloc, len, rest) else {
+    let Some(mut body) = body_buffer(alloc, len, rest) else {
         return Err(WireFault::Down);
     };
     if write_continue(awaits_continue, outlet).is_err() {
@@ -190,7 +190,7 @@ fn read_body<I: Inlet, O: Outlet>(
 }
 
 // The whole body's bytes: what was received of it beside the head, and zeros where the rest is to be read.
-fn begun(alloc: Global, len: usize, rest: &[u8]) -> Option<Vec<u8>>
+fn body_buffer(alloc: Global, len: usize, rest: &[u8]) -> Option<Vec<u8>>
     ensures begins { IfSome result (λ body. take (min (length rest.now) len) body.items ≡ take len rest.now) }
     ensures whole { IfSome result (λ body. length body.items ≡ len) }
 {
@@ -218,16 +218,16 @@ fn write_continue<O: Outlet>(awaits_continue: bool, outlet: &mut O) -> Result<()
 }
 
 // Reads what the body lacks behind its first bytes, right into its place.
-fn fill<I: Inlet>(body: &mut [u8], begun: usize, inlet: &mut I) -> Result<(), BodyFault>
+fn fill<I: Inlet>(body: &mut [u8], body_start: usize, inlet: &mut I) -> Result<(), BodyFault>
     requires sound { I.broken inlet.old ≡ false }
-    requires short { begun ≤ length body.old }
+    requires short { body_start ≤ length body.old }
     ensures filled { (received : List ℕ) × Consumes (I.left inlet.old) (I.left inlet.new) received
-        × Fills (take begun body.old ++ received) (length body.old) (I.left inlet.new) body.new result }
+        × Fills (take body_start body.old ++ received) (length body.old) (I.left inlet.new) body.new result }
     ensures cause { (I.broken inlet.new ≡ true) ↔ (result ≡ Err BodyFault.Failed) }
     ensures end { I.ended inlet.old ≡ false → ((I.ended inlet.new ≡ true) ↔ (result ≡ Err BodyFault.Ended)) }
 {
     let len = body.len();
-    let mut filled = begun;
+    let mut filled = body_start;
     'filling: while filled < len {
         let Ok(count) = inlet.read(&mut body[filled..]) else {
             return Err(BodyFault::Failed);

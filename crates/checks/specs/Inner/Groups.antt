@@ -11,16 +11,16 @@ with_some (Some x) xs = x ∷ xs
 -- the rows at these places; a place behind the last row has none
 abbrev pub picked : {X : Type 0} → List X → List ℕ → List X
 picked rows [] = []
-picked rows (i ∷ places) = with_some (slice_get rows i) (picked rows places)
+picked rows (i ∷ row_indices) = with_some (slice_get rows i) (picked rows row_indices)
 
 -- the places that a map has at a workspace, by its name
-abbrev pub places_at : {Y Z : Type 0} → BTreeMap (String Y) (Vec ℕ Z) → List ℕ → List ℕ
-places_at wss ws = option_map_or (λ places. places.items) (get_by_text wss ws) []
+abbrev pub indices_at : {Y Z : Type 0} → BTreeMap (String Y) (Vec ℕ Z) → List ℕ → List ℕ
+indices_at wss ws = option_map_or (λ row_indices. row_indices.items) (get_by_text wss ws) []
 
 -- the places of the rows of an organization's workspace
-abbrev pub places_in : Groups → List ℕ → List ℕ → List ℕ
-places_in groups org ws = option_map_or (λ wss. places_at wss ws) (get_by_text groups.orgs org) []
+abbrev pub indices_in : Groups → List ℕ → List ℕ → List ℕ
+indices_in groups org ws = option_map_or (λ wss. indices_at wss ws) (get_by_text groups.orgs org) []
 
 -- each group has the places of the rows that pass the test of its workspace
 abbrev pub AreGrouped : {X : Type 0} → (List ℕ → List ℕ → X → Bool) → List X → Groups → Type 0
-AreGrouped is_of rows groups = (org ws : List ℕ) → picked rows (places_in groups org ws) ≡ filter (is_of org ws) rows
+AreGrouped is_of rows groups = (org ws : List ℕ) → picked rows (indices_in groups org ws) ≡ filter (is_of org ws) rows

@@ -2,23 +2,23 @@
 use Rattle.std.specs.Prelude.{◌≡◌, List, IsTrue}
 use Rattle.std.specs.List.{AllByRecursion}
 use Rattle.machine.specs.Ranges.{IsRetention}
-use Rattle.statements.specs.Rows.{Kept, WsRow, VersionRow, RunRow, KeepingRow}
+use Rattle.statements.specs.Rows.{Kept, WsRow, VersionRow, RunRow, RetentionRow}
 use Rattle.statements.specs.Tables.{Tables}
 use Rattle.statements.specs.declared.rows.Rows.{Rows}
-use Rattle.statements.specs.Changes.{is_keeping, is_version_of, is_run_of}
+use Rattle.statements.specs.Changes.{is_retention, is_version_of, is_run_of}
 use Rattle.tables.specs.Records.{workspace_at}
 use Rattle.tables.specs.Sound.{IsSoundWorkspace}
 use Rattle.checks.specs.declared.found.Fault.{Fault}
 use Rattle.checks.specs.declared.workspaces.Grouped.{Grouped}
-use Rattle.checks.specs.Inner.Groups.{picked, places_in, AreGrouped}
+use Rattle.checks.specs.Inner.Groups.{picked, indices_in, AreGrouped}
 use Rattle.checks.specs.Faults.{OfWorkspace}
 use Rattle.checks.specs.Versions.{are_versions}
 use Rattle.checks.specs.Runs.{are_runs}
 use Rattle.checks.specs.Workspaces.{is_own, retention_among}
 
 -- When the row of a workspace is lawful, with its rows of keeping, versions and runs.
-pub record IsLawfulRow (ks : List (Kept KeepingRow)) (vs : List (Kept VersionRow)) (rs : List (Kept RunRow)) (x : WsRow) : Type 0 where
-  pub keep : IsRetention (retention_among ks)
+pub record IsLawfulRow (ks : List (Kept RetentionRow)) (vs : List (Kept VersionRow)) (rs : List (Kept RunRow)) (x : WsRow) : Type 0 where
+  pub retention : IsRetention (retention_among ks)
   pub own : IsTrue (is_own x)
   pub versions : IsTrue (are_versions (retention_among ks) x.it.next_version vs)
   pub runs : IsTrue (are_runs x.it.holder x.it.next_run rs)
@@ -26,25 +26,25 @@ pub record IsLawfulRow (ks : List (Kept KeepingRow)) (vs : List (Kept VersionRow
 -- the same, for the rows at the places of its groups
 abbrev pub IsLawfulAt : Rows → Grouped → Kept WsRow → Type 0
 IsLawfulAt rows groups x =
-    IsLawfulRow (picked rows.keepings (places_in groups.keepings x.1.org x.1.name)) (picked rows.versions (places_in groups.versions x.1.org x.1.name)) (picked rows.runs (places_in groups.runs x.1.org x.1.name)) x.1
+    IsLawfulRow (picked rows.retentions (indices_in groups.retentions x.1.org x.1.name)) (picked rows.versions (indices_in groups.versions x.1.org x.1.name)) (picked rows.runs (indices_in groups.runs x.1.org x.1.name)) x.1
 
 -- what is wrong with such a row
 abbrev pub OfGroups : Rows → Grouped → Kept WsRow → Fault → Type 0
 OfGroups rows groups x =
-    OfWorkspace (picked rows.keepings (places_in groups.keepings x.1.org x.1.name)) (picked rows.versions (places_in groups.versions x.1.org x.1.name)) (picked rows.runs (places_in groups.runs x.1.org x.1.name)) x.1
+    OfWorkspace (picked rows.retentions (indices_in groups.retentions x.1.org x.1.name)) (picked rows.versions (indices_in groups.versions x.1.org x.1.name)) (picked rows.runs (indices_in groups.runs x.1.org x.1.name)) x.1
 
 -- the groups are those of the rows
 pub record AreAllGrouped (rows : Rows) (groups : Grouped) : Type 0 where
   pub versions : AreGrouped is_version_of rows.versions groups.versions
   pub runs : AreGrouped is_run_of rows.runs groups.runs
-  pub keepings : AreGrouped is_keeping rows.keepings groups.keepings
+  pub retentions : AreGrouped is_retention rows.retentions groups.retentions
 
 -- tables with these rows of workspaces, versions, runs and keeping
 pub record HasWsRows (rows : Rows) (t : Tables) : Type 0 where
   pub wss : t.wss ≡ rows.wss
   pub versions : t.versions ≡ rows.versions
   pub runs : t.runs ≡ rows.runs
-  pub keepings : t.keepings ≡ rows.keepings
+  pub retentions : t.retentions ≡ rows.retentions
 
 -- each row of a workspace denotes a lawful one
 abbrev pub AreLawfulWss : Tables → Type 0

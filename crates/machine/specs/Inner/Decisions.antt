@@ -4,8 +4,8 @@ use Rattle.std.specs.Prelude.{ℕ, Bool, not, ◌&&◌, nat_lt, ◌==◌, cond, 
 use Rattle.std.specs.Str.{bytes_eq}
 use Rattle.basis.specs.declared.refusals.Refusal.{Refusal}
 use Rattle.basis.specs.declared.refusals.Refusal.TheVariants.{NotFound, OtherLineage, OldSerial, OverLimit, WrongState, HeldByRun, OpenRuns, Locked}
-use Rattle.basis.specs.declared.acts.Look.{Look as AnyLook}
-use Rattle.basis.specs.declared.acts.Look.TheVariants as look
+use Rattle.basis.specs.declared.acts.Query.{Query as AnyQuery}
+use Rattle.basis.specs.declared.acts.Query.TheVariants as query
 use Rattle.basis.specs.declared.rows.Settings.{Settings}
 use Rattle.basis.specs.declared.rows.StateHead.{StateHead}
 use Rattle.basis.specs.declared.rows.RunAsk.{RunAsk}
@@ -22,7 +22,7 @@ use Rattle.machine.specs.Ranges.{IsSettingsAsk}
 use Rattle.machine.specs.Rules.{number_left, is_released, new_run, frees, settings_for}
 use Rattle.machine.specs.RunSteps.{next_status, is_last}
 use Rattle.machine.specs.declared.acts.Act.{Act}
-use Rattle.machine.specs.declared.acts.Act.TheVariants.{Look, PutWorkspace, DeleteWorkspace, UpdateState, PurgeState, Lock as LockAct, Unlock, ForceUnlock, MakeRun, ReportRun}
+use Rattle.machine.specs.declared.acts.Act.TheVariants.{Query, PutWorkspace, DeleteWorkspace, UpdateState, PurgeState, Lock as LockAct, Unlock, ForceUnlock, MakeRun, ReportRun}
 use Rattle.machine.specs.declared.acts.Newest.{Newest}
 use Rattle.machine.specs.declared.acts.WorkspaceUnit.{WorkspaceUnit}
 use Rattle.machine.specs.declared.acts.Unit.{Unit as AnyUnit}
@@ -156,13 +156,13 @@ decided_report None u n action = Refused NotFound
 decided_report (Some r) u n action = cond (is_last action r.action) (Accepted (ShownRun r) None) (decided_step (next_status r.plan_only u.settings.runs.auto_apply r.status action) u r n action)
 
 -- the answer to a read-only act; nothing changes
-abbrev pub decided_look : AnyLook → WorkspaceUnit → Decision
-decided_look look.Workspace u = Accepted (ShownWorkspace (shown_as u.settings u)) None
-decided_look look.State u = decided_read u.newest
-decided_look (look.Version n) u = decided_version_read u.has_version n
-decided_look (look.Versions after) u = Accepted (Versions after) None
-decided_look (look.Run n) u = decided_read_run u.asked_run
-decided_look (look.Runs after) u = Accepted (Runs after) None
+abbrev pub decided_query : AnyQuery → WorkspaceUnit → Decision
+decided_query query.Workspace u = Accepted (ShownWorkspace (shown_as u.settings u)) None
+decided_query query.State u = decided_read u.newest
+decided_query (query.Version n) u = decided_version_read u.has_version n
+decided_query (query.Versions after) u = Accepted (Versions after) None
+decided_query (query.Run n) u = decided_read_run u.asked_run
+decided_query (query.Runs after) u = Accepted (Runs after) None
 
 abbrev pub decision_missing : Act → Bool → Decision
 decision_missing (PutWorkspace ask) room =
@@ -172,7 +172,7 @@ decision_missing act room = Refused NotFound
 abbrev pub decision_of : AnyUnit → Act → ℕ → Decision
 decision_of (Absent workspaces limit) act now = decision_missing act (nat_lt workspaces limit)
 decision_of (Present u) (PutWorkspace ask) now = decided_put (settings_for ask (Some u.settings)) u
-decision_of (Present u) (Look what) now = decided_look what u
+decision_of (Present u) (Query what) now = decided_query what u
 decision_of (Present u) (UpdateState head text id) now = decided_update (may_write u.holder u.holder_status id) u head text now
 decision_of (Present u) (PurgeState id) now = decided_purge (may_write u.holder u.holder_status id) u
 decision_of (Present u) (LockAct id text) now = decided_lock u.holder id text

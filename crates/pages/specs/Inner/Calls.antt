@@ -37,8 +37,8 @@ alike None = None
 alike (Some first) = cond first.same (Some first.found) None
 
 -- only queries are run
-abbrev pub OnlyLooks : {X E : Type 0} → State → State → Result X E → Type 0
-OnlyLooks old new result = HasCleanDisk new → OnOk result (LeavesAsIs old new) × OnErr result (KeepsCommit old new)
+abbrev pub OnlyQueries : {X E : Type 0} → State → State → Result X E → Type 0
+OnlyQueries old new result = HasCleanDisk new → OnOk result (LeavesAsIs old new) × OnErr result (KeepsCommit old new)
 
 -- Any number of reads in a transaction: it stays that of the same connection, the result tells this of the rows, nothing changes, the disk was
 -- clean so far, and a shield stays; after a failure nothing is committed.
@@ -51,5 +51,5 @@ pub record SeesInside {S X E : Type 0} (g : Ghosts S) (says : X → Tables → T
   pub shield : (state g old.conn.now).IsShielded → (state g new.conn.now).IsShielded
 
 -- the value is computed from the rows before the call
-abbrev pub TellsBy : {X E : Type 0} → (Tables → X) → State → State → Result X E → Type 0
-TellsBy read old new result = HasCleanDisk new → IfOk result (λ x. (t : Tables) → Holds old.now t → x ≡ read t)
+abbrev pub ReportsBy : {X E : Type 0} → (Tables → X) → State → State → Result X E → Type 0
+ReportsBy read old new result = HasCleanDisk new → IfOk result (λ x. (t : Tables) → Holds old.now t → x ≡ read t)

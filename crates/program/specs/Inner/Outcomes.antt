@@ -2,7 +2,7 @@
 use Rattle.std.specs.Prelude.{◌≡◌, ◌⊎◌, ℕ, List, [], Bool, true, false, Option, Result, Ok}
 use Rattle.basis.specs.declared.memory.Down.{Down}
 use Rattle.machine.specs.declared.keeps.Keep as keep
-use Rattle.machine.specs.Keeping.{Lasts}
+use Rattle.machine.specs.StoreCalls.{Lasts}
 use Rattle.wire.specs.declared.devices.Inlet as inlet
 use Rattle.wire.specs.declared.devices.Outlet as outlet
 use Rattle.program.specs.declared.exits.Exit.{Exit}
@@ -12,24 +12,24 @@ use Rattle.program.specs.declared.environment.Connections as connections
 use Rattle.program.specs.declared.environment.Files as files
 use Rattle.program.specs.declared.reasons.Cause.{Cause}
 use Rattle.program.specs.declared.serving.Terms.{Terms}
-use Rattle.program.specs.declared.totals.Looked.{Looked}
-use Rattle.program.specs.Outcomes.{Stream, Errors, Environment, error_stream, Says, GetsSome, SaysServed, LooksFor, Closes, TellsUnsound}
+use Rattle.program.specs.declared.totals.Findings.{Findings}
+use Rattle.program.specs.Outcomes.{Stream, Errors, Environment, error_stream, Says, GetsSome, SaysServed, ChecksStore, Closes, ReportsUnsound}
 use Rattle.program.specs.Serving.{Serves, state, AnswersAtPort}
-use Rattle.program.specs.Streams.{Told}
+use Rattle.program.specs.Streams.{Reported}
 
 -- the line of an exit on standard output and its cause on the error stream; or a stream did not take everything
 abbrev pub IsSaidWhy : Exit → Exit → Stream → Errors → Type 0
 IsSaidWhy e result output errors = ((result ≡ e) × Says e output × GetsSome errors) ⊎ (result ≡ Unprinted)
 
 -- a check found no fault (`true`); or it found faults, or failed, and the error stream says so
-abbrev pub FindsNone : Cause → Result Looked Down → Bool → Errors → Type 0
-FindsNone why found true errors = ((looked : Looked) × (found ≡ Ok looked) × (looked.faults ≡ [])) × (errors.new ≡ errors.old)
-FindsNone why found false errors = TellsUnsound why found errors
+abbrev pub FindsNone : Cause → Result Findings Down → Bool → Errors → Type 0
+FindsNone why found true errors = ((findings : Findings) × (found ≡ Ok findings) × (findings.faults ≡ [])) × (errors.new ≡ errors.old)
+FindsNone why found false errors = ReportsUnsound why found errors
 
 module _ {K F : Type 0} (k : keep.Ghosts K) (f : files.Ghosts F K) where
   -- the tables of a store were checked
-  abbrev pub LooksFirst : Cause → K → Bool → K → Errors → Type 0
-  LooksFirst why opened is_sound before errors = LooksFor k f (λ found told. FindsNone why found is_sound told) opened before errors
+  abbrev pub ChecksFirst : Cause → K → Bool → K → Errors → Type 0
+  ChecksFirst why opened is_sound before errors = ChecksStore k f (λ found reported. FindsNone why found is_sound reported) opened before errors
 
 module _ {K F N C R W : Type 0} (k : keep.Ghosts K) (f : files.Ghosts F K) (n : connections.Ghosts N R W) (c : clock.Ghosts C) (i : inlet.Ghosts R) (o : outlet.Ghosts W) where
   -- connections are answered from an open store, which is then closed at this path
@@ -38,8 +38,8 @@ module _ {K F N C R W : Type 0} (k : keep.Ghosts K) (f : files.Ghosts F K) (n : 
     pub lasts : Lasts k.clean k.sound k.keyed k.shielded before after
     pub serves : k.clean after → k.sound before → Serves terms.door count (k.rows before) (k.rows after)
     pub served : Exit
-    pub told : Option (List ℕ)
-    pub lines : Told
-    pub answers : AnswersAtPort k f n c i o port terms count (state old.network old.clock before errors.old output.old) (state new.network new.clock after lines told) served
-    pub says : SaysServed served e told output.new
+    pub reported : Option (List ℕ)
+    pub lines : Reported
+    pub answers : AnswersAtPort k f n c i o port terms count (state old.network old.clock before errors.old output.old) (state new.network new.clock after lines reported) served
+    pub says : SaysServed served e reported output.new
     pub closes : Closes k f path old.files new.files after (error_stream lines errors.new)

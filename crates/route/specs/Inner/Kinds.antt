@@ -4,7 +4,7 @@ use Rattle.basis.specs.Checks.{or_refused, and_then}
 use Rattle.basis.specs.declared.refusals.Allow.TheVariants.{Lists, Workspaces, States, Runs, Actions}
 use Rattle.basis.specs.declared.refusals.Refusal.{Refusal}
 use Rattle.basis.specs.declared.refusals.Refusal.TheVariants.{NoRoute, NoMethod}
-use Rattle.basis.specs.declared.acts.Look.TheVariants.{Version as VersionLook, Versions as VersionsLook, Run as RunLook}
+use Rattle.basis.specs.declared.acts.Query.TheVariants.{Version as VersionQuery, Versions as VersionsQuery, Run as RunQuery}
 use Rattle.basis.specs.declared.runs.RunAction.{RunAction}
 use Rattle.basis.specs.Names.{is_ws_name}
 use Rattle.basis.specs.Numbers.{number_of}
@@ -76,12 +76,12 @@ abbrev pub act_named : Kind → Pairs → List ℕ → Bool → Result AskedAct 
 act_named ListsWorkspaces pairs method bodyless = or_refused (NoMethod Lists) (listing_act method)
 act_named IsWorkspace pairs method bodyless = on_ws pairs (or_refused (NoMethod Workspaces) (workspace_act method))
 act_named IsState pairs method bodyless = on_ws pairs (or_refused (NoMethod States) (state_act method bodyless))
-act_named ListsVersions pairs method bodyless = on_ws pairs (or_refused (NoMethod Lists) (got (VersionsLook 0) method))
+act_named ListsVersions pairs method bodyless = on_ws pairs (or_refused (NoMethod Lists) (got (VersionsQuery 0) method))
 act_named IsVersion pairs method bodyless =
-    and_then (or_refused NoRoute (number_in pairs)) (λ number. on_ws pairs (or_refused (NoMethod Lists) (got (VersionLook number) method)))
+    and_then (or_refused NoRoute (number_in pairs)) (λ number. on_ws pairs (or_refused (NoMethod Lists) (got (VersionQuery number) method)))
 act_named ListsRuns pairs method bodyless = on_ws pairs (or_refused (NoMethod Runs) (runs_act method))
 act_named IsRun pairs method bodyless =
-    and_then (or_refused NoRoute (number_in pairs)) (λ number. on_ws pairs (or_refused (NoMethod Lists) (got (RunLook number) method)))
+    and_then (or_refused NoRoute (number_in pairs)) (λ number. on_ws pairs (or_refused (NoMethod Lists) (got (RunQuery number) method)))
 act_named IsAction pairs method bodyless =
     and_then (or_refused NoRoute (action_in pairs)) (λ run. on_ws pairs (or_refused (NoMethod Actions) (posted (ReportRun run.0 run.1) method)))
 

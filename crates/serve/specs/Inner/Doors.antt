@@ -14,7 +14,7 @@ use Rattle.serve.specs.declared.doors.Operated.{Operated}
 use Rattle.serve.specs.declared.exchanges.LinkFault.{LinkFault}
 use Rattle.serve.specs.declared.steps.Admin.{Admin}
 use Rattle.serve.specs.Asks.{commands}
-use Rattle.serve.specs.Doors.{ExchangesOpen, commanded, told_answer, told_row, turned_row, unserved_row}
+use Rattle.serve.specs.Doors.{ExchangesOpen, commanded, reported_answer, reported_row, turned_row, unserved_row}
 use Rattle.serve.specs.Service.{is_head, Carries, Stays, IsAdminAnswer}
 
 -- a command is carried out, and this is its reply and its row
@@ -22,8 +22,8 @@ pub record Operates (at : ℕ) (command : Admin) (old new : List ℕ → Option 
   pub answer : AdminAnswer
   pub answered : IsAdminAnswer old command answer
   pub carries : Carries (commands at command) old new
-  pub reply : done.reply ≡ told_answer answer
-  pub row : done.row ≡ told_row at command answer
+  pub reply : done.reply ≡ reported_answer answer
+  pub row : done.row ≡ reported_row at command answer
 
 -- a message is refused, and this is its reply and its row
 pub record TurnsAway (at : ℕ) (refusal : Refusal) (head : Bool) (done : Operated) : Type 0 where

@@ -2,7 +2,7 @@
 use Rattle.std.specs.Prelude.{◌≡◌, ℕ, if◌then◌else◌, List, Option, Some, None, Result, Ok, Err, ⊤}
 use Rattle.std.specs.FinMap.{get}
 use Rattle.basis.specs.Checks.{and_then}
-use Rattle.basis.specs.Roles.{counts_at}
+use Rattle.basis.specs.Roles.{is_valid_at}
 use Rattle.basis.specs.declared.refusals.Refusal.{Refusal}
 use Rattle.basis.specs.declared.refusals.Refusal.TheVariants.{BadToken}
 use Rattle.basis.specs.declared.roles.Caller.{Caller}
@@ -27,16 +27,16 @@ use Rattle.serve.specs.Steps.{Answered, request_step}
 use Rattle.serve.specs.declared.messages.Prepared.{Prepared}
 
 -- a token that counts at a moment
-abbrev pub counted : ℕ → TokenRow → Result TokenRow Refusal
-counted now row = if counts_at now row.caller then Ok row else Err BadToken
+abbrev pub valid_token : ℕ → TokenRow → Result TokenRow Refusal
+valid_token now row = if is_valid_at now row.caller then Ok row else Err BadToken
 
-abbrev pub found_counted : ℕ → Option TokenRow → Result TokenRow Refusal
-found_counted now None = Err BadToken
-found_counted now (Some row) = counted now row
+abbrev pub found_valid_token : ℕ → Option TokenRow → Result TokenRow Refusal
+found_valid_token now None = Err BadToken
+found_valid_token now (Some row) = valid_token now row
 
 -- the token that asks
 abbrev pub row_known : Option Organization → ℕ → Asked → Result TokenRow Refusal
-row_known r now asked = found_counted now (asker_of r (sha256 asked.secret))
+row_known r now asked = found_valid_token now (asker_of r (sha256 asked.secret))
 
 -- who asks by the token
 abbrev pub caller_known : Option Organization → ℕ → Asked → Result Caller Refusal

@@ -76,6 +76,6 @@ due_reply false head reply = reply
 due_reply true head reply = unavailable_answer head
 
 -- the change that was prepared is made (`false`), or none is (`true`)
-abbrev pub Settles : Bool → Prepared → (List ℕ → Option Organization) → (List ℕ → Option Organization) → Type 0
-Settles false p old new = (a : Ask) → IsPrepared old a p → Carries a old new
-Settles true p old new = Stays old new
+abbrev pub CommitsUnlessDown : Bool → Prepared → (List ℕ → Option Organization) → (List ℕ → Option Organization) → Type 0
+CommitsUnlessDown false p old new = (a : Ask) → IsPrepared old a p → Carries a old new
+CommitsUnlessDown true p old new = Stays old new

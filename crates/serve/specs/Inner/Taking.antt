@@ -6,9 +6,9 @@ use Rattle.serve.specs.declared.steps.Admin.{Admin}
 use Rattle.serve.specs.declared.steps.Admin.TheVariants.{OrgAdd, OrgLimit, OrgRemove, OrgList, TokenAdd, TokenList, TokenRevoke}
 use Rattle.serve.specs.Asks.{Ask, Owner, silent, requests, commands}
 use Rattle.machine.specs.declared.keeps.AdminAnswer.{AdminAnswer}
-use Rattle.serve.specs.declared.commands.Told.{Told}
-use Rattle.serve.specs.Service.{IsAsked, AreAsked, Carries, said_to, IsSaidText, IsListed, IsAdminAnswer, told_text, refusal_told}
-use Rattle.serve.specs.Runs.{IsOwnRecord, AreOwnReplies, ListsAreTold}
+use Rattle.serve.specs.declared.commands.CommandReport.{CommandReport}
+use Rattle.serve.specs.Service.{IsAsked, AreAsked, Carries, said_to, IsSaidText, IsListed, IsAdminAnswer, reported_text, reported_refusal}
+use Rattle.serve.specs.Runs.{IsOwnRecord, AreOwnReplies, ListsAreReported}
 use Rattle.std.specs.List.{AllByRecursion}
 use Rattle.machine.specs.Ranges.{IsMoment}
 use Rattle.serve.specs.Asks as ask
@@ -35,7 +35,7 @@ pub record RunsTo (steps : List Step) (old new : List ℕ → Option Organizatio
   pub timely : AllByRecursion IsTimely asked
   pub rows : (org : List ℕ) → IsOwnRecord asked old new org
   pub texts : (owner : Owner) → AreOwnReplies asked old replies owner
-  pub listed : ListsAreTold old asked replies
+  pub listed : ListsAreReported old asked replies
 
 -- a command on one organization, which may change it
 abbrev pub IsOnOne : Admin → Type 0
@@ -48,13 +48,13 @@ IsOnOne (TokenList org) = ⊥
 IsOnOne (TokenRevoke org name) = ⊤
 
 -- an answer as text, and whether it is a refusal
-pub record IsTold (answer : AdminAnswer) (told : Told) : Type 0 where
-  pub refusal : told.refusal ≡ refusal_told answer
-  pub text : told.text ≡ told_text answer
+pub record IsReported (answer : AdminAnswer) (reported : CommandReport) : Type 0 where
+  pub refusal : reported.refusal ≡ reported_refusal answer
+  pub text : reported.text ≡ reported_text answer
 
 -- a command is carried out, at any time, and this is its answer as text
-pub record IsCarriedOut (command : Admin) (old new : List ℕ → Option Organization) (told : Told) : Type 0 where
+pub record IsCarriedOut (command : Admin) (old new : List ℕ → Option Organization) (reported : CommandReport) : Type 0 where
   pub answer : AdminAnswer
   pub answered : IsAdminAnswer old command answer
-  pub tells : IsTold answer told
+  pub reports : IsReported answer reported
   pub carries : (at : ℕ) → Carries (commands at command) old new

@@ -21,14 +21,14 @@ use Rattle.serve.specs.declared.logs.RowFacts.{RowFacts}
 use Rattle.serve.specs.declared.logs.Trace.{Trace}
 
 -- the run that an answer shows
-abbrev pub told_by : Answer → Option ℕ
-told_by answer.Done = None
-told_by answer.NoState = None
-told_by (answer.State n) = None
-told_by (answer.Workspace shown) = None
-told_by (answer.Run r) = Some r.number
-told_by (answer.Versions after) = None
-told_by (answer.Runs after) = None
+abbrev pub run_shown_by : Answer → Option ℕ
+run_shown_by answer.Done = None
+run_shown_by answer.NoState = None
+run_shown_by (answer.State n) = None
+run_shown_by (answer.Workspace shown) = None
+run_shown_by (answer.Run r) = Some r.number
+run_shown_by (answer.Versions after) = None
+run_shown_by (answer.Runs after) = None
 
 -- the version that an edit makes
 abbrev pub edit_number : ℕ → Edit → Option ℕ
@@ -71,8 +71,8 @@ run_by (Present u) change = edit_start u.holder change
 
 abbrev pub trace_by : AnyUnit → Decision → Trace
 trace_by u (Refused refusal) = no_trace
-trace_by u (Accepted answer None) = record { shown_run = told_by answer; version = None; run = None }
-trace_by u (Accepted answer (Some change)) = record { shown_run = told_by answer; version = version_by u change; run = run_by u change }
+trace_by u (Accepted answer None) = record { shown_run = run_shown_by answer; version = None; run = None }
+trace_by u (Accepted answer (Some change)) = record { shown_run = run_shown_by answer; version = version_by u change; run = run_by u change }
 
 -- what had been read of a request where memory or the store refused
 abbrev pub read_so_far : Option (List ℕ) → Option (List ℕ) → RowFacts

@@ -1,7 +1,7 @@
 -- Contracts between functions: what serving needs of a unit.
 use Rattle.std.specs.Prelude.{ℕ, Bool, true, false, ◌&&◌, Option, Some, None, is_some}
-use Rattle.basis.specs.declared.acts.Look.{Look as AnyLook}
-use Rattle.machine.specs.Needs.{Needed, needs_of_look}
+use Rattle.basis.specs.declared.acts.Query.{Query as AnyQuery}
+use Rattle.machine.specs.Needs.{Needed, needs_of_query}
 use Rattle.machine.specs.declared.acts.WorkspaceUnit.{WorkspaceUnit}
 use Rattle.machine.specs.declared.acts.Unit.{Unit as AnyUnit}
 use Rattle.machine.specs.declared.acts.Unit.TheVariants.{Absent, Present}
@@ -22,6 +22,6 @@ if_named (Some number) there = there
 abbrev pub sees_named : Needed → WorkspaceUnit → Bool
 sees_named need u = if_named need.version u.has_version && if_named need.run (is_some u.asked_run)
 
-abbrev pub is_present : AnyLook → AnyUnit → Bool
+abbrev pub is_present : AnyQuery → AnyUnit → Bool
 is_present what (Absent workspaces limit) = false
-is_present what (Present u) = sees_named (needs_of_look what) u
+is_present what (Present u) = sees_named (needs_of_query what) u

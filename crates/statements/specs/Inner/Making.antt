@@ -80,6 +80,6 @@ LeavesOthers table old new =
     IsOwn old.schema table → (new.schema ≡ old.schema) × AllByRecursion (λ (t : Table). t.tree ≢ tree_of old.schema table.name → new.trees t.tree ≡ old.trees t.tree) old.schema.tables
 
 -- edition has a version, and the database has the tables of that version
-pub record Told (n : ℕ) (old new : Database) : Type 0 where
+pub record Reported (n : ℕ) (old new : Database) : Type 0 where
   pub moved : Moved n (edition_set n) old new
   pub leaves : LeavesOthers edition_table old new

@@ -55,7 +55,7 @@ counted_rows org ws w t = ws_changed (with_next_run w.next_run) org ws (ws_chang
 
 -- a workspace is added, with its next numbers, the ID released last, its holder, and the number of versions that it keeps
 abbrev pub head_rows : List ℕ → List ℕ → WorkspaceCells → ℕ → Tables → Tables
-head_rows org ws w keep t = held_rows org ws w.holder (released_rows org ws w.released (counted_rows org ws w (ws_added org ws w.runs keep t)))
+head_rows org ws w retention t = held_rows org ws w.holder (released_rows org ws w.released (counted_rows org ws w (ws_added org ws w.runs retention t)))
 
 -- ---- a workspace, part by part
 
@@ -76,5 +76,5 @@ Begins org ws w t u = IsSound t → list_any (is_org org) t.orgs ≡ true → St
 -- ---- what is copied
 
 -- A workspace without the texts of its versions, as it was read. With the texts it is the one that the rows denote.
-pub record IsWhole (org ws : List ℕ) (f : Tables) (it : WorkspaceCells) (keep : ℕ) (versions : List Head) (runs : List Run) : Type 0 where
-  pub is : workspace_by f org ws ≡ Some (workspace_of_cells keep it (map (version_at f org ws) versions) runs)
+pub record IsWhole (org ws : List ℕ) (f : Tables) (it : WorkspaceCells) (retention : ℕ) (versions : List Head) (runs : List Run) : Type 0 where
+  pub is : workspace_by f org ws ≡ Some (workspace_of_cells retention it (map (version_at f org ws) versions) runs)

@@ -10,7 +10,7 @@ use Rattle.machine.specs.declared.records.Version.{Version}
 use Rattle.basis.specs.declared.rows.Holder.TheVariants.{Nobody, Lock, Run as HeldByRun}
 use Rattle.statements.specs.declared.rows.Workspace.{Workspace as WorkspaceCells}
 use Rattle.statements.specs.Tables.{Tables}
-use Rattle.statements.specs.Changes.{with_run_settings, held_by, released_from, with_next_version, with_next_run, ws_changed, keeping_changed, ws_added, ws_removed, new_version, version_added, version_removed, run_made, run_added, runs_removed, run_changed_to, run_acted}
+use Rattle.statements.specs.Changes.{with_run_settings, held_by, released_from, with_next_version, with_next_run, ws_changed, retention_changed, ws_added, ws_removed, new_version, version_added, version_removed, run_made, run_added, runs_removed, run_changed_to, run_acted}
 use Rattle.statements.specs.Finds.{workspace_of, oldest_below, size_of}
 use Rattle.basis.specs.declared.rows.VersionRow.{VersionRow as Head}
 use Rattle.texts.specs.Texts.{pages_for, text_added, text_removed, TwinsFit}
@@ -74,7 +74,7 @@ left_rows (Some last) org ws t = gone_below org ws (last + 1) t
 
 -- settings are set, in two rows
 abbrev pub settings_rows : List ℕ → List ℕ → Settings → Tables → Tables
-settings_rows org ws settings t = keeping_changed settings.retention org ws (ws_changed (with_run_settings settings.runs) org ws t)
+settings_rows org ws settings t = retention_changed settings.retention org ws (ws_changed (with_run_settings settings.runs) org ws t)
 
 -- settings are set, and versions with numbers up to this one are removed
 abbrev pub configured_rows : List ℕ → List ℕ → Settings → Option ℕ → Tables → Tables

@@ -48,7 +48,7 @@ abbrev pub newest_shown_in : List ℕ → NamedWorkspace → Tables → Option �
 newest_shown_in org w t = newest_by w.last w.it.next_version (newest_number_in org w.name t)
 
 abbrev pub ws_row_in : List ℕ → Tables → NamedWorkspace → WsRow
-ws_row_in org t w = record { settings = settings_of_cells (unwrap_or w.keep FIRST_KEPT) w.it; holder = holder_id w.it.holder; name = w.name; version = newest_shown_in org w t }
+ws_row_in org t w = record { settings = settings_of_cells (unwrap_or w.retention FIRST_KEPT) w.it; holder = holder_id w.it.holder; name = w.name; version = newest_shown_in org w t }
 
 abbrev pub workspaces_listed_in : List ℕ → List ℕ → List ℕ → Tables → Listing WsRow
 workspaces_listed_in after prefix org t = listing_of (map (ws_row_in org t) (workspace_rows_after org after prefix asked_rows t))
@@ -65,13 +65,13 @@ asker_in org digest t = option_map (token_row_in org t) (named_role_of org diges
 abbrev pub tokens_listed_in : List ℕ → Tables → List TokenRow
 tokens_listed_in org t = map (token_row_in org t) (token_rows_of org t)
 
-abbrev pub tokens_told_by : Option ℕ → List ℕ → Tables → AdminAnswer
-tokens_told_by None org t = Absent
-tokens_told_by (Some cap) org t = Tokens (tokens_listed_in org t)
+abbrev pub token_list_answer_by : Option ℕ → List ℕ → Tables → AdminAnswer
+token_list_answer_by None org t = Absent
+token_list_answer_by (Some cap) org t = Tokens (tokens_listed_in org t)
 
 -- the answer to the list of an organization's tokens
-abbrev pub tokens_told_in : List ℕ → Tables → AdminAnswer
-tokens_told_in org t = tokens_told_by (cap_of org t) org t
+abbrev pub token_list_answer_in : List ℕ → Tables → AdminAnswer
+token_list_answer_in org t = token_list_answer_by (cap_of org t) org t
 
 -- ---- organizations
 

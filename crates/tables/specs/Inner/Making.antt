@@ -4,10 +4,10 @@ use Rattle.sqlite_schema.specs.declared.schema.Schema.{Schema}
 use Rattle.sqlite_schema.specs.Names.{table_named}
 use Rattle.sqlite.specs.State.{State, KeepsCommit}
 use Rattle.statements.specs.Making.{HasSchema}
-use Rattle.statements.specs.declared.making.TheConstants.{NEWEST}
+use Rattle.statements.specs.declared.making.TheConstants.{SCHEMA_VERSION}
 use Rattle.tables.specs.declared.opening.Found.{Found}
 use Rattle.tables.specs.declared.opening.Found.TheVariants.{Nothing, Version, Other}
-use Rattle.tables.specs.Opening.{any_there, all_there, TellsIn, ToldBy, IsOther}
+use Rattle.tables.specs.Opening.{any_there, all_there, StoresVersionIn, StoredBy, IsOther}
 use Rattle.tables.specs.Versions.{Becomes, KeepsBeside}
 
 -- all tables were created beside others, and this is committed
@@ -31,25 +31,25 @@ found_in n None = Other
 found_in n (Some version) = found_at n version
 
 -- the tables of this version exist, this version is stored, and no row changes
-pub record IsTold (n : ℕ) (old new : State) : Type 0 where
+pub record IsReported (n : ℕ) (old new : State) : Type 0 where
   pub there : all_there n old.now.schema ≡ true
-  pub version : TellsIn n old.now
-  pub tells : ToldBy n old.now
+  pub version : StoresVersionIn n old.now
+  pub reports : StoredBy n old.now
   pub was_open : IsTrue old.is_open
   pub is_open : IsTrue new.is_open
   pub same : new.committed ≡ old.now
   pub kept : KeepsCommit old new
 
 -- what was found if some of our tables exist
-abbrev pub TellsFound : Found → State → State → Type 0
-TellsFound Nothing old new = ⊥
-TellsFound (Version n) old new = IsTold n old new
-TellsFound Other old new = IsOther old × KeepsCommit old new
+abbrev pub ReportsFound : Found → State → State → Type 0
+ReportsFound Nothing old new = ⊥
+ReportsFound (Version n) old new = IsReported n old new
+ReportsFound Other old new = IsOther old × KeepsCommit old new
 
 -- what was found in a database
 abbrev pub FindsOurs : Found → State → State → Type 0
 FindsOurs Nothing old new = any_there old.now.schema ≡ false
-FindsOurs (Version n) old new = (any_there old.now.schema ≡ true) × IsTold n old new
+FindsOurs (Version n) old new = (any_there old.now.schema ≡ true) × IsReported n old new
 FindsOurs Other old new = (any_there old.now.schema ≡ true) × IsOther old × KeepsCommit old new
 
 -- ---- from a version to a later one
@@ -66,13 +66,13 @@ StepsFrom from old new result = OnOk result (Climbs from (from + 1) old new × I
 
 -- the newest version is reached
 pub record IsClimbed (from : ℕ) (old new : State) : Type 0 where
-  pub climbs : from ≤ NEWEST → Climbs from NEWEST old new
+  pub climbs : from ≤ SCHEMA_VERSION → Climbs from SCHEMA_VERSION old new
   pub is_open : IsTrue old.is_open → IsTrue new.is_open
 
 -- A version on the way is reached; if no step was taken, nothing is committed.
 pub record IsOnWay (from : ℕ) (old new : State) : Type 0 where
   pub to : ℕ
   pub least : from ≤ to
-  pub most : to < NEWEST
+  pub most : to < SCHEMA_VERSION
   pub climbs : Climbs from to old new
   pub none : to ≡ from → KeepsCommit old new

@@ -31,4 +31,4 @@ asker_noted before org digest (Some row) = Some (record { org = org; digest = di
 
 -- after a workspace was changed
 abbrev pub changed_memo : Memo → List ℕ → List ℕ → Edit → Memo
-changed_memo memo org ws edit = record { counted = changed_count memo.counted org ws edit; sized = None; asked = memo.asked }
+changed_memo memo org ws edit = record { cached = changed_count memo.cached org ws edit; sized = None; asked = memo.asked }

@@ -8,7 +8,7 @@ use Rattle.statements.specs.declared.rows.NamedToken.{NamedToken}
 use Rattle.statements.specs.declared.rows.Workspace.{Workspace as WorkspaceCells}
 use Rattle.statements.specs.Changes.{org_row_removed, token_removed}
 use Rattle.statements.specs.Finds.{workspace_of, open_runs_of}
-use Rattle.statements.specs.Listings.{TokensApart, NamesApart, whole_tokens_of, workspace_names_of}
+use Rattle.statements.specs.Listings.{TokensApart, NamesApart, digest_tokens_of, workspace_names_of}
 use Rattle.statements.specs.Steps.{EqualsWhere}
 use Rattle.statements.specs.Tables.{Tables}
 use Rattle.tables.specs.Records.{record_of}
@@ -48,7 +48,7 @@ all_gone_of org names list t = org_row_removed org (tokens_gone org list (worksp
 
 -- these are the names of its workspaces, and these its tokens
 abbrev pub AreAllOf : List ℕ → List (List ℕ) → List NamedToken → Tables → Type 0
-AreAllOf org names list t = EqualsWhere NamesApart (workspace_names_of org) names t × EqualsWhere TokensApart (whole_tokens_of org) list t
+AreAllOf org names list t = EqualsWhere NamesApart (workspace_names_of org) names t × EqualsWhere TokensApart (digest_tokens_of org) list t
 
 -- ---- the command
 

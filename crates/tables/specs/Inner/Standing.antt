@@ -8,7 +8,7 @@ use Rattle.machine.specs.declared.records.Version.{Version}
 use Rattle.machine.specs.declared.records.Workspace.{Workspace}
 use Rattle.statements.specs.declared.rows.Workspace.{Workspace as WorkspaceCells}
 use Rattle.statements.specs.Tables.{Tables}
-use Rattle.statements.specs.Changes.{is_org, is_ws, is_keeping, is_version_of, is_run_of}
+use Rattle.statements.specs.Changes.{is_org, is_ws, is_retention, is_version_of, is_run_of}
 use Rattle.statements.specs.Finds.{workspace_of}
 use Rattle.texts.specs.Texts.{HasSoundPlaces}
 use Rattle.tables.specs.Records.{version_at, workspace_of_cells, retention_at}
@@ -26,10 +26,10 @@ pub record AreTexts (t : Tables) : Type 0 where
 -- a workspace has one row and one row of keeping, and each row has the row that it belongs to
 pub record AreOwned (t : Tables) : Type 0 where
   pub wss_apart : AreApart (λ a b. is_ws a.1.org a.1.name b) t.wss
-  pub keepings_apart : AreApart (λ a b. is_keeping a.1.org a.1.ws b) t.keepings
-  pub wss_kept : AllByRecursion (λ x. list_any (is_keeping x.1.org x.1.name) t.keepings ≡ true) t.wss
+  pub retentions_apart : AreApart (λ a b. is_retention a.1.org a.1.ws b) t.retentions
+  pub wss_kept : AllByRecursion (λ x. list_any (is_retention x.1.org x.1.name) t.retentions ≡ true) t.wss
   pub wss_owned : AllByRecursion (λ x. list_any (is_org x.1.org) t.orgs ≡ true) t.wss
-  pub keepings_owned : AllByRecursion (λ x. list_any (is_ws x.1.org x.1.ws) t.wss ≡ true) t.keepings
+  pub retentions_owned : AllByRecursion (λ x. list_any (is_ws x.1.org x.1.ws) t.wss ≡ true) t.retentions
   pub versions_owned : AllByRecursion (λ x. list_any (is_ws x.1.org x.1.ws) t.wss ≡ true) t.versions
   pub runs_owned : AllByRecursion (λ x. list_any (is_ws x.1.org x.1.ws) t.wss ≡ true) t.runs
 

@@ -11,12 +11,12 @@ use Rattle.machine.specs.declared.keeps.AdminAnswer.{AdminAnswer}
 use Rattle.machine.specs.declared.keeps.AdminAnswer.TheVariants.{Done, Exists, Absent}
 use Rattle.statements.specs.Changes.{org_row_added, org_capped, token_added, token_removed}
 use Rattle.statements.specs.Finds.{cap_of, role_of_name, role_of_digest}
-use Rattle.statements.specs.Steps.{Steps, Tells}
+use Rattle.statements.specs.Steps.{Steps, Reports}
 use Rattle.statements.specs.Tables.{Tables, Holds}
 
 -- between transactions nothing is uncommitted
-abbrev pub IsSettled : State → Type 0
-IsSettled s = IsTrue s.is_open → s.now ≡ s.committed
+abbrev pub IsAllCommitted : State → Type 0
+IsAllCommitted s = IsTrue s.is_open → s.now ≡ s.committed
 
 -- A call outside a transaction, whether it succeeded or not: afterwards no transaction is open, a disk that is clean was clean before, and
 -- a shielded one stays shielded.
@@ -26,28 +26,28 @@ pub record EndsIdle {S : Type 0} (g : Ghosts S) (old new : Held S) : Type 0 wher
   pub shield : (state g old).IsShielded → (state g new).IsShielded
 
 -- The change is committed, and this is said about the rows that were committed before it.
-pub record Commits (change : Tables → Tables) (told : Tables → Type 0) (old new : State) : Type 0 where
+pub record Commits (change : Tables → Tables) (reported : Tables → Type 0) (old new : State) : Type 0 where
   pub rows : (t : Tables) → Holds old.committed t → Holds new.committed (change t)
-  pub tells : (t : Tables) → Holds old.committed t → told t
+  pub reports : (t : Tables) → Holds old.committed t → reported t
   pub was_open : IsTrue old.is_open
   pub is_open : IsTrue new.is_open
 
 -- What steps promise, and what they say about the rows before them.
-pub record TellingSteps {S X E : Type 0} (g : Ghosts S) (change : Tables → Tables) (law : Tables → Type 0) (old new : Transaction S) (result : Result X E) : Type 0 where
+pub record ReportingSteps {S X E : Type 0} (g : Ghosts S) (change : Tables → Tables) (law : Tables → Type 0) (old new : Transaction S) (result : Result X E) : Type 0 where
   pub steps : Steps g change old new result
-  pub tells : Tells (λ _. law) (state g old.conn.now) (state g new.conn.now) result
+  pub reports : Reports (λ _. law) (state g old.conn.now) (state g new.conn.now) result
 
 -- the same, for some keys of the pages of a text: one for each place
 abbrev pub KeyedSteps : {S X E : Type 0} → Ghosts S → ((ℕ → List ℕ) → Tables → Tables) → ((ℕ → List ℕ) → Tables → Type 0) → Transaction S → Transaction S → Result X E → Type 0
-KeyedSteps g change law old new result = (keys : ℕ → List ℕ) × TellingSteps g (change keys) (law keys) old new result
+KeyedSteps g change law old new result = (keys : ℕ → List ℕ) × ReportingSteps g (change keys) (law keys) old new result
 
 -- one transaction: its change is committed, or nothing is
 abbrev pub Transacts : {X E : Type 0} → (Tables → Tables) → (X → Tables → Type 0) → State → State → Result X E → Type 0
 Transacts change says old new result = HasCleanDisk new → IfOk result (λ x. Commits change (says x) old new) × OnErr result (KeepsCommit old new)
 
 -- reads the committed rows, and the result says this about them; nothing is committed
-abbrev pub LooksAt : {X E : Type 0} → (X → Tables → Type 0) → State → State → Result X E → Type 0
-LooksAt says old new result = HasCleanDisk new → IfOk result (λ x. IsTrue old.is_open × ((t : Tables) → Holds old.committed t → says x t)) × KeepsCommit old new
+abbrev pub ReadsCommitted : {X E : Type 0} → (X → Tables → Type 0) → State → State → Result X E → Type 0
+ReadsCommitted says old new result = HasCleanDisk new → IfOk result (λ x. IsTrue old.is_open × ((t : Tables) → Holds old.committed t → says x t)) × KeepsCommit old new
 
 -- ---- an operator's commands: the answer, and the rows after it
 

@@ -59,11 +59,11 @@ number_before next staying = within 1 MAX_NUMBER (next - 1 - staying)
 abbrev pub number_behind : ℕ → ℕ → List ℕ → List ℕ → Tables → Option ℕ
 number_behind next staying org ws t = cond (has_version_in (number_before next staying) org ws t) (number_before next staying) None
 
--- the greatest number of the versions to be removed from a workspace that keeps `keep`: the versions that are kept follow it without a gap
+-- the greatest number of the versions to be removed from a workspace that keeps `retention`: the versions that are kept follow it without a gap
 abbrev pub outgoing_in : Staying → ℕ → ℕ → List ℕ → List ℕ → Tables → Option ℕ
-outgoing_in StayAll keep next org ws t = None
-outgoing_in MakeRoom keep next org ws t = number_behind next (keep - 1) org ws t
-outgoing_in (StayAtMost staying) keep next org ws t = number_behind next staying org ws t
+outgoing_in StayAll retention next org ws t = None
+outgoing_in MakeRoom retention next org ws t = number_behind next (retention - 1) org ws t
+outgoing_in (StayAtMost staying) retention next org ws t = number_behind next staying org ws t
 
 -- the run with this key, if a key is given
 abbrev pub keyed_run_in : Option (List ℕ) → List ℕ → List ℕ → Tables → Option Run

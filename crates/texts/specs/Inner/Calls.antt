@@ -16,7 +16,7 @@ use Rattle.statements.specs.Tables.{Tables, Holds}
 use Rattle.pages.specs.Pages.{IsKeyFor}
 use Rattle.pages.specs.Puts.{twin_limit, twin_for, page_put, page_released}
 use Rattle.pages.specs.Rows.{page_bytes}
-use Rattle.pages.specs.Inner.Calls.{OnlyLooks}
+use Rattle.pages.specs.Inner.Calls.{OnlyQueries}
 use Rattle.pages.specs.declared.store.PageId.{PageId}
 use Rattle.texts.specs.Texts.{is_place_of, place_added, piece_of, joined, AreThere}
 
@@ -95,7 +95,7 @@ pub record AddsRow (row : Option Row) (place : ℕ) (before behind : List ℕ) :
 pub record JoinsRows {S E : Type 0} (g : Ghosts S) (sql : List ℕ) (params : Row) (places : ℕ) (old new : Held S) (result : Result (List ℕ) E) : Type 0 where
   pub mode : old.in_transaction ≡ false → new.in_transaction ≡ false
   pub joins : IsQuery sql → HasCleanDisk (state g new) → IfOk result (λ text. (rows : List Row) × Shown sql params (state g old) (state g new) rows × AreInTurn rows places text)
-  pub looks : IsQuery sql → OnlyLooks (state g old) (state g new) result
+  pub unchanged : IsQuery sql → OnlyQueries (state g old) (state g new) result
   pub was_open : IsQuery sql → HasCleanDisk (state g new) → OnOk result (IsTrue (state g old).is_open)
   pub so_far : IsQuery sql → HasCleanDisk (state g new) → HasCleanDisk (state g old)
   pub shield : IsQuery sql → (state g old).IsShielded → (state g new).IsShielded

@@ -6,6 +6,6 @@ use Rattle.checks.specs.Runs.{is_unseen, keys_differ}
 use Rattle.checks.proofs.runs.keys_differ.Given as goal
 
 -- the keys that are left differ from those seen and from one another where all differ
-abbrev pub invariant-loop-place : goal.invariant-loop-place
-invariant-loop-place l =
-    (list_all (is_unseen (contains_text l.seen)) (picked l.rows (drop l.place-index l.places)) && keys_differ (picked l.rows (drop l.place-index l.places))) ≡ keys_differ (picked l.rows l.places)
+abbrev pub invariant-loop-row_index : goal.invariant-loop-row_index
+invariant-loop-row_index l =
+    (list_all (is_unseen (contains_text l.seen)) (picked l.rows (drop l.row_index-index l.row_indices)) && keys_differ (picked l.rows (drop l.row_index-index l.row_indices))) ≡ keys_differ (picked l.rows l.row_indices)

@@ -3,5 +3,5 @@ use Rattle.checks.specs.Inner.Groups.{picked}
 use Rattle.checks.specs.Runs.{queued_in}
 use Rattle.checks.proofs.runs.queued_in.Given as goal
 
-abbrev pub invariant-loop-place : goal.invariant-loop-place
-invariant-loop-place l = queued_in l.number (picked l.rows (drop l.place-index l.places)) ≡ queued_in l.number (picked l.rows l.places)
+abbrev pub invariant-loop-row_index : goal.invariant-loop-row_index
+invariant-loop-row_index l = queued_in l.number (picked l.rows (drop l.row_index-index l.row_indices)) ≡ queued_in l.number (picked l.rows l.row_indices)

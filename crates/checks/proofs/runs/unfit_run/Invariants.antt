@@ -3,5 +3,5 @@ use Rattle.checks.specs.Inner.Groups.{picked}
 use Rattle.checks.specs.Runs.{unfit_run}
 use Rattle.checks.proofs.runs.unfit_run.Given as goal
 
-abbrev pub invariant-loop-place : goal.invariant-loop-place
-invariant-loop-place l = unfit_run l.holder (picked l.rows (drop l.place-index l.places)) ≡ unfit_run l.holder (picked l.rows l.places)
+abbrev pub invariant-loop-row_index : goal.invariant-loop-row_index
+invariant-loop-row_index l = unfit_run l.holder (picked l.rows (drop l.row_index-index l.row_indices)) ≡ unfit_run l.holder (picked l.rows l.row_indices)

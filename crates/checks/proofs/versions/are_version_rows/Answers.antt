@@ -5,4 +5,4 @@ use Rattle.checks.proofs.versions.are_version_rows.Goals as goal
 
 -- all are in range where no first one isn't
 pub returns : goal.returns
-returns c = all_fit is_version_row version_number c.is_none.result c.unfit_version.result (picked c.args.rows.now c.args.places.now) c.is_none.ensures c.unfit_version.ensures
+returns c = all_fit is_version_row version_number c.is_none.result c.unfit_version.result (picked c.args.rows.now c.args.row_indices.now) c.is_none.ensures c.unfit_version.ensures

@@ -3,5 +3,5 @@ use Rattle.checks.specs.Inner.Groups.{picked}
 use Rattle.checks.specs.Versions.{unfit_version}
 use Rattle.checks.proofs.versions.unfit_version.Given as goal
 
-abbrev pub invariant-loop-place : goal.invariant-loop-place
-invariant-loop-place l = unfit_version (picked l.rows (drop l.place-index l.places)) ≡ unfit_version (picked l.rows l.places)
+abbrev pub invariant-loop-row_index : goal.invariant-loop-row_index
+invariant-loop-row_index l = unfit_version (picked l.rows (drop l.row_index-index l.row_indices)) ≡ unfit_version (picked l.rows l.row_indices)

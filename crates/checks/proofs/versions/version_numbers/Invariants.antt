@@ -3,5 +3,5 @@ use Rattle.checks.specs.Inner.Groups.{picked}
 use Rattle.checks.specs.Versions.{version_number}
 use Rattle.checks.proofs.versions.version_numbers.Given as goal
 
-abbrev pub invariant-loop-place : goal.invariant-loop-place
-invariant-loop-place l = l.numbers.items ++ map version_number (picked l.rows (drop l.place-index l.places)) ≡ map version_number (picked l.rows l.places)
+abbrev pub invariant-loop-row_index : goal.invariant-loop-row_index
+invariant-loop-row_index l = l.numbers.items ++ map version_number (picked l.rows (drop l.row_index-index l.row_indices)) ≡ map version_number (picked l.rows l.row_indices)

@@ -1,7 +1,7 @@
 use Rattle.checks.proofs.WsLaws.{workspaces_judged, grouped_says}
 use Rattle.checks.proofs.workspaces.judge_workspaces.Goals as goal
 
--- the look at all rows, by groups that are those of the rows
+-- the check at all rows, by groups that are those of the rows
 pub returns-clause-judges : goal.returns-clause-judges
 returns-clause-judges c = λ t has. workspaces_judged c.args.rows.now c.in_ok-groups.groups t c.args.found.now c.judge_rows.new.found c.in_ok-groups.ensures has c.in_ok-judge_rows.ensures
 

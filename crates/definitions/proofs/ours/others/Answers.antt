@@ -10,8 +10,8 @@ pub returns-clause-none : goal.returns-clause-none
 returns-clause-none c =
     let s = c.args.schema.now in
     let are = c.as_slice.ensures ∙ c.in_ok-tables.ensures in
-    IfOk-weaker c.others_among.result _ _ (λ names told.
-    let ours = subst (λ l. (names ≡ []) ↔ AllByRecursion (IsOwn s) l) are told in
+    IfOk-weaker c.others_among.result _ _ (λ names reported.
+    let ours = subst (λ l. (names ≡ []) ↔ AllByRecursion (IsOwn s) l) are reported in
     (λ none. our_own s (ours.0 none), λ own. ours.1 own.own)) c.others_among.ensures.none
 
 pub returns-clause-named : goal.returns-clause-named

@@ -17,8 +17,8 @@ returns-in_err-lineage-clause-law c = state_law c.args.bytes.now
 
 pub returns-clause-ok : goal.returns-clause-ok
 returns-clause-ok c =
-    let told = c.in_ok-head.ensures.ok in
-    head_found c.args.bytes.now told.0 c.in_ok-head.head _ told.1 told.2 (sym c.serial.ensures ∙ c.in-Some.is) (ap text_of c.in-Some-lineage.is ∙ ap Some (sym c.in_ok-lineage.ensures))
+    let reported = c.in_ok-head.ensures.ok in
+    head_found c.args.bytes.now reported.0 c.in_ok-head.head _ reported.1 reported.2 (sym c.serial.ensures ∙ c.in-Some.is) (ap text_of c.in-Some-lineage.is ∙ ap Some (sym c.in_ok-lineage.ensures))
 
 pub returns-clause-law : goal.returns-clause-law
 returns-clause-law c = state_law c.args.bytes.now

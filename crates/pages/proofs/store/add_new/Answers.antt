@@ -3,7 +3,7 @@ use Rattle.sqlite.specs.Held.{state}
 use Rattle.pages.specs.Rows.{page_added}
 use Rattle.pages.specs.Puts.{free_twin}
 use Rattle.statements.proofs.Transactions.{clean_before}
-use Rattle.pages.proofs.Looking.{still_inside, moved_behind}
+use Rattle.pages.proofs.Sequences.{still_inside, moved_behind}
 use Rattle.pages.proofs.store.add_new.Goals as goal
 
 pub returns-clause-steps : goal.returns-clause-steps
@@ -17,9 +17,9 @@ returns-clause-steps g c =
       same_reference = search;
       changed = λ clean inside.
           let seen = c.in_ok-twin.ensures.sees (before clean) in
-          let look = seen.1.0 in (
-            moved_behind (page_added key c.in_ok-twin.twin c.args.page.now) (λ t. page_added key (free_twin key t) c.args.page.now t) s0 s1 s2 look
-                (λ t holds. ap (λ n. page_added key n c.args.page.now t) (seen.0 t holds)) (c.in_ok-add.ensures.changed clean (still_inside s0 s1 look inside)).0,
+          let unchanged = seen.1.0 in (
+            moved_behind (page_added key c.in_ok-twin.twin c.args.page.now) (λ t. page_added key (free_twin key t) c.args.page.now t) s0 s1 s2 unchanged
+                (λ t holds. ap (λ n. page_added key n c.args.page.now t) (seen.0 t holds)) (c.in_ok-add.ensures.changed clean (still_inside s0 s1 unchanged inside)).0,
             tt,
           );
       so_far = λ clean. c.free.ensures.so_far (before clean);

@@ -2,7 +2,7 @@ use Rattle.std.proofs.Common.{◌-◌, cond, sym, ap}
 use Rattle.std.proofs.lemmas.Bool.{lt-ltb, le-ltb}
 use Rattle.pages.specs.Rows.{page_used, page_removed}
 use Rattle.pages.specs.Puts.{lessened}
-use Rattle.pages.proofs.Looking.{steps_by, steps_are}
+use Rattle.pages.proofs.Sequences.{steps_by, steps_are}
 use Rattle.pages.proofs.store.lessen.Goals as goal
 
 pub returns-then-uses-gt1-clause-steps : goal.returns-then-uses-gt1-clause-steps

@@ -1,7 +1,7 @@
 use Rattle.std.proofs.Common.{sym, ◌∙◌}
 use Rattle.sqlite.specs.Held.{state}
 use Rattle.statements.proofs.Transactions.{clean_before}
-use Rattle.pages.proofs.Looking.{one_look}
+use Rattle.pages.proofs.Sequences.{one_query}
 use Rattle.pages.proofs.store.none_left.Goals as goal
 
 pub returns-in-None : goal.returns-in-None
@@ -13,7 +13,7 @@ returns-in-None g c =
       same_reference = search;
       sees = λ clean.
           let read = c.in_ok-found.ensures.read clean in
-          (λ t holds. sym (read.0 t holds) ∙ c.in-None.is, (one_look s0 s1 read.1.0, tt));
+          (λ t holds. sym (read.0 t holds) ∙ c.in-None.is, (one_query s0 s1 read.1.0, tt));
       so_far = clean_before s0 s1 _ survives;
       shield = survives.shield;
     }

@@ -1,7 +1,7 @@
 use Rattle.std.proofs.Common.{ap}
 use Rattle.sqlite.specs.Held.{state}
 use Rattle.pages.specs.Puts.{twin_found, twin_for, put_found, page_put}
-use Rattle.pages.proofs.Looking.{one_look, step_behind, told_behind}
+use Rattle.pages.proofs.Sequences.{one_query, step_behind, reported_behind}
 use Rattle.pages.proofs.store.put_among.Goals as goal
 
 pub returns-clause-steps : goal.returns-clause-steps
@@ -18,4 +18,4 @@ returns-clause-twin g c clean =
     let s0 = state g.S.Store c.args.tx.now.conn.now in
     let s1 = state g.S.Store c.equal.new.tx.conn.now in
     let read = c.in_ok-found.ensures.read (c.put_beside.ensures.steps.so_far clean) in
-    told_behind (twin_found key c.in_ok-found.found) (twin_for key page) s0 s1 c.put_beside.result (one_look s0 s1 read.1.0) (λ t holds. ap (λ o. twin_found key o t) (read.0 t holds)) (c.put_beside.ensures.twin clean)
+    reported_behind (twin_found key c.in_ok-found.found) (twin_for key page) s0 s1 c.put_beside.result (one_query s0 s1 read.1.0) (λ t holds. ap (λ o. twin_found key o t) (read.0 t holds)) (c.put_beside.ensures.twin clean)

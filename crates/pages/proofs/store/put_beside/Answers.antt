@@ -1,7 +1,7 @@
 use Rattle.std.proofs.Common.{◌+◌, sym, ap}
 use Rattle.pages.specs.Rows.{page_added, page_used}
 use Rattle.pages.specs.Puts.{free_twin, put_found}
-use Rattle.pages.proofs.Looking.{steps_are}
+use Rattle.pages.proofs.Sequences.{steps_are}
 use Rattle.pages.proofs.store.put_beside.Goals as goal
 
 pub returns-in-Some-clause-steps : goal.returns-in-Some-clause-steps

@@ -6,7 +6,7 @@ use Rattle.statements.specs.Tables.{Tables, Holds}
 use Rattle.pages.specs.Puts.{page_put}
 use Rattle.pages.specs.Rows.{page_used, equal_page}
 use Rattle.pages.proofs.FirstPages.{found_equal, used_is_put, found_twin, found_fits}
-use Rattle.pages.proofs.Looking.{step_behind}
+use Rattle.pages.proofs.Sequences.{step_behind}
 use Rattle.pages.proofs.Promises.{puts_under, puts_behind, own_fits}
 use Rattle.pages.proofs.store.put_known.Goals as goal
 

@@ -2,7 +2,7 @@ use Rattle.std.proofs.Common.{sym, ap}
 use Rattle.pages.specs.Puts.{page_put}
 use Rattle.pages.specs.Rows.{page_added}
 use Rattle.pages.specs.Inner.Calls.{put_with}
-use Rattle.pages.proofs.Looking.{steps_are}
+use Rattle.pages.proofs.Sequences.{steps_are}
 use Rattle.pages.proofs.store.put_with.Goals as goal
 
 pub returns-in-None-clause-steps : goal.returns-in-None-clause-steps

@@ -8,7 +8,7 @@ use Rattle.pages.specs.Pages.{pages_in, HasSoundPages, ReleasesPage, NamedAreThe
 use Rattle.pages.specs.Puts.{page_released}
 use Rattle.pages.specs.Rows.{last_removed}
 use Rattle.pages.proofs.Alone.{untouched, last_is_there, gone_by, held_on, releases_there, said_before, spared_before}
-use Rattle.pages.proofs.Looking.{as_it_is, done_behind}
+use Rattle.pages.proofs.Sequences.{as_it_is, done_behind}
 use Rattle.pages.proofs.store.release_alone.Goals as goal
 
 -- it was in one use, and has gone

@@ -1,7 +1,7 @@
 use Rattle.std.proofs.Common.{ap}
 use Rattle.sqlite.specs.Held.{state}
 use Rattle.pages.specs.Puts.{released_found, page_released}
-use Rattle.pages.proofs.Looking.{one_look, still_inside, step_behind}
+use Rattle.pages.proofs.Sequences.{one_query, still_inside, step_behind}
 use Rattle.pages.proofs.Promises.{releases_if}
 use Rattle.pages.proofs.Referring.{spared_behind}
 use Rattle.pages.proofs.store.release_counted.Goals as goal
@@ -21,7 +21,7 @@ returns-clause-releases g c clean inside =
     let s2 = state g.S.Store c.release_found.new.tx.conn.now in
     let read = c.in_ok-found.ensures.read (c.release_found.ensures.steps.so_far clean) in
     let steps = step_behind g.S.Store c.args.tx.now c.uses.new.tx c.uses.ensures.same_reference c.uses.ensures.survives (released_found key twin c.in_ok-found.found) (page_released key twin) c.release_found.new.tx c.release_found.result
-    (λ early. let told = c.in_ok-found.ensures.read early in (λ t holds. ap (λ o. released_found key twin o t) (told.0 t holds), told.1.0)) c.release_found.ensures.steps in
+    (λ early. let reported = c.in_ok-found.ensures.read early in (λ t holds. ap (λ o. released_found key twin o t) (reported.0 t holds), reported.1.0)) c.release_found.ensures.steps in
     let done = steps.changed clean inside in
     releases_if key twin c.in_ok-found.found s0 s2 c.release_found.result done.0 c.release_found.ensures.found read.0
 
@@ -30,5 +30,5 @@ returns-clause-spares g c clean inside =
     let s0 = state g.S.Store c.args.tx.now.conn.now in
     let s1 = state g.S.Store c.uses.new.tx.conn.now in
     let s2 = state g.S.Store c.release_found.new.tx.conn.now in
-    let look = one_look s0 s1 (c.in_ok-found.ensures.read (c.release_found.ensures.steps.so_far clean)).1.0 in
-    spared_behind s0 s1 s2 c.release_found.result look (c.release_found.ensures.spares clean (still_inside s0 s1 look inside))
+    let unchanged = one_query s0 s1 (c.in_ok-found.ensures.read (c.release_found.ensures.steps.so_far clean)).1.0 in
+    spared_behind s0 s1 s2 c.release_found.result unchanged (c.release_found.ensures.spares clean (still_inside s0 s1 unchanged inside))

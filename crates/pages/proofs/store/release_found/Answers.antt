@@ -1,6 +1,6 @@
 use Rattle.std.proofs.Common.{sym, ap}
 use Rattle.pages.specs.Puts.{lessened, released_found}
-use Rattle.pages.proofs.Looking.{steps_are}
+use Rattle.pages.proofs.Sequences.{steps_are}
 use Rattle.pages.proofs.store.release_found.Goals as goal
 
 pub returns-in-Some-clause-steps : goal.returns-in-Some-clause-steps

@@ -1,11 +1,11 @@
 use Rattle.std.proofs.Common.{ℕ, ◌+◌, List, Option, drop}
 use Rattle.program.specs.Outcomes.{CarriesEach}
-use Rattle.program.specs.Streams.{Told}
+use Rattle.program.specs.Streams.{Reported}
 use Rattle.program.specs.declared.exits.Exit.{Exit}
 use Rattle.program.proofs.carrying.carry_each.Given as goal
 
 -- what becomes of the commands that are left becomes of all, behind those that were carried out
-abbrev pub invariant-loop-place : goal.invariant-loop-place
-invariant-loop-place g l = (new : _) (e : Exit) (out : Option (List ℕ)) (err : Told)
-    → CarriesEach g.K.Keep g.F.Files (drop l.place l.commands) (l.place + 1) l.service.keep new e (g.O.Write.contents l.output) out (g.E.ErrorStream.told l.errors) err
-    → CarriesEach g.K.Keep g.F.Files l.commands 1 l.fn.service.keep new e (g.O.Write.contents l.fn.output) out (g.E.ErrorStream.told l.fn.errors) err
+abbrev pub invariant-loop-command_index : goal.invariant-loop-command_index
+invariant-loop-command_index g l = (new : _) (e : Exit) (out : Option (List ℕ)) (err : Reported)
+    → CarriesEach g.K.Keep g.F.Files (drop l.command_index l.commands) (l.command_index + 1) l.service.keep new e (g.O.Write.contents l.output) out (g.E.ErrorStream.reported l.errors) err
+    → CarriesEach g.K.Keep g.F.Files l.commands 1 l.fn.service.keep new e (g.O.Write.contents l.fn.output) out (g.E.ErrorStream.reported l.fn.errors) err

@@ -1,7 +1,7 @@
 use Rattle.std.proofs.Common.{◌≡◌, ℕ, ◌+◌, true, inl, inr, length, refl, rules, subst}
 use Rattle.program.specs.Batches.{bad_line_text}
 use Rattle.program.specs.Outcomes.{stream, error_stream, AnswersBatch}
-use Rattle.program.specs.Streams.{Tells}
+use Rattle.program.specs.Streams.{Reports}
 use Rattle.program.specs.declared.exits.Exit.{Exit}
 use Rattle.program.specs.declared.exits.Exit.TheVariants.{Usage}
 use Rattle.program.proofs.BatchLemmas.{batch_known}
@@ -11,19 +11,19 @@ use Rattle.program.proofs.carrying.read_and_carry.Goals as goal
 pub returns-then-batch-clause-line : goal.returns-then-batch-clause-line
 returns-then-batch-clause-line g c =
     let out = g.O.Write.contents in
-    let err = g.E.ErrorStream.told in
+    let err = g.E.ErrorStream.reported in
     let input = g.I.Read.remaining c.args.input.now in
     let commands = c.in-Ok.batch.commands.items in
     let counted : c.len.result ≡ length commands = search rules in
-    let told = subst (λ (n : ℕ). Tells (err c.args.errors.now) (err c.tell_at.new.errors) (bad_line_text (n + 1))) counted c.tell_at.ensures in
-    said (λ (e : Exit). AnswersBatch input e (stream (out c.args.output.now) (out c.say.new.output)) (error_stream (err c.args.errors.now) (err c.tell_at.new.errors))) Usage c.say.result _ _
-    (λ h. (h, commands, batch_known input commands c.in-Ok.batch.is_bad true c.if-batch.true c.in-Ok.ensures, told)) tt c.say.ensures
+    let reported = subst (λ (n : ℕ). Reports (err c.args.errors.now) (err c.report_at.new.errors) (bad_line_text (n + 1))) counted c.report_at.ensures in
+    said (λ (e : Exit). AnswersBatch input e (stream (out c.args.output.now) (out c.say.new.output)) (error_stream (err c.args.errors.now) (err c.report_at.new.errors))) Usage c.say.result _ _
+    (λ h. (h, commands, batch_known input commands c.in-Ok.batch.is_bad true c.if-batch.true c.in-Ok.ensures, reported)) tt c.say.ensures
 
 pub returns-then-batch-clause-carries : goal.returns-then-batch-clause-carries
 returns-then-batch-clause-carries g c =
-    let err = g.E.ErrorStream.told in
+    let err = g.E.ErrorStream.reported in
     let input = g.I.Read.remaining c.args.input.now in
     let commands = c.in-Ok.batch.commands.items in
     let counted : c.len.result ≡ length commands = search rules in
-    let told = subst (λ (n : ℕ). Tells (err c.args.errors.now) (err c.tell_at.new.errors) (bad_line_text (n + 1))) counted c.tell_at.ensures in
-    inr (refl, inl (commands, batch_known input commands c.in-Ok.batch.is_bad true c.if-batch.true c.in-Ok.ensures, c.say.ensures, told))
+    let reported = subst (λ (n : ℕ). Reports (err c.args.errors.now) (err c.report_at.new.errors) (bad_line_text (n + 1))) counted c.report_at.ensures in
+    inr (refl, inl (commands, batch_known input commands c.in-Ok.batch.is_bad true c.if-batch.true c.in-Ok.ensures, c.say.ensures, reported))

@@ -6,7 +6,7 @@ returns-in-Ok-copy g c =
     let rows = g.K.Keep.rows in
     let copy = c.copy.ensures in
     record {
-      look = copy.source;
+      unchanged = copy.source;
       so_far = copy.lasts.so_far;
       shield = copy.lasts.shield;
       kept = λ clean sound clean_source sound_source. copy.lasts.kept clean sound (clean_source, sound_source);

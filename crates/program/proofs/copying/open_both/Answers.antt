@@ -7,7 +7,7 @@ use Rattle.program.proofs.copying.open_both.Goals as goal
 pub returns-in-Err-open_one-clause-refused : goal.returns-in-Err-open_one-clause-refused
 returns-in-Err-open_one-clause-refused g c =
     let out = g.O.Write.contents in
-    let err = g.E.ErrorStream.told in
+    let err = g.E.ErrorStream.reported in
     let second = subst (λ (before : Option (List ℕ)). RefusesToOpen g.K.Keep g.F.Files c.args.to.now Target c.open_sound.new.files c.open_one.new.files c.in-Err-open_one.exit
     (stream before (out c.open_one.new.output)) (error_stream (err c.open_sound.new.errors) (err c.open_one.new.errors))) c.in-Ok.ensures.opened.1 c.in-Err-open_one.ensures.refused in
     inr (inr (refuses_second g.K.Keep g.F.Files c.args.from.now c.args.to.now c.args.files.now c.open_sound.new.files c.open_one.new.files c.close_after.new.files c.in-Ok.source c.in-Err-open_one.exit

@@ -1,5 +1,5 @@
 use Rattle.std.proofs.Common.{◌++◌, ◌∷◌, []}
-use Rattle.program.proofs.ErrorLemmas.{lines_more, lines_broken, whole_behind}
+use Rattle.program.proofs.ErrorLemmas.{lines_more, lines_broken, all_behind}
 use Rattle.program.proofs.errors.write_faults.Goals as goal
 
 pub loop-fault-preserved : goal.loop-fault-preserved
@@ -7,11 +7,11 @@ loop-fault-preserved g c =
     let so_far = c.loop-fault.invariant in (
       so_far.0 ++ (c.as_str.result.now ++ 10 ∷ []),
       lines_more c.args.faults.now c.loop-fault.fault-index c.fault-item.result c.as_str.result.now so_far.0 c.loop-fault-test.true c.fault-item.is c.as_str.ensures so_far.1,
-      whole_behind _ _ _ so_far.0 (c.as_str.result.now ++ 10 ∷ []) so_far.2 c.in-Ok.ensures,
+      all_behind _ _ _ so_far.0 (c.as_str.result.now ++ 10 ∷ []) so_far.2 c.in-Ok.ensures,
     )
 
 pub returns-in-Err : goal.returns-in-Err
 returns-in-Err g c =
     let so_far = c.loop-fault.invariant in
-    lines_broken (g.E.ErrorStream.told c.args.errors.now) (g.E.ErrorStream.told c.loop-fault.errors) (g.E.ErrorStream.told c.write_ended.new.errors)
+    lines_broken (g.E.ErrorStream.reported c.args.errors.now) (g.E.ErrorStream.reported c.loop-fault.errors) (g.E.ErrorStream.reported c.write_ended.new.errors)
     c.args.faults.now c.loop-fault.fault-index c.fault-item.result c.as_str.result.now so_far.0 c.loop-fault-test.true c.fault-item.is c.as_str.ensures so_far.1 so_far.2 c.in-Err.ensures

@@ -3,8 +3,8 @@ use Rattle.program.proofs.ErrorLemmas.{wrote_first, wrote_then}
 use Rattle.program.proofs.errors.write_line.Goals as goal
 
 pub returns-in-Ok : goal.returns-in-Ok
-returns-in-Ok g c = wrote_then (g.E.ErrorStream.told c.args.errors.now) (g.E.ErrorStream.told c.write_text.new.errors) (g.E.ErrorStream.told c.write_placed.new.errors)
-    (codes "custody: connection ") (codes "custody: connection ") (decimal c.args.place ++ codes ": " ++ c.args.text.now ++ 10 ∷ []) c.write_placed.result refl c.in-Ok.ensures c.write_placed.ensures
+returns-in-Ok g c = wrote_then (g.E.ErrorStream.reported c.args.errors.now) (g.E.ErrorStream.reported c.write_text.new.errors) (g.E.ErrorStream.reported c.write_numbered.new.errors)
+    (codes "custody: connection ") (codes "custody: connection ") (decimal c.args.connection ++ codes ": " ++ c.args.text.now ++ 10 ∷ []) c.write_numbered.result refl c.in-Ok.ensures c.write_numbered.ensures
 
 pub returns-in-Err : goal.returns-in-Err
-returns-in-Err g c = wrote_first (g.E.ErrorStream.told c.args.errors.now) (g.E.ErrorStream.told c.write_text.new.errors) (codes "custody: connection ") (codes "custody: connection ") (decimal c.args.place ++ codes ": " ++ c.args.text.now ++ 10 ∷ []) refl c.in-Err.ensures
+returns-in-Err g c = wrote_first (g.E.ErrorStream.reported c.args.errors.now) (g.E.ErrorStream.reported c.write_text.new.errors) (codes "custody: connection ") (codes "custody: connection ") (decimal c.args.connection ++ codes ": " ++ c.args.text.now ++ 10 ∷ []) refl c.in-Err.ensures

@@ -2,4 +2,4 @@ use Rattle.std.proofs.Common.{rules, refl, inl, inr}
 use Rattle.program.proofs.operating.read_and_add.Goals as goal
 
 pub returns-in-Err-Syntax-clause-adds : goal.returns-in-Err-Syntax-clause-adds
-returns-in-Err-Syntax-clause-adds g c = inr (refl, inl (search rules, search rules, c.say_why.ensures.told))
+returns-in-Err-Syntax-clause-adds g c = inr (refl, inl (search rules, search rules, c.say_why.ensures.reported))

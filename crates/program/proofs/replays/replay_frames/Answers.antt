@@ -7,7 +7,7 @@ use Rattle.program.proofs.replays.replay_frames.Goals as goal
 
 pub returns-in_default : goal.returns-in_default
 returns-in_default g c =
-    said (λ (e : Exit). ReplaysFrames (g.I.Read.remaining c.args.input.now) e (stream (g.O.Write.contents c.args.output.now) (g.O.Write.contents c.refuse.new.output)) (error_stream (g.E.ErrorStream.told c.args.errors.now) (g.E.ErrorStream.told c.refuse.new.errors)))
+    said (λ (e : Exit). ReplaysFrames (g.I.Read.remaining c.args.input.now) e (stream (g.O.Write.contents c.args.output.now) (g.O.Write.contents c.refuse.new.output)) (error_stream (g.E.ErrorStream.reported c.args.errors.now) (g.E.ErrorStream.reported c.refuse.new.errors)))
     Down c.refuse.result _ _ (λ h. (h, c.refuse.ensures.why)) tt c.refuse.ensures.said
 
 pub returns-in-Ok-print_all : goal.returns-in-Ok-print_all

@@ -10,4 +10,4 @@ returns g c clean sound none =
     let sound' = subst (λ k. g.K.Keep.sound k) (sym at_first) sound in
     replies_of_none c.args.steps.now (g.K.Keep.rows c.new-service.result.keep) (g.K.Keep.rows replay.new.self.keep) replay.result
     (λ o. ap (λ k. g.K.Keep.rows k o) at_first ∙ none o)
-    replay.ensures.one_each (replay.ensures.isolation clean' sound') (replay.ensures.unattributed clean' sound') (replay.ensures.lists clean' sound') (replay.ensures.lists_told clean' sound')
+    replay.ensures.one_each (replay.ensures.isolation clean' sound') (replay.ensures.unattributed clean' sound') (replay.ensures.lists clean' sound') (replay.ensures.lists_reported clean' sound')

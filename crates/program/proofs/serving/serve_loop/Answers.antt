@@ -23,15 +23,15 @@ connections-preserved g c =
     let next = c.in-Ok.ensures.lasts in
     record {
       lasts = lasts_then c.args.service.now.keep c.connections.service.keep c.serve_next.new.service.keep before next;
-      serves = λ clean sound. serves_more c.args.terms.now.door c.connections.place (g.K.Keep.rows c.args.service.now.keep) (g.K.Keep.rows c.connections.service.keep) (g.K.Keep.rows c.serve_next.new.service.keep)
+      serves = λ clean sound. serves_more c.args.terms.now.door c.connections.connection (g.K.Keep.rows c.args.service.now.keep) (g.K.Keep.rows c.connections.service.keep) (g.K.Keep.rows c.serve_next.new.service.keep)
           (c.connections.invariant.serves (next.so_far clean) sound) (c.in-Ok.ensures.takes clean (before.kept (next.so_far clean) sound));
       answers = (
         so_far.0 ++ one.0 ∷ [],
-        one_more so_far.0 one.0 c.connections.place so_far.1,
-        answers_more g.K.Keep g.F.Files g.N.Connections g.C.Clock g.N.Reader.Inlet g.N.Writer.Outlet c.args.terms.now 1 (c.connections.place + 1) so_far.0 one.0
-            (state c.args.network.now c.args.clock.now c.args.service.now.keep (g.E.ErrorStream.told c.args.errors.now) (g.O.Write.contents c.print_listening.new.output))
-            (state c.connections.network c.connections.clock c.connections.service.keep (g.E.ErrorStream.told c.connections.errors) (g.O.Write.contents c.connections.output))
-            (state c.serve_next.new.network c.serve_next.new.clock c.serve_next.new.service.keep (g.E.ErrorStream.told c.serve_next.new.errors) (g.O.Write.contents c.serve_next.new.output)) (let is = so_far.1 in omega arith) so_far.2 one.1,
+        one_more so_far.0 one.0 c.connections.connection so_far.1,
+        answers_more g.K.Keep g.F.Files g.N.Connections g.C.Clock g.N.Reader.Inlet g.N.Writer.Outlet c.args.terms.now 1 (c.connections.connection + 1) so_far.0 one.0
+            (state c.args.network.now c.args.clock.now c.args.service.now.keep (g.E.ErrorStream.reported c.args.errors.now) (g.O.Write.contents c.print_listening.new.output))
+            (state c.connections.network c.connections.clock c.connections.service.keep (g.E.ErrorStream.reported c.connections.errors) (g.O.Write.contents c.connections.output))
+            (state c.serve_next.new.network c.serve_next.new.clock c.serve_next.new.service.keep (g.E.ErrorStream.reported c.serve_next.new.errors) (g.O.Write.contents c.serve_next.new.output)) (let is = so_far.1 in omega arith) so_far.2 one.1,
       );
     }
 
@@ -39,16 +39,16 @@ pub returns-in-Err-clause-serves : goal.returns-in-Err-clause-serves
 returns-in-Err-clause-serves g c clean sound =
     let so_far = c.connections.invariant in
     let before = c.in-Err.ensures.lasts.so_far clean in
-    serves_of c.args.terms.now.door (c.connections.place + 1) c.args.count _ _ (let within = c.connections-test.true in omega arith)
-    (serves_more c.args.terms.now.door c.connections.place (g.K.Keep.rows c.args.service.now.keep) (g.K.Keep.rows c.connections.service.keep) (g.K.Keep.rows c.serve_next.new.service.keep)
+    serves_of c.args.terms.now.door (c.connections.connection + 1) c.args.count _ _ (let within = c.connections-test.true in omega arith)
+    (serves_more c.args.terms.now.door c.connections.connection (g.K.Keep.rows c.args.service.now.keep) (g.K.Keep.rows c.connections.service.keep) (g.K.Keep.rows c.serve_next.new.service.keep)
     (so_far.serves before sound) (c.in-Err.ensures.takes clean (so_far.lasts.kept before sound)))
 
 pub returns-in-Err-clause-answers : goal.returns-in-Err-clause-answers
 returns-in-Err-clause-answers g c =
     let so_far = c.connections.invariant.answers in
-    let last = state c.connections.network c.connections.clock c.connections.service.keep (g.E.ErrorStream.told c.connections.errors) (g.O.Write.contents c.connections.output) in
-    let new = state c.serve_next.new.network c.serve_next.new.clock c.serve_next.new.service.keep (g.E.ErrorStream.told c.serve_next.new.errors) (g.O.Write.contents c.serve_next.new.output) in
-    let next : c.connections.place + 1 ≡ suc (length so_far.0) = let is = so_far.1 in omega arith in (
+    let last = state c.connections.network c.connections.clock c.connections.service.keep (g.E.ErrorStream.reported c.connections.errors) (g.O.Write.contents c.connections.output) in
+    let new = state c.serve_next.new.network c.serve_next.new.clock c.serve_next.new.service.keep (g.E.ErrorStream.reported c.serve_next.new.errors) (g.O.Write.contents c.serve_next.new.output) in
+    let next : c.connections.connection + 1 ≡ suc (length so_far.0) = let is = so_far.1 in omega arith in (
       g.O.Write.contents c.print_listening.new.output,
       search rules,
       so_far.0,
@@ -56,28 +56,28 @@ returns-in-Err-clause-answers g c =
       subst (λ (n : ℕ). n < c.args.count) (sym so_far.1) c.connections-test.true,
       so_far.2,
       c.in-Err.cause,
-      g.E.ErrorStream.told c.serve_next.new.errors,
+      g.E.ErrorStream.reported c.serve_next.new.errors,
       subst (λ (n : ℕ). EndsEarly g.K.Keep g.F.Files g.N.Connections g.C.Clock g.N.Reader.Inlet g.N.Writer.Outlet c.args.terms.now n last new c.in-Err.cause) next c.in-Err.ensures.refused,
-      c.tell_cause.ensures,
+      c.report_cause.ensures,
     )
 
 pub returns-in-Err-clause-listens : goal.returns-in-Err-clause-listens
 returns-in-Err-clause-listens g c =
     let so_far = c.connections.invariant.answers in
     let heard = g.O.Write.contents c.print_listening.new.output in
-    let start = state c.args.network.now c.args.clock.now c.args.service.now.keep (g.E.ErrorStream.told c.args.errors.now) heard in
-    let last = state c.connections.network c.connections.clock c.connections.service.keep (g.E.ErrorStream.told c.connections.errors) (g.O.Write.contents c.connections.output) in
-    let new = state c.serve_next.new.network c.serve_next.new.clock c.serve_next.new.service.keep (g.E.ErrorStream.told c.serve_next.new.errors) (g.O.Write.contents c.serve_next.new.output) in
+    let start = state c.args.network.now c.args.clock.now c.args.service.now.keep (g.E.ErrorStream.reported c.args.errors.now) heard in
+    let last = state c.connections.network c.connections.clock c.connections.service.keep (g.E.ErrorStream.reported c.connections.errors) (g.O.Write.contents c.connections.output) in
+    let new = state c.serve_next.new.network c.serve_next.new.clock c.serve_next.new.service.keep (g.E.ErrorStream.reported c.serve_next.new.errors) (g.O.Write.contents c.serve_next.new.output) in
     heard_log c.args.terms.now.logs (listening_line c.args.port) (g.O.Write.contents c.args.output.now) heard (g.O.Write.contents c.serve_next.new.output) (search rules)
     (grows_then c.args.terms.now.logs heard (g.O.Write.contents c.connections.output) (g.O.Write.contents c.serve_next.new.output)
     (grows_all g.K.Keep g.F.Files g.N.Connections g.C.Clock g.N.Reader.Inlet g.N.Writer.Outlet c.args.terms.now 1 so_far.0 start last so_far.2)
-    (grows_early g.K.Keep g.F.Files g.N.Connections g.C.Clock g.N.Reader.Inlet g.N.Writer.Outlet c.args.terms.now (c.connections.place + 1) last new c.in-Err.cause c.in-Err.ensures.refused))
+    (grows_early g.K.Keep g.F.Files g.N.Connections g.C.Clock g.N.Reader.Inlet g.N.Writer.Outlet c.args.terms.now (c.connections.connection + 1) last new c.in-Err.cause c.in-Err.ensures.refused))
 
 pub returns-clause-listens : goal.returns-clause-listens
 returns-clause-listens g c =
     let so_far = c.connections.invariant.answers in
     let heard = g.O.Write.contents c.print_listening.new.output in
-    let start = state c.args.network.now c.args.clock.now c.args.service.now.keep (g.E.ErrorStream.told c.args.errors.now) heard in
-    let new = state c.connections.network c.connections.clock c.connections.service.keep (g.E.ErrorStream.told c.connections.errors) (g.O.Write.contents c.connections.output) in
+    let start = state c.args.network.now c.args.clock.now c.args.service.now.keep (g.E.ErrorStream.reported c.args.errors.now) heard in
+    let new = state c.connections.network c.connections.clock c.connections.service.keep (g.E.ErrorStream.reported c.connections.errors) (g.O.Write.contents c.connections.output) in
     heard_log c.args.terms.now.logs (listening_line c.args.port) (g.O.Write.contents c.args.output.now) heard (g.O.Write.contents c.connections.output) (search rules)
     (grows_all g.K.Keep g.F.Files g.N.Connections g.C.Clock g.N.Reader.Inlet g.N.Writer.Outlet c.args.terms.now 1 so_far.0 start new so_far.2)

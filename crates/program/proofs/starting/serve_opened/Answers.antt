@@ -11,7 +11,7 @@ returns-clause-serves g c = serves_opened g.K.Keep g.F.Files g.N.Connections g.C
     c.args.network.now c.serve_at-exit.new.network c.args.clock.now c.serve_at-exit.new.clock
     c.args.keep c.new-service.result.keep c.serve_at-exit.new.service.keep c.into_keep-keep.result c.serve_at-exit.result c.say_served.result
     (g.O.Write.contents c.args.output.now) (g.O.Write.contents c.serve_at-exit.new.output) (g.O.Write.contents c.say_served.new.output)
-    (g.E.ErrorStream.told c.args.errors.now) (g.E.ErrorStream.told c.serve_at-exit.new.errors) (g.E.ErrorStream.told c.close_after.new.errors)
+    (g.E.ErrorStream.reported c.args.errors.now) (g.E.ErrorStream.reported c.serve_at-exit.new.errors) (g.E.ErrorStream.reported c.close_after.new.errors)
     c.new-service.ensures.keep c.into_keep-keep.ensures
     c.serve_at-exit.ensures.lasts c.serve_at-exit.ensures.serves c.serve_at-exit.ensures.answers
     c.close_after.ensures c.say_served.ensures.says

@@ -11,7 +11,7 @@ pub returns-in-Err-Syntax-clause-line : goal.returns-in-Err-Syntax-clause-line
 returns-in-Err-Syntax-clause-line g c = inr (search rules, inl (search rules, search rules))
 
 pub returns-in-Err-Syntax-clause-serves : goal.returns-in-Err-Syntax-clause-serves
-returns-in-Err-Syntax-clause-serves g c = inr (search rules, refl, inl (search rules, search rules, c.say_why.ensures.told))
+returns-in-Err-Syntax-clause-serves g c = inr (search rules, refl, inl (search rules, search rules, c.say_why.ensures.reported))
 
 pub returns-in-Err-Down-clause-line : goal.returns-in-Err-Down-clause-line
 returns-in-Err-Down-clause-line g c = inr (search rules, inr (search rules))

@@ -3,20 +3,20 @@ use Rattle.route.specs.Doors.{is_at_door}
 use Rattle.serve.proofs.DoorLemmas.{passed, at_door}
 use Rattle.serve.proofs.exchanges.answer_open.Goals as goal
 
-pub returns-then-is_at_door-clause-told : goal.returns-then-is_at_door-clause-told
-returns-then-is_at_door-clause-told g c = λ clean sound.
+pub returns-then-is_at_door-clause-reported : goal.returns-then-is_at_door-clause-reported
+returns-then-is_at_door-clause-reported g c = λ clean sound.
     let t = c.answer_at_door.ensures.text clean sound in
     let comes : is_at_door c.in-Ok.message ≡ true = search rules in
     rw c.in-Ok.is (at_door c.args.digest.now c.args.now c.in-Ok.message (g.K.Keep.rows c.args.keep.now) (g.K.Keep.rows c.answer_at_door.new.keep) (g.O.Outlet.written c.args.outlet.now) (g.O.Outlet.written c.answer_at_door.new.outlet)
     c.answer_at_door.new.is_down c.answer_at_door.new.row t.0 c.answer_at_door.result comes t.1 t.2 c.answer_at_door.ensures.fault)
 
-pub returns-else-is_at_door-clause-told : goal.returns-else-is_at_door-clause-told
-returns-else-is_at_door-clause-told g c = λ clean sound.
+pub returns-else-is_at_door-clause-reported : goal.returns-else-is_at_door-clause-reported
+returns-else-is_at_door-clause-reported g c = λ clean sound.
     let away : is_at_door c.in-Ok.message ≡ false = search rules in
     rw c.in-Ok.is (passed c.args.digest.now c.args.now (Ok c.in-Ok.message) (g.K.Keep.rows c.args.keep.now) (g.K.Keep.rows c.answer_read.new.keep) (g.O.Outlet.written c.args.outlet.now) (g.O.Outlet.written c.answer_read.new.outlet)
-    c.answer_read.new.is_down c.answer_read.new.row c.answer_read.result away (c.answer_read.ensures.down clean sound) c.answer_read.ensures.continues.1 (c.answer_read.ensures.told clean sound))
+    c.answer_read.new.is_down c.answer_read.new.row c.answer_read.result away (c.answer_read.ensures.down clean sound) c.answer_read.ensures.continues.1 (c.answer_read.ensures.reported clean sound))
 
-pub returns-in-Err-clause-told : goal.returns-in-Err-clause-told
-returns-in-Err-clause-told g c = λ clean sound.
+pub returns-in-Err-clause-reported : goal.returns-in-Err-clause-reported
+returns-in-Err-clause-reported g c = λ clean sound.
     rw c.in-Err.is (passed c.args.digest.now c.args.now (Err c.in-Err.fault) (g.K.Keep.rows c.args.keep.now) (g.K.Keep.rows c.answer_read-in-Err.new.keep) (g.O.Outlet.written c.args.outlet.now) (g.O.Outlet.written c.answer_read-in-Err.new.outlet)
-    c.answer_read-in-Err.new.is_down c.answer_read-in-Err.new.row c.answer_read-in-Err.result tt (c.answer_read-in-Err.ensures.down clean sound) c.answer_read-in-Err.ensures.continues.1 (c.answer_read-in-Err.ensures.told clean sound))
+    c.answer_read-in-Err.new.is_down c.answer_read-in-Err.new.row c.answer_read-in-Err.result tt (c.answer_read-in-Err.ensures.down clean sound) c.answer_read-in-Err.ensures.continues.1 (c.answer_read-in-Err.ensures.reported clean sound))

@@ -1,4 +1,4 @@
-use Rattle.serve.proofs.TellingLemmas as lemma
+use Rattle.serve.proofs.LogInputs as lemma
 use Rattle.serve.proofs.laws.names_decide_nothing.Goals as goal
 
 pub returns : goal.returns

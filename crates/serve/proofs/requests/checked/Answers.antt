@@ -22,11 +22,11 @@ pub returns-clause-ok : goal.returns-clause-ok
 returns-clause-ok g c = λ clean sound apart.
     let asked = c.args.asked.now in
     let r = g.K.Keep.rows c.args.keep.now asked.caller in
-    let before : g.K.Keep.clean c.known_caller.new.keep = c.missed.ensures.looks.so_far clean in
+    let before : g.K.Keep.clean c.known_caller.new.keep = c.missed.ensures.unchanged.so_far clean in
     let known = row_calls r c.args.at asked c.in-Ok.row (c.in-Ok.ensures.ok before sound) in
-    let same : g.K.Keep.rows c.known_caller.new.keep asked.caller ≡ r = c.known_caller.ensures.looks.same before asked.caller in
+    let same : g.K.Keep.rows c.known_caller.new.keep asked.caller ≡ r = c.known_caller.ensures.unchanged.same before asked.caller in
     let some : IsSome (g.K.Keep.rows c.known_caller.new.keep asked.caller) = subst IsSome (sym same) (role_there r c.args.at asked c.in-Ok.row.caller known) in
-    let missing = c.missed.ensures.ok clean (c.known_caller.ensures.looks.kept before sound) some apart in
+    let missing = c.missed.ensures.ok clean (c.known_caller.ensures.unchanged.kept before sound) some apart in
     past_reach r c.args.at asked (λ prefix. after_reach r prefix asked c.args.content_md5.now c.args.body) c.in-Ok.row.caller (Err c.missed.result) known (sym c.allowed.ensures ∙ c.in_default.is) (sym c.in_reach.ensures ∙ c.in_default-in_reach.is)
     (missed_stands r c.in-Ok.row.caller.prefix asked.act c.args.content_md5.now asked.lock_id c.args.body c.in-Err-judged.refusal (c.in-Err-judged.ensures (c.missed.ensures.known apart))
     ∙ ap Err (ap (λ (x : Option Organization). missed x asked.act c.in-Err-judged.refusal) (sym same) ∙ sym missing))
@@ -36,8 +36,8 @@ returns-in-Ok-judged-clause-range g c =
     let asked = c.args.asked.now in
     judged_in_range c.in-Ok.row.caller.prefix asked.act c.args.content_md5.now asked.lock_id c.args.body c.in-Ok-judged.task c.in-Ok-judged.ensures
 
-pub returns-in-Ok-judged-clause-place : goal.returns-in-Ok-judged-clause-place
-returns-in-Ok-judged-clause-place g c =
+pub returns-in-Ok-judged-clause-workspace : goal.returns-in-Ok-judged-clause-workspace
+returns-in-Ok-judged-clause-workspace g c =
     let asked = c.args.asked.now in
     judged_placed c.in-Ok.row.caller.prefix asked.act c.args.content_md5.now asked.lock_id c.args.body c.in-Ok-judged.task c.in-Ok-judged.ensures
 
@@ -102,7 +102,7 @@ pub returns-clause-spells : goal.returns-clause-spells
 returns-clause-spells g c = λ clean sound apart.
     let asked = c.args.asked.now in
     let r = g.K.Keep.rows c.args.keep.now asked.caller in
-    let before : g.K.Keep.clean c.known_caller.new.keep = c.missed.ensures.looks.so_far clean in
+    let before : g.K.Keep.clean c.known_caller.new.keep = c.missed.ensures.unchanged.so_far clean in
     judged_read r c.args.at asked c.args.content_md5.now c.args.body c.in-Ok.row.caller (Err c.in-Err-judged.refusal) (row_calls r c.args.at asked c.in-Ok.row (c.in-Ok.ensures.ok before sound))
     (sym c.allowed.ensures ∙ c.in_default.is) (sym c.in_reach.ensures ∙ c.in_default-in_reach.is) (c.in-Err-judged.ensures (c.missed.ensures.known (λ e. apart (ap Err e))))
 
@@ -110,12 +110,12 @@ pub returns-clause-names : goal.returns-clause-names
 returns-clause-names g c = λ clean sound apart.
     let asked = c.args.asked.now in
     let r = g.K.Keep.rows c.args.keep.now asked.caller in
-    let before : g.K.Keep.clean c.known_caller.new.keep = c.missed.ensures.looks.so_far clean in
+    let before : g.K.Keep.clean c.known_caller.new.keep = c.missed.ensures.unchanged.so_far clean in
     sym (row_names r c.args.at asked c.in-Ok.row (c.in-Ok.ensures.ok before sound))
 
 pub returns-clause-reads : goal.returns-clause-reads
 returns-clause-reads g c = λ clean sound.
     let asked = c.args.asked.now in
     let r = g.K.Keep.rows c.args.keep.now asked.caller in
-    let before : g.K.Keep.clean c.known_caller.new.keep = c.missed.ensures.looks.so_far clean in
+    let before : g.K.Keep.clean c.known_caller.new.keep = c.missed.ensures.unchanged.so_far clean in
     inr (sym (row_names r c.args.at asked c.in-Ok.row (c.in-Ok.ensures.ok before sound)))

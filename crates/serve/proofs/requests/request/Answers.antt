@@ -13,15 +13,15 @@ pub returns-in-Ok-clause-ok : goal.returns-in-Ok-clause-ok
 returns-in-Ok-clause-ok g c = λ clean sound.
     let org = c.args.asked.now.caller in
     let r = g.K.Keep.rows c.args.keep.now org in
-    let before : g.K.Keep.clean c.checked.new.keep = c.carry.ensures.looks.so_far clean in
-    let same : g.K.Keep.rows c.checked.new.keep org ≡ r = c.checked.ensures.looks.same before org in
+    let before : g.K.Keep.clean c.checked.new.keep = c.carry.ensures.unchanged.so_far clean in
+    let same : g.K.Keep.rows c.checked.new.keep org ≡ r = c.checked.ensures.unchanged.same before org in
     let some : IsSome (g.K.Keep.rows c.checked.new.keep org) = subst IsSome (sym same) (c.in-Ok.ensures.there before sound) in
     IfOk-weaker c.carry.result _ _
     (λ p foreseen.
-    subst (λ named. Foresees r named (request_step r c.args.at c.args.asked.now c.args.content_md5.now c.args.body) p.0 p.1) c.in-Ok.ensures.place
+    subst (λ named. Foresees r named (request_step r c.args.at c.args.asked.now c.args.content_md5.now c.args.body) p.0 p.1) c.in-Ok.ensures.workspace
     (subst (λ answered. Foresees r (workspace_of_task c.in-Ok.task) answered p.0 p.1) (c.in-Ok.ensures.ok before sound)
     (subst (λ (x : Option Organization). Foresees x (workspace_of_task c.in-Ok.task) (carried org c.args.at x (Ok c.in-Ok.task)) p.0 p.1) same (foreseen some c.in-Ok.ensures.range))))
-    (c.carry.ensures.ok clean (c.checked.ensures.looks.kept before sound))
+    (c.carry.ensures.ok clean (c.checked.ensures.unchanged.kept before sound))
 
 pub returns-in-Err-clause-ok : goal.returns-in-Err-clause-ok
 returns-in-Err-clause-ok g c = λ clean sound.
@@ -34,14 +34,14 @@ pub returns-in-Ok-clause-facts : goal.returns-in-Ok-clause-facts
 returns-in-Ok-clause-facts g c = λ clean sound.
     let org = c.args.asked.now.caller in
     let r = g.K.Keep.rows c.args.keep.now org in
-    let before : g.K.Keep.clean c.checked.new.keep = c.carry.ensures.looks.so_far clean in
-    let same : g.K.Keep.rows c.checked.new.keep org ≡ r = c.checked.ensures.looks.same before org in
+    let before : g.K.Keep.clean c.checked.new.keep = c.carry.ensures.unchanged.so_far clean in
+    let same : g.K.Keep.rows c.checked.new.keep org ≡ r = c.checked.ensures.unchanged.same before org in
     let some : IsSome (g.K.Keep.rows c.checked.new.keep org) = subst IsSome (sym same) (c.in-Ok.ensures.there before sound) in
     let good : c.checked.result ≡ Err Unavailable → ⊥ = λ e. ok_apart c.in-Ok.task c.checked.result c.in-Ok.is e in
     IfOk-weaker c.carry.result _ _
     (λ p is. is some ∙ facts_same _ _ _ _ _ _ (c.checked.ensures.names before sound good) (sym (ap id_spelt c.in-Ok.is) ∙ c.checked.ensures.spells before sound good)
     (ap (λ (x : Option Organization). traced c.args.at x (Ok c.in-Ok.task)) same ∙ c.in-Ok.ensures.traces before sound))
-    (c.carry.ensures.facts clean (c.checked.ensures.looks.kept before sound))
+    (c.carry.ensures.facts clean (c.checked.ensures.unchanged.kept before sound))
 
 pub returns-in-Err-clause-facts : goal.returns-in-Err-clause-facts
 returns-in-Err-clause-facts g c = λ clean sound.
@@ -58,7 +58,7 @@ pub returns-in-Ok-clause-down : goal.returns-in-Ok-clause-down
 returns-in-Ok-clause-down g c = λ clean sound.
     let org = c.args.asked.now.caller in
     let r = g.K.Keep.rows c.args.keep.now org in
-    let before : g.K.Keep.clean c.checked.new.keep = c.carry.ensures.looks.so_far clean in
+    let before : g.K.Keep.clean c.checked.new.keep = c.carry.ensures.unchanged.so_far clean in
     let good : c.checked.result ≡ Err Unavailable → ⊥ = λ e. ok_apart c.in-Ok.task c.checked.result c.in-Ok.is e in
     IfErr-weaker c.carry.result _ _ (λ facts h.
     carried_so_far r c.args.at c.args.asked.now c.args.content_md5.now c.args.body _ _ facts (c.checked.ensures.names before sound good) (sym (ap id_spelt c.in-Ok.is) ∙ c.checked.ensures.spells before sound good) h)

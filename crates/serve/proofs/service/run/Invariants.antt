@@ -1,6 +1,6 @@
 use Rattle.std.proofs.Common.{◌≡◌, ◌≤◌, length, take, vec_len, vec_capacity}
 use Rattle.serve.proofs.service.run.Given as goal
-use Rattle.machine.specs.Keeping.{Lasts}
+use Rattle.machine.specs.StoreCalls.{Lasts}
 use Rattle.serve.specs.Inner.Taking.{RunsTo}
 
 -- the steps so far are run, with a reply each

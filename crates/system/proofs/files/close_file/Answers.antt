@@ -16,9 +16,9 @@ use Rattle.system.proofs.files.close_file.Goals as goal
 
 closes_on : {D : Type 0} {g : disk.Ghosts D} (c : Held (FileStore D g)) (files : Files D) (rows : List ℕ → Option Organization) (IsSound : Type 0) → IsCopied c files
     → (IsSound → IsTrue (file_state c).is_open → (org : List ℕ) → records_of (file_state c).committed org ≡ rows org) → ClosesOn g files rows IsSound
-closes_on c files rows IsSound copied told = record {
+closes_on c files rows IsSound copied reported = record {
   committed = (file_state c).committed;
-  records = λ sound. told sound copied.was_open;
+  records = λ sound. reported sound copied.was_open;
   seen = copied.seen;
   left = copied.left;
 }

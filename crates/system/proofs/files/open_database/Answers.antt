@@ -22,4 +22,4 @@ pub returns-clause-sums : goal.returns-clause-sums
 returns-clause-sums g c =
     let (log, db) = c.in-Ok-open.ensures.fresh in
     let same = ap₂ image (ap₂ (seen g.S.Start.log g.S.Start.db) log.0 log.1) (ap₂ (seen g.S.Start.log g.S.Start.db) db.0 db.1) in
-    IfOk-weaker c.connect.result _ _ (λ conn told clean blank. told clean (subst (IsBlankAs true) (sym same) blank)) c.connect.ensures.sums
+    IfOk-weaker c.connect.result _ _ (λ conn reported clean blank. reported clean (subst (IsBlankAs true) (sym same) blank)) c.connect.ensures.sums

@@ -7,7 +7,7 @@ use Rattle.sqlite.specs.Start.{FindsIn}
 use Rattle.sqlite.specs.State.{State, IsLive, Opens}
 use Rattle.machine.specs.declared.records.Organization.{Organization}
 use Rattle.tables.proofs.Blank.{no_table}
-use Rattle.tables.specs.Opening.{any_there, all_there, newest_there, tells_edition}
+use Rattle.tables.specs.Opening.{any_there, all_there, newest_there, has_edition}
 use Rattle.tables.specs.Stores.{records_of, IsSoundStore}
 use Rattle.tables.specs.Versions.{HoldsSchema, schema_records}
 use Rattle.system.specs.Files.{OpensOn, HadTables}
@@ -25,7 +25,7 @@ found_empty image trees none (inl found) = let some = found.3.found.present in a
 found_empty image trees none (inr nothing) = nothing.1
 
 opens_on : (s : State) (image : Image) (rows : List ℕ → Option Organization) (IsSound : Type 0) → FindsIn image s → Opens s → IsLive s
-    → (any_there s.now.schema ≡ true → all_there 1 s.now.schema ≡ false → tells_edition s.now.schema ≡ false → ⊥)
+    → (any_there s.now.schema ≡ true → all_there 1 s.now.schema ≡ false → has_edition s.now.schema ≡ false → ⊥)
     → (newest_there s.now.schema ≡ true → (IsSoundStore s.now → IsSound) × ((org : List ℕ) → rows org ≡ records_of s.now org))
     → ((n : ℕ) → HoldsSchema n s.now → IsSound × ((org : List ℕ) → rows org ≡ schema_records n s.now org))
     → (any_there s.now.schema ≡ false → IsSound × ((org : List ℕ) → rows org ≡ None)) → OpensOn image rows IsSound
@@ -33,7 +33,7 @@ opens_on s image rows IsSound finds opens live missing there climbed fresh = rec
   found = s.now;
   is = (live opens.is_open).0;
   holds = λ trees held. ap (λ (db : Database). db.trees) opens.clean ∙ finds.holds trees held;
-  whole = λ e. one_passes (all_there 1 s.now.schema) (tells_edition s.now.schema) (missing e);
+  whole = λ e. one_passes (all_there 1 s.now.schema) (has_edition s.now.schema) (missing e);
   there = λ e. ((there e).1, (there e).0);
   climbed = λ n held. ((climbed n held).1, (climbed n held).0);
   fresh = λ e. ((fresh e).1, (fresh e).0);

@@ -10,8 +10,8 @@ use Rattle.statements.specs.Steps.{Equals}
 use Rattle.texts.proofs.Many.{sees_by, sees_as}
 use Rattle.tables.proofs.callers.bounds_of.Goals as goal
 
-pub returns-in-Some-clause-looks : goal.returns-in-Some-clause-looks
-returns-in-Some-clause-looks g c =
+pub returns-in-Some-clause-unchanged : goal.returns-in-Some-clause-unchanged
+returns-in-Some-clause-unchanged g c =
     let org = c.args.org.now in
     let name = c.args.name.now in
     sees_as g.S.Store (Equals (bound_of org name)) (Equals (λ t. bounds_at t org name)) c.args.conn.now c.find.new.conn c.in_ok-find.field-0 c.in-Some.bounds

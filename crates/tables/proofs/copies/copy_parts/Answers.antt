@@ -12,10 +12,10 @@ pub returns-in_err-copy_versions-clause-copies : goal.returns-in_err-copy_versio
 returns-in_err-copy_versions-clause-copies g c =
     let org = c.args.org.now in
     let ws = c.args.ws.now in
-    let whole = c.args.whole.now in
+    let loaded = c.args.loaded.now in
     let vs = c.in_err-copy_versions.ensures.copies.0 in
-    let begun = workspace_of_cells whole.retention whole.it [] [] in
-    let some = workspace_of_cells whole.retention whole.it vs [] in
+    let begun = workspace_of_cells loaded.retention loaded.it [] [] in
+    let some = workspace_of_cells loaded.retention loaded.it vs [] in
     let failed = c.from_residual-in_err-copy_versions.ensures.0 in
     let result = c.from_residual-in_err-copy_versions.result in (
       some,
@@ -28,20 +28,20 @@ pub returns-clause-copies : goal.returns-clause-copies
 returns-clause-copies g c =
     let org = c.args.org.now in
     let ws = c.args.ws.now in
-    let whole = c.args.whole.now in
+    let loaded = c.args.loaded.now in
     let copied = c.in_ok-copy_versions.ensures.copies in
     let vs = copied.0 in
     let runs = c.as_slice-2.result.now in
-    let begun = workspace_of_cells whole.retention whole.it [] [] in
-    let some = workspace_of_cells whole.retention whole.it vs [] in
-    let all = workspace_of_cells whole.retention whole.it vs runs in (
+    let begun = workspace_of_cells loaded.retention loaded.it [] [] in
+    let some = workspace_of_cells loaded.retention loaded.it vs [] in
+    let all = workspace_of_cells loaded.retention loaded.it vs runs in (
       all,
       related_then g.S.Store (Begins org ws some) (Carries org ws (with_runs runs)) (Begins org ws all) c.args.tx.now c.copy_versions.new.tx c.put_runs.new.tx tt c.put_runs.result (begins_then org ws some (with_runs runs))
           (related_then g.S.Store (Begins org ws begun) (Carries org ws (with_versions vs)) (Begins org ws some) c.args.tx.now c.put_head.new.tx c.copy_versions.new.tx tt (Ok tt) (begins_then org ws begun (with_versions vs)) c.in_ok-put_head.ensures.begins copied.1)
           c.put_runs.ensures.carries,
       λ clean. when_done c.put_runs.result (λ f holds.
           let versions_are = copied.2 clean f holds ∙ ap (map (version_at f org ws)) c.as_slice.ensures in
-          λ i. workspace_of_cells whole.retention whole.it (versions_are i) (c.as_slice-2.ensures i)),
+          λ i. workspace_of_cells loaded.retention loaded.it (versions_are i) (c.as_slice-2.ensures i)),
     )
 
 pub returns-in_err-copy_versions-clause-keyed : goal.returns-in_err-copy_versions-clause-keyed

@@ -28,7 +28,7 @@ returns-clause-copies g c =
     let added = c.add.ensures.adds.1 in (
       v,
       related_by_both g.S.Store (λ t. size_of org ws v.number t ≡ None) (FitsTwins keys org ws v) (added_rows keys org ws v) (Carries org ws (with_versions (v ∷ []))) c.args.tx.now c.add.new.tx c.add.result
-          (version_carries keys org ws v) added.steps c.add.ensures.fresh added.tells,
+          (version_carries keys org ws v) added.steps c.add.ensures.fresh added.reports,
       λ clean. when_done c.add.result (λ f holds. version_read f org ws head c.in_ok-text.text v c.in_ok-version.ensures ((c.in_ok-text.ensures.queries.sees clean).0 f holds)),
     )
 

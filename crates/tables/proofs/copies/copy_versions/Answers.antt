@@ -1,7 +1,7 @@
 use Rattle.std.specs.Bool.{⊤}
 use Rattle.std.proofs.Common.{[], ◌∷◌, ◌++◌, Ok, refl}
 use Rattle.sqlite.specs.Held.{state}
-use Rattle.pages.proofs.Looking.{still_holds}
+use Rattle.pages.proofs.Sequences.{still_holds}
 use Rattle.texts.proofs.Many.{sees_then}
 use Rattle.tables.specs.Records.{version_at}
 use Rattle.tables.specs.Inner.Copies.{Carries, with_versions}
@@ -28,14 +28,14 @@ versions-preserved g c =
     let v = one.copies.0 in
     let s0 = state g.T.Store c.args.from.now in
     let s1 = state g.T.Store c.versions.from in (
-      sees_then g.T.Store (λ _ _. ⊤) (λ _ _. ⊤) (λ _ _. ⊤) c.args.from.now c.versions.from c.copy_version.new.from tt (Ok tt) (λ x t first then. tt) some.0 one.looks,
+      sees_then g.T.Store (λ _ _. ⊤) (λ _ _. ⊤) (λ _ _. ⊤) c.args.from.now c.versions.from c.copy_version.new.from tt (Ok tt) (λ x t first then. tt) some.0 one.unchanged,
       keyed_then g.S.Store g.K.PageKey.key_of c.args.tx.now c.versions.tx c.copy_version.new.tx tt (Ok tt) some.1 one.keyed,
       (
         vs ++ v ∷ [],
         related_then g.S.Store (Carries org ws (with_versions vs)) (Carries org ws (with_versions (v ∷ []))) (Carries org ws (with_versions (vs ++ v ∷ []))) c.args.tx.now c.versions.tx c.copy_version.new.tx tt (Ok tt)
             (versions_carry_on org ws vs (v ∷ [])) some.2.1 one.copies.1,
         λ clean f holds.
-            let before = one.looks.so_far clean in
+            let before = one.unchanged.so_far clean in
             mapped_more (version_at f org ws) c.args.heads.now c.versions.head-index c.head-item.result vs v c.versions-test.true c.head-item.is (some.2.2 before f holds)
             (one.copies.2 clean f (still_holds s0 s1 (some.0.sees before).1.0 f holds)),
       ),

@@ -3,12 +3,12 @@ use Rattle.std.proofs.lemmas.Result.{on_ok_weaker}
 use Rattle.sqlite.specs.Held.{state}
 use Rattle.machine.specs.Workspaces.{new_workspace}
 use Rattle.statements.specs.Rows.{run_settings_at}
-use Rattle.pages.proofs.Looking.{still_holds}
+use Rattle.pages.proofs.Sequences.{still_holds}
 use Rattle.tables.proofs.Copying.{never_done, related_in_vain}
 use Rattle.tables.proofs.copies.copy_workspace.Goals as goal
 
-pub returns-in_err-whole-clause-copies : goal.returns-in_err-whole-clause-copies
-returns-in_err-whole-clause-copies g c =
+pub returns-in_err-loaded-clause-copies : goal.returns-in_err-loaded-clause-copies
+returns-in_err-loaded-clause-copies g c =
     let failed = c.from_residual.ensures.0 in
     (new_workspace (record { runs = run_settings_at [] 0; retention = 0 }), related_in_vain g.S.Store _ c.args.tx.now c.from_residual.result failed, λ clean. never_done _ c.from_residual.result failed)
 
@@ -18,10 +18,10 @@ returns-clause-copies g c =
       copied.0,
       copied.1,
       λ clean.
-          let seen = c.in_ok-whole.ensures.sees (c.copy_parts.ensures.looks.so_far clean) in
+          let seen = c.in_ok-loaded.ensures.sees (c.copy_parts.ensures.unchanged.so_far clean) in
           on_ok_weaker c.copy_parts.result
-          (λ told f holds sound. (seen.0 f holds sound).is ∙ ap Some (sym (told f (still_holds (state g.T.Store c.args.from.now) (state g.T.Store c.load_workspace.new.conn) seen.1.0 f holds)))) (copied.2 clean),
+          (λ reported f holds sound. (seen.0 f holds sound).is ∙ ap Some (sym (reported f (still_holds (state g.T.Store c.args.from.now) (state g.T.Store c.load_workspace.new.conn) seen.1.0 f holds)))) (copied.2 clean),
     )
 
-pub returns-in_err-whole-clause-keyed : goal.returns-in_err-whole-clause-keyed
-returns-in_err-whole-clause-keyed g c = related_in_vain g.S.Store _ c.args.tx.now c.from_residual.result c.from_residual.ensures.0
+pub returns-in_err-loaded-clause-keyed : goal.returns-in_err-loaded-clause-keyed
+returns-in_err-loaded-clause-keyed g c = related_in_vain g.S.Store _ c.args.tx.now c.from_residual.result c.from_residual.ensures.0

@@ -1,10 +1,10 @@
-use Rattle.statements.specs.Listings.{TokensApart, NamesApart, whole_tokens_of, workspace_names_of}
+use Rattle.statements.specs.Listings.{TokensApart, NamesApart, digest_tokens_of, workspace_names_of}
 use Rattle.statements.specs.Steps.{EqualsWhere}
 use Rattle.texts.proofs.Many.{sees_by}
 use Rattle.tables.proofs.Brought.{organization_taken}
 use Rattle.std.proofs.Common.{Ok}
 use Rattle.statements.specs.Changes.{org_row_added}
-use Rattle.pages.proofs.Looking.{steps_by}
+use Rattle.pages.proofs.Sequences.{steps_by}
 use Rattle.tables.proofs.KeepFound.{seen_both}
 use Rattle.tables.proofs.KeyedSteps.{keyed_by, keyed_then, keyed_pages}
 use Rattle.tables.proofs.imports.bring.Goals as goal
@@ -16,10 +16,10 @@ returns-clause-brings g c =
     let names = c.in_ok-names.names in
     let read = c.names.new.conn in
     let copied = c.copy_tokens.new.from in
-    let told = seen_both g.T.Store (EqualsWhere TokensApart (whole_tokens_of org)) (EqualsWhere NamesApart (workspace_names_of org)) c.args.from.now c.list_whole.new.conn read list names
+    let reported = seen_both g.T.Store (EqualsWhere TokensApart (digest_tokens_of org)) (EqualsWhere NamesApart (workspace_names_of org)) c.args.from.now c.list_with_digests.new.conn read list names
     (sees_by g.T.Store _ _ _ _ c.in_ok-list.ensures) (sees_by g.T.Store _ _ _ _ c.in_ok-names.ensures) in
     organization_taken g.S.Store g.T.Store org c.args.cap list names c.args.tx.now c.add.new.tx c.copy_tokens.new.tx c.copy_workspaces.new.tx c.args.from.now read copied c.copy_workspaces.new.from _ _ c.copy_workspaces.result
-    told c.in_ok-add.ensures c.in_ok-copy_tokens.ensures.looks (rw c.as_slice.ensures at c.in_ok-copy_tokens.ensures.copies) c.copy_workspaces.ensures.looks (rw c.as_slice-2.ensures at c.copy_workspaces.ensures.copies)
+    reported c.in_ok-add.ensures c.in_ok-copy_tokens.ensures.unchanged (rw c.as_slice.ensures at c.in_ok-copy_tokens.ensures.copies) c.copy_workspaces.ensures.unchanged (rw c.as_slice-2.ensures at c.copy_workspaces.ensures.copies)
 
 pub returns-clause-keyed : goal.returns-clause-keyed
 returns-clause-keyed g c =

@@ -3,10 +3,10 @@ use Rattle.basis.specs.Listings.{listing_of}
 use Rattle.statements.specs.Listings.{WorkspacesApart, workspace_rows_after}
 use Rattle.tables.specs.Inner.Lists.{asked_rows, ws_row_in, workspaces_listed_in}
 use Rattle.statements.specs.Steps.{Equals, EqualsWhere}
-use Rattle.tables.proofs.Committed.{looked_then}
+use Rattle.tables.proofs.Committed.{committed_read_then}
 use Rattle.tables.proofs.listings.list_of_workspaces.Goals as goal
 
-pub returns-clause-looks : goal.returns-clause-looks
-returns-clause-looks g c =
-    looked_then g.S.Store (EqualsWhere WorkspacesApart (workspace_rows_after c.args.org.now c.args.after.now c.args.prefix.now asked_rows)) (Equals (λ t. listing_of (map (ws_row_in c.args.org.now t) c.as_slice.result.now))) (EqualsWhere WorkspacesApart (workspaces_listed_in c.args.after.now c.args.prefix.now c.args.org.now)) c.args.conn.now c.list.new.conn c.list_workspaces.new.conn
-    c.in_ok-rows.rows c.list_workspaces.result (λ list t told seen apart. seen ∙ ap (λ rows. listing_of (map (ws_row_in c.args.org.now t) rows)) (c.as_slice.ensures ∙ told apart)) c.assert_committed.ensures c.in_ok-rows.ensures c.list_workspaces.ensures
+pub returns-clause-unchanged : goal.returns-clause-unchanged
+returns-clause-unchanged g c =
+    committed_read_then g.S.Store (EqualsWhere WorkspacesApart (workspace_rows_after c.args.org.now c.args.after.now c.args.prefix.now asked_rows)) (Equals (λ t. listing_of (map (ws_row_in c.args.org.now t) c.as_slice.result.now))) (EqualsWhere WorkspacesApart (workspaces_listed_in c.args.after.now c.args.prefix.now c.args.org.now)) c.args.conn.now c.list.new.conn c.list_workspaces.new.conn
+    c.in_ok-rows.rows c.list_workspaces.result (λ list t reported seen apart. seen ∙ ap (λ rows. listing_of (map (ws_row_in c.args.org.now t) rows)) (c.as_slice.ensures ∙ reported apart)) c.assert_committed.ensures c.in_ok-rows.ensures c.list_workspaces.ensures

@@ -10,7 +10,7 @@ use Rattle.texts.proofs.Many.{sees_as}
 use Rattle.tables.proofs.listings.ws_row.Goals as goal
 
 make : NamedWorkspace → Option ℕ → WsRow
-make w version = record { settings = settings_of_cells (unwrap_or w.keep FIRST_KEPT) w.it; holder = holder_id w.it.holder; name = w.name; version = version }
+make w version = record { settings = settings_of_cells (unwrap_or w.retention FIRST_KEPT) w.it; holder = holder_id w.it.holder; name = w.name; version = version }
 
 pub returns : goal.returns
 unfolding make

@@ -1,6 +1,6 @@
 use Rattle.std.proofs.Common.{◌≡◌, ◌+◌, subst, arith}
 use Rattle.sqlite.specs.Held.{state}
-use Rattle.statements.specs.declared.making.TheConstants.{NEWEST}
+use Rattle.statements.specs.declared.making.TheConstants.{SCHEMA_VERSION}
 use Rattle.tables.specs.Inner.Making.{Climbs}
 use Rattle.tables.proofs.Climbing.{climbs_then}
 use Rattle.tables.proofs.opening.climb.Goals as goal
@@ -25,7 +25,7 @@ returns-clause-climbed g c clean =
     let so_far = c.loop-at.invariant.1 in (
       record {
         climbs = λ most.
-            let end : c.loop-at.at ≡ NEWEST = omega (arith, most, c.loop-at.auto.at-end, c.loop-at-test.false) in
+            let end : c.loop-at.at ≡ SCHEMA_VERSION = omega (arith, most, c.loop-at.auto.at-end, c.loop-at-test.false) in
             subst (λ k. Climbs c.args.from k (state g.S.Store c.args.conn.now) (state g.S.Store c.loop-at.conn)) end (so_far.climbs clean);
         is_open = λ was. so_far.is_open clean was;
       },

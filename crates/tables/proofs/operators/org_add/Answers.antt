@@ -3,7 +3,7 @@ use Rattle.sqlite.specs.Held.{state}
 use Rattle.machine.specs.declared.keeps.AdminAnswer.TheVariants.{Done, Exists}
 use Rattle.statements.specs.Changes.{org_row_added}
 use Rattle.tables.specs.Inner.Steps.{org_managed}
-use Rattle.pages.proofs.Looking.{one_look}
+use Rattle.pages.proofs.Sequences.{one_query}
 use Rattle.tables.proofs.KeepManaged.{manages_none, manages_one, org_there, org_missing}
 use Rattle.tables.proofs.operators.org_add.Goals as goal
 
@@ -14,7 +14,7 @@ returns-then-is_some-clause-done g c clean =
     let b = state g.S.Store c.cap.new.conn in
     let cap = c.in_ok-cap.ensures.read clean in
     let found : is_some c.in_ok-cap.cap ≡ true = search rules in (
-      manages_none (org_managed org c.args.limit) a b b c.assert_committed.ensures Exists cap.1.0.0.was_open cap.1.0.0.is_open (one_look a b cap.1.0) (λ t held. org_there org c.args.limit t c.in_ok-cap.cap found (cap.0 t held)),
+      manages_none (org_managed org c.args.limit) a b b c.assert_committed.ensures Exists cap.1.0.0.was_open cap.1.0.0.is_open (one_query a b cap.1.0) (λ t held. org_there org c.args.limit t c.in_ok-cap.cap found (cap.0 t held)),
       tt,
     )
 
@@ -26,10 +26,10 @@ returns-clause-done g c clean =
     let a = state g.S.Store h in
     let b = state g.S.Store c.cap.new.conn in
     let d = state g.S.Store c.add_organization.new.conn in
-    let settled = c.assert_committed.ensures in
+    let all_committed = c.assert_committed.ensures in
     let cap = c.in_ok-cap.ensures.read (c.add_organization.ensures.ends.so_far clean) in
     let found : is_some c.in_ok-cap.cap ≡ false = search rules in (
-      manages_one (org_managed org limit) a b d settled (org_row_added org limit) Done (one_look a b cap.1.0) (c.in_ok-add_organization.ensures.done clean).0
+      manages_one (org_managed org limit) a b d all_committed (org_row_added org limit) Done (one_query a b cap.1.0) (c.in_ok-add_organization.ensures.done clean).0
           (λ t held. org_missing org limit t c.in_ok-cap.cap found (cap.0 t held)),
       tt,
     )

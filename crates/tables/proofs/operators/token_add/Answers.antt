@@ -6,7 +6,7 @@ use Rattle.machine.specs.declared.keeps.AdminAnswer.TheVariants.{Done, Exists, A
 use Rattle.statements.specs.Changes.{token_added}
 use Rattle.statements.specs.Tables.{Holds}
 use Rattle.tables.specs.Inner.Steps.{token_managed}
-use Rattle.pages.proofs.Looking.{one_look, looks_then}
+use Rattle.pages.proofs.Sequences.{one_query, unchanged_then}
 use Rattle.tables.proofs.KeepManaged.{manages_none, manages_one, token_nowhere, token_there}
 use Rattle.tables.proofs.operators.token_add.Goals as goal
 
@@ -21,7 +21,7 @@ returns-then-is_none-clause-done g c clean =
     let b = state g.S.Store c.cap.new.conn in
     let cap = c.in_ok-cap.ensures.read clean in
     let nothing : is_none c.in_ok-cap.cap ≡ true = search rules in (
-      manages_none (token_managed org name digest role bounds) a b b c.assert_committed.ensures Absent cap.1.0.0.was_open cap.1.0.0.is_open (one_look a b cap.1.0)
+      manages_none (token_managed org name digest role bounds) a b b c.assert_committed.ensures Absent cap.1.0.0.was_open cap.1.0.0.is_open (one_query a b cap.1.0)
           (λ t held. token_nowhere org name digest role bounds t c.in_ok-cap.cap nothing (cap.0 t held)),
       tt,
     )
@@ -37,11 +37,11 @@ returns-then-branch-clause-done g c clean =
     let a = state g.S.Store h in
     let b = state g.S.Store c.cap.new.conn in
     let d = state g.S.Store c.is_taken.new.conn in
-    let settled = c.assert_committed.ensures in
+    let all_committed = c.assert_committed.ensures in
     let cap = c.in_ok-cap.ensures.read (c.is_taken.ensures.so_far clean) in
     let taken = c.in_ok-is_taken.ensures.sees clean in
     let there : is_none c.in_ok-cap.cap ≡ false = search rules in (
-      manages_none (token_managed org name digest role bounds) a d d settled Exists cap.1.0.0.was_open (taken.1.0.is_open cap.1.0.0.is_open) (looks_then a b d (one_look a b cap.1.0) taken.1.0)
+      manages_none (token_managed org name digest role bounds) a d d all_committed Exists cap.1.0.0.was_open (taken.1.0.is_open cap.1.0.0.is_open) (unchanged_then a b d (one_query a b cap.1.0) taken.1.0)
           (λ t held. subst (λ x. token_managed org name digest role bounds t ≡ cond x (effect Exists t) (effect Done (token_added org name digest role bounds.until bounds.prefix t))) c.if-branch.true
           (token_there org name digest role bounds t c.in_ok-cap.cap c.in_ok-is_taken.field-0 there (cap.0 t held) (taken.0 t (subst (λ (db : Database). Holds db t) (sym cap.1.0.0.now_is) held)))),
       tt,
@@ -59,12 +59,12 @@ returns-clause-done g c clean =
     let b = state g.S.Store c.cap.new.conn in
     let d = state g.S.Store c.is_taken.new.conn in
     let e = state g.S.Store c.add_token.new.conn in
-    let settled = c.assert_committed.ensures in
+    let all_committed = c.assert_committed.ensures in
     let clean2 = c.add_token.ensures.ends.so_far clean in
     let cap = c.in_ok-cap.ensures.read (c.is_taken.ensures.so_far clean2) in
     let taken = c.in_ok-is_taken.ensures.sees clean2 in
     let there : is_none c.in_ok-cap.cap ≡ false = search rules in (
-      manages_one (token_managed org name digest role bounds) a d e settled (token_added org name digest role bounds.until bounds.prefix) Done (looks_then a b d (one_look a b cap.1.0) taken.1.0) (c.in_ok-add_token.ensures.done clean).0
+      manages_one (token_managed org name digest role bounds) a d e all_committed (token_added org name digest role bounds.until bounds.prefix) Done (unchanged_then a b d (one_query a b cap.1.0) taken.1.0) (c.in_ok-add_token.ensures.done clean).0
           (λ t held. subst (λ x. token_managed org name digest role bounds t ≡ cond x (effect Exists t) (effect Done (token_added org name digest role bounds.until bounds.prefix t))) c.if-branch.false
           (token_there org name digest role bounds t c.in_ok-cap.cap c.in_ok-is_taken.field-0 there (cap.0 t held) (taken.0 t (subst (λ (db : Database). Holds db t) (sym cap.1.0.0.now_is) held)))),
       tt,

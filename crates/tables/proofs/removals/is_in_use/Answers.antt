@@ -12,8 +12,8 @@ returns-in-None g c =
     let org = c.args.org.now in
     let ws = c.args.ws.now in
     record {
-      looks = sees_as g.S.Store (Equals (workspace_of org ws)) (Equals (is_used_in org ws)) c.args.conn.now c.find.new.conn c.in_ok-find.field-0 false
-          (λ t told. ap (λ (o : Option WorkspaceCells). is_used_by o (open_runs_of org ws t)) (sym c.in-None.is ∙ told)) (sees_by g.S.Store (Equals (workspace_of org ws)) c.args.conn.now c.find.new.conn (Ok c.in_ok-find.field-0) c.in_ok-find.ensures);
+      unchanged = sees_as g.S.Store (Equals (workspace_of org ws)) (Equals (is_used_in org ws)) c.args.conn.now c.find.new.conn c.in_ok-find.field-0 false
+          (λ t reported. ap (λ (o : Option WorkspaceCells). is_used_by o (open_runs_of org ws t)) (sym c.in-None.is ∙ reported)) (sees_by g.S.Store (Equals (workspace_of org ws)) c.args.conn.now c.find.new.conn (Ok c.in_ok-find.field-0) c.in_ok-find.ensures);
     }
 
 pub returns-in_ok-open_runs-in-Some : goal.returns-in_ok-open_runs-in-Some
@@ -22,8 +22,8 @@ returns-in_ok-open_runs-in-Some g c =
     let ws = c.args.ws.now in
     let found = c.in_ok-find.field-0 in
     record {
-      looks = sees_as g.S.Store (λ n t. Equals (workspace_of org ws) found t × Equals (open_runs_of org ws) n t) (Equals (is_used_in org ws)) c.args.conn.now c.count_open.new.conn c.in_ok-open_runs-in-Some.open_runs c.is_used.result
-          (λ t told. c.is_used.ensures ∙ (λ i. is_used_by (Some c.in-Some.workspace) (told.1 i)) ∙ ap (λ (o : Option WorkspaceCells). is_used_by o (open_runs_of org ws t)) (sym c.in-Some.is ∙ told.0))
+      unchanged = sees_as g.S.Store (λ n t. Equals (workspace_of org ws) found t × Equals (open_runs_of org ws) n t) (Equals (is_used_in org ws)) c.args.conn.now c.count_open.new.conn c.in_ok-open_runs-in-Some.open_runs c.is_used.result
+          (λ t reported. c.is_used.ensures ∙ (λ i. is_used_by (Some c.in-Some.workspace) (reported.1 i)) ∙ ap (λ (o : Option WorkspaceCells). is_used_by o (open_runs_of org ws t)) (sym c.in-Some.is ∙ reported.0))
           (seen_both g.S.Store (Equals (workspace_of org ws)) (Equals (open_runs_of org ws)) c.args.conn.now c.find.new.conn c.count_open.new.conn found c.in_ok-open_runs-in-Some.open_runs
           (sees_by g.S.Store (Equals (workspace_of org ws)) c.args.conn.now c.find.new.conn (Ok found) c.in_ok-find.ensures)
           (sees_by g.S.Store (Equals (open_runs_of org ws)) c.find.new.conn c.count_open.new.conn (Ok c.in_ok-open_runs-in-Some.open_runs) c.in_ok-open_runs-in-Some.ensures));

@@ -1,5 +1,5 @@
 use Rattle.std.proofs.Common.{Ok}
-use Rattle.statements.specs.Listings.{TokensApart, NamesApart, whole_tokens_of, workspace_names_of}
+use Rattle.statements.specs.Listings.{TokensApart, NamesApart, digest_tokens_of, workspace_names_of}
 use Rattle.statements.specs.Steps.{EqualsWhere}
 use Rattle.texts.proofs.Many.{sees_by, sees_as}
 use Rattle.tables.specs.Inner.Removals.{AreAllOf}
@@ -12,8 +12,8 @@ returns g c =
     let org = c.args.org.now in
     let names = c.in_ok-names.names in
     let list = c.in_ok-tokens.tokens in
-    sees_as g.S.Store (λ ys t. EqualsWhere NamesApart (workspace_names_of org) names t × EqualsWhere TokensApart (whole_tokens_of org) ys t) (λ (all : Possessions) t. AreAllOf org all.names all.tokens t) c.args.conn.now c.list_whole.new.conn list (record { names = names; tokens = list })
-    (λ t told. told)
-    (seen_both g.S.Store (EqualsWhere NamesApart (workspace_names_of org)) (EqualsWhere TokensApart (whole_tokens_of org)) c.args.conn.now c.names.new.conn c.list_whole.new.conn names list
+    sees_as g.S.Store (λ ys t. EqualsWhere NamesApart (workspace_names_of org) names t × EqualsWhere TokensApart (digest_tokens_of org) ys t) (λ (all : Possessions) t. AreAllOf org all.names all.tokens t) c.args.conn.now c.list_with_digests.new.conn list (record { names = names; tokens = list })
+    (λ t reported. reported)
+    (seen_both g.S.Store (EqualsWhere NamesApart (workspace_names_of org)) (EqualsWhere TokensApart (digest_tokens_of org)) c.args.conn.now c.names.new.conn c.list_with_digests.new.conn names list
     (sees_by g.S.Store (EqualsWhere NamesApart (workspace_names_of org)) c.args.conn.now c.names.new.conn (Ok names) c.in_ok-names.ensures)
-    (sees_by g.S.Store (EqualsWhere TokensApart (whole_tokens_of org)) c.names.new.conn c.list_whole.new.conn (Ok list) c.in_ok-tokens.ensures))
+    (sees_by g.S.Store (EqualsWhere TokensApart (digest_tokens_of org)) c.names.new.conn c.list_with_digests.new.conn (Ok list) c.in_ok-tokens.ensures))

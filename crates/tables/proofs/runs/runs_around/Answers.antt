@@ -20,8 +20,8 @@ returns g c =
     let ws = c.args.ws.now in
     let need = needed_of c.args.needs.now in
     record {
-      looks = seen_four g.S.Store Error Error Error Error Error (λ t. if_needed need.holder_status (holder_status_in org ws c.args.holder.now t)) (λ t. if_needed need.waiting (first_waiting_of org ws t)) (asked_run_in need.run need.key org ws)
+      unchanged = seen_four g.S.Store Error Error Error Error Error (λ t. if_needed need.holder_status (holder_status_in org ws c.args.holder.now t)) (λ t. if_needed need.waiting (first_waiting_of org ws t)) (asked_run_in need.run need.key org ws)
           (λ t. cond need.open_runs (open_runs_of org ws t) 0) make c.in_ok-holder_status.holder_status c.in_ok-first_waiting.first_waiting c.in_ok-asked_run.asked_run c.in_ok-open_runs.open_runs
           c.args.conn.now c.holder_status.new.conn c.first_waiting_if.new.conn c.asked_run.new.conn c.open_runs_if.new.conn
-          c.in_ok-holder_status.ensures.looks c.in_ok-first_waiting.ensures.looks c.in_ok-asked_run.ensures.looks c.in_ok-open_runs.ensures.looks;
+          c.in_ok-holder_status.ensures.unchanged c.in_ok-first_waiting.ensures.unchanged c.in_ok-asked_run.ensures.unchanged c.in_ok-open_runs.ensures.unchanged;
     }

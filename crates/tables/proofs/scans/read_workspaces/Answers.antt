@@ -9,12 +9,12 @@ returns g c =
     let rows = c.args.rows.now in
     let put_bounds = λ (t : Tables) (r : Rows). record r { bounds = t.bounds } in
     let put_wss = λ (t : Tables) (r : Rows). record r { wss = t.wss } in
-    let put_keepings = λ (t : Tables) (r : Rows). record r { keepings = t.keepings } in
+    let put_retentions = λ (t : Tables) (r : Rows). record r { retentions = t.retentions } in
     let put_versions = λ (t : Tables) (r : Rows). record r { versions = t.versions } in
-    filled_then g.S.Store (λ t r. put_keepings t (put_wss t (put_bounds t r))) put_versions conn c.read_keepings.new.conn c.read_versions.new.conn c.in_ok-read_keepings.field-0 c.read_versions.result rows c.read_keepings.new.rows c.read_versions.new.rows
-    (filled_then g.S.Store (λ t r. put_wss t (put_bounds t r)) put_keepings conn c.read_wss.new.conn c.read_keepings.new.conn c.in_ok-read_wss.field-0 _ rows c.read_wss.new.rows c.read_keepings.new.rows
+    filled_then g.S.Store (λ t r. put_retentions t (put_wss t (put_bounds t r))) put_versions conn c.read_retentions.new.conn c.read_versions.new.conn c.in_ok-read_retentions.field-0 c.read_versions.result rows c.read_retentions.new.rows c.read_versions.new.rows
+    (filled_then g.S.Store (λ t r. put_wss t (put_bounds t r)) put_retentions conn c.read_wss.new.conn c.read_retentions.new.conn c.in_ok-read_wss.field-0 _ rows c.read_wss.new.rows c.read_retentions.new.rows
     (filled_then g.S.Store (λ t r. put_bounds t r) put_wss conn c.read_bounds.new.conn c.read_wss.new.conn c.in_ok-read_bounds.field-0 _ rows c.read_bounds.new.rows c.read_wss.new.rows
     (c.in_ok-read_bounds.ensures)
     c.in_ok-read_wss.ensures)
-    c.in_ok-read_keepings.ensures)
+    c.in_ok-read_retentions.ensures)
     c.read_versions.ensures

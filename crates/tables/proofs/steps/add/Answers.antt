@@ -6,7 +6,7 @@ use Rattle.tables.specs.Inner.Keys.{KeepsKeys}
 use Rattle.texts.specs.Texts.{pages_for, text_added, TwinsFit, KeysFit, AddsText}
 use Rattle.tables.proofs.Copying.{related_by}
 use Rattle.tables.proofs.KeyedRows.{version_keyed}
-use Rattle.tables.proofs.KeepMoves.{no_keys, steps_then_all, told_then}
+use Rattle.tables.proofs.KeepMoves.{no_keys, steps_then_all, reported_then}
 use Rattle.tables.proofs.steps.add.Goals as goal
 
 pub returns-clause-adds : goal.returns-clause-adds
@@ -20,7 +20,7 @@ returns-clause-adds g c =
       record {
         steps = steps_then_all g.S.Store (row_added org ws v) (text_added keys org ws v.number v.text) c.args.tx.now c.add_row.new.tx c.add_text.new.tx _ c.add_text.result
             c.in_ok-add_row.ensures.steps c.add_text.ensures.goes_on (λ is. (adds is).steps);
-        tells = told_then g.S.Store (row_added org ws v) (TwinsFit keys org ws v.number v.text (pages_for (length v.text))) c.args.tx.now c.add_row.new.tx c.add_text.new.tx _ c.add_text.result
+        reports = reported_then g.S.Store (row_added org ws v) (TwinsFit keys org ws v.number v.text (pages_for (length v.text))) c.args.tx.now c.add_row.new.tx c.add_text.new.tx _ c.add_text.result
             c.in_ok-add_row.ensures.steps c.add_text.ensures.goes_on.so_far (λ is. (adds is).fits);
       },
     )
@@ -36,7 +36,7 @@ returns-clause-keyed g c =
     related_by g.S.Store (λ t. KeysFit key_of keys org ws v.number v.text (pages_for (length v.text)) (row_added org ws v t)) (added_rows keys org ws v) (KeepsKeys key_of) c.args.tx.now c.add_text.new.tx c.add_text.result (version_keyed key_of org ws keys v)
     (steps_then_all g.S.Store (row_added org ws v) (text_added keys org ws v.number v.text) c.args.tx.now c.add_row.new.tx c.add_text.new.tx _ c.add_text.result
     c.in_ok-add_row.ensures.steps c.add_text.ensures.goes_on (λ is. (adds is).steps))
-    (told_then g.S.Store (row_added org ws v) (KeysFit key_of keys org ws v.number v.text (pages_for (length v.text))) c.args.tx.now c.add_row.new.tx c.add_text.new.tx _ c.add_text.result
+    (reported_then g.S.Store (row_added org ws v) (KeysFit key_of keys org ws v.number v.text (pages_for (length v.text))) c.args.tx.now c.add_row.new.tx c.add_text.new.tx _ c.add_text.result
     c.in_ok-add_row.ensures.steps c.add_text.ensures.goes_on.so_far (λ is. (adds is).keyed))
 
 pub returns-clause-fresh : goal.returns-clause-fresh

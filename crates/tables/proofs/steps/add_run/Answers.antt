@@ -1,4 +1,4 @@
-use Rattle.pages.proofs.Looking.{steps_then}
+use Rattle.pages.proofs.Sequences.{steps_then}
 use Rattle.tables.proofs.KeepMoves.{steps_there}
 use Rattle.tables.proofs.steps.add_run.Goals as goal
 

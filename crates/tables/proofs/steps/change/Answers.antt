@@ -1,12 +1,12 @@
 use Rattle.texts.proofs.Many.{when_done}
-use Rattle.pages.proofs.Looking.{steps_then}
+use Rattle.pages.proofs.Sequences.{steps_then}
 use Rattle.tables.proofs.KeyedSteps.{keyed_by, keyed_then}
 use Rattle.tables.proofs.steps.change.Goals as goal
 
 pub returns-in-None-clause-changes : goal.returns-in-None-clause-changes
 returns-in-None-clause-changes g c =
     let edited = c.in_ok-edit.ensures.edits.1 in
-    rw c.in-None.is (c.in_ok-edit.ensures.edits.0, record { steps = edited.steps; tells = edited.tells })
+    rw c.in-None.is (c.in_ok-edit.ensures.edits.0, record { steps = edited.steps; reports = edited.reports })
 
 pub returns-in-Some-clause-changes : goal.returns-in-Some-clause-changes
 returns-in-Some-clause-changes g c =
@@ -15,7 +15,7 @@ returns-in-Some-clause-changes g c =
       c.in_ok-edit.ensures.edits.0,
       record {
         steps = steps_then g.S.Store _ _ _ _ _ _ _ edited.steps c.start.ensures;
-        tells = λ clean inside. when_done c.start.result (edited.tells (c.start.ensures.so_far clean) inside);
+        reports = λ clean inside. when_done c.start.result (edited.reports (c.start.ensures.so_far clean) inside);
       },
     )
 

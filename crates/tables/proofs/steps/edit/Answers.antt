@@ -1,5 +1,5 @@
 use Rattle.texts.proofs.Many.{when_done}
-use Rattle.pages.proofs.Looking.{steps_by}
+use Rattle.pages.proofs.Sequences.{steps_by}
 use Rattle.tables.specs.Inner.Edits.{edited_rows}
 use Rattle.tables.proofs.KeepMoves.{no_keys}
 use Rattle.tables.proofs.KeyedRows.{edited_keyed}
@@ -7,31 +7,31 @@ use Rattle.tables.proofs.KeyedSteps.{keyed_by}
 use Rattle.tables.proofs.steps.edit.Goals as goal
 
 pub returns-in-Make-clause-edits : goal.returns-in-Make-clause-edits
-returns-in-Make-clause-edits g c = rw c.in-Make.is (no_keys, record { steps = c.make_workspace.ensures.steps; tells = c.make_workspace.ensures.fresh })
+returns-in-Make-clause-edits g c = rw c.in-Make.is (no_keys, record { steps = c.make_workspace.ensures.steps; reports = c.make_workspace.ensures.fresh })
 
 pub returns-in-Configure-clause-edits : goal.returns-in-Configure-clause-edits
-returns-in-Configure-clause-edits g c = rw c.in-Configure.is (no_keys, record { steps = c.configure.ensures; tells = λ clean inside. when_done c.configure.result (λ t holds. tt) })
+returns-in-Configure-clause-edits g c = rw c.in-Configure.is (no_keys, record { steps = c.configure.ensures; reports = λ clean inside. when_done c.configure.result (λ t holds. tt) })
 
 pub returns-in-Remove-clause-edits : goal.returns-in-Remove-clause-edits
-returns-in-Remove-clause-edits g c = rw c.in-Remove.is (no_keys, record { steps = c.remove.ensures; tells = λ clean inside. when_done c.remove.result (λ t holds. tt) })
+returns-in-Remove-clause-edits g c = rw c.in-Remove.is (no_keys, record { steps = c.remove.ensures; reports = λ clean inside. when_done c.remove.result (λ t holds. tt) })
 
 pub returns-in-AddVersion-clause-edits : goal.returns-in-AddVersion-clause-edits
-returns-in-AddVersion-clause-edits g c = rw c.in-AddVersion.is (c.put.ensures.puts.0, record { steps = c.put.ensures.puts.1.steps; tells = c.put.ensures.puts.1.tells })
+returns-in-AddVersion-clause-edits g c = rw c.in-AddVersion.is (c.put.ensures.puts.0, record { steps = c.put.ensures.puts.1.steps; reports = c.put.ensures.puts.1.reports })
 
 pub returns-in-Purge-clause-edits : goal.returns-in-Purge-clause-edits
-returns-in-Purge-clause-edits g c = rw c.in-Purge.is (no_keys, record { steps = c.purge.ensures; tells = λ clean inside. when_done c.purge.result (λ t holds. tt) })
+returns-in-Purge-clause-edits g c = rw c.in-Purge.is (no_keys, record { steps = c.purge.ensures; reports = λ clean inside. when_done c.purge.result (λ t holds. tt) })
 
 pub returns-in-Hold-clause-edits : goal.returns-in-Hold-clause-edits
-returns-in-Hold-clause-edits g c = rw c.in-Hold.is (no_keys, record { steps = rw c.as_slice.ensures at (steps_by g.S.Store _ _ _ _ c.hold_by_lock.ensures); tells = λ clean inside. when_done c.hold_by_lock.result (λ t holds. tt) })
+returns-in-Hold-clause-edits g c = rw c.in-Hold.is (no_keys, record { steps = rw c.as_slice.ensures at (steps_by g.S.Store _ _ _ _ c.hold_by_lock.ensures); reports = λ clean inside. when_done c.hold_by_lock.result (λ t holds. tt) })
 
 pub returns-in-Release-clause-edits : goal.returns-in-Release-clause-edits
-returns-in-Release-clause-edits g c = rw c.in-Release.is (no_keys, record { steps = steps_by g.S.Store _ _ _ _ c.release_lock.ensures; tells = λ clean inside. when_done c.release_lock.result (λ t holds. tt) })
+returns-in-Release-clause-edits g c = rw c.in-Release.is (no_keys, record { steps = steps_by g.S.Store _ _ _ _ c.release_lock.ensures; reports = λ clean inside. when_done c.release_lock.result (λ t holds. tt) })
 
 pub returns-in-AddRun-clause-edits : goal.returns-in-AddRun-clause-edits
-returns-in-AddRun-clause-edits g c = rw c.in-AddRun.is (no_keys, record { steps = c.add_run.ensures; tells = λ clean inside. when_done c.add_run.result (λ t holds. tt) })
+returns-in-AddRun-clause-edits g c = rw c.in-AddRun.is (no_keys, record { steps = c.add_run.ensures; reports = λ clean inside. when_done c.add_run.result (λ t holds. tt) })
 
 pub returns-in-Report-clause-edits : goal.returns-in-Report-clause-edits
-returns-in-Report-clause-edits g c = rw c.in-Report.is (no_keys, record { steps = c.report.ensures; tells = λ clean inside. when_done c.report.result (λ t holds. tt) })
+returns-in-Report-clause-edits g c = rw c.in-Report.is (no_keys, record { steps = c.report.ensures; reports = λ clean inside. when_done c.report.result (λ t holds. tt) })
 
 pub returns-in-Make-clause-keyed : goal.returns-in-Make-clause-keyed
 returns-in-Make-clause-keyed g c =

@@ -1,4 +1,4 @@
-use Rattle.pages.proofs.Looking.{steps_by}
+use Rattle.pages.proofs.Sequences.{steps_by}
 use Rattle.tables.proofs.steps.make_workspace.Goals as goal
 
 pub returns-clause-steps : goal.returns-clause-steps

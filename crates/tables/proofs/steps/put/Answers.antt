@@ -1,6 +1,6 @@
 use Rattle.std.proofs.Common.{rules}
 use Rattle.texts.proofs.Many.{when_done}
-use Rattle.pages.proofs.Looking.{steps_then}
+use Rattle.pages.proofs.Sequences.{steps_then}
 use Rattle.tables.specs.Inner.Edits.{numbered_rows}
 use Rattle.tables.proofs.KeepMoves.{no_keys, takes_by}
 use Rattle.tables.proofs.KeyedRows.{below_keyed}
@@ -15,9 +15,9 @@ returns-in-None-clause-puts g c =
       keys,
       record {
         steps = steps_then g.S.Store _ _ _ _ _ _ _ c.in_ok-count_on.ensures.steps added.steps;
-        tells = λ clean inside.
+        reports = λ clean inside.
             takes_by g.S.Store keys c.args.org.now c.args.ws.now c.args.version.now c.args.tx.now c.count_on.new.tx c.add.new.tx _
-            c.in_ok-count_on.ensures.steps c.in_ok-count_on.ensures.found added.steps.so_far c.in_ok-add.ensures.fresh added.tells clean inside;
+            c.in_ok-count_on.ensures.steps c.in_ok-count_on.ensures.found added.steps.so_far c.in_ok-add.ensures.fresh added.reports clean inside;
       },
     )
 
@@ -29,9 +29,9 @@ returns-in-Some-clause-puts g c =
       keys,
       record {
         steps = steps_then g.S.Store _ _ _ _ _ _ _ c.in_ok-count_on.ensures.steps (steps_then g.S.Store _ _ _ _ _ _ _ added.steps c.forget.ensures);
-        tells = λ clean inside. when_done c.forget.result (
+        reports = λ clean inside. when_done c.forget.result (
             takes_by g.S.Store keys c.args.org.now c.args.ws.now c.args.version.now c.args.tx.now c.count_on.new.tx c.add.new.tx _
-            c.in_ok-count_on.ensures.steps c.in_ok-count_on.ensures.found added.steps.so_far c.in_ok-add.ensures.fresh added.tells (c.forget.ensures.so_far clean) inside);
+            c.in_ok-count_on.ensures.steps c.in_ok-count_on.ensures.found added.steps.so_far c.in_ok-add.ensures.fresh added.reports (c.forget.ensures.so_far clean) inside);
       },
     )
 

@@ -1,4 +1,4 @@
-use Rattle.pages.proofs.Looking.{steps_by, steps_then}
+use Rattle.pages.proofs.Sequences.{steps_by, steps_then}
 use Rattle.tables.proofs.steps.remove.Goals as goal
 
 pub returns : goal.returns

@@ -3,7 +3,7 @@ use Rattle.std.proofs.lemmas.Bool.{ltb-false}
 use Rattle.basis.specs.declared.rows.VersionRow.{VersionRow as Head}
 use Rattle.statements.specs.Finds.{oldest_below}
 use Rattle.tables.specs.Inner.Edits.{first_gone, version_gone, oldest_gone}
-use Rattle.pages.proofs.Looking.{step_behind, step_none}
+use Rattle.pages.proofs.Sequences.{step_behind, step_none}
 use Rattle.tables.proofs.GoneSteps.{none_stays}
 use Rattle.tables.proofs.KeepMoves.{step_as}
 use Rattle.tables.proofs.LastGone.{none_behind_last}

@@ -1,4 +1,4 @@
-use Rattle.pages.proofs.Looking.{steps_by}
+use Rattle.pages.proofs.Sequences.{steps_by}
 use Rattle.tables.proofs.KeepMoves.{steps_then_all}
 use Rattle.tables.proofs.steps.remove_version.Goals as goal
 

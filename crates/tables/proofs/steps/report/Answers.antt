@@ -1,4 +1,4 @@
-use Rattle.pages.proofs.Looking.{steps_by, steps_then}
+use Rattle.pages.proofs.Sequences.{steps_by, steps_then}
 use Rattle.tables.proofs.steps.report.Goals as goal
 
 pub returns-then-frees : goal.returns-then-frees

@@ -14,5 +14,5 @@ returns-clause-made g c clean =
     let late : HasCleanDisk (state g.S.Store m) = grind (rules) in
     let before = clean_before (state g.S.Store l) (state g.S.Store m) _ c.commit.ensures.survives late in
     let made = (c.in_ok-make_schema.ensures.made before (inside_by h k c.begin-tx.ensures.begun)).0 in
-    let all = made_by g.S.Store h k l m c.begin-tx.ensures.settled c.begin-tx.ensures.begun c.commit.result made (c.commit.ensures.ok late) (c.commit.ensures.err late) in
+    let all = made_by g.S.Store h k l m c.begin-tx.ensures.all_committed c.begin-tx.ensures.begun c.commit.result made (c.commit.ensures.ok late) (c.commit.ensures.err late) in
     search (rules, all)

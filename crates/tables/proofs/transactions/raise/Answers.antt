@@ -21,5 +21,5 @@ returns-clause-done g c clean =
     let made = (c.in_ok-raise.ensures.made before (inside_by h k c.begin-tx.ensures.begun)).0 in
     let on : suc n ≡ n + 1 = omega arith in
     let next = subst (λ i. (a b : Database) → Raises n a b → Becomes n i a b × KeepsBeside n i a b) on (becomes_next n c.requires.older) in
-    let all = climbs_by g.S.Store h k l m c.begin-tx.ensures.settled c.begin-tx.ensures.begun n (Raises n) next c.commit.result made (c.commit.ensures.ok late) (c.commit.ensures.err late) in
+    let all = climbs_by g.S.Store h k l m c.begin-tx.ensures.all_committed c.begin-tx.ensures.begun n (Raises n) next c.commit.result made (c.commit.ensures.ok late) (c.commit.ensures.err late) in
     search (rules, all)

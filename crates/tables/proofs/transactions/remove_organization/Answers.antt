@@ -15,7 +15,7 @@ returns-clause-done g c clean =
     let m = c.commit.new.self.0 in
     let late : HasCleanDisk (state g.S.Store m) = search rules in
     let before = clean_before (state g.S.Store l) (state g.S.Store m) _ c.commit.ensures.survives late in
-    let settled = c.begin-tx.ensures.settled in
+    let all_committed = c.begin-tx.ensures.all_committed in
     let related = (c.in_ok-leave.ensures.changed before (inside_by h k c.begin-tx.ensures.begun)).0 in
-    let all = commits_related g.S.Store h k l m settled c.begin-tx.ensures.begun (AreMadeBy (all_gone_of c.args.org.now c.args.names.now c.args.list.now)) c.commit.result related (c.commit.ensures.ok late) (c.commit.ensures.err late) in
+    let all = commits_related g.S.Store h k l m all_committed c.begin-tx.ensures.begun (AreMadeBy (all_gone_of c.args.org.now c.args.names.now c.args.list.now)) c.commit.result related (c.commit.ensures.ok late) (c.commit.ensures.err late) in
     search (rules, all)

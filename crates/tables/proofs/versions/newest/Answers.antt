@@ -2,7 +2,7 @@ use Rattle.std.proofs.Common.{rules, ◌≡◌, true}
 use Rattle.sqlite.specs.declared.error.Error.{Error}
 use Rattle.std.specs.Option.{option_copied}
 use Rattle.statements.specs.Finds.{newest_of}
-use Rattle.tables.specs.Inner.Looks.{sized_by}
+use Rattle.tables.specs.Inner.Points.{sized_by}
 use Rattle.tables.proofs.KeepFound.{seen_mapped}
 use Rattle.texts.proofs.Many.{sees_by}
 use Rattle.tables.proofs.versions.newest.Goals as goal
@@ -13,6 +13,6 @@ returns-in_ok-newest_as-in-Some g c =
     let ws = c.args.ws.now in
     let needed : c.args.needed ≡ true = search rules in
     rw needed (record {
-      looks = seen_mapped g.S.Store Error Error Error (newest_of org ws) (sized_by (option_copied c.args.text) org ws) c.in-Some.head c.in_ok-newest_as-in-Some.field-0 c.in_ok-newest.field-0
-          c.args.conn.now c.newest.new.conn c.newest_as.new.conn c.in-Some.is (sees_by g.S.Store _ _ _ _ c.in_ok-newest.ensures) c.in_ok-newest_as-in-Some.ensures.looks;
+      unchanged = seen_mapped g.S.Store Error Error Error (newest_of org ws) (sized_by (option_copied c.args.text) org ws) c.in-Some.head c.in_ok-newest_as-in-Some.field-0 c.in_ok-newest.field-0
+          c.args.conn.now c.newest.new.conn c.newest_as.new.conn c.in-Some.is (sees_by g.S.Store _ _ _ _ c.in_ok-newest.ensures) c.in_ok-newest_as-in-Some.ensures.unchanged;
     })

@@ -69,7 +69,7 @@ returns-clause-adds g c =
           so_far = some.so_far;
           shield = some.shield;
         };
-        fits = λ clean inside t holds. subst (λ m. TwinsFit keys org ws n text m t) end (some.told clean open_is inside t holds).0;
-        keyed = λ clean inside t holds. subst (λ m. KeysFit g.K.PageKey.key_of keys org ws n text m t) end (some.told clean open_is inside t holds).1;
+        fits = λ clean inside t holds. subst (λ m. TwinsFit keys org ws n text m t) end (some.reported clean open_is inside t holds).0;
+        keyed = λ clean inside t holds. subst (λ m. KeysFit g.K.PageKey.key_of keys org ws n text m t) end (some.reported clean open_is inside t holds).1;
       },
     )

@@ -41,4 +41,4 @@ returns-clause-steps g c open_is =
 pub returns-clause-there : goal.returns-clause-there
 returns-clause-there g c open_is clean inside t holds =
     let end : c.places.place ≡ c.args.places = omega (arith, c.places.auto.place-end, c.places-test.false) in
-    subst (λ m. WereReleased c.args.rows.now m t) end (c.places.invariant.1.told clean open_is inside t holds)
+    subst (λ m. WereReleased c.args.rows.now m t) end (c.places.invariant.1.reported clean open_is inside t holds)

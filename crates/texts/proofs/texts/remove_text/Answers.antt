@@ -2,7 +2,7 @@ use Rattle.std.proofs.Common.{rules, ◌≡◌, length, sym, ◌∙◌, subst}
 use Rattle.sqlite.specs.Held.{state}
 use Rattle.sqlite.specs.State.{HasCleanDisk}
 use Rattle.statements.proofs.Transactions.{clean_before}
-use Rattle.pages.proofs.Looking.{still_inside}
+use Rattle.pages.proofs.Sequences.{still_inside}
 use Rattle.texts.specs.Inner.Calls.{AreRowsOf}
 use Rattle.texts.proofs.Releasing.{text_gone, text_was_there}
 use Rattle.texts.proofs.texts.remove_text.Goals as goal
@@ -22,9 +22,9 @@ returns-clause-steps g c open_is =
       same_reference = c.release_each.ensures.goes_on.same_reference ∙ writes.same_reference ∙ c.in_ok-rows.ensures.same_reference;
       changed = λ clean inside.
           let seen = c.in_ok-rows.ensures.sees (early clean) in
-          let look = seen.1.0 in
-          let removed = (writes.changed (c.release_each.ensures.goes_on.so_far clean) (still_inside s0 s1 look inside)).0 in
-          text_gone c.args.org.now c.args.ws.now c.args.number c.args.size pages rows many c.pages_for-pages.ensures s0 s1 s2 s3 look (λ t holds. subst (AreRowsOf c.args.org.now c.args.ws.now c.args.number t) (sym c.as_slice.ensures.value) (seen.0 t holds)) removed c.release_each.result
+          let unchanged = seen.1.0 in
+          let removed = (writes.changed (c.release_each.ensures.goes_on.so_far clean) (still_inside s0 s1 unchanged inside)).0 in
+          text_gone c.args.org.now c.args.ws.now c.args.number c.args.size pages rows many c.pages_for-pages.ensures s0 s1 s2 s3 unchanged (λ t holds. subst (AreRowsOf c.args.org.now c.args.ws.now c.args.number t) (sym c.as_slice.ensures.value) (seen.0 t holds)) removed c.release_each.result
           ((c.release_each.ensures.steps removed.is_open).changed clean removed.inside) (c.release_each.ensures.there removed.is_open clean removed.inside);
       so_far = λ clean. c.in_ok-rows.ensures.so_far (early clean);
       shield = λ s. c.release_each.ensures.goes_on.shield (writes.survives.shield (c.in_ok-rows.ensures.shield s));
@@ -42,7 +42,7 @@ returns-clause-there g c open_is clean inside =
     let writes = c.in_ok-remove_all.ensures in
     let early = clean_before s1 s2 _ writes.survives (c.release_each.ensures.goes_on.so_far clean) in
     let seen = c.in_ok-rows.ensures.sees early in
-    let look = seen.1.0 in
-    let removed = (writes.changed (c.release_each.ensures.goes_on.so_far clean) (still_inside s0 s1 look inside)).0 in
-    text_was_there c.args.org.now c.args.ws.now c.args.number c.args.size pages rows many c.pages_for-pages.ensures s0 s1 s2 s3 look (λ t holds. subst (AreRowsOf c.args.org.now c.args.ws.now c.args.number t) (sym c.as_slice.ensures.value) (seen.0 t holds)) removed c.release_each.result
+    let unchanged = seen.1.0 in
+    let removed = (writes.changed (c.release_each.ensures.goes_on.so_far clean) (still_inside s0 s1 unchanged inside)).0 in
+    text_was_there c.args.org.now c.args.ws.now c.args.number c.args.size pages rows many c.pages_for-pages.ensures s0 s1 s2 s3 unchanged (λ t holds. subst (AreRowsOf c.args.org.now c.args.ws.now c.args.number t) (sym c.as_slice.ensures.value) (seen.0 t holds)) removed c.release_each.result
     (c.release_each.ensures.there removed.is_open clean removed.inside)

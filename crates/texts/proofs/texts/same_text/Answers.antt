@@ -1,6 +1,6 @@
 use Rattle.std.proofs.Common.{◌<◌, ◌+◌, length, true, Some, sym, ap, ◌∙◌, subst}
 use Rattle.sqlite.specs.Held.{state}
-use Rattle.pages.proofs.Looking.{one_look, looks_then, still_holds}
+use Rattle.pages.proofs.Sequences.{one_query, unchanged_then, still_holds}
 use Rattle.texts.specs.Texts.{pages_for, piece_at, are_pieces, AreThere}
 use Rattle.texts.specs.Inner.Calls.{is_piece_of}
 use Rattle.texts.proofs.Many.{reads_more}
@@ -22,12 +22,12 @@ returns-then-not-branch-clause-queries g c =
     record {
       mode = λ is. c.in_ok-same_piece.ensures.mode (c.places.invariant.0 is);
       sees = λ clean.
-          let look = some.looks (before clean) in
+          let unchanged = some.unchanged (before clean) in
           let got = rw (c.of_byte-at.ensures, place_of_start place) at (c.in_ok-same_piece.ensures.gets clean) in (
             λ t holds.
-                one_differs org ws n t text place c.piece_at-piece.result.now c.in_ok-same_piece.field-0 c.piece_at-piece.ensures c.if-not-branch.true (got.0 t (still_holds s0 s1 look t holds)) (pages_for (length text))
+                one_differs org ws n t text place c.piece_at-piece.result.now c.in_ok-same_piece.field-0 c.piece_at-piece.ensures c.if-not-branch.true (got.0 t (still_holds s0 s1 unchanged t holds)) (pages_for (length text))
                 (subst (λ m. place < m) c.pages_for-pages.ensures c.places-test.true),
-            (looks_then s0 s1 s2 look (one_look s1 s2 got.1.0), tt),
+            (unchanged_then s0 s1 s2 unchanged (one_query s1 s2 got.1.0), tt),
           );
       so_far = λ clean. some.so_far (before clean);
       shield = λ s. c.in_ok-same_piece.ensures.shield (some.shield s);

@@ -18,7 +18,7 @@ filling-preserved g c =
       received = (
         before.0 ++ take n part,
         Consumes-trans _ _ _ before.0 (take n part) before.1 c.in-Ok.ensures.bytes.0,
-        filled_more c.filling.filled c.filling.body part fits whole n c.in-Ok.ensures.bound.0 ∙ ap (λ xs. xs ++ take n part) before.2 ∙ append_assoc (take c.args.begun c.args.body.now) before.0 (take n part),
+        filled_more c.filling.filled c.filling.body part fits whole n c.in-Ok.ensures.bound.0 ∙ ap (λ xs. xs ++ take n part) before.2 ∙ append_assoc (take c.args.body_start c.args.body.now) before.0 (take n part),
       );
       short = few;
       same = filled_same c.filling.filled c.filling.body part fits whole ∙ c.filling.invariant.same;

@@ -2,7 +2,7 @@ use Rattle.std.proofs.Common.{◌≡◌, ◌∙◌, ◌++◌, ◌∷◌, [], ap,
 use Rattle.std.specs.Str.{bytes_eq}
 use Rattle.std.specs.BTreeMap.{get_by_text}
 use Rattle.std.proofs.lemmas.Map.Text.{btree_map_updates_text}
-use Rattle.checks.specs.Inner.Groups.{places_at, places_in}
+use Rattle.checks.specs.Inner.Groups.{indices_at, indices_in}
 use Rattle.checks.proofs.GroupLemmas.{put_in, both_tests}
 use Rattle.checks.proofs.groups.Groups.add.Goals as goal
 
@@ -11,10 +11,10 @@ pub returns : goal.returns
 returns c = λ o w.
     let old = c.args.self.now.orgs in
     let mid = c.take_org-wss.new.orgs in
-    let wss = c.add_place.new.wss in
+    let wss = c.add_index.new.wss in
     let is : (q : List ℕ) → get_by_text c.insert.new.self q ≡ cond (bytes_eq c.args.org.now q) (Some wss) (get_by_text mid q) = λ q.
     btree_map_updates_text (string_bytes c.in_ok-org.org) mid c.insert.new.self (Some wss) c.in_ok-insert.ensures.updates q ∙ ap (λ k. cond (bytes_eq k q) (Some wss) (get_by_text mid q)) c.in_ok-org.ensures.ok in
-    put_in (λ m. places_at m w) [] (λ ps. cond (bytes_eq c.args.ws.now w) (ps ++ c.args.place ∷ []) ps) (get_by_text old) (get_by_text mid) (get_by_text c.insert.new.self) c.args.org.now wss is
+    put_in (λ m. indices_at m w) [] (λ ps. cond (bytes_eq c.args.ws.now w) (ps ++ c.args.row_index ∷ []) ps) (get_by_text old) (get_by_text mid) (get_by_text c.insert.new.self) c.args.org.now wss is
     c.take_org-wss.ensures.others
-    (c.in_ok-add_place.ensures w ∙ ap (λ ps. cond (bytes_eq c.args.ws.now w) (ps ++ c.args.place ∷ []) ps) (c.take_org-wss.ensures.taken w)) o
-    ∙ both_tests (bytes_eq c.args.org.now o) (bytes_eq c.args.ws.now w) (places_in c.args.self.now o w ++ c.args.place ∷ []) (places_in c.args.self.now o w)
+    (c.in_ok-add_index.ensures w ∙ ap (λ ps. cond (bytes_eq c.args.ws.now w) (ps ++ c.args.row_index ∷ []) ps) (c.take_org-wss.ensures.taken w)) o
+    ∙ both_tests (bytes_eq c.args.org.now o) (bytes_eq c.args.ws.now w) (indices_in c.args.self.now o w ++ c.args.row_index ∷ []) (indices_in c.args.self.now o w)

@@ -1,9 +1,9 @@
 use Rattle.std.proofs.Common.{arith}
-use Rattle.machine.proofs.MapLemmas.{got_at, none_at_gap, place_within}
+use Rattle.machine.proofs.MapLemmas.{got_at, none_at_gap, index_within}
 use Rattle.machine.proofs.maps.NameMap.get.Goals as goal
 
 pub index-requires : goal.index-requires
-index-requires g c = omega (arith, place_within _ _ _ c.self.view_is c.self.invariant _ _ c.in-Ok.ensures.found)
+index-requires g c = omega (arith, index_within _ _ _ c.self.view_is c.self.invariant _ _ c.in-Ok.ensures.found)
 
 pub returns-in-Ok : goal.returns-in-Ok
 returns-in-Ok g c = got_at _ _ _ c.self.view_is c.self.invariant _ _ c.in-Ok.ensures.found _ c.index.ensures

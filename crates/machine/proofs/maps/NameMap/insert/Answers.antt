@@ -1,10 +1,10 @@
 use Rattle.std.proofs.Common.{arith, refl, sym, ap, ◌∙◌}
 use Rattle.std.specs.FinMap.{insert as map_insert}
-use Rattle.machine.proofs.MapLemmas.{place_within, gap_within, changed_in_order, changed_at, inserted_at}
+use Rattle.machine.proofs.MapLemmas.{index_within, gap_within, changed_in_order, changed_at, inserted_at}
 use Rattle.machine.proofs.maps.NameMap.insert.Goals as goal
 
 pub index_mut-requires : goal.index_mut-requires
-index_mut-requires g c = omega (arith, place_within _ _ _ c.self.view_is c.self.invariant _ _ c.in-Ok.ensures.found)
+index_mut-requires g c = omega (arith, index_within _ _ _ c.self.view_is c.self.invariant _ _ c.in-Ok.ensures.found)
 
 pub invariant_of-self : goal.invariant_of-self
 invariant_of-self g c = changed_in_order _ _ _ c.self.view_is c.self.invariant _ _ c.in-Ok.ensures.found _ c.index_mut.ensures.value _ refl

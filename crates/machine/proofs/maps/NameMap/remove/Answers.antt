@@ -1,9 +1,9 @@
 use Rattle.std.proofs.Common.{arith, sym, ap, is_some}
-use Rattle.machine.proofs.MapLemmas.{place_within, got_at, removed_in_order, removed_at, remove_absent, none_at_gap}
+use Rattle.machine.proofs.MapLemmas.{index_within, got_at, removed_in_order, removed_at, remove_absent, none_at_gap}
 use Rattle.machine.proofs.maps.NameMap.remove.Goals as goal
 
 pub remove-requires : goal.remove-requires
-remove-requires g c = omega (arith, place_within _ _ _ c.self.view_is c.self.invariant _ _ c.in-Ok.ensures.found)
+remove-requires g c = omega (arith, index_within _ _ _ c.self.view_is c.self.invariant _ _ c.in-Ok.ensures.found)
 
 pub invariant_of-self : goal.invariant_of-self
 invariant_of-self g c = rw c.remove.ensures.items (removed_in_order _ _ _ c.self.view_is c.self.invariant _ _ c.in-Ok.ensures.found c.remove.result)

@@ -2,11 +2,11 @@ use Rattle.machine.specs.Effects.{effect}
 use Rattle.std.proofs.Common.{arith, refl, ap, ◌∙◌}
 use Rattle.std.proofs.lemmas.Result.{IfOk-weaker}
 use Rattle.machine.specs.Tokens.{token_added}
-use Rattle.machine.proofs.MapLemmas.{place_within, got_at, changed_in_order, changed_own, changed_other, none_at_gap}
+use Rattle.machine.proofs.MapLemmas.{index_within, got_at, changed_in_order, changed_own, changed_other, none_at_gap}
 use Rattle.machine.proofs.organizations.NameMap+Organization.add_token.Goals as goal
 
 pub index_mut-requires : goal.index_mut-requires
-index_mut-requires c = omega (arith, place_within _ _ _ c.self.view_is c.self.invariant _ _ c.in-Ok.ensures.found)
+index_mut-requires c = omega (arith, index_within _ _ _ c.self.view_is c.self.invariant _ _ c.in-Ok.ensures.found)
 
 pub invariant_of-self : goal.invariant_of-self
 invariant_of-self c = changed_in_order _ _ _ c.self.view_is c.self.invariant _ _ c.in-Ok.ensures.found _ c.index_mut.ensures.value _ refl

@@ -19,8 +19,8 @@ pub returns-clause-lists : goal.returns-clause-lists
 returns-clause-lists g c = λ clean sound.
     replies_given c.args.steps.now c.run_all.new.self.taken (g.K.Keep.rows c.args.self.now.keep) (g.K.Keep.rows c.run_all.new.self.keep) c.run_all.result (c.run_all.ensures.ran clean sound) c.run_all.ensures.all operator
 
-pub returns-clause-lists_told : goal.returns-clause-lists_told
-returns-clause-lists_told g c = λ clean sound.
+pub returns-clause-lists_reported : goal.returns-clause-lists_reported
+returns-clause-lists_reported g c = λ clean sound.
     lists_given c.args.steps.now c.run_all.new.self.taken (g.K.Keep.rows c.args.self.now.keep) (g.K.Keep.rows c.run_all.new.self.keep) c.run_all.result (c.run_all.ensures.ran clean sound) c.run_all.ensures.all
 
 pub returns-clause-rows : goal.returns-clause-rows

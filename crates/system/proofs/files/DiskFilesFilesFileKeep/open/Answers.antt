@@ -2,16 +2,16 @@ use Rattle.std.proofs.Common.{Bool, true, false, ℕ, List, Result, Ok, Err, IfO
 use Rattle.program.specs.Paths.{LeavesVacant}
 use Rattle.system.proofs.files.DiskFilesFilesFileKeep.open.Goals as goal
 
-all_told : {X E : Type 0} (P : Type 0) (Clean A B D : X → Type 0) (result : Result X E) → IfOk result (λ x. Clean x → A x) → IfOk result (λ x. Clean x → B x) → IfOk result (λ x. Clean x → D x) → IfOk result (λ x. P → Clean x → A x × B x × D x)
-all_told P Clean A B D (Ok x) one two three = λ first clean. (one clean, two clean, three clean)
-all_told P Clean A B D (Err e) one two three = tt
+all_reported : {X E : Type 0} (P : Type 0) (Clean A B D : X → Type 0) (result : Result X E) → IfOk result (λ x. Clean x → A x) → IfOk result (λ x. Clean x → B x) → IfOk result (λ x. Clean x → D x) → IfOk result (λ x. P → Clean x → A x × B x × D x)
+all_reported P Clean A B D (Ok x) one two three = λ first clean. (one clean, two clean, three clean)
+all_reported P Clean A B D (Err e) one two three = tt
 
 pub returns-in-Some-clause-opened : goal.returns-in-Some-clause-opened
-returns-in-Some-clause-opened g c = all_told _ _ _ _ _ c.open_file-opened.result c.open_file-opened.ensures.opens c.open_file-opened.ensures.guarded c.open_file-opened.ensures.as_opened
+returns-in-Some-clause-opened g c = all_reported _ _ _ _ _ c.open_file-opened.result c.open_file-opened.ensures.opens c.open_file-opened.ensures.guarded c.open_file-opened.ensures.as_opened
 
 not_bare : {X E : Type 0} (M A H : Type 0) (Clean : X → Type 0) (result : Result X E) → (M → IfOk result (λ x. Clean x → H)) → M → IfOk result (λ x. Clean x → ¬ (A × ¬ H))
-not_bare M A H Clean (Ok x) told m = λ clean both. both.1 (told m clean)
-not_bare M A H Clean (Err e) told m = tt
+not_bare M A H Clean (Ok x) reported m = λ clean both. both.1 (reported m clean)
+not_bare M A H Clean (Err e) reported m = tt
 
 none_vacant : {X E : Type 0} (result : Result X E) → OnOk result (¬ ⊥)
 none_vacant (Ok x) = λ never. never

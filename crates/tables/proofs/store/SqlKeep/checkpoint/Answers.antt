@@ -5,14 +5,14 @@ use Rattle.tables.proofs.store.SqlKeep.checkpoint.Goals as goal
 
 pub returns-in-Ok-clause-lasts : goal.returns-in-Ok-clause-lasts
 returns-in-Ok-clause-lasts g c = record {
-  so_far = c.retell.ensures.ends.so_far;
+  so_far = c.touch_version.ensures.ends.so_far;
   kept = rw c.of.ensures (λ clean sound.
-      retold_keeps (state g.S.Store c.args.self.now.seen.value).committed (state g.S.Store c.args.self.now.conn) sound (state g.S.Store c.retell.new.conn) (c.in-Ok.ensures.done clean).0);
+      retold_keeps (state g.S.Store c.args.self.now.seen.value).committed (state g.S.Store c.args.self.now.conn) sound (state g.S.Store c.touch_version.new.conn) (c.in-Ok.ensures.done clean).0);
   keys = rw c.of.ensures (λ clean sound keyed.
-      keyed_committed g.K.PageKey.key_of (state g.S.Store c.args.self.now.seen.value).committed (state g.S.Store c.args.self.now.conn) (state g.S.Store c.retell.new.conn) sound keyed _ _ (c.in-Ok.ensures.done clean).0 (λ t are. are));
-  shield = c.retell.ensures.ends.shield;
+      keyed_committed g.K.PageKey.key_of (state g.S.Store c.args.self.now.seen.value).committed (state g.S.Store c.args.self.now.conn) (state g.S.Store c.touch_version.new.conn) sound keyed _ _ (c.in-Ok.ensures.done clean).0 (λ t are. are));
+  shield = c.touch_version.ensures.ends.shield;
 }
 
 pub returns-in-Ok-clause-same : goal.returns-in-Ok-clause-same
 returns-in-Ok-clause-same g c = rw c.of.ensures (λ clean sound o.
-    retold_rows (state g.S.Store c.args.self.now.seen.value).committed (state g.S.Store c.args.self.now.conn) sound (state g.S.Store c.retell.new.conn) (c.in-Ok.ensures.done clean).0 o)
+    retold_rows (state g.S.Store c.args.self.now.seen.value).committed (state g.S.Store c.args.self.now.conn) sound (state g.S.Store c.touch_version.new.conn) (c.in-Ok.ensures.done clean).0 o)

@@ -10,7 +10,7 @@ use Rattle.tables.proofs.Databases.{store_is}
 use Rattle.tables.proofs.KeepKeyed.{keyed_held}
 use Rattle.tables.proofs.KeptInMemory.{nothing_is}
 use Rattle.tables.proofs.Stores.{made_store_is_sound, made_store_is_empty}
-use Rattle.tables.proofs.Telling.{sound_is_not_other}
+use Rattle.tables.proofs.Reporting.{sound_is_not_other}
 use Rattle.tables.proofs.store.SqlKeep.open.Goals as goal
 
 pub returns-in-Ok-clause-opened : goal.returns-in-Ok-clause-opened
@@ -30,8 +30,8 @@ returns-in-Ok-clause-opened g c = rw (c.of-seen.ensures, c.new.ensures) (λ clea
         λ there keyed. subst (λ (db : Database). ArePagesKeyed g.K.PageKey.key_of (tables_of db)) (sym (ready.stays clean there)) keyed,
         λ n h keyed. subst (λ (ps : List (Kept PageRow)). AllByRecursion (λ x. g.K.PageKey.key_of x.1.bytes ≡ x.1.key) ps) (sym (ready.climbed clean n h).2) keyed,
       );
-      version = λ n there. (ready.told clean n there).0;
-      tells = λ n there. (ready.told clean n there).1;
+      version = λ n there. (ready.reported clean n there).0;
+      reports = λ n there. (ready.reported clean n there).1;
       climbed = λ n h.
           let is = ready.climbed clean n h in
           (record { store = store_is _ is.0; remembered = nothing_is _; tied = λ _. refl }, is.1);

@@ -1,5 +1,0 @@
-use Rattle.machine.proofs.RefusalLemmas as lemma
-use Rattle.machine.proofs.laws.refusals_tell_the_holder.Goals as goal
-
-pub returns : goal.returns
-returns c = lemma.refusals_tell_the_holder

@@ -1,8 +1,0 @@
-use Rattle.program.specs.Errors.{version_line}
-use Rattle.program.proofs.ErrorLemmas.{told_of}
-use Rattle.program.proofs.errors.tell_version.Goals as goal
-
-pub returns : goal.returns
-returns g c =
-    let text = version_line c.args.version in
-    told_of (g.E.ErrorStream.told c.args.errors.now) (g.E.ErrorStream.told c.send_on.new.errors) text c.send_on.result (c.send_on.ensures (g.E.ErrorStream.told c.args.errors.now) text c.note_version-written.ensures)

@@ -1,0 +1,10 @@
+use Rattle.std.proofs.Common.{codes, refl, ◌++◌, ◌∷◌, []}
+use Rattle.program.proofs.ErrorLemmas.{wrote_first, wrote_then}
+use Rattle.program.proofs.errors.write_message.Goals as goal
+
+pub returns-in-Ok : goal.returns-in-Ok
+returns-in-Ok g c = wrote_then (g.E.ErrorStream.reported c.args.errors.now) (g.E.ErrorStream.reported c.write_text.new.errors) (g.E.ErrorStream.reported c.write_ended.new.errors)
+    (codes ": ") (codes ": ") (c.args.text.now ++ 10 ∷ []) c.write_ended.result refl c.in-Ok.ensures c.write_ended.ensures
+
+pub returns-in-Err : goal.returns-in-Err
+returns-in-Err g c = wrote_first (g.E.ErrorStream.reported c.args.errors.now) (g.E.ErrorStream.reported c.write_text.new.errors) (codes ": ") (codes ": ") (c.args.text.now ++ 10 ∷ []) refl c.in-Err.ensures

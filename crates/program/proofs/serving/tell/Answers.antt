@@ -1,9 +1,0 @@
-use Rattle.std.proofs.Common.{◌++◌}
-use Rattle.program.specs.Errors.{down_line, fault_line}
-use Rattle.program.proofs.ErrorLemmas.{told_of}
-use Rattle.program.proofs.serving.tell.Goals as goal
-
-pub returns : goal.returns
-returns g c =
-    let text = down_line c.args.place c.args.is_down ++ fault_line c.args.place c.args.ended in
-    told_of (g.E.ErrorStream.told c.args.errors.now) (g.E.ErrorStream.told c.send_on.new.errors) text c.send_on.result (c.send_on.ensures (g.E.ErrorStream.told c.args.errors.now) text c.write_lines-written.ensures)

@@ -1,6 +1,0 @@
-use Rattle.statements.proofs.Transactions.{makes_by}
-use Rattle.statements.proofs.KeepingWrites.{fill_keepings_does}
-use Rattle.statements.proofs.keepings.fill.Goals as goal
-
-pub returns : goal.returns
-returns g c = makes_by _ _ (c.write.ensures.same_reference, c.write.ensures.runs, c.write.ensures.survives) (λ count. fill_keepings_does _ _ count)

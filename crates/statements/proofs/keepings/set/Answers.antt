@@ -1,8 +1,0 @@
-use Rattle.statements.proofs.Transactions.{writes_by}
-use Rattle.statements.proofs.KeepingWrites.{set_keeping_does}
-use Rattle.statements.proofs.keepings.set.Goals as goal
-
-pub returns : goal.returns
-returns g c =
-    writes_by _ _ (c.write.ensures.same_reference, (λ clean inside. rw (c.params-to_sql.ensures, c.params-to_sql-2.ensures, c.params-to_sql-3.ensures, c.get-retention.ensures.value) at (c.write.ensures.runs clean inside)), c.write.ensures.survives)
-    (λ count t holds. set_keeping_does _ _ count t holds c.args.org.now c.args.ws.now c.args.retention)
