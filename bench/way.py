@@ -24,7 +24,7 @@ GENERIC = re.compile(r"<[^<>]*>")
 # how the names of functions end that only lend a value, or are a further turn of a recursion
 LEND = (".as_str", ".as_slice", ".get", ".seconds", ".now", "'2")
 # the functions outside the files `logs` that serve the exchange log alone
-LOGGED = ("spelt_id", "id_of_act", "WsAct.number", "Look.number", "WsAct.word", "Look.word")
+LOGGED = ("spelt_id", "id_of_act", "WsAct.number", "Query.number", "WsAct.word", "Query.word")
 LOCK = b'{"ID":"2d1f7a33-0d4e-4b7b-9f0c-7b3c5f8f0f11"}'
 
 
