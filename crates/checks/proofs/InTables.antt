@@ -191,7 +191,7 @@ module _ (key_of : List ℕ → List ℕ) (t : Tables) where
   -- ---- texts
 
   abbrev HasPiece : VersionRow → ℕ → Type 0
-  HasPiece x place = (bytes : List ℕ) × (piece_of x.org x.ws x.it.number place t ≡ Some bytes) × (length bytes ≡ piece_size x.it.size place)
+  HasPiece x place = (bytes : List ℕ) × (piece_of x.org x.name x.it.number place t ≡ Some bytes) × (length bytes ≡ piece_size x.it.size place)
 
   sized_to : (o : Option (Kept PageRow)) (n : ℕ) → option_map (λ x. length x.1.bytes) o ≡ Some n → (bytes : List ℕ) × (option_map (λ x. x.1.bytes) o ≡ Some bytes) × (length bytes ≡ n)
   sized_to None n is = absurd (no_size n is)
@@ -231,12 +231,12 @@ module _ (key_of : List ℕ → List ℕ) (t : Tables) where
   piece_from (Some y) n bytes is size = ap Some (page_size_at y.1.key y.1.twin ∙ sized_from (find (is_page y.1.key y.1.twin) t.pages) n bytes is size)
 
   text_to : (x : Kept VersionRow) → HasTextIn heads t.vpages x.1 → HasText t x
-  text_to x whole place below = piece_to (find (is_place x.1.org x.1.ws x.1.it.number place) t.vpages) (piece_size x.1.it.size place) (whole place below)
+  text_to x whole place below = piece_to (find (is_place x.1.org x.1.name x.1.it.number place) t.vpages) (piece_size x.1.it.size place) (whole place below)
 
   text_from : (x : Kept VersionRow) → HasText t x → HasTextIn heads t.vpages x.1
   text_from x whole place below =
       let there = whole place below in
-      piece_from (find (is_place x.1.org x.1.ws x.1.it.number place) t.vpages) (piece_size x.1.it.size place) there.0 there.1 there.2
+      piece_from (find (is_place x.1.org x.1.name x.1.it.number place) t.vpages) (piece_size x.1.it.size place) there.0 there.1 there.2
 
   -- ---- all of them
 

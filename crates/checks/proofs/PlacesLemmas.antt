@@ -90,7 +90,7 @@ whole_piece size place below = omega arith
 
 -- the text is whole where its first places but the last have whole pages, and the last one has the rest
 pub whole_by_run : (heads : List PageHead) (vpages : List (Kept VpageRow)) (x : VersionRow) (run last : ℕ) → last + 1 ≡ pages_for x.it.size → last ≤ run → (same : Bool)
-    → (IsTrue same ↔ (piece_in x.org x.ws x.it.number last heads vpages ≡ Some (Some (piece_size x.it.size last)))) → IsRunOf heads vpages x.org x.ws x.it.number run → IsTrue same ↔ HasTextIn heads vpages x
+    → (IsTrue same ↔ (piece_in x.org x.name x.it.number last heads vpages ≡ Some (Some (piece_size x.it.size last)))) → IsRunOf heads vpages x.org x.name x.it.number run → IsTrue same ↔ HasTextIn heads vpages x
 whole_by_run heads vpages x run last are long same is runs = (λ h place below. by h place below (cases_lt place last), λ law. is.1 (law last (omega arith)))
   where
     by : IsTrue same → (place : ℕ) → place < pages_for x.it.size → (place < last) ⊎ (last ≤ place) → HasPieceIn heads vpages x place

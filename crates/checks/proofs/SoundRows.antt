@@ -38,27 +38,29 @@ module _ (key_of : List ℕ → List ℕ) (t : Tables) where
   sound_to : AreRowsFit (rows_of key_of t) → AreTextsSound key_of t → AreFew t.wss → AreLawfulWss t → IsSound t
   sound_to fit texts few lawful = record {
     reported = fit.ranges.reported;
-    orgs_apart = fit.names.orgs;
-    tokens_apart = fit.names.tokens;
-    digests_apart = fit.names.digests;
-    wss_apart = fit.names.wss;
-    bounds_apart = fit.others.bounds;
-    tokens_bound = fit.tokens.bound;
-    retentions_apart = fit.others.retentions;
-    wss_kept = fit.owned.kept;
-    tokens_owned = fit.tokens.tokens;
-    bounds_owned = fit.tokens.bounds;
-    wss_owned = fit.owned.wss;
-    retentions_owned = fit.owned.retentions;
-    versions_owned = fit.owned.versions;
-    runs_owned = fit.owned.runs;
-    org_rows = fit.ranges.orgs;
-    token_rows = fit.ranges.tokens;
-    bound_rows = fit.ranges.bounds;
+    accounts = record {
+      orgs_apart = fit.names.orgs;
+      tokens_apart = fit.names.tokens;
+      digests_apart = fit.names.digests;
+      bounds_apart = fit.others.bounds;
+      tokens_bound = fit.tokens.bound;
+      tokens_owned = fit.tokens.tokens;
+      bounds_owned = fit.tokens.bounds;
+      org_rows = fit.ranges.orgs;
+      token_rows = fit.ranges.tokens;
+      bound_rows = fit.ranges.bounds;
+    };
+    owned = record {
+      wss_apart = fit.names.wss;
+      retentions_apart = fit.others.retentions;
+      wss_kept = fit.owned.kept;
+      wss_owned = fit.owned.wss;
+      retentions_owned = fit.owned.retentions;
+      versions_owned = fit.owned.versions;
+      runs_owned = fit.owned.runs;
+    };
+    contents = record { places = texts.places; placed = texts.placed; texts = texts.texts };
     counts = counts_by_rows t fit.names.wss few;
-    places = texts.places;
-    placed = texts.placed;
-    texts = texts.texts;
     workspaces = named_by_rows t lawful;
   }
 

@@ -43,12 +43,12 @@ test_of_free : (id : Option (List ℕ)) → IfSome id (λ i. IsTrue (is_free_id 
 test_of_free None h = refl
 test_of_free (Some id) h = h
 
-kept_is : (test : Kept RetentionRow → Bool) (xs : List (Kept RetentionRow)) → kept_in (filter test xs) ≡ option_map (λ x. x.1.retention) (find test xs)
+kept_is : (test : Kept RetentionRow → Bool) (xs : List (Kept RetentionRow)) → kept_in (filter test xs) ≡ option_map (λ x. x.1.it) (find test xs)
 kept_is test [] = refl
 kept_is test (x ∷ xs) = go (test x) (kept_is test xs)
   where
-    go : (b : Bool) → kept_in (filter test xs) ≡ option_map (λ x. x.1.retention) (find test xs)
-        → kept_in (cond b (x ∷ filter test xs) (filter test xs)) ≡ option_map (λ x. x.1.retention) (cond b (Some x) (find test xs))
+    go : (b : Bool) → kept_in (filter test xs) ≡ option_map (λ x. x.1.it) (find test xs)
+        → kept_in (cond b (x ∷ filter test xs) (filter test xs)) ≡ option_map (λ x. x.1.it) (cond b (Some x) (find test xs))
     go true more = refl
     go false more = more
 

@@ -3,9 +3,11 @@ use Rattle.std.specs.Prelude.{◌≡◌, ◌≤◌, ◌<◌, ◌⊎◌, ℕ, tru
 use Rattle.std.specs.Str.{bytes_eq}
 use Rattle.std.specs.List.{list_any}
 use Rattle.basis.specs.declared.numbers.TheConstants.{MAX_LIMIT}
-use Rattle.statements.specs.Rows.{Kept, OrgRow, TokenRow, BoundRow, WsRow, RetentionRow, VersionRow, RunRow, VpageRow}
+use Rattle.basis.specs.declared.rows.VersionRow.{VersionRow as Version}
+use Rattle.basis.specs.declared.rows.RunRow.{RunRow as Run}
+use Rattle.statements.specs.Rows.{Kept, Owned, OrgRow, TokenRow, BoundRow, WsRow, RetentionRow, VersionRow, RunRow, VpageRow}
 use Rattle.statements.specs.Tables.{Tables}
-use Rattle.statements.specs.Changes.{is_org, is_token, is_digest_of, is_bound, is_ws, is_retention, is_version_of, is_run_of}
+use Rattle.statements.specs.Changes.{is_of, is_org, is_digest_of, is_retention, is_version_of, is_run_of}
 use Rattle.statements.specs.declared.rows.PageHead.{PageHead}
 use Rattle.statements.specs.declared.rows.Rows.{Rows}
 use Rattle.statements.specs.declared.making.TheConstants.{SCHEMA_VERSION}
@@ -34,11 +36,7 @@ name_fault kind org name = fault_of kind org name None
 
 -- the fault of this kind that names a version
 abbrev pub version_fault : FaultKind → VersionRow → Fault
-version_fault kind x = fault_of kind x.org x.ws (Some x.it.number)
-
--- the fault of this kind that names a run
-abbrev pub run_fault : FaultKind → RunRow → Fault
-run_fault kind x = fault_of kind x.org x.ws (Some x.it.number)
+version_fault kind x = fault_of kind x.org x.name (Some x.it.number)
 
 -- the fault of this kind that names the version of the place
 abbrev pub place_fault : FaultKind → VpageRow → Fault
@@ -57,20 +55,12 @@ page_fault kind vpages h = first_fault kind (find (names_page h.key h.twin) vpag
 abbrev pub SameOrgs : List (Kept OrgRow) → Fault → Type 0
 SameOrgs = OfClash (λ a b. is_org a.1.name b) (λ x. org_fault kind.Twice x.1.name)
 
-abbrev pub SameTokens : List (Kept TokenRow) → Fault → Type 0
-SameTokens = OfClash (λ a b. is_token a.1.org a.1.name b) (λ x. name_fault kind.Twice x.1.org x.1.name)
+-- rows with the same organization and name
+abbrev pub SameNames : {T : Type 0} → List (Kept (Owned T)) → Fault → Type 0
+SameNames = OfClash (λ a b. is_of a.1.org a.1.name b) (λ x. name_fault kind.Twice x.1.org x.1.name)
 
 abbrev pub SameDigests : List (Kept TokenRow) → Fault → Type 0
 SameDigests = OfClash (λ a b. is_digest_of a.1.org a.1.it.digest b) (λ x. name_fault kind.DigestTwice x.1.org x.1.name)
-
-abbrev pub SameWorkspaces : List (Kept WsRow) → Fault → Type 0
-SameWorkspaces = OfClash (λ a b. is_ws a.1.org a.1.name b) (λ x. name_fault kind.Twice x.1.org x.1.name)
-
-abbrev pub SameBounds : List (Kept BoundRow) → Fault → Type 0
-SameBounds = OfClash (λ a b. is_bound a.1.org a.1.name b) (λ x. name_fault kind.Twice x.1.org x.1.name)
-
-abbrev pub SameRetentions : List (Kept RetentionRow) → Fault → Type 0
-SameRetentions = OfClash (λ a b. is_retention a.1.org a.1.ws b) (λ x. name_fault kind.Twice x.1.org x.1.ws)
 
 abbrev pub SamePages : List PageHead → Fault → Type 0
 SamePages = OfClash (λ a b. bytes_eq b.key a.key && b.twin == a.twin) (λ x. fault_of kind.Twice [] [] None)
@@ -80,29 +70,22 @@ SamePlaces = OfClash (λ a b. is_place a.1.org a.1.ws a.1.number a.1.place b) (�
 
 -- ---- rows that lack another one
 
-abbrev pub TokensUnbounded : List (Kept BoundRow) → List (Kept TokenRow) → Fault → Type 0
-TokensUnbounded bounds = OfSome (λ x. Breaks (list_any (is_bound x.1.org x.1.name) bounds ≡ true) (name_fault kind.Unbounded x.1.org x.1.name))
+-- rows whose organization does not exist
+abbrev pub OfNoOrg : {T : Type 0} → List (Kept OrgRow) → List (Kept (Owned T)) → Fault → Type 0
+OfNoOrg orgs = OfSome (λ x. Breaks (list_any (is_org x.1.org) orgs ≡ true) (name_fault kind.Ownerless x.1.org x.1.name))
 
-abbrev pub TokensOwnerless : List (Kept OrgRow) → List (Kept TokenRow) → Fault → Type 0
-TokensOwnerless orgs = OfSome (λ x. Breaks (list_any (is_org x.1.org) orgs ≡ true) (name_fault kind.Ownerless x.1.org x.1.name))
+-- rows that have no row of the same organization and name among the others
+abbrev pub Unmatched : {S T : Type 0} → FaultKind → (T → Option ℕ) → List (Kept (Owned S)) → List (Kept (Owned T)) → Fault → Type 0
+Unmatched kind number others = OfSome (λ x. Breaks (list_any (is_of x.1.org x.1.name) others ≡ true) (fault_of kind x.1.org x.1.name (number x.1.it)))
 
-abbrev pub BoundsOwnerless : List (Kept TokenRow) → List (Kept BoundRow) → Fault → Type 0
-BoundsOwnerless tokens = OfSome (λ x. Breaks (list_any (is_token x.1.org x.1.name) tokens ≡ true) (name_fault kind.Ownerless x.1.org x.1.name))
+abbrev pub unnumbered : {T : Type 0} → T → Option ℕ
+unnumbered it = None
 
-abbrev pub WorkspacesUnkept : List (Kept RetentionRow) → List (Kept WsRow) → Fault → Type 0
-WorkspacesUnkept retentions = OfSome (λ x. Breaks (list_any (is_retention x.1.org x.1.name) retentions ≡ true) (name_fault kind.Unkept x.1.org x.1.name))
+abbrev pub of_version : Version → Option ℕ
+of_version v = Some v.number
 
-abbrev pub WorkspacesOwnerless : List (Kept OrgRow) → List (Kept WsRow) → Fault → Type 0
-WorkspacesOwnerless orgs = OfSome (λ x. Breaks (list_any (is_org x.1.org) orgs ≡ true) (name_fault kind.Ownerless x.1.org x.1.name))
-
-abbrev pub RetentionsOwnerless : List (Kept WsRow) → List (Kept RetentionRow) → Fault → Type 0
-RetentionsOwnerless wss = OfSome (λ x. Breaks (list_any (is_ws x.1.org x.1.ws) wss ≡ true) (name_fault kind.Ownerless x.1.org x.1.ws))
-
-abbrev pub VersionsOwnerless : List (Kept WsRow) → List (Kept VersionRow) → Fault → Type 0
-VersionsOwnerless wss = OfSome (λ x. Breaks (list_any (is_ws x.1.org x.1.ws) wss ≡ true) (version_fault kind.Ownerless x.1))
-
-abbrev pub RunsOwnerless : List (Kept WsRow) → List (Kept RunRow) → Fault → Type 0
-RunsOwnerless wss = OfSome (λ x. Breaks (list_any (is_ws x.1.org x.1.ws) wss ≡ true) (run_fault kind.Ownerless x.1))
+abbrev pub of_run : Run → Option ℕ
+of_run r = Some r.number
 
 -- ---- rows that are out of range
 
@@ -162,16 +145,18 @@ OfWorkspaces r = OfSome (λ x. OfWorkspace (filter (is_retention x.1.org x.1.nam
 -- ---- all of them
 
 abbrev pub OfNames : Rows → Fault → Type 0
-OfNames r f = SameOrgs r.orgs f ⊎ SameTokens r.tokens f ⊎ SameDigests r.tokens f ⊎ SameWorkspaces r.wss f
+OfNames r f = SameOrgs r.orgs f ⊎ SameNames r.tokens f ⊎ SameDigests r.tokens f ⊎ SameNames r.wss f
 
 abbrev pub OfOthers : Rows → Fault → Type 0
-OfOthers r f = SameBounds r.bounds f ⊎ SameRetentions r.retentions f
+OfOthers r f = SameNames r.bounds f ⊎ SameNames r.retentions f
 
 abbrev pub OfTokens : Rows → Fault → Type 0
-OfTokens r f = TokensUnbounded r.bounds r.tokens f ⊎ TokensOwnerless r.orgs r.tokens f ⊎ BoundsOwnerless r.tokens r.bounds f
+OfTokens r f = Unmatched kind.Unbounded unnumbered r.bounds r.tokens f ⊎ OfNoOrg r.orgs r.tokens f ⊎ Unmatched kind.Ownerless unnumbered r.tokens r.bounds f
 
 abbrev pub OfOwned : Rows → Fault → Type 0
-OfOwned r f = WorkspacesUnkept r.retentions r.wss f ⊎ WorkspacesOwnerless r.orgs r.wss f ⊎ RetentionsOwnerless r.wss r.retentions f ⊎ VersionsOwnerless r.wss r.versions f ⊎ RunsOwnerless r.wss r.runs f
+OfOwned r f =
+    Unmatched kind.Unkept unnumbered r.retentions r.wss f ⊎ OfNoOrg r.orgs r.wss f ⊎ Unmatched kind.Ownerless unnumbered r.wss r.retentions f
+    ⊎ Unmatched kind.Ownerless of_version r.wss r.versions f ⊎ Unmatched kind.Ownerless of_run r.wss r.runs f
 
 abbrev pub OfRanges : Rows → Fault → Type 0
 OfRanges r f = VersionNotStored r f ⊎ OrgsOutside r.orgs f ⊎ TokensOutside r.tokens f ⊎ BoundsOutside r.bounds f

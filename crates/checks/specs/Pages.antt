@@ -44,7 +44,7 @@ piece_in org ws n place heads vpages = option_map (named_size_in heads) (find (i
 
 -- the page at this place of the version's text exists and has the right size
 abbrev pub HasPieceIn : List PageHead → List (Kept VpageRow) → VersionRow → ℕ → Type 0
-HasPieceIn heads vpages x place = piece_in x.org x.ws x.it.number place heads vpages ≡ Some (Some (piece_size x.it.size place))
+HasPieceIn heads vpages x place = piece_in x.org x.name x.it.number place heads vpages ≡ Some (Some (piece_size x.it.size place))
 
 -- every page of the version's text exists
 abbrev pub HasTextIn : List PageHead → List (Kept VpageRow) → VersionRow → Type 0

@@ -21,7 +21,7 @@ is_own x = is_ws_name x.name && is_next x.it.next_version && is_next x.it.next_r
 -- how many versions are kept, by the first row that says so, if there is one
 abbrev pub kept_in : List (Kept RetentionRow) → Option ℕ
 kept_in [] = None
-kept_in (x ∷ xs) = Some x.1.retention
+kept_in (x ∷ xs) = Some x.1.it
 
 abbrev pub retention_among : List (Kept RetentionRow) → ℕ
 retention_among xs = unwrap_or (kept_in xs) FIRST_KEPT

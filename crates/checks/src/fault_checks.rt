@@ -11,14 +11,9 @@ ghost use Rattle.checks.specs.Inner.Workspaces.{AreLawfulWss};
 ghost use Rattle.checks.specs.Inner.FaultChecks.{AreNamesApart, AreOthersApart, HaveTokensOwners, HaveWorkspacesOwners, AreInRange, AreRowsFit};
 
 use crate::counts::judge_counts;
-use crate::found::Found;
-use crate::keys::{
-    bounds_apart, digests_apart, orgs_apart, retentions_apart, tokens_apart, wss_apart,
-};
-use crate::owners::{
-    bounds_owned, retentions_owned, runs_owned, tokens_bound, tokens_owned, versions_owned,
-    wss_kept, wss_owned,
-};
+use crate::found::{FaultKind, Found};
+use crate::keys::{digests_apart, names_apart, orgs_apart};
+use crate::owners::{all_among, all_of_orgs};
 use crate::places::judge_pages;
 use crate::ranges::{bounds_in_range, orgs_in_range, tokens_in_range};
 use crate::stored_version::version_stored;
@@ -32,17 +27,17 @@ fn judge_names(alloc: Global, rows: &Rows, found: &mut Found) -> Result<(), Down
     ensures { OnOk result (Judges (OfNames rows.now) (AreNamesApart rows.now) found.old found.new) }
 {
     orgs_apart(alloc, rows.orgs.as_slice(), found)?;
-    tokens_apart(alloc, rows.tokens.as_slice(), found)?;
+    names_apart(alloc, rows.tokens.as_slice(), found)?;
     digests_apart(alloc, rows.tokens.as_slice(), found)?;
-    wss_apart(alloc, rows.wss.as_slice(), found)
+    names_apart(alloc, rows.wss.as_slice(), found)
 }
 
 /// Whether rows of bound and of keeping are there once.
 fn judge_others(alloc: Global, rows: &Rows, found: &mut Found) -> Result<(), Down>
     ensures { OnOk result (Judges (OfOthers rows.now) (AreOthersApart rows.now) found.old found.new) }
 {
-    bounds_apart(alloc, rows.bounds.as_slice(), found)?;
-    retentions_apart(alloc, rows.retentions.as_slice(), found)
+    names_apart(alloc, rows.bounds.as_slice(), found)?;
+    names_apart(alloc, rows.retentions.as_slice(), found)
 }
 
 /// Whether tokens and how far they reach belong to one another, and to organizations.
@@ -54,21 +49,33 @@ fn judge_tokens(alloc: Global, rows: &Rows, found: &mut Found) -> Result<(), Dow
         rows.tokens.as_slice(),
         rows.bounds.as_slice(),
     );
-    tokens_bound(alloc, tokens, bounds, found)?;
-    tokens_owned(alloc, tokens, orgs, found)?;
-    bounds_owned(alloc, bounds, tokens, found)
+    all_among(alloc, bounds, tokens, FaultKind::Unbounded, found)?;
+    all_of_orgs(alloc, orgs, tokens, found)?;
+    all_among(alloc, tokens, bounds, FaultKind::Ownerless, found)
 }
 
 /// Whether workspaces, what they keep, versions and runs belong to one another, and to organizations.
 fn judge_owned(alloc: Global, rows: &Rows, found: &mut Found) -> Result<(), Down>
     ensures { OnOk result (Judges (OfOwned rows.now) (HaveWorkspacesOwners rows.now) found.old found.new) }
 {
-    let wss = rows.wss.as_slice();
-    wss_kept(alloc, wss, rows.retentions.as_slice(), found)?;
-    wss_owned(alloc, wss, rows.orgs.as_slice(), found)?;
-    retentions_owned(alloc, rows.retentions.as_slice(), wss, found)?;
-    versions_owned(alloc, rows.versions.as_slice(), wss, found)?;
-    runs_owned(alloc, rows.runs.as_slice(), wss, found)
+    let (wss, retentions) = (rows.wss.as_slice(), rows.retentions.as_slice());
+    all_among(alloc, retentions, wss, FaultKind::Unkept, found)?;
+    all_of_orgs(alloc, rows.orgs.as_slice(), wss, found)?;
+    all_among(alloc, wss, retentions, FaultKind::Ownerless, found)?;
+    all_among(
+        alloc,
+        wss,
+        rows.versions.as_slice(),
+        FaultKind::Ownerless,
+        found,
+    )?;
+    all_among(
+        alloc,
+        wss,
+        rows.runs.as_slice(),
+        FaultKind::Ownerless,
+        found,
+    )
 }
 
 /// Whether the version is told, and names, limits, digests, ends and prefixes are in range.

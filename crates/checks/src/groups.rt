@@ -5,8 +5,8 @@ ghost use Rattle.std.specs.Option.{option_map_or};
 ghost use Rattle.std.specs.BTreeMap.{get_by_text};
 ghost use Rattle.checks.specs.Inner.Groups.{indices_at, indices_in, AreGrouped};
 
-use crate::keys::Named;
 use basis::Down;
+use statements::rows::Owned;
 use std::alloc::Global;
 use std::collections::BTreeMap;
 
@@ -98,12 +98,12 @@ fn take_indices(alloc: Global, wss: &mut BTreeMap<String, Vec<usize>>, ws: &str)
 }
 
 /// The places of rows by the organization and the name that they have.
-pub(crate) fn group<R: Named>(alloc: Global, rows: &[(i64, R)]) -> Result<Groups, Down>
-    ensures { IfOk result (AreGrouped (λ org name x. bytes_eq (R.org_of x.1) org && bytes_eq (R.name_of x.1) name) rows.now) }
+pub(crate) fn group<T>(alloc: Global, rows: &[(i64, Owned<T>)]) -> Result<Groups, Down>
+    ensures { IfOk result (AreGrouped rows.now) }
 {
     let mut groups = Groups::new(alloc);
     for (row_index, row) in rows.iter().enumerate() {
-        groups.add(alloc, row.1.org(), row.1.name(), row_index)?;
+        groups.add(alloc, row.1.org.as_str(), row.1.name.as_str(), row_index)?;
     }
     Ok(groups)
 }

@@ -2,18 +2,16 @@
 ghost use Rattle.std.specs.Prelude.{◌≡◌, ℕ, List, Option, Some, None, false, not, ◌&&◌, ◌||◌, ◌==◌, bytes_eq, IfOk, OnOk};
 ghost use Rattle.std.specs.List.{list_any};
 ghost use Rattle.sqlite_keyed.specs.Rules.{AreApart};
-ghost use Rattle.statements.specs.Changes.{is_org, is_token, is_digest_of, is_ws, is_bound, is_retention};
+ghost use Rattle.statements.specs.Changes.{is_of, is_org, is_digest_of};
+ghost use Rattle.statements.specs.Belonging.{AreNamedApart};
 ghost use Rattle.texts.specs.Texts.{is_place};
-ghost use Rattle.checks.specs.declared.found.FaultKind.TheVariants.{Twice};
-ghost use Rattle.checks.specs.Judging.{fault_of, OfClash, Judges};
-ghost use Rattle.checks.specs.Faults.{SameOrgs, SameTokens, SameDigests, SameWorkspaces, SameBounds, SameRetentions, SamePages, SamePlaces};
+ghost use Rattle.checks.specs.Judging.{Judges};
+ghost use Rattle.checks.specs.Faults.{SameOrgs, SameNames, SameDigests, SamePages, SamePlaces};
 ghost use Rattle.checks.specs.Inner.Keys.{is_key, has_key};
 
 use crate::found::{FaultKind, Found};
-use basis::Down;
-use statements::rows::{
-    BoundRow, OrgRow, PageHead, RetentionRow, RunRow, TokenRow, VersionRow, VpageRow, WsRow,
-};
+use basis::{Down, KeepCount, RunRow, VersionRow};
+use statements::rows::{Bound, OrgRow, Owned, PageHead, Token, TokenRow, VpageRow, Workspace};
 use std::alloc::Global;
 use std::collections::BTreeSet;
 
@@ -81,167 +79,88 @@ impl<'a> Keys<'a> {
     }
 }
 
-/// A row of an organization, with the name of a token or a workspace in it.
-pub(crate) trait Named {
-    ghost org_of: { Self → List ℕ };
-
-    ghost name_of: { Self → List ℕ };
-
+/// The other columns of a row of a token or of a workspace.
+pub trait Numbered {
     ghost number_of: { Self → Option ℕ };
-
-    fn org(&self) -> &str
-        ensures { result.now ≡ org_of self.now };
-
-    fn name(&self) -> &str
-        ensures { result.now ≡ name_of self.now };
 
     /// The number of the version or run that it is.
     fn number(&self) -> Option<u64>
         ensures { result ≡ number_of self.now };
 }
 
-impl Named for TokenRow {
-    ghost org_of = { λ r. r.org };
-
-    ghost name_of = { λ r. r.name };
-
+impl Numbered for Token {
     ghost number_of = { λ r. None };
-
-    fn org(&self) -> &str {
-        self.org.as_str()
-    }
-
-    fn name(&self) -> &str {
-        self.name.as_str()
-    }
 
     fn number(&self) -> Option<u64> {
         None
     }
 }
 
-impl Named for BoundRow {
-    ghost org_of = { λ r. r.org };
-
-    ghost name_of = { λ r. r.name };
-
+impl Numbered for Bound {
     ghost number_of = { λ r. None };
-
-    fn org(&self) -> &str {
-        self.org.as_str()
-    }
-
-    fn name(&self) -> &str {
-        self.name.as_str()
-    }
 
     fn number(&self) -> Option<u64> {
         None
     }
 }
 
-impl Named for WsRow {
-    ghost org_of = { λ r. r.org };
-
-    ghost name_of = { λ r. r.name };
-
+impl Numbered for Workspace {
     ghost number_of = { λ r. None };
-
-    fn org(&self) -> &str {
-        self.org.as_str()
-    }
-
-    fn name(&self) -> &str {
-        self.name.as_str()
-    }
 
     fn number(&self) -> Option<u64> {
         None
     }
 }
 
-impl Named for RetentionRow {
-    ghost org_of = { λ r. r.org };
-
-    ghost name_of = { λ r. r.ws };
-
+impl Numbered for KeepCount {
     ghost number_of = { λ r. None };
-
-    fn org(&self) -> &str {
-        self.org.as_str()
-    }
-
-    fn name(&self) -> &str {
-        self.ws.as_str()
-    }
 
     fn number(&self) -> Option<u64> {
         None
     }
 }
 
-impl Named for VersionRow {
-    ghost org_of = { λ r. r.org };
-
-    ghost name_of = { λ r. r.ws };
-
-    ghost number_of = { λ r. Some r.it.number };
-
-    fn org(&self) -> &str {
-        self.org.as_str()
-    }
-
-    fn name(&self) -> &str {
-        self.ws.as_str()
-    }
+impl Numbered for VersionRow {
+    ghost number_of = { λ r. Some r.number };
 
     fn number(&self) -> Option<u64> {
-        Some(self.it.number.get() as u64)
+        Some(self.number.get() as u64)
     }
 }
 
-impl Named for RunRow {
-    ghost org_of = { λ r. r.org };
-
-    ghost name_of = { λ r. r.ws };
-
-    ghost number_of = { λ r. Some r.it.number };
-
-    fn org(&self) -> &str {
-        self.org.as_str()
-    }
-
-    fn name(&self) -> &str {
-        self.ws.as_str()
-    }
+impl Numbered for RunRow {
+    ghost number_of = { λ r. Some r.number };
 
     fn number(&self) -> Option<u64> {
-        Some(self.it.number.get() as u64)
+        Some(self.number.get() as u64)
     }
 }
 
 /// The keys of rows.
-pub(crate) fn keys_of<'a, R: Named>(alloc: Global, rows: &'a [(i64, R)]) -> Result<Keys<'a>, Down>
-    ensures { IfOk result (λ keys. (org name : List ℕ) → has_key keys org name 0 0 ≡ list_any (λ x. bytes_eq (R.org_of x.1) org && bytes_eq (R.name_of x.1) name) rows.now) }
+pub(crate) fn keys_of<'a, T>(alloc: Global, rows: &'a [(i64, Owned<T>)]) -> Result<Keys<'a>, Down>
+    ensures { IfOk result (λ keys. (org name : List ℕ) → has_key keys org name 0 0 ≡ list_any (is_of org name) rows.now) }
 {
     let mut keys = Keys::new(alloc);
     for (_, row) in rows {
-        keys.add_texts(row.org().as_bytes(), row.name().as_bytes())?;
+        keys.add_texts(row.org.as_str().as_bytes(), row.name.as_str().as_bytes())?;
     }
     Ok(keys)
 }
 
-/// Whether no two rows have one organization and name.
-fn names_apart<R: Named>(alloc: Global, rows: &[(i64, R)], found: &mut Found) -> Result<(), Down>
-    ensures { OnOk result (Judges (OfClash (λ a b. bytes_eq (R.org_of b.1) (R.org_of a.1) && bytes_eq (R.name_of b.1) (R.name_of a.1)) (λ x. fault_of Twice (R.org_of x.1) (R.name_of x.1) (R.number_of x.1)) rows.now) (AreApart (λ a b. bytes_eq (R.org_of b.1) (R.org_of a.1) && bytes_eq (R.name_of b.1) (R.name_of a.1)) rows.now) found.old found.new) }
+/// Whether no two rows have the same organization and name.
+pub fn names_apart<T>(
+    alloc: Global,
+    rows: &[(i64, Owned<T>)],
+    found: &mut Found,
+) -> Result<(), Down>
+    ensures { OnOk result (Judges (SameNames rows.now) (AreNamedApart rows.now) found.old found.new) }
 {
     let mut keys = Keys::new(alloc);
     for (_, row) in rows {
-        let org = row.org();
-        let name = row.name();
-        let number = row.number();
+        let org = row.org.as_str();
+        let name = row.name.as_str();
         let fresh = keys.add_texts(org.as_bytes(), name.as_bytes())?;
-        found.judge(alloc, fresh, FaultKind::Twice, org, name, number)?;
+        found.judge(alloc, fresh, FaultKind::Twice, org, name, None)?;
     }
     Ok(())
 }
@@ -257,46 +176,6 @@ pub fn orgs_apart(alloc: Global, orgs: &[(i64, OrgRow)], found: &mut Found) -> R
         found.judge(alloc, fresh, FaultKind::Twice, name, "", None)?;
     }
     Ok(())
-}
-
-/// Whether no two tokens of an organization have one name.
-pub fn tokens_apart(
-    alloc: Global,
-    tokens: &[(i64, TokenRow)],
-    found: &mut Found,
-) -> Result<(), Down>
-    ensures { OnOk result (Judges (SameTokens tokens.now) (AreApart (λ a b. is_token a.1.org a.1.name b) tokens.now) found.old found.new) }
-{
-    names_apart(alloc, tokens, found)
-}
-
-/// Whether no two workspaces of an organization have one name.
-pub fn wss_apart(alloc: Global, wss: &[(i64, WsRow)], found: &mut Found) -> Result<(), Down>
-    ensures { OnOk result (Judges (SameWorkspaces wss.now) (AreApart (λ a b. is_ws a.1.org a.1.name b) wss.now) found.old found.new) }
-{
-    names_apart(alloc, wss, found)
-}
-
-/// Whether no token has two rows of bound.
-pub fn bounds_apart(
-    alloc: Global,
-    bounds: &[(i64, BoundRow)],
-    found: &mut Found,
-) -> Result<(), Down>
-    ensures { OnOk result (Judges (SameBounds bounds.now) (AreApart (λ a b. is_bound a.1.org a.1.name b) bounds.now) found.old found.new) }
-{
-    names_apart(alloc, bounds, found)
-}
-
-/// Whether no workspace has two rows of keeping.
-pub fn retentions_apart(
-    alloc: Global,
-    retentions: &[(i64, RetentionRow)],
-    found: &mut Found,
-) -> Result<(), Down>
-    ensures { OnOk result (Judges (SameRetentions retentions.now) (AreApart (λ a b. is_retention a.1.org a.1.ws b) retentions.now) found.old found.new) }
-{
-    names_apart(alloc, retentions, found)
 }
 
 /// Whether no two tokens of an organization have one digest.

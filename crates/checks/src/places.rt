@@ -79,7 +79,7 @@ fn sizes_of<'a>(
         let number = u64::from(version.it.number.get());
         keep_first(
             &mut sizes,
-            place_key(&version.org, &version.ws, number, 0),
+            place_key(&version.org, &version.name, number, 0),
             version.it.size,
         )?;
     }
@@ -265,10 +265,10 @@ fn has_size<'a>(
     place: u64,
     size: u64,
 ) -> bool
-    ensures { (heads : List PageHead) (vpages : List (Kept VpageRow)) → HasPieces heads vpages pieces.now → (IsTrue result ↔ (piece_in version.now.org version.now.ws version.now.it.number place heads vpages ≡ Some (Some size))) }
+    ensures { (heads : List PageHead) (vpages : List (Kept VpageRow)) → HasPieces heads vpages pieces.now → (IsTrue result ↔ (piece_in version.now.org version.now.name version.now.it.number place heads vpages ≡ Some (Some size))) }
 {
     let number = u64::from(version.it.number.get());
-    match pieces.get(&place_key(&version.org, &version.ws, number, place)) {
+    match pieces.get(&place_key(&version.org, &version.name, number, place)) {
         Some(piece) => *piece == Some(size),
         None => false,
     }
@@ -276,7 +276,7 @@ fn has_size<'a>(
 
 /// How many of the first places of the version, in turn, name whole pages.
 fn run_of<'a>(pieces: &BTreeMap<RowKey<'a>, Option<u64>>, version: &'a VersionRow) -> u64
-    ensures { (heads : List PageHead) (vpages : List (Kept VpageRow)) → HasPieces heads vpages pieces.now → IsRunOf heads vpages version.now.org version.now.ws version.now.it.number result }
+    ensures { (heads : List PageHead) (vpages : List (Kept VpageRow)) → HasPieces heads vpages pieces.now → IsRunOf heads vpages version.now.org version.now.name version.now.it.number result }
 {
     for place in 0..u64::MAX {
         if !has_size(pieces, version, place, PAGE_BYTES as u64) {
@@ -292,11 +292,11 @@ fn known_run<'a>(
     runs: &mut BTreeMap<RowKey<'a>, u64>,
     version: &'a VersionRow,
 ) -> Result<u64, Down>
-    ensures run { (heads : List PageHead) (vpages : List (Kept VpageRow)) → HasPieces heads vpages pieces.now → AreRuns heads vpages runs.old → IfOk result (λ run. IsRunOf heads vpages version.now.org version.now.ws version.now.it.number run) }
+    ensures run { (heads : List PageHead) (vpages : List (Kept VpageRow)) → HasPieces heads vpages pieces.now → AreRuns heads vpages runs.old → IfOk result (λ run. IsRunOf heads vpages version.now.org version.now.name version.now.it.number run) }
     ensures runs { (heads : List PageHead) (vpages : List (Kept VpageRow)) → HasPieces heads vpages pieces.now → AreRuns heads vpages runs.old → OnOk result (AreRuns heads vpages runs.new) }
 {
     let number = u64::from(version.it.number.get());
-    let key = place_key(&version.org, &version.ws, number, 0);
+    let key = place_key(&version.org, &version.name, number, 0);
     let known = runs.get(&key).copied();
     match known {
         Some(run) => Ok(run),
@@ -314,7 +314,7 @@ fn is_whole<'a>(
     version: &'a VersionRow,
     run: u64,
 ) -> bool
-    ensures { (heads : List PageHead) (vpages : List (Kept VpageRow)) → HasPieces heads vpages pieces.now → IsRunOf heads vpages version.now.org version.now.ws version.now.it.number run → (IsTrue result ↔ HasTextIn heads vpages version.now) }
+    ensures { (heads : List PageHead) (vpages : List (Kept VpageRow)) → HasPieces heads vpages pieces.now → IsRunOf heads vpages version.now.org version.now.name version.now.it.number run → (IsTrue result ↔ HasTextIn heads vpages version.now) }
 {
     let size = version.it.size;
     let pages = pages_of(size);
@@ -348,7 +348,7 @@ fn judge_text<'a>(
         alloc,
         FaultKind::Text,
         version.org.as_str(),
-        version.ws.as_str(),
+        version.name.as_str(),
         Some(number),
     )
 }

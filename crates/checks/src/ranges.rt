@@ -104,10 +104,10 @@ pub fn bounds_in_range(
     ensures { OnOk result (Judges (BoundsOutside bounds.now) (AllByRecursion IsBoundRow bounds.now) found.old found.new) }
 {
     for (_, row) in bounds {
-        known_end(row.until);
+        known_end(row.it.until);
         let org = row.org.as_str();
         let name = row.name.as_str();
-        let fits = is_beginning(alloc, row.prefix.as_str())?;
+        let fits = is_beginning(alloc, row.it.prefix.as_str())?;
         found.judge(alloc, fits, FaultKind::Range, org, name, None)?;
     }
     Ok(())

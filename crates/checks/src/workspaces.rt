@@ -123,7 +123,7 @@ fn kept_at(rows: &[(i64, RetentionRow)], row_index: usize) -> Option<KeepCount>
     ensures { result ≡ kept_in (picked rows.now (row_index ∷ [])) }
 {
     match rows.get(row_index) {
-        Some(row) => Some(row.1.retention),
+        Some(row) => Some(row.1.it),
         None => None,
     }
 }

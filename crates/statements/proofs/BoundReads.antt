@@ -23,4 +23,4 @@ module _ (old new : State) (t : Tables) (h : Holds old.now t) where
   pub find_bound_shows : (org name : List ℕ) (row : Option Row) → FirstRow FIND_BOUND.now (Text org ∷ Text name ∷ []) old new row → Pins IsBound row (bound_of org name t)
   find_bound_shows org name row first =
       first_own bound_cells bound_table old new held.own t.bounds held.rows held.keyed FIND_BOUND.now (Text org ∷ Text name ∷ []) row first find_bound_rest find_bound_names
-      (is_bound org name) (λ x. two_texts x.1.org org x.1.name name) IsBound bound_in (λ x y reported. bound_read x.1.until x.1.prefix y reported) (find_bound_asks.meaning old.now.schema _ _ held.own.place) (λ l. refl)
+      (is_bound org name) (λ x. two_texts x.1.org org x.1.name name) IsBound bound_in (λ x y reported. bound_read x.1.it.until x.1.it.prefix y reported) (find_bound_asks.meaning old.now.schema _ _ held.own.place) (λ l. refl)

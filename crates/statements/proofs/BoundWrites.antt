@@ -24,7 +24,7 @@ use Rattle.statements.proofs.BoundTexts.{add_bound_means, remove_bound_means, fi
 module _ (old new : State) (count : ℕ) (t : Tables) (h : Holds old.now t) where
   pub add_bound_does : (org name : List ℕ) (until : Option ℕ) (prefix : List ℕ) → Executes ADD_BOUND.now (Text org ∷ Text name ∷ or_null number until ∷ Text prefix ∷ []) old new (Ok count)
       → Turns old.now new.now (bound_row_added org name until prefix t)
-  add_bound_does org name until prefix ran = inserted bounds bound_casts old new count t h _ _ ran (add_bound_means old.now.schema) refl refl (record { org = org; name = name; until = until; prefix = prefix }) refl
+  add_bound_does org name until prefix ran = inserted bounds bound_casts old new count t h _ _ ran (add_bound_means old.now.schema) refl refl (record { org = org; name = name; it = record { until = until; prefix = prefix } }) refl
 
   pub remove_bound_does : (org name : List ℕ) → Executes REMOVE_BOUND.now (Text org ∷ Text name ∷ []) old new (Ok count) → Turns old.now new.now (bound_row_removed org name t)
   remove_bound_does org name ran = deleted bounds bound_casts old new count t h _ _ ran (remove_bound_means old.now.schema) (is_bound org name) (λ x. two_texts x.1.org org x.1.name name) tt

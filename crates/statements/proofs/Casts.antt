@@ -74,7 +74,7 @@ cast_until None = cast_null
 cast_until (Some n) = cast_int (pos n)
 
 pub bound_casts : (r : BoundRow) → cast_all bound_table.columns (bound_cells r) ≡ bound_cells r
-bound_casts r = then_cell refl (then_cell refl (then_cell (cast_until r.until) (then_cell refl refl)))
+bound_casts r = then_cell refl (then_cell refl (then_cell (cast_until r.it.until) (then_cell refl refl)))
 
 pub edition_casts : (version : ℕ) → cast_all edition_table.columns (edition_cells version) ≡ edition_cells version
 edition_casts version = then_cell cast_null (then_cell (cast_int (pos version)) refl)

@@ -183,16 +183,16 @@ ws_places tree = refl
 ws_key : (s : Schema) → IsOwn s ws_table → parent_key s.tables to_ws ≡ Some (tree_of s ws_table.name, 1 ∷ 2 ∷ [], ws_order)
 ws_key s own = ap (option_and_then (λ t. option_and_then (key_in t) (key_places t to_ws.parent_columns))) (named_first s ws_table own) ∙ ws_places (tree_of s ws_table.name)
 
-retention_agrees : (b : Kept RetentionRow) (z : Kept WsRow) → agree ws_order to_ws.columns (stored retention_cells b) (1 ∷ 2 ∷ []) (stored ws_cells z) ≡ (bytes_eq b.1.org z.1.org && bytes_eq b.1.ws z.1.name)
+retention_agrees : (b : Kept RetentionRow) (z : Kept WsRow) → agree ws_order to_ws.columns (stored retention_cells b) (1 ∷ 2 ∷ []) (stored ws_cells z) ≡ (bytes_eq b.1.org z.1.org && bytes_eq b.1.name z.1.name)
 unfolding everything
-retention_agrees b z = two_texts b.1.org z.1.org b.1.ws z.1.name
+retention_agrees b z = two_texts b.1.org z.1.org b.1.name z.1.name
 
 pub ws_goes : (org name : List ℕ) (old new : State) (t : Tables) → Holds old.now t → (count : ℕ) → HasNoRetention org name t → Executes REMOVE_WS.now (Text org ∷ Text name ∷ []) old new (Ok count)
     → new.now.trees (tree_of old.now.schema retention_table.name) ≡ old.now.trees (tree_of old.now.schema retention_table.name)
 ws_goes org name old new t h count none ran =
     let wss = wss_held old.now t h in
     goes_alone ws_layout retention_layout to_ws ws_order org name (is_ws org name) (is_retention org name)
-    (λ b z other mine. retention_agrees b z ∙ apart_by org name b.1.org b.1.ws z.1.org z.1.name other mine) (λ x. two_texts x.1.org org x.1.name name)
+    (λ b z other mine. retention_agrees b z ∙ apart_by org name b.1.org b.1.name z.1.org z.1.name other mine) (λ x. two_texts x.1.org org x.1.name name)
     old new t.wss wss t.retentions (retentions_held old.now t h) (retention_follows old.now.schema wss.own) refl
     (λ same. trees_apart old.now.schema our_tables 3 10 ws_table retention_table refl refl (omega arith) h.ours.apart (sym same)) (ws_key old.now.schema wss.own)
     REMOVE_WS.now count none (remove_ws_means old.now.schema _ _ wss.own.place) ran

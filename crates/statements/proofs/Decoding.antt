@@ -18,14 +18,14 @@ pub ws_back : (x : Kept WsRow) → kept_by ws_at (stored ws_cells x) ≡ x
 ws_back x = λ i. (x.0, record { org = x.1.org; name = x.1.name; it = workspace_back x.1.it i })
 
 pub run_back : (x : Kept RunRow) → kept_by run_at (stored run_cells x) ≡ x
-run_back x = λ i. (x.0, record { org = x.1.org; ws = x.1.ws; it = run_row_back x.1.it i })
+run_back x = λ i. (x.0, record { org = x.1.org; name = x.1.name; it = run_row_back x.1.it i })
 
 until_back : (o : Option ℕ) → unless_null (λ v. unsigned_abs (int_of v)) (or_null number o) ≡ o
 until_back None = refl
 until_back (Some n) = refl
 
 pub bound_back : (x : Kept BoundRow) → kept_by bound_at (stored bound_cells x) ≡ x
-bound_back x = λ i. (x.0, record { org = x.1.org; name = x.1.name; until = until_back x.1.until i; prefix = x.1.prefix })
+bound_back x = λ i. (x.0, record { org = x.1.org; name = x.1.name; it = record { until = until_back x.1.it.until i; prefix = x.1.it.prefix } })
 
 -- the rows of a table are read back from its tree
 rows_back : {R : Type 0} (layout : Layout R) (db : Database) (xs : List (Kept R)) → ((x : Kept R) → kept_by layout.read (stored layout.cells x) ≡ x) → IsHeld layout db xs → rows_of layout db ≡ xs

@@ -23,4 +23,4 @@ module _ (old new : State) (t : Tables) (h : Holds old.now t) where
   pub find_retention_shows : (org ws : List ℕ) (row : Option Row) → FirstRow FIND_RETENTION.now (Text org ∷ Text ws ∷ []) old new row → Pins IsNumber row (retention_of org ws t)
   find_retention_shows org ws row first =
       first_own retention_cells retention_table old new held.own t.retentions held.rows held.keyed FIND_RETENTION.now (Text org ∷ Text ws ∷ []) row first find_retention_rest find_retention_names
-      (is_retention org ws) (λ x. two_texts x.1.org org x.1.ws ws) IsNumber (λ x. x.1.retention) (λ x y reported. number_read x.1.retention y reported) (find_retention_asks.meaning old.now.schema _ _ held.own.place) (λ l. refl)
+      (is_retention org ws) (λ x. two_texts x.1.org org x.1.name ws) IsNumber (λ x. x.1.it) (λ x y reported. number_read x.1.it y reported) (find_retention_asks.meaning old.now.schema _ _ held.own.place) (λ l. refl)

@@ -22,13 +22,13 @@ use Rattle.statements.proofs.RetentionTexts.{add_retention_means, set_retention_
 
 module _ (old new : State) (count : ℕ) (t : Tables) (h : Holds old.now t) where
   pub add_retention_does : (org ws : List ℕ) (retention : ℕ) → Executes ADD_RETENTION.now (Text org ∷ Text ws ∷ number retention ∷ []) old new (Ok count) → Turns old.now new.now (retention_row_added org ws retention t)
-  add_retention_does org ws retention ran = inserted retentions retention_casts old new count t h _ _ ran (add_retention_means old.now.schema) refl refl (record { org = org; ws = ws; retention = retention }) refl
+  add_retention_does org ws retention ran = inserted retentions retention_casts old new count t h _ _ ran (add_retention_means old.now.schema) refl refl (record { org = org; name = ws; it = retention }) refl
 
   pub set_retention_does : (org ws : List ℕ) (retention : ℕ) → Executes SET_RETENTION.now (Text org ∷ Text ws ∷ number retention ∷ []) old new (Ok count) → Turns old.now new.now (retention_changed retention org ws t)
-  set_retention_does org ws retention ran = updated retentions retention_casts old new count t h _ _ ran (set_retention_means old.now.schema) (is_retention org ws) (λ x. two_texts x.1.org org x.1.ws ws) (λ r. record r { retention = retention }) (λ x. refl) tt
+  set_retention_does org ws retention ran = updated retentions retention_casts old new count t h _ _ ran (set_retention_means old.now.schema) (is_retention org ws) (λ x. two_texts x.1.org org x.1.name ws) (λ r. record r { it = retention }) (λ x. refl) tt
 
   pub remove_retention_does : (org ws : List ℕ) → Executes REMOVE_RETENTION.now (Text org ∷ Text ws ∷ []) old new (Ok count) → Turns old.now new.now (retention_row_removed org ws t)
-  remove_retention_does org ws ran = deleted retentions retention_casts old new count t h _ _ ran (remove_retention_means old.now.schema) (is_retention org ws) (λ x. two_texts x.1.org org x.1.ws ws) tt
+  remove_retention_does org ws ran = deleted retentions retention_casts old new count t h _ _ ran (remove_retention_means old.now.schema) (is_retention org ws) (λ x. two_texts x.1.org org x.1.name ws) tt
 
 -- a row for each workspace, in the order of the workspaces
 pub fill_retentions_does : (old new : State) (count : ℕ) → Executes FILL_RETENTIONS.now [] old new (Ok count) → Moved 3 retentions_filled old.now new.now

@@ -30,7 +30,7 @@ bounded_read : (name : List ℕ) (role : Role) (o : Option (Kept BoundRow)) (b :
 bounded_read name role None b reported = absurd (let e : Null ≡ Text b.bounds.prefix = reported.prefix in cc)
 bounded_read name role (Some z) b reported = (
   named_role_read name role b.token (record { name = reported.name; role = reported.role }),
-  ap Some (sym (bound_read z.1.until z.1.prefix b.bounds (record { until = reported.until; prefix = reported.prefix }))),
+  ap Some (sym (bound_read z.1.it.until z.1.it.prefix b.bounds (record { until = reported.until; prefix = reported.prefix }))),
 )
 
 module _ (old new : State) (t : Tables) (h : Holds old.now t) where

@@ -41,23 +41,23 @@ module _ (old new : State) (t : Tables) (h : Holds old.now t) where
   pub newest_version_shows : (org ws : List ℕ) (row : Option Row) → FirstRow NEWEST_VERSION.now (Text org ∷ Text ws ∷ []) old new row → Pins IsVersionRow row (newest_of org ws t)
   newest_version_shows org ws row first =
       ranked_own version_cells version_table old new held.own t.versions held.rows held.keyed NEWEST_VERSION.now (Text org ∷ Text ws ∷ []) row first newest_version_rest (codes "number" ∷ codes "serial" ∷ codes "lineage" ∷ codes "created" ∷ codes "size" ∷ [])
-      (is_version_of org ws) (λ x. two_texts x.1.org org x.1.ws ws) IsVersionRow (λ x. x.1.it) (λ x y reported. version_reported 0 _ y reported)
+      (is_version_of org ws) (λ x. two_texts x.1.org org x.1.name ws) IsVersionRow (λ x. x.1.it) (λ x y reported. version_reported 0 _ y reported)
       3 true back_by_number untied_back in_order_back (newest_version_asks.meaning old.now.schema _ _ held.own.place) first_taken
 
   pub oldest_below_shows : (org ws : List ℕ) (n : ℕ) (row : Option Row) → FirstRow OLDEST_VERSION_BELOW.now (Text org ∷ Text ws ∷ number n ∷ []) old new row → Pins IsVersionRow row (oldest_below org ws n t)
   oldest_below_shows org ws n row first =
       least_own version_cells version_table old new held.own t.versions held.rows held.keyed OLDEST_VERSION_BELOW.now (Text org ∷ Text ws ∷ number n ∷ []) row first oldest_below_rest (codes "number" ∷ codes "serial" ∷ codes "lineage" ∷ codes "created" ∷ codes "size" ∷ [])
-      (is_version_below org ws n) (λ x. two_texts_below x.1.org org x.1.ws ws x.1.it.number n) IsVersionRow (λ x. x.1.it) (λ x y reported. version_reported 0 _ y reported)
+      (is_version_below org ws n) (λ x. two_texts_below x.1.org org x.1.name ws x.1.it.number n) IsVersionRow (λ x. x.1.it) (λ x y reported. version_reported 0 _ y reported)
       3 (λ x. x.1.it.number) (λ x y. refl) (oldest_below_asks.meaning old.now.schema _ _ held.own.place) first_taken
 
   pub version_size_shows : (org ws : List ℕ) (n : ℕ) (row : Option Row) → FirstRow VERSION_SIZE.now (Text org ∷ Text ws ∷ number n ∷ []) old new row → Pins IsNumber row (size_of org ws n t)
   version_size_shows org ws n row first =
       first_own version_cells version_table old new held.own t.versions held.rows held.keyed VERSION_SIZE.now (Text org ∷ Text ws ∷ number n ∷ []) row first version_size_rest (codes "size" ∷ [])
-      (is_version org ws n) (λ x. two_texts_number x.1.org org x.1.ws ws x.1.it.number n) IsNumber (λ x. x.1.it.size) (λ x y reported. number_read x.1.it.size y reported) (version_size_asks.meaning old.now.schema _ _ held.own.place) (λ l. refl)
+      (is_version org ws n) (λ x. two_texts_number x.1.org org x.1.name ws x.1.it.number n) IsNumber (λ x. x.1.it.size) (λ x y reported. number_read x.1.it.size y reported) (version_size_asks.meaning old.now.schema _ _ held.own.place) (λ l. refl)
 
   pub list_versions_shows : (org ws : List ℕ) (after most : ℕ) (rows : List Row) (heads : List Version) → VersionsApart org ws t → FirstRows most LIST_VERSIONS.now (Text org ∷ Text ws ∷ number after ∷ []) old new rows
       → AllZip IsVersionRow rows heads → heads ≡ version_rows_after org ws after most t
   list_versions_shows org ws after most rows heads apart first read =
       numbered_are version_cells version_table old new held.own t.versions held.rows LIST_VERSIONS.now (Text org ∷ Text ws ∷ number after ∷ []) list_versions_rest 3 list_versions_names
-      IsVersionRow (λ v. v.number) (λ x. x.1.it) (is_version_of org ws) after (λ x. two_texts_above x.1.org org x.1.ws ws x.1.it.number after) (λ x y reported. version_reported 0 _ y reported)
+      IsVersionRow (λ v. v.number) (λ x. x.1.it) (is_version_of org ws) after (λ x. two_texts_above x.1.org org x.1.name ws x.1.it.number after) (λ x y reported. version_reported 0 _ y reported)
       (λ x y. by_column x.1.it.number y.1.it.number) (list_versions_asks.meaning old.now.schema _ _ held.own.place) (λ l. refl) most rows heads apart first read

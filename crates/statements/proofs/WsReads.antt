@@ -39,11 +39,11 @@ use Rattle.statements.proofs.WsListTexts.{list_ws_means, list_ws_within_means}
 use Rattle.statements.proofs.WsTexts.{find_ws_names, find_ws_asks, find_ws_rest, count_ws_asks, count_ws_rest, list_names_asks, list_names_rest}
 
 -- two rows for one workspace of an organization clash
-one_retention : (org ws : List ℕ) (a b : Kept RetentionRow) → is_retention a.1.org a.1.ws b ≡ false → is_retention org ws a ≡ true → is_retention org ws b ≡ false
+one_retention : (org ws : List ℕ) (a b : Kept RetentionRow) → is_retention a.1.org a.1.name b ≡ false → is_retention org ws a ≡ true → is_retention org ws b ≡ false
 one_retention org ws a b apart mine =
-    let same = and_parts (bytes_eq a.1.org org) (bytes_eq a.1.ws ws) mine in
+    let same = and_parts (bytes_eq a.1.org org) (bytes_eq a.1.name ws) mine in
     let one = equal_bytes a.1.org org same.0 in
-    let two = equal_bytes a.1.ws ws same.1 in
+    let two = equal_bytes a.1.name ws same.1 in
     sym (λ i. is_retention (one i) (two i) b) ∙ apart
 
 three_true : (a b c : Bool) → (a && (b && c)) ≡ true → (a ≡ true) × (b ≡ true) × (c ≡ true)
@@ -52,27 +52,27 @@ three_true true false c h = absurd (cc)
 three_true false b c h = absurd (cc)
 
 -- two rows for one version of a workspace clash
-one_version : (org ws : List ℕ) (next : ℕ) (a b : Kept VersionRow) → is_version a.1.org a.1.ws a.1.it.number b ≡ false → is_version_before org ws next a ≡ true → is_version_before org ws next b ≡ false
+one_version : (org ws : List ℕ) (next : ℕ) (a b : Kept VersionRow) → is_version a.1.org a.1.name a.1.it.number b ≡ false → is_version_before org ws next a ≡ true → is_version_before org ws next b ≡ false
 one_version org ws next a b apart mine = go (is_one_less b.1.it.number next) refl
   where
-    there : (bytes_eq a.1.org org ≡ true) × (bytes_eq a.1.ws ws ≡ true) × (is_one_less a.1.it.number next ≡ true)
-    there = three_true (bytes_eq a.1.org org) (bytes_eq a.1.ws ws) (is_one_less a.1.it.number next) mine
+    there : (bytes_eq a.1.org org ≡ true) × (bytes_eq a.1.name ws ≡ true) × (is_one_less a.1.it.number next ≡ true)
+    there = three_true (bytes_eq a.1.org org) (bytes_eq a.1.name ws) (is_one_less a.1.it.number next) mine
 
     none : (c d : Bool) → (c && (d && false)) ≡ false
     none true true = refl
     none true false = refl
     none false d = refl
 
-    same : (m : ℕ) → a.1.it.number ≡ m → (bytes_eq b.1.org org && (bytes_eq b.1.ws ws && m == a.1.it.number)) ≡ (bytes_eq b.1.org org && (bytes_eq b.1.ws ws && true))
-    same m is = ap (λ (e : Bool). bytes_eq b.1.org org && (bytes_eq b.1.ws ws && e)) (eq-eqb m a.1.it.number (sym is))
+    same : (m : ℕ) → a.1.it.number ≡ m → (bytes_eq b.1.org org && (bytes_eq b.1.name ws && m == a.1.it.number)) ≡ (bytes_eq b.1.org org && (bytes_eq b.1.name ws && true))
+    same m is = ap (λ (e : Bool). bytes_eq b.1.org org && (bytes_eq b.1.name ws && e)) (eq-eqb m a.1.it.number (sym is))
 
     go : (c : Bool) → is_one_less b.1.it.number next ≡ c → is_version_before org ws next b ≡ false
     go true yours =
         let number_is : a.1.it.number ≡ b.1.it.number = one_number _ a.1.it.number b.1.it.number there.2 yours in
         let one = equal_bytes a.1.org org there.0 in
-        let two = equal_bytes a.1.ws ws there.1 in
-        ap (λ (e : Bool). bytes_eq b.1.org org && (bytes_eq b.1.ws ws && e)) yours ∙ sym (same b.1.it.number number_is) ∙ sym (λ i. is_version (one i) (two i) a.1.it.number b) ∙ apart
-    go false yours = ap (λ (e : Bool). bytes_eq b.1.org org && (bytes_eq b.1.ws ws && e)) yours ∙ none (bytes_eq b.1.org org) (bytes_eq b.1.ws ws)
+        let two = equal_bytes a.1.name ws there.1 in
+        ap (λ (e : Bool). bytes_eq b.1.org org && (bytes_eq b.1.name ws && e)) yours ∙ sym (same b.1.it.number number_is) ∙ sym (λ i. is_version (one i) (two i) a.1.it.number b) ∙ apart
+    go false yours = ap (λ (e : Bool). bytes_eq b.1.org org && (bytes_eq b.1.name ws && e)) yours ∙ none (bytes_eq b.1.org org) (bytes_eq b.1.name ws)
 
 module _ (old new : State) (t : Tables) (h : Holds old.now t) where
   abbrev held : IsHeld ws_layout old.now t.wss
@@ -98,7 +98,7 @@ module _ (old new : State) (t : Tables) (h : Holds old.now t) where
   kept_cell : (org : List ℕ) (x : Kept WsRow) → column (kept_row org x) 3 ≡ or_null number (retention_of org x.1.name t)
   kept_cell org x = by_row (find (is_retention org x.1.name) t.retentions)
     where
-      by_row : (o : Option (Kept RetentionRow)) → column (row_or (stored retention_cells) o) 3 ≡ or_null number (option_map (λ (y : Kept RetentionRow). y.1.retention) o)
+      by_row : (o : Option (Kept RetentionRow)) → column (row_or (stored retention_cells) o) 3 ≡ or_null number (option_map (λ (y : Kept RetentionRow). y.1.it) o)
       by_row None = refl
       by_row (Some y) = refl
 
@@ -127,10 +127,10 @@ module _ (old new : State) (t : Tables) (h : Holds old.now t) where
   both_found org more apart terms x =
       left_is (stored retention_cells) (is_retention org x.1.name) (overlay old.now.trees []) (tree_of old.now.schema retention_table.name) t.retentions
       (stored_tree old.now.trees (tree_of old.now.schema retention_table.name) kept.own.place.low ∙ kept.rows) (of_workspace 2) ((Text org ∷ more) ∷ stored ws_cells x ∷ [])
-      (λ y. two_texts y.1.org org y.1.ws x.1.name) (ascending_weaker _ _ (λ a b. one_retention org x.1.name a b) t.retentions apart.retentions) terms (left (tree_of old.now.schema version_table.name) (of_version_before 3) end)
+      (λ y. two_texts y.1.org org y.1.name x.1.name) (ascending_weaker _ _ (λ a b. one_retention org x.1.name a b) t.retentions apart.retentions) terms (left (tree_of old.now.schema version_table.name) (of_version_before 3) end)
       ∙ left_is (stored version_cells) (is_version_before org x.1.name x.1.it.next_version) (overlay old.now.trees []) (tree_of old.now.schema version_table.name) t.versions
       (stored_tree old.now.trees (tree_of old.now.schema version_table.name) made.own.place.low ∙ made.rows) (of_version_before 3) ((Text org ∷ more) ∷ stored ws_cells x ∷ kept_row org x ∷ [])
-      (λ y. two_texts_one_less y.1.org org y.1.ws x.1.name y.1.it.number x.1.it.next_version) (ascending_weaker _ _ (λ a b. one_version org x.1.name x.1.it.next_version a b) t.versions apart.versions) terms end
+      (λ y. two_texts_one_less y.1.org org y.1.name x.1.name y.1.it.number x.1.it.next_version) (ascending_weaker _ _ (λ a b. one_version org x.1.name x.1.it.next_version a b) t.versions apart.versions) terms end
 
   pub list_ws_shows : (org after : List ℕ) (most : ℕ) (limit : ℤ) → LimitsTo most limit → (rows : List Row) (wss : List NamedWorkspace) → WorkspacesApart t → FirstRows most LIST_WS.now (Text org ∷ Text after ∷ Int limit ∷ []) old new rows → AllZip IsNamedRow rows wss
       → wss ≡ workspace_rows_after org after [] most t

@@ -14,7 +14,7 @@ use Rattle.basis.specs.declared.rows.Holder.TheVariants.{Nobody}
 use Rattle.basis.specs.declared.rows.VersionRow.{VersionRow as Version}
 use Rattle.statements.specs.declared.rows.Workspace.{Workspace}
 use Rattle.basis.specs.declared.rows.RunRow.{RunRow as Run}
-use Rattle.statements.specs.Rows.{Kept, id_of, OrgRow, TokenRow, WsRow, VersionRow, RunRow, BoundRow, RetentionRow}
+use Rattle.statements.specs.Rows.{Kept, id_of, Owned, OrgRow, TokenRow, WsRow, VersionRow, RunRow, BoundRow, RetentionRow}
 use Rattle.statements.specs.Tables.{Tables}
 
 -- one more row, after the others and with the next rowid
@@ -31,6 +31,16 @@ with_all (r ∷ rs) xs = with_all rs (with_next r xs)
 -- edition has this version, if it had one
 abbrev pub edition_moved : ℕ → Tables → Tables
 edition_moved version t = record t { editions = map (λ x. (x.0, version)) t.editions }
+
+-- ---- rows of tokens and of workspaces
+
+-- whether a row has this organization and name
+abbrev pub is_of : {T : Type 0} → List ℕ → List ℕ → Kept (Owned T) → Bool
+is_of org name x = bytes_eq x.1.org org && bytes_eq x.1.name name
+
+-- a function that is applied to the other columns of such a row
+abbrev pub with_it : {T : Type 0} → (T → T) → Kept (Owned T) → Kept (Owned T)
+with_it f x = (x.0, record x.1 { it = f x.1.it })
 
 -- ---- organizations
 
@@ -50,7 +60,7 @@ org_capped name cap t = record t { orgs = update_where (is_org name) (λ x. (x.0
 -- ---- tokens
 
 abbrev pub is_token : List ℕ → List ℕ → Kept TokenRow → Bool
-is_token org name x = bytes_eq x.1.org org && bytes_eq x.1.name name
+is_token = is_of
 
 abbrev pub is_digest_of : List ℕ → List ℕ → Kept TokenRow → Bool
 is_digest_of org digest x = bytes_eq x.1.org org && bytes_eq x.1.it.digest digest
@@ -64,17 +74,17 @@ token_row_removed org name t = record t { tokens = delete_where (is_token org na
 -- ---- the expiry and the prefix of tokens
 
 abbrev pub is_bound : List ℕ → List ℕ → Kept BoundRow → Bool
-is_bound org name x = bytes_eq x.1.org org && bytes_eq x.1.name name
+is_bound = is_of
 
 abbrev pub bound_row_added : List ℕ → List ℕ → Option ℕ → List ℕ → Tables → Tables
-bound_row_added org name until prefix t = record t { bounds = with_next (record { org = org; name = name; until = until; prefix = prefix }) t.bounds }
+bound_row_added org name until prefix t = record t { bounds = with_next (record { org = org; name = name; it = record { until = until; prefix = prefix } }) t.bounds }
 
 abbrev pub bound_row_removed : List ℕ → List ℕ → Tables → Tables
 bound_row_removed org name t = record t { bounds = delete_where (is_bound org name) t.bounds }
 
 -- no expiry, and the empty prefix
 abbrev pub unbounded : TokenRow → BoundRow
-unbounded r = record { org = r.org; name = r.name; until = None; prefix = [] }
+unbounded r = record { org = r.org; name = r.name; it = record { until = None; prefix = [] } }
 
 -- each token gets such a row, in the order of the tokens
 abbrev pub bounds_filled : Tables → Tables
@@ -97,11 +107,11 @@ abbrev pub is_ws_of : List ℕ → Kept WsRow → Bool
 is_ws_of org x = bytes_eq x.1.org org
 
 abbrev pub is_ws : List ℕ → List ℕ → Kept WsRow → Bool
-is_ws org name x = bytes_eq x.1.org org && bytes_eq x.1.name name
+is_ws = is_of
 
 -- a function that is applied to what the row of a workspace holds
 abbrev pub ws_changed : (Workspace → Workspace) → List ℕ → List ℕ → Tables → Tables
-ws_changed f org name t = record t { wss = update_where (is_ws org name) (λ x. (x.0, record x.1 { it = f x.1.it })) t.wss }
+ws_changed f org name t = record t { wss = update_where (is_ws org name) (with_it f) t.wss }
 
 abbrev pub with_run_settings : RunSettings → Workspace → Workspace
 with_run_settings runs w = record w { runs = runs }
@@ -132,21 +142,21 @@ ws_row_removed org name t = record t { wss = delete_where (is_ws org name) t.wss
 -- ---- the number of versions that workspaces keep
 
 abbrev pub is_retention : List ℕ → List ℕ → Kept RetentionRow → Bool
-is_retention org ws x = bytes_eq x.1.org org && bytes_eq x.1.ws ws
+is_retention = is_of
 
 abbrev pub retention_row_added : List ℕ → List ℕ → ℕ → Tables → Tables
-retention_row_added org ws retention t = record t { retentions = with_next (record { org = org; ws = ws; retention = retention }) t.retentions }
+retention_row_added org ws retention t = record t { retentions = with_next (record { org = org; name = ws; it = retention }) t.retentions }
 
 -- the workspace keeps this many versions
 abbrev pub retention_changed : ℕ → List ℕ → List ℕ → Tables → Tables
-retention_changed retention org ws t = record t { retentions = update_where (is_retention org ws) (λ x. (x.0, record x.1 { retention = retention })) t.retentions }
+retention_changed retention org ws t = record t { retentions = update_where (is_retention org ws) (with_it (λ _. retention)) t.retentions }
 
 abbrev pub retention_row_removed : List ℕ → List ℕ → Tables → Tables
 retention_row_removed org ws t = record t { retentions = delete_where (is_retention org ws) t.retentions }
 
 -- the number of versions that a new workspace keeps
 abbrev pub kept_first : WsRow → RetentionRow
-kept_first r = record { org = r.org; ws = r.name; retention = FIRST_KEPT }
+kept_first r = record { org = r.org; name = r.name; it = FIRST_KEPT }
 
 -- each workspace gets such a row, in the order of the workspaces
 abbrev pub retentions_filled : Tables → Tables
@@ -166,19 +176,19 @@ ws_removed org name t = ws_row_removed org name (retention_row_removed org name 
 -- ---- versions
 
 abbrev pub is_version_of : List ℕ → List ℕ → Kept VersionRow → Bool
-is_version_of org ws x = bytes_eq x.1.org org && bytes_eq x.1.ws ws
+is_version_of = is_of
 
 abbrev pub is_version : List ℕ → List ℕ → ℕ → Kept VersionRow → Bool
-is_version org ws n x = bytes_eq x.1.org org && (bytes_eq x.1.ws ws && x.1.it.number == n)
+is_version org ws n x = bytes_eq x.1.org org && (bytes_eq x.1.name ws && x.1.it.number == n)
 
 abbrev pub is_version_below : List ℕ → List ℕ → ℕ → Kept VersionRow → Bool
-is_version_below org ws n x = bytes_eq x.1.org org && (bytes_eq x.1.ws ws && nat_lt x.1.it.number n)
+is_version_below org ws n x = bytes_eq x.1.org org && (bytes_eq x.1.name ws && nat_lt x.1.it.number n)
 
 abbrev pub new_version : ℕ → ℕ → List ℕ → ℕ → ℕ → Version
 new_version number serial lineage created size = record { number = number; serial = serial; lineage = lineage; created = created; size = size }
 
 abbrev pub version_added : List ℕ → List ℕ → Version → Tables → Tables
-version_added org ws it t = record t { versions = with_next (record { org = org; ws = ws; it = it }) t.versions }
+version_added org ws it t = record t { versions = with_next (record { org = org; name = ws; it = it }) t.versions }
 
 abbrev pub version_removed : List ℕ → List ℕ → ℕ → Tables → Tables
 version_removed org ws n t = record t { versions = delete_where (is_version org ws n) t.versions }
@@ -186,24 +196,24 @@ version_removed org ws n t = record t { versions = delete_where (is_version org 
 -- ---- runs
 
 abbrev pub is_run_of : List ℕ → List ℕ → Kept RunRow → Bool
-is_run_of org ws x = bytes_eq x.1.org org && bytes_eq x.1.ws ws
+is_run_of = is_of
 
 abbrev pub is_run_row : List ℕ → List ℕ → ℕ → Kept RunRow → Bool
-is_run_row org ws n x = bytes_eq x.1.org org && (bytes_eq x.1.ws ws && x.1.it.number == n)
+is_run_row org ws n x = bytes_eq x.1.org org && (bytes_eq x.1.name ws && x.1.it.number == n)
 
 abbrev pub run_changed_to : RunStatus → List ℕ → List ℕ → ℕ → Tables → Tables
-run_changed_to status org ws n t = record t { runs = update_where (is_run_row org ws n) (λ x. (x.0, record x.1 { it = record x.1.it { status = status } })) t.runs }
+run_changed_to status org ws n t = record t { runs = update_where (is_run_row org ws n) (with_it (λ r. record r { status = status })) t.runs }
 
 -- the run's last action, and the status that follows it
 abbrev pub run_acted : RunStatus → RunAction → List ℕ → List ℕ → ℕ → Tables → Tables
-run_acted status action org ws n t = record t { runs = update_where (is_run_row org ws n) (λ x. (x.0, record x.1 { it = record x.1.it { status = status; action = Some action } })) t.runs }
+run_acted status action org ws n t = record t { runs = update_where (is_run_row org ws n) (with_it (λ r. record r { status = status; action = Some action })) t.runs }
 
 -- a run with all its parts, the last of which is its last action
 abbrev pub run_made : ℕ → Bool → Option (List ℕ) → List ℕ → ℕ → RunStatus → Option RunAction → Run
 run_made number plan_only key message created status action = record { number = number; plan_only = plan_only; key = key; message = message; created = created; status = status; action = action }
 
 abbrev pub run_added : List ℕ → List ℕ → Run → Tables → Tables
-run_added org ws it t = record t { runs = with_next (record { org = org; ws = ws; it = it }) t.runs }
+run_added org ws it t = record t { runs = with_next (record { org = org; name = ws; it = it }) t.runs }
 
 abbrev pub runs_removed : List ℕ → List ℕ → Tables → Tables
 runs_removed org ws t = record t { runs = delete_where (is_run_of org ws) t.runs }

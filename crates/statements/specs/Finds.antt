@@ -44,7 +44,7 @@ abbrev pub named_role_of : List ℕ → List ℕ → Tables → Option NamedRole
 named_role_of org digest t = option_map named_role (find (is_digest_of org digest) t.tokens)
 
 abbrev pub bound_in : Kept BoundRow → Bounds
-bound_in x = record { until = x.1.until; prefix = x.1.prefix }
+bound_in x = record { until = x.1.it.until; prefix = x.1.it.prefix }
 
 -- the expiry and the prefix of a token with this name
 abbrev pub bound_of : List ℕ → List ℕ → Tables → Option Bounds
@@ -59,7 +59,7 @@ workspace_of org name t = option_map (λ x. x.1.it) (find (is_ws org name) t.wss
 
 -- the number of versions that a workspace with this name keeps
 abbrev pub retention_of : List ℕ → List ℕ → Tables → Option ℕ
-retention_of org ws t = option_map (λ x. x.1.retention) (find (is_retention org ws) t.retentions)
+retention_of org ws t = option_map (λ x. x.1.it) (find (is_retention org ws) t.retentions)
 
 abbrev pub workspaces_of : List ℕ → Tables → ℕ
 workspaces_of org t = counted (filter (is_ws_of org) t.wss)
@@ -88,7 +88,7 @@ abbrev pub is_one_less : ℕ → ℕ → Bool
 is_one_less m n = is_true (binary (Compare Eq Binary) (number m) (binary (Arith Sub) (number n) (number 1)))
 
 abbrev pub is_version_before : List ℕ → List ℕ → ℕ → Kept VersionRow → Bool
-is_version_before org ws next x = bytes_eq x.1.org org && (bytes_eq x.1.ws ws && is_one_less x.1.it.number next)
+is_version_before org ws next x = bytes_eq x.1.org org && (bytes_eq x.1.name ws && is_one_less x.1.it.number next)
 
 -- the number before this one, if a version of the workspace has it
 abbrev pub version_before : List ℕ → List ℕ → ℕ → Tables → Option ℕ
@@ -108,7 +108,7 @@ is_pending_of _ = false
 
 -- a queued run that is pending
 abbrev pub is_waiting_of : List ℕ → List ℕ → Kept RunRow → Bool
-is_waiting_of org ws x = bytes_eq x.1.org org && (bytes_eq x.1.ws ws && (is_pending_of x.1.it.status && not x.1.it.plan_only))
+is_waiting_of org ws x = bytes_eq x.1.org org && (bytes_eq x.1.name ws && (is_pending_of x.1.it.status && not x.1.it.plan_only))
 
 -- the least number of the waiting runs
 abbrev pub first_waiting_of : List ℕ → List ℕ → Tables → Option ℕ
@@ -126,14 +126,14 @@ is_key_of key None = false
 is_key_of key (Some k) = bytes_eq k key
 
 abbrev pub is_run_with_key : List ℕ → List ℕ → List ℕ → Kept RunRow → Bool
-is_run_with_key org ws key x = bytes_eq x.1.org org && (bytes_eq x.1.ws ws && is_key_of key x.1.it.key)
+is_run_with_key org ws key x = bytes_eq x.1.org org && (bytes_eq x.1.name ws && is_key_of key x.1.it.key)
 
 abbrev pub keyed_run_of : List ℕ → List ℕ → List ℕ → Tables → Option Run
 keyed_run_of org ws key t = option_map (λ x. x.1.it) (find (is_run_with_key org ws key) t.runs)
 
 -- a run that has not ended
 abbrev pub is_open_run_of : List ℕ → List ℕ → Kept RunRow → Bool
-is_open_run_of org ws x = bytes_eq x.1.org org && (bytes_eq x.1.ws ws && is_open x.1.it.status)
+is_open_run_of org ws x = bytes_eq x.1.org org && (bytes_eq x.1.name ws && is_open x.1.it.status)
 
 abbrev pub open_runs_of : List ℕ → List ℕ → Tables → ℕ
 open_runs_of org ws t = counted (filter (is_open_run_of org ws) t.runs)

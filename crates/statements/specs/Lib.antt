@@ -1,3 +1,4 @@
+pub mod Belonging
 pub mod Calls
 pub mod Changes
 pub mod Finds

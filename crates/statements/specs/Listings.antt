@@ -105,8 +105,8 @@ end_of (b ∷ c ∷ bytes) = b ∷ end_of (c ∷ bytes)
 -- a workspace has at most one row, at most one row of keeping, and at most one row for each of its versions
 pub record WorkspacesApart (t : Tables) : Type 0 where
   pub wss : AreApart (λ a b. is_ws a.1.org a.1.name b) t.wss
-  pub retentions : AreApart (λ a b. is_retention a.1.org a.1.ws b) t.retentions
-  pub versions : AreApart (λ a b. is_version a.1.org a.1.ws a.1.it.number b) t.versions
+  pub retentions : AreApart (λ a b. is_retention a.1.org a.1.name b) t.retentions
+  pub versions : AreApart (λ a b. is_version a.1.org a.1.name a.1.it.number b) t.versions
 
 -- ---- versions
 

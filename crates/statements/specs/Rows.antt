@@ -17,14 +17,10 @@ use Rattle.basis.specs.declared.rows.VersionRow.{VersionRow as Version}
 use Rattle.basis.specs.declared.rows.RunRow.{RunRow as Run}
 use Rattle.statements.specs.declared.rows.Workspace.{Workspace}
 use Rattle.statements.specs.declared.rows.Token.{Token as ItsToken}
+use Rattle.statements.specs.declared.rows.Bound.{Bound as ItsBound}
 use Rattle.statements.specs.declared.rows.OrgRow.{OrgRow as ItsOrgRow}
-use Rattle.statements.specs.declared.rows.TokenRow.{TokenRow as ItsTokenRow}
-use Rattle.statements.specs.declared.rows.WsRow.{WsRow as ItsWsRow}
-use Rattle.statements.specs.declared.rows.VersionRow.{VersionRow as ItsVersionRow}
-use Rattle.statements.specs.declared.rows.RunRow.{RunRow as ItsRunRow}
+use Rattle.statements.specs.declared.rows.Owned.{Owned as ItsOwned}
 use Rattle.statements.specs.declared.rows.VpageRow.{VpageRow as ItsVpageRow}
-use Rattle.statements.specs.declared.rows.BoundRow.{BoundRow as ItsBoundRow}
-use Rattle.statements.specs.declared.rows.RetentionRow.{RetentionRow as ItsRetentionRow}
 use Rattle.std.specs.Ordering.{int_eq}
 
 -- a token: the digest of its secret, and its role
@@ -41,17 +37,21 @@ id_of x = x.0
 abbrev pub OrgRow : Type 0
 OrgRow = ItsOrgRow
 
+-- a row of a token or of a workspace
+abbrev pub Owned : Type 0 → Type 0
+Owned T = ItsOwned T
+
 abbrev pub TokenRow : Type 0
-TokenRow = ItsTokenRow
+TokenRow = Owned Token
 
 abbrev pub WsRow : Type 0
-WsRow = ItsWsRow
+WsRow = Owned Workspace
 
 abbrev pub VersionRow : Type 0
-VersionRow = ItsVersionRow
+VersionRow = Owned Version
 
 abbrev pub RunRow : Type 0
-RunRow = ItsRunRow
+RunRow = Owned Run
 
 -- a page of texts, and the number of rows that name it
 pub record PageRow : Type 0 where
@@ -65,12 +65,15 @@ abbrev pub VpageRow : Type 0
 VpageRow = ItsVpageRow
 
 -- when a token expires, if it does, and the prefix of its workspaces
+abbrev pub Bound : Type 0
+Bound = ItsBound
+
 abbrev pub BoundRow : Type 0
-BoundRow = ItsBoundRow
+BoundRow = Owned Bound
 
 -- the number of versions that a workspace keeps
 abbrev pub RetentionRow : Type 0
-RetentionRow = ItsRetentionRow
+RetentionRow = Owned ℕ
 
 -- ---- cells
 
@@ -133,22 +136,25 @@ run_settings_cells s = flag s.auto_apply ∷ []
 abbrev pub org_cells : OrgRow → Row
 org_cells r = cell.Text r.name ∷ number r.cap ∷ []
 
+-- the names come first
+abbrev pub owned_cells : {T : Type 0} → (T → Row) → Owned T → Row
+owned_cells cells r = cell.Text r.org ∷ cell.Text r.name ∷ cells r.it
+
 abbrev pub token_cells : TokenRow → Row
-token_cells r = cell.Text r.org ∷ cell.Text r.name ∷ cell.Blob r.it.digest ∷ number (role_code r.it.role) ∷ []
+token_cells = owned_cells (λ it. cell.Blob it.digest ∷ number (role_code it.role) ∷ [])
 
 abbrev pub ws_cells : WsRow → Row
-ws_cells r =
-    cell.Text r.org ∷ cell.Text r.name ∷ (run_settings_cells r.it.runs ++ kind_cell r.it.holder ∷ lock_id_cell r.it.holder ∷ lock_text_cell r.it.holder ∷ run_cell r.it.holder
-    ∷ or_null cell.Text r.it.released ∷ number r.it.next_version ∷ number r.it.next_run ∷ [])
+ws_cells = owned_cells (λ it.
+    run_settings_cells it.runs ++ kind_cell it.holder ∷ lock_id_cell it.holder ∷ lock_text_cell it.holder ∷ run_cell it.holder
+    ∷ or_null cell.Text it.released ∷ number it.next_version ∷ number it.next_run ∷ [])
 
 abbrev pub version_cells : VersionRow → Row
-version_cells r =
-    cell.Text r.org ∷ cell.Text r.ws ∷ number r.it.number ∷ number r.it.serial ∷ cell.Text r.it.lineage ∷ number r.it.created ∷ number r.it.size ∷ []
+version_cells = owned_cells (λ it. number it.number ∷ number it.serial ∷ cell.Text it.lineage ∷ number it.created ∷ number it.size ∷ [])
 
 abbrev pub run_cells : RunRow → Row
-run_cells r =
-    cell.Text r.org ∷ cell.Text r.ws ∷ number r.it.number ∷ flag r.it.plan_only ∷ or_null cell.Text r.it.key ∷ cell.Text r.it.message ∷ number r.it.created
-    ∷ number (status_code r.it.status) ∷ or_null (λ a. number (action_code a)) r.it.action ∷ []
+run_cells = owned_cells (λ it.
+    number it.number ∷ flag it.plan_only ∷ or_null cell.Text it.key ∷ cell.Text it.message ∷ number it.created
+    ∷ number (status_code it.status) ∷ or_null (λ a. number (action_code a)) it.action ∷ [])
 
 abbrev pub page_cells : PageRow → Row
 page_cells r = cell.Blob r.key ∷ number r.twin ∷ cell.Blob r.bytes ∷ number r.uses ∷ []
@@ -157,10 +163,10 @@ abbrev pub vpage_cells : VpageRow → Row
 vpage_cells r = cell.Text r.org ∷ cell.Text r.ws ∷ number r.number ∷ number r.place ∷ cell.Blob r.key ∷ number r.twin ∷ []
 
 abbrev pub bound_cells : BoundRow → Row
-bound_cells r = cell.Text r.org ∷ cell.Text r.name ∷ or_null number r.until ∷ cell.Text r.prefix ∷ []
+bound_cells = owned_cells (λ it. or_null number it.until ∷ cell.Text it.prefix ∷ [])
 
 abbrev pub retention_cells : RetentionRow → Row
-retention_cells r = cell.Text r.org ∷ cell.Text r.ws ∷ number r.retention ∷ []
+retention_cells = owned_cells (λ it. number it ∷ [])
 
 -- meta's column `one` is its rowid, and the stored row has Null in its place
 abbrev pub meta_cells : ℕ → Row
@@ -265,17 +271,24 @@ meta_at r = number_at r 2
 abbrev pub org_at : Row → OrgRow
 org_at r = record { name = bytes_at r 1; cap = number_at r 2 }
 
+-- the names come first; the other columns are read like this
+abbrev pub owned_at : {T : Type 0} → (Row → T) → Row → Owned T
+owned_at rest r = record { org = bytes_at r 1; name = bytes_at r 2; it = rest r }
+
+abbrev pub token_rest : Row → Token
+token_rest r = record { digest = bytes_at r 3; role = role_at (number_at r 4) }
+
 abbrev pub token_at : Row → TokenRow
-token_at r = record { org = bytes_at r 1; name = bytes_at r 2; it = record { digest = bytes_at r 3; role = role_at (number_at r 4) } }
+token_at = owned_at token_rest
 
 abbrev pub ws_at : Row → WsRow
-ws_at r = record { org = bytes_at r 1; name = bytes_at r 2; it = workspace_in_row r behind_run_settings 3 }
+ws_at = owned_at (λ r. workspace_in_row r behind_run_settings 3)
 
 abbrev pub version_at : Row → VersionRow
-version_at r = record { org = bytes_at r 1; ws = bytes_at r 2; it = version_in_row r 3 }
+version_at = owned_at (λ r. version_in_row r 3)
 
 abbrev pub run_at : Row → RunRow
-run_at r = record { org = bytes_at r 1; ws = bytes_at r 2; it = run_in_row r 3 }
+run_at = owned_at (λ r. run_in_row r 3)
 
 abbrev pub page_at : Row → PageRow
 page_at r = record { key = bytes_at r 1; twin = number_at r 2; bytes = bytes_at r 3; uses = number_at r 4 }
@@ -283,11 +296,14 @@ page_at r = record { key = bytes_at r 1; twin = number_at r 2; bytes = bytes_at 
 abbrev pub vpage_at : Row → VpageRow
 vpage_at r = record { org = bytes_at r 1; ws = bytes_at r 2; number = number_at r 3; place = number_at r 4; key = bytes_at r 5; twin = number_at r 6 }
 
+abbrev pub bound_rest : Row → Bound
+bound_rest r = record { until = unless_null (λ v. unsigned_abs (int_of v)) (column r 3); prefix = bytes_at r 4 }
+
 abbrev pub bound_at : Row → BoundRow
-bound_at r = record { org = bytes_at r 1; name = bytes_at r 2; until = unless_null (λ v. unsigned_abs (int_of v)) (column r 3); prefix = bytes_at r 4 }
+bound_at = owned_at bound_rest
 
 abbrev pub retention_row_at : Row → RetentionRow
-retention_row_at r = record { org = bytes_at r 1; ws = bytes_at r 2; retention = number_at r 3 }
+retention_row_at = owned_at (λ r. number_at r 3)
 
 abbrev pub edition_at : Row → ℕ
 edition_at r = number_at r 2

@@ -11,6 +11,13 @@ pub struct Token {
     pub role: Role,
 }
 
+/// When a token expires, if it does, and the prefix of its workspaces.
+#[derive(Drop)]
+pub struct Bound {
+    pub until: Option<Moment>,
+    pub prefix: Text,
+}
+
 /// A row of org.
 #[derive(Drop)]
 pub struct OrgRow {
@@ -18,37 +25,27 @@ pub struct OrgRow {
     pub cap: Limit,
 }
 
-/// A row of token.
+/// A row of a token or of a workspace, in its own table or in one whose rows belong to it.
 #[derive(Drop)]
-pub struct TokenRow {
+pub struct Owned<T> {
     pub org: Text,
+    /// The name of the token or of the workspace.
     pub name: Text,
-    pub it: Token,
+    /// The other columns.
+    pub it: T,
 }
+
+/// A row of token.
+pub type TokenRow = Owned<Token>;
 
 /// A row of ws.
-#[derive(Drop)]
-pub struct WsRow {
-    pub org: Text,
-    pub name: Text,
-    pub it: Workspace,
-}
+pub type WsRow = Owned<Workspace>;
 
 /// A row of version.
-#[derive(Drop)]
-pub struct VersionRow {
-    pub org: Text,
-    pub ws: Text,
-    pub it: basis::VersionRow,
-}
+pub type VersionRow = Owned<basis::VersionRow>;
 
 /// A row of run.
-#[derive(Drop)]
-pub struct RunRow {
-    pub org: Text,
-    pub ws: Text,
-    pub it: basis::RunRow,
-}
+pub type RunRow = Owned<basis::RunRow>;
 
 /// A row of vpage: the page at a place of a version's text, by the page's key and twin number.
 #[derive(Drop)]
@@ -61,22 +58,11 @@ pub struct VpageRow {
     pub twin: u64,
 }
 
-/// A row of bound: when a token expires, if it does, and the prefix of its workspaces.
-#[derive(Drop)]
-pub struct BoundRow {
-    pub org: Text,
-    pub name: Text,
-    pub until: Option<Moment>,
-    pub prefix: Text,
-}
+/// A row of bound.
+pub type BoundRow = Owned<Bound>;
 
 /// A row of keeping: the number of versions that a workspace keeps.
-#[derive(Drop)]
-pub struct RetentionRow {
-    pub org: Text,
-    pub ws: Text,
-    pub retention: KeepCount,
-}
+pub type RetentionRow = Owned<KeepCount>;
 
 /// A row of page without the page's bytes.
 #[derive(Drop)]

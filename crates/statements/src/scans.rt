@@ -1,11 +1,11 @@
 //! All rows of a table at once, each with its rowid. A row with a value out of range is an error.
 ghost use Rattle.std.specs.Prelude.{◌≡◌, IfOk, unsigned_abs};
-ghost use Rattle.sqlite_value.specs.Order.{column};
+ghost use Rattle.sqlite_value.specs.Order.{column, Row as SqlRow};
 ghost use Rattle.sqlite_value.specs.declared.value.Value.TheVariants.{Int};
 ghost use Rattle.sqlite_typed.specs.Columns.{int_of, unless_null};
 ghost use Rattle.statements.specs.Calls.{IsNumberOrNull};
 ghost use Rattle.statements.specs.Steps.{Equals, Queries};
-ghost use Rattle.statements.specs.Rows.{kept_by, org_at, token_at, ws_at, version_at, run_at, vpage_at, bound_at, retention_row_at, number_at, bytes_at, role_at, number, role_code};
+ghost use Rattle.statements.specs.Rows.{kept_by, org_at, vpage_at, owned_at, token_rest, bound_rest, workspace_in_row, behind_run_settings, version_in_row, run_in_row, number_at, bytes_at, role_at, number, role_code};
 
 use crate::calls::{Read, scan};
 use crate::cells::{
@@ -13,7 +13,8 @@ use crate::cells::{
     version_in,
 };
 use crate::rows::{
-    BoundRow, OrgRow, RetentionRow, RunRow, Token, TokenRow, VersionRow, VpageRow, WsRow,
+    Bound, BoundRow, OrgRow, Owned, RetentionRow, RunRow, Token, TokenRow, VersionRow, VpageRow,
+    Workspace, WsRow,
 };
 use crate::workspaces::{BEHIND_RUN_SETTINGS, workspace_in};
 use basis::{Items, KeepCount, Limit, Moment, Role, Text};
@@ -85,46 +86,76 @@ impl Read for (i64, OrgRow) {
     }
 }
 
-impl Read for (i64, TokenRow) {
-    ghost is_in = { λ row x. x ≡ kept_by token_at row };
+/// The columns of a row after its rowid and its names.
+trait Rest: Sized + Drop {
+    // the value of the columns from the third on
+    ghost rest_at: { SqlRow → Self };
 
-    fn of_row(row: &Row) -> Result<(i64, TokenRow), Error> {
-        let it = Token {
+    fn rest_in(row: &Row) -> Result<Self, Error>
+        ensures { IfOk result (λ x. x ≡ rest_at row.now) };
+}
+
+impl Rest for Token {
+    ghost rest_at = { token_rest };
+
+    fn rest_in(row: &Row) -> Result<Token, Error> {
+        Ok(Token {
             role: role_of_row(row, 4)?,
             digest: bytes_in(row, 3)?,
-        };
+        })
+    }
+}
+
+impl Rest for Workspace {
+    ghost rest_at = { λ row. workspace_in_row row behind_run_settings 3 };
+
+    fn rest_in(row: &Row) -> Result<Workspace, Error> {
+        workspace_in(row, BEHIND_RUN_SETTINGS, 3)
+    }
+}
+
+impl Rest for basis::VersionRow {
+    ghost rest_at = { λ row. version_in_row row 3 };
+
+    fn rest_in(row: &Row) -> Result<basis::VersionRow, Error> {
+        version_in(row, 3)
+    }
+}
+
+impl Rest for basis::RunRow {
+    ghost rest_at = { λ row. run_in_row row 3 };
+
+    fn rest_in(row: &Row) -> Result<basis::RunRow, Error> {
+        run_in(row, 3)
+    }
+}
+
+impl Rest for Bound {
+    ghost rest_at = { bound_rest };
+
+    fn rest_in(row: &Row) -> Result<Bound, Error> {
+        Ok(Bound {
+            until: some_moment_in(row, 3)?,
+            prefix: text_in(row, 4)?,
+        })
+    }
+}
+
+impl Rest for KeepCount {
+    ghost rest_at = { λ row. number_at row 3 };
+
+    fn rest_in(row: &Row) -> Result<KeepCount, Error> {
+        retention_in(row, 3)
+    }
+}
+
+impl<T: Rest> Read for (i64, Owned<T>) {
+    ghost is_in = { λ row x. x ≡ kept_by (owned_at T.rest_at) row };
+
+    fn of_row(row: &Row) -> Result<(i64, Owned<T>), Error> {
+        let it = T::rest_in(row)?;
         let (id, org, name) = head_in(row)?;
-        Ok((id, TokenRow { org, name, it }))
-    }
-}
-
-impl Read for (i64, WsRow) {
-    ghost is_in = { λ row x. x ≡ kept_by ws_at row };
-
-    fn of_row(row: &Row) -> Result<(i64, WsRow), Error> {
-        let it = workspace_in(row, BEHIND_RUN_SETTINGS, 3)?;
-        let (id, org, name) = head_in(row)?;
-        Ok((id, WsRow { org, name, it }))
-    }
-}
-
-impl Read for (i64, VersionRow) {
-    ghost is_in = { λ row x. x ≡ kept_by version_at row };
-
-    fn of_row(row: &Row) -> Result<(i64, VersionRow), Error> {
-        let it = version_in(row, 3)?;
-        let (id, org, ws) = head_in(row)?;
-        Ok((id, VersionRow { org, ws, it }))
-    }
-}
-
-impl Read for (i64, RunRow) {
-    ghost is_in = { λ row x. x ≡ kept_by run_at row };
-
-    fn of_row(row: &Row) -> Result<(i64, RunRow), Error> {
-        let it = run_in(row, 3)?;
-        let (id, org, ws) = head_in(row)?;
-        Ok((id, RunRow { org, ws, it }))
+        Ok((id, Owned { org, name, it }))
     }
 }
 
@@ -146,33 +177,6 @@ impl Read for (i64, VpageRow) {
             twin,
         };
         Ok((id, it))
-    }
-}
-
-impl Read for (i64, BoundRow) {
-    ghost is_in = { λ row x. x ≡ kept_by bound_at row };
-
-    fn of_row(row: &Row) -> Result<(i64, BoundRow), Error> {
-        let until = some_moment_in(row, 3)?;
-        let prefix = text_in(row, 4)?;
-        let (id, org, name) = head_in(row)?;
-        let it = BoundRow {
-            org,
-            name,
-            until,
-            prefix,
-        };
-        Ok((id, it))
-    }
-}
-
-impl Read for (i64, RetentionRow) {
-    ghost is_in = { λ row x. x ≡ kept_by retention_row_at row };
-
-    fn of_row(row: &Row) -> Result<(i64, RetentionRow), Error> {
-        let retention = retention_in(row, 3)?;
-        let (id, org, ws) = head_in(row)?;
-        Ok((id, RetentionRow { org, ws, retention }))
     }
 }
 

@@ -21,11 +21,11 @@ module _ (org ws : List ℕ) (t : Tables) (none : workspace_of org ws t ≡ None
   no_row = none_from_any (is_ws org ws) t.wss none_there
 
   pub no_retention : IsSound t → HasNoRetention org ws t
-  no_retention sound = all_weaker (λ x. list_any (is_ws x.1.org x.1.ws) t.wss ≡ true) (λ x. is_retention org ws x ≡ false)
+  no_retention sound = all_weaker (λ x. list_any (is_ws x.1.org x.1.name) t.wss ≡ true) (λ x. is_retention org ws x ≡ false)
       (λ x owned. false_from_ne_true (is_retention org ws x) (λ mine.
       let here : list_any (is_ws org ws) t.wss ≡ true =
-      subst (λ (a : List ℕ). list_any (is_ws a ws) t.wss ≡ true) (pair_first org ws x.1.org x.1.ws mine) (subst (λ (b : List ℕ). list_any (is_ws x.1.org b) t.wss ≡ true) (pair_second org ws x.1.org x.1.ws mine) owned) in
+      subst (λ (a : List ℕ). list_any (is_ws a ws) t.wss ≡ true) (pair_first org ws x.1.org x.1.name mine) (subst (λ (b : List ℕ). list_any (is_ws x.1.org b) t.wss ≡ true) (pair_second org ws x.1.org x.1.name mine) owned) in
       let no_one : ⊥ = cc (sym here ∙ none_there) in no_one)) t.retentions sound.retentions_owned
 
   pub none_kept : IsSound t → retention_of org ws t ≡ None
-  none_kept sound = none_found (is_retention org ws) (λ x. x.1.retention) t.retentions (no_retention sound)
+  none_kept sound = none_found (is_retention org ws) (λ x. x.1.it) t.retentions (no_retention sound)

@@ -111,7 +111,7 @@ module _ (t : Tables) (versions : List (Kept VersionRow)) (runs : List (Kept Run
   found_in_order : (o w : List ℕ) (n : ℕ) (xs : List (Kept VersionRow)) → option_map (λ (x : Kept VersionRow). x.1.it.size) (find (is_version o w n) xs)
       ≡ option_map (λ (x : Kept VersionRow). x.1.it.size) (find (λ x. x.1.it.number == n) (sort_by version_cmp (filter (is_version_of o w) xs)))
   found_in_order o w n xs =
-      ap (option_map (λ (x : Kept VersionRow). x.1.it.size)) (find_same (is_version o w n) (λ x. is_version_of o w x && x.1.it.number == n) (λ x. sym (and_assoc (bytes_eq x.1.org o) (bytes_eq x.1.ws w) (x.1.it.number == n))) xs ∙ found_within xs
+      ap (option_map (λ (x : Kept VersionRow). x.1.it.size)) (find_same (is_version o w n) (λ x. is_version_of o w x && x.1.it.number == n) (λ x. sym (and_assoc (bytes_eq x.1.org o) (bytes_eq x.1.name w) (x.1.it.number == n))) xs ∙ found_within xs
       ∙ sym (found_sorted version_cmp versions_total (λ x. x.1.it.number == n) tied (filter (is_version_of o w) xs)))
     where
       tied : (x y : Kept VersionRow) → (x.1.it.number == n) ≡ true → (y.1.it.number == n) ≡ true → version_cmp x y ≡ Equal
@@ -134,27 +134,22 @@ module _ (t : Tables) (versions : List (Kept VersionRow)) (runs : List (Kept Run
   stays_sound : IsSound u
   stays_sound = record {
     reported = sound.reported;
-    orgs_apart = sound.orgs_apart;
-    tokens_apart = sound.tokens_apart;
-    digests_apart = sound.digests_apart;
-    wss_apart = sound.wss_apart;
-    bounds_apart = sound.bounds_apart;
-    tokens_bound = sound.tokens_bound;
-    retentions_apart = sound.retentions_apart;
-    wss_kept = sound.wss_kept;
-    tokens_owned = sound.tokens_owned;
-    bounds_owned = sound.bounds_owned;
-    wss_owned = sound.wss_owned;
-    retentions_owned = sound.retentions_owned;
-    versions_owned = all-permutation (λ (x : Kept VersionRow). list_any (is_ws x.1.org x.1.ws) t.wss ≡ true) t.versions versions same_versions sound.versions_owned;
-    runs_owned = all-permutation (λ (x : Kept RunRow). list_any (is_ws x.1.org x.1.ws) t.wss ≡ true) t.runs runs same_runs sound.runs_owned;
-    org_rows = sound.org_rows;
-    token_rows = sound.token_rows;
-    bound_rows = sound.bound_rows;
+    accounts = sound.accounts;
+    owned = record {
+      wss_apart = sound.wss_apart;
+      retentions_apart = sound.retentions_apart;
+      wss_kept = sound.wss_kept;
+      wss_owned = sound.wss_owned;
+      retentions_owned = sound.retentions_owned;
+      versions_owned = all-permutation (λ (x : Kept VersionRow). list_any (is_ws x.1.org x.1.name) t.wss ≡ true) t.versions versions same_versions sound.versions_owned;
+      runs_owned = all-permutation (λ (x : Kept RunRow). list_any (is_ws x.1.org x.1.name) t.wss ≡ true) t.runs runs same_runs sound.runs_owned;
+    };
+    contents = record {
+      places = carried_sound t u refl refl sound.places;
+      placed = all_weaker (IsPlaced t) (IsPlaced u) (λ (z : Kept VpageRow). subst (λ (s : Option ℕ). IsSomeAnd s (λ size. z.1.place < pages_for size)) (sym (size_same z.1.org z.1.ws z.1.number))) t.vpages sound.placed;
+      texts = all_weaker (HasText t) (HasText u) (λ (x : Kept VersionRow). carried_whole t u refl refl x.1.org x.1.name x.1.it.number x.1.it.size) versions (all-permutation (HasText t) t.versions versions same_versions sound.texts);
+    };
     counts = λ org o e. sound.counts org o (sym (record_same org) ∙ e);
-    places = carried_sound t u refl refl sound.places;
-    placed = all_weaker (IsPlaced t) (IsPlaced u) (λ (z : Kept VpageRow). subst (λ (s : Option ℕ). IsSomeAnd s (λ size. z.1.place < pages_for size)) (sym (size_same z.1.org z.1.ws z.1.number))) t.vpages sound.placed;
-    texts = all_weaker (HasText t) (HasText u) (λ (x : Kept VersionRow). carried_whole t u refl refl x.1.org x.1.ws x.1.it.number x.1.it.size) versions (all-permutation (HasText t) t.versions versions same_versions sound.texts);
     workspaces = λ org name w e. sound.workspaces org name w (sym (workspace_same org name) ∙ e);
   }
 

@@ -48,10 +48,10 @@ use Rattle.tables.proofs.KeyedRows.{organization_keyed}
 use Rattle.tables.proofs.KeptTexts.{changed_texts}
 use Rattle.tables.proofs.Lawful.{limit_there, token_there}
 use Rattle.tables.proofs.Managed.{record_there, record_missing}
-use Rattle.tables.proofs.Owned.{changed_are_owned}
+use Rattle.tables.proofs.Owned.{accounts_in, owned_in, changed_are_owned}
 use Rattle.tables.proofs.Revoking.{revoke_keeps, revoke_own, revoke_other}
 use Rattle.tables.proofs.Reporting.{reported_changed}
-use Rattle.tables.proofs.TextRows.{AreTexts, sound_texts, texts_carried, KeepsWorkspaces, workspace_carried, organization_carried}
+use Rattle.tables.proofs.TextRows.{AreTexts, texts_carried, KeepsWorkspaces, workspace_carried, organization_carried}
 use Rattle.tables.proofs.Brought.{Leads, none_below, workspaces_are, token_entries, workspace_names}
 
 -- ---- names taken out of a map, one after the other
@@ -173,7 +173,7 @@ module _ (org : List ℕ) (t : Tables) where
     no_token_rows = none_mine (is_token_of org) (λ (x : Kept TokenRow). x.1.name) t.tokens (λ q. none_mapped (λ (x : Kept TokenRow). token_at t x.1) (find (is_token org q) t.tokens) (sym (token_there t org q o there) ∙ no_token q))
 
     texts : AreTexts left
-    texts = texts_carried t left refl refl refl (sound_texts t sound)
+    texts = texts_carried t left refl refl refl sound.contents
 
     within : (q : List ℕ) (p : Organization) → record_of left q ≡ Some p → (c : Bool) → bytes_eq q org ≡ c → count_of p ≤ 100_000
     within q p e true same = absurd (let no_one : ⊥ = cc (sym (subst (λ (n : List ℕ). record_of left n ≡ Some p) (equal_bytes q org same) e) ∙ row_own) in no_one)
@@ -182,27 +182,11 @@ module _ (org : List ℕ) (t : Tables) where
     row_keeps : IsSound left
     row_keeps = record {
       reported = sound.reported;
-      orgs_apart = apart_delete (λ a b. is_org a.1.name b) (is_org org) t.orgs sound.orgs_apart;
-      tokens_apart = sound.tokens_apart;
-      digests_apart = sound.digests_apart;
-      wss_apart = sound.wss_apart;
-      bounds_apart = sound.bounds_apart;
-      tokens_bound = sound.tokens_bound;
-      retentions_apart = sound.retentions_apart;
-      wss_kept = sound.wss_kept;
-      tokens_owned = all_both (λ x. list_any (is_org x.1.org) t.orgs ≡ true) (λ x. is_token_of org x ≡ false) (λ x. list_any (is_org x.1.org) left.orgs ≡ true) (λ x is other. still_there x.1.org other is) t.tokens sound.tokens_owned no_token_rows;
-      bounds_owned = sound.bounds_owned;
-      wss_owned = all_both (λ x. list_any (is_org x.1.org) t.orgs ≡ true) (λ x. is_ws_of org x ≡ false) (λ x. list_any (is_org x.1.org) left.orgs ≡ true) (λ x is other. still_there x.1.org other is) t.wss sound.wss_owned no_ws_rows;
-      retentions_owned = sound.retentions_owned;
-      versions_owned = sound.versions_owned;
-      runs_owned = sound.runs_owned;
-      org_rows = all-filter IsOrgRow (λ x. not (is_org org x)) t.orgs sound.org_rows;
-      token_rows = sound.token_rows;
-      bound_rows = sound.bound_rows;
+      accounts = accounts_in t left.orgs sound (apart_delete (λ a b. is_org a.1.name b) (is_org org) t.orgs sound.orgs_apart) (all-filter IsOrgRow (λ x. not (is_org org x)) t.orgs sound.org_rows)
+          (all_both (λ x. list_any (is_org x.1.org) t.orgs ≡ true) (λ x. is_token_of org x ≡ false) (λ x. list_any (is_org x.1.org) left.orgs ≡ true) (λ x is other. still_there x.1.org other is) t.tokens sound.tokens_owned no_token_rows);
+      owned = owned_in t left.orgs sound (all_both (λ x. list_any (is_org x.1.org) t.orgs ≡ true) (λ x. is_ws_of org x ≡ false) (λ x. list_any (is_org x.1.org) left.orgs ≡ true) (λ x is other. still_there x.1.org other is) t.wss sound.wss_owned no_ws_rows);
+      contents = texts;
       counts = λ q p e. within q p e (bytes_eq q org) refl;
-      places = texts.places;
-      placed = texts.placed;
-      texts = texts.texts;
       workspaces = λ a w v e. sound.workspaces a w v (sym (workspace_carried t left same_rows a w) ∙ e);
     }
 

@@ -82,7 +82,7 @@ after_report n action status frees w = record w { holder = cond frees Nobody w.h
 
 -- how many versions a workspace keeps, by rows of keeping
 abbrev kept_among : List ℕ → List ℕ → List (Kept RetentionRow) → ℕ
-kept_among a b ks = unwrap_or (option_map (λ (x : Kept RetentionRow). x.1.retention) (find (is_retention a b) ks)) FIRST_KEPT
+kept_among a b ks = unwrap_or (option_map (λ (x : Kept RetentionRow). x.1.it) (find (is_retention a b) ks)) FIRST_KEPT
 
 -- where the other tables stay, so do the row of each workspace, how many versions it keeps, and its runs
 module _ (t u : Tables) (rest : KeepsRest t u) (a b : List ℕ) where

@@ -75,20 +75,20 @@ two = record {
       ∷ (pos 2, record { org = acme; name = prod; it = record { runs = record { auto_apply = false }; holder = Lock x1 text; released = None; next_version = 3; next_run = 2 } })
       ∷ [];
   versions =
-      (pos 1, record { org = acme; ws = prod; it = record { number = 1; serial = 1; lineage = codes "a1"; created = 1_700_000_000; size = 12 } })
-      ∷ (pos 2, record { org = globex; ws = prod; it = record { number = 1; serial = 1; lineage = codes "a1"; created = 1_700_000_000; size = 12 } })
-      ∷ (pos 3, record { org = acme; ws = prod; it = record { number = 2; serial = 2; lineage = codes "a1"; created = 1_700_000_000; size = 12 } })
+      (pos 1, record { org = acme; name = prod; it = record { number = 1; serial = 1; lineage = codes "a1"; created = 1_700_000_000; size = 12 } })
+      ∷ (pos 2, record { org = globex; name = prod; it = record { number = 1; serial = 1; lineage = codes "a1"; created = 1_700_000_000; size = 12 } })
+      ∷ (pos 3, record { org = acme; name = prod; it = record { number = 2; serial = 2; lineage = codes "a1"; created = 1_700_000_000; size = 12 } })
       ∷ [];
-  runs = (pos 1, record { org = acme; ws = prod; it = record { number = 1; plan_only = false; key = None; message = codes "go"; created = 1_700_000_000; status = Pending; action = None } }) ∷ [];
+  runs = (pos 1, record { org = acme; name = prod; it = record { number = 1; plan_only = false; key = None; message = codes "go"; created = 1_700_000_000; status = Pending; action = None } }) ∷ [];
   pages = (pos 1, record { key = codes "{"; twin = 0; bytes = s1; uses = 2 }) ∷ (pos 2, record { key = codes "{"; twin = 1; bytes = s2; uses = 1 }) ∷ [];
   vpages =
       (pos 1, record { org = acme; ws = prod; number = 1; place = 0; key = codes "{"; twin = 0 })
       ∷ (pos 2, record { org = globex; ws = prod; number = 1; place = 0; key = codes "{"; twin = 0 })
       ∷ (pos 3, record { org = acme; ws = prod; number = 2; place = 0; key = codes "{"; twin = 1 })
       ∷ [];
-  bounds = (pos 1, record { org = acme; name = codes "ci"; until = Some 1_800_000_000; prefix = codes "pr" }) ∷ [];
+  bounds = (pos 1, record { org = acme; name = codes "ci"; it = record { until = Some 1_800_000_000; prefix = codes "pr" } }) ∷ [];
   editions = (pos 1, 3) ∷ [];
-  retentions = (pos 1, record { org = globex; ws = prod; retention = 1 }) ∷ (pos 2, record { org = acme; ws = prod; retention = 2 }) ∷ [];
+  retentions = (pos 1, record { org = globex; name = prod; it = 1 }) ∷ (pos 2, record { org = acme; name = prod; it = 2 }) ∷ [];
 }
 
 -- the keys that keep a byte: each text begins with this one
@@ -130,9 +130,9 @@ no_record = refl
 abbrev restored : Tables
 restored = record two {
   versions =
-      (pos 1, record { org = acme; ws = prod; it = record { number = 2; serial = 2; lineage = codes "a1"; created = 1_700_000_000; size = 12 } })
-      ∷ (pos 2, record { org = acme; ws = prod; it = record { number = 1; serial = 1; lineage = codes "a1"; created = 1_700_000_000; size = 12 } })
-      ∷ (pos 3, record { org = globex; ws = prod; it = record { number = 1; serial = 1; lineage = codes "a1"; created = 1_700_000_000; size = 12 } })
+      (pos 1, record { org = acme; name = prod; it = record { number = 2; serial = 2; lineage = codes "a1"; created = 1_700_000_000; size = 12 } })
+      ∷ (pos 2, record { org = acme; name = prod; it = record { number = 1; serial = 1; lineage = codes "a1"; created = 1_700_000_000; size = 12 } })
+      ∷ (pos 3, record { org = globex; name = prod; it = record { number = 1; serial = 1; lineage = codes "a1"; created = 1_700_000_000; size = 12 } })
       ∷ [];
 }
 
@@ -298,14 +298,14 @@ first_record : record_of first acme ≡ Some (record {
 first_record = refl
 
 -- as tables of the second version each token has a row, and the record is the same
-first_raised : (raised 1 first).bounds ≡ (pos 1, record { org = acme; name = codes "ci"; until = None; prefix = [] }) ∷ []
+first_raised : (raised 1 first).bounds ≡ (pos 1, record { org = acme; name = codes "ci"; it = record { until = None; prefix = [] } }) ∷ []
 first_raised = refl
 
 raised_record : record_of (raised 1 first) acme ≡ record_of first acme
 raised_record = refl
 
 -- and as tables of the third each workspace has one
-second_raised : (raised 2 (raised 1 first)).retentions ≡ (pos 1, record { org = globex; ws = prod; retention = 100 }) ∷ (pos 2, record { org = acme; ws = prod; retention = 100 }) ∷ []
+second_raised : (raised 2 (raised 1 first)).retentions ≡ (pos 1, record { org = globex; name = prod; it = 100 }) ∷ (pos 2, record { org = acme; name = prod; it = 100 }) ∷ []
 second_raised = refl
 
 second_record : record_of (raised 2 (raised 1 first)) acme ≡ record_of first acme
@@ -337,13 +337,13 @@ one = record {
   orgs = (pos 1, record { name = acme; cap = 10 }) ∷ [];
   tokens = two.tokens;
   wss = (pos 1, record { org = acme; name = prod; it = record { runs = record { auto_apply = false }; holder = Lock x1 text; released = None; next_version = 2; next_run = 2 } }) ∷ [];
-  versions = (pos 1, record { org = acme; ws = prod; it = record { number = 1; serial = 1; lineage = codes "a1"; created = 1_700_000_000; size = 12 } }) ∷ [];
+  versions = (pos 1, record { org = acme; name = prod; it = record { number = 1; serial = 1; lineage = codes "a1"; created = 1_700_000_000; size = 12 } }) ∷ [];
   runs = two.runs;
   pages = (pos 1, record { key = codes "{"; twin = 0; bytes = s1; uses = 1 }) ∷ [];
   vpages = (pos 1, record { org = acme; ws = prod; number = 1; place = 0; key = codes "{"; twin = 0 }) ∷ [];
   bounds = two.bounds;
   editions = (pos 1, 3) ∷ [];
-  retentions = (pos 1, record { org = acme; ws = prod; retention = 2 }) ∷ [];
+  retentions = (pos 1, record { org = acme; name = prod; it = 2 }) ∷ [];
 }
 
 abbrev of_one : Workspace
@@ -411,44 +411,50 @@ one_use : (b : Bool) → unwrap_or (option_map (λ (x : Kept PageRow). x.1.uses)
 one_use true = refl
 one_use false = refl
 
-one_text : HasText one (pos 1, record { org = acme; ws = prod; it = record { number = 1; serial = 1; lineage = codes "a1"; created = 1_700_000_000; size = 12 } })
+one_text : HasText one (pos 1, record { org = acme; name = prod; it = record { number = 1; serial = 1; lineage = codes "a1"; created = 1_700_000_000; size = 12 } })
 one_text zero low = (s1, refl, refl)
 one_text (suc place) low = absurd (omega (arith, low))
 
 one_is_sound : IsSound one
 one_is_sound = record {
   reported = (refl, refl);
-  orgs_apart = (tt, tt);
-  tokens_apart = (tt, tt);
-  digests_apart = (tt, tt);
-  wss_apart = (tt, tt);
-  bounds_apart = (tt, tt);
-  tokens_bound = (refl, tt);
-  retentions_apart = (tt, tt);
-  wss_kept = (refl, tt);
-  tokens_owned = (refl, tt);
-  bounds_owned = (refl, tt);
-  wss_owned = (refl, tt);
-  retentions_owned = (refl, tt);
-  versions_owned = (refl, tt);
-  runs_owned = (refl, tt);
-  org_rows = (record { named = refl; limit = omega arith }, tt);
-  token_rows = (record { named = refl; digest = refl }, tt);
-  bound_rows = (record { until = omega arith; prefix = refl }, tt);
+  accounts = record {
+    orgs_apart = (tt, tt);
+    tokens_apart = (tt, tt);
+    digests_apart = (tt, tt);
+    bounds_apart = (tt, tt);
+    tokens_bound = (refl, tt);
+    tokens_owned = (refl, tt);
+    bounds_owned = (refl, tt);
+    org_rows = (record { named = refl; limit = omega arith }, tt);
+    token_rows = (record { named = refl; digest = refl }, tt);
+    bound_rows = (record { until = omega arith; prefix = refl }, tt);
+  };
+  owned = record {
+    wss_apart = (tt, tt);
+    retentions_apart = (tt, tt);
+    wss_kept = (refl, tt);
+    wss_owned = (refl, tt);
+    retentions_owned = (refl, tt);
+    versions_owned = (refl, tt);
+    runs_owned = (refl, tt);
+  };
+  contents = record {
+    places = record { pages = record { apart = (tt, tt); differ = (tt, tt); used = (omega arith, tt) }; counted = λ key twin. one_use (bytes_eq (codes "{") key && 0 == twin); apart = (tt, tt) };
+    placed = (omega arith, tt);
+    texts = (one_text, tt);
+  };
   counts = one_counts;
-  places = record { pages = record { apart = (tt, tt); differ = (tt, tt); used = (omega arith, tt) }; counted = λ key twin. one_use (bytes_eq (codes "{") key && 0 == twin); apart = (tt, tt) };
-  placed = (omega arith, tt);
-  texts = (one_text, tt);
   workspaces = one_workspaces;
 }
 
 -- ---- two versions, whose rows stand in the order of their numbers or in another
 
 abbrev first_row : VersionRow
-first_row = record { org = acme; ws = prod; it = record { number = 1; serial = 1; lineage = codes "a1"; created = 1_700_000_000; size = 12 } }
+first_row = record { org = acme; name = prod; it = record { number = 1; serial = 1; lineage = codes "a1"; created = 1_700_000_000; size = 12 } }
 
 abbrev second_row : VersionRow
-second_row = record { org = acme; ws = prod; it = record { number = 2; serial = 2; lineage = codes "a1"; created = 1_700_000_000; size = 12 } }
+second_row = record { org = acme; name = prod; it = record { number = 2; serial = 2; lineage = codes "a1"; created = 1_700_000_000; size = 12 } }
 
 abbrev of_rows : List (Kept VersionRow) → Tables
 of_rows rows = record one {
@@ -521,35 +527,41 @@ module _ (rows : List (Kept VersionRow)) where
   text_of_second zero low = (s1, refl, refl)
   text_of_second (suc place) low = absurd (omega (arith, low))
 
-  both_are_sound : workspace_by (of_rows rows) acme prod ≡ Some of_both → AllByRecursion (λ (x : Kept VersionRow). list_any (is_ws x.1.org x.1.ws) (of_rows rows).wss ≡ true) rows
+  both_are_sound : workspace_by (of_rows rows) acme prod ≡ Some of_both → AllByRecursion (λ (x : Kept VersionRow). list_any (is_ws x.1.org x.1.name) (of_rows rows).wss ≡ true) rows
       → AllByRecursion (IsPlaced (of_rows rows)) (of_rows rows).vpages → AllByRecursion (HasText (of_rows rows)) rows → IsSound (of_rows rows)
   both_are_sound denoted owned placed texts = record {
     reported = (refl, refl);
-    orgs_apart = (tt, tt);
-    tokens_apart = (tt, tt);
-    digests_apart = (tt, tt);
-    wss_apart = (tt, tt);
-    bounds_apart = (tt, tt);
-    tokens_bound = (refl, tt);
-    retentions_apart = (tt, tt);
-    wss_kept = (refl, tt);
-    tokens_owned = (refl, tt);
-    bounds_owned = (refl, tt);
-    wss_owned = (refl, tt);
-    retentions_owned = (refl, tt);
-    versions_owned = owned;
-    runs_owned = (refl, tt);
-    org_rows = one_is_sound.org_rows;
-    token_rows = one_is_sound.token_rows;
-    bound_rows = one_is_sound.bound_rows;
-    counts = both_counts;
-    places = record {
-      pages = record { apart = (tt, tt); differ = (tt, tt); used = (omega arith, tt) };
-      counted = λ key twin. both_uses (bytes_eq (codes "{") key && 0 == twin);
-      apart = ((refl, tt), (tt, tt));
+    accounts = record {
+      orgs_apart = (tt, tt);
+      tokens_apart = (tt, tt);
+      digests_apart = (tt, tt);
+      bounds_apart = (tt, tt);
+      tokens_bound = (refl, tt);
+      tokens_owned = (refl, tt);
+      bounds_owned = (refl, tt);
+      org_rows = one_is_sound.org_rows;
+      token_rows = one_is_sound.token_rows;
+      bound_rows = one_is_sound.bound_rows;
     };
-    placed = placed;
-    texts = texts;
+    owned = record {
+      wss_apart = (tt, tt);
+      retentions_apart = (tt, tt);
+      wss_kept = (refl, tt);
+      wss_owned = (refl, tt);
+      retentions_owned = (refl, tt);
+      versions_owned = owned;
+      runs_owned = (refl, tt);
+    };
+    contents = record {
+      places = record {
+        pages = record { apart = (tt, tt); differ = (tt, tt); used = (omega arith, tt) };
+        counted = λ key twin. both_uses (bytes_eq (codes "{") key && 0 == twin);
+        apart = ((refl, tt), (tt, tt));
+      };
+      placed = placed;
+      texts = texts;
+    };
+    counts = both_counts;
     workspaces = both_workspaces denoted;
   }
 
@@ -638,7 +650,7 @@ wsless_is_not sound = true≢false (sym sound.retentions_owned.0)
 
 -- a workspace that keeps none
 abbrev keepless : Tables
-keepless = record two { retentions = (pos 1, record { org = globex; ws = prod; retention = 0 }) ∷ (pos 2, record { org = acme; ws = prod; retention = 2 }) ∷ [] }
+keepless = record two { retentions = (pos 1, record { org = globex; name = prod; it = 0 }) ∷ (pos 2, record { org = acme; name = prod; it = 2 }) ∷ [] }
 
 keepless_is_not : IsSound keepless → ⊥
 keepless_is_not sound = absurd (let least = (sound.workspaces globex prod (record of_globex { settings = record { runs = record { auto_apply = true }; retention = 0 } }) refl).lawful.versions.retention.0 in omega (arith, least))

@@ -57,7 +57,7 @@ use Rattle.texts.proofs.PieceLaws.{whole_size, same_is}
 use Rattle.tables.proofs.TextLists.{all_passing}
 use Rattle.tables.proofs.Sorted.{greater_is, sorted_anew, put_in_turn, found_sorted, count_sorted}
 use Rattle.tables.proofs.Ordered.{by_version, by_run, by_version_total, by_run_total, runs_total, versions_in, runs_in, versions_sorted, runs_sorted}
-use Rattle.tables.proofs.TextRows.{AreTexts, sound_texts, version_row_parts}
+use Rattle.tables.proofs.TextRows.{AreTexts, version_row_parts}
 use Rattle.tables.proofs.NoGaps.{outgoing_by_number}
 use Rattle.tables.proofs.Names.{apart_name, pair_first, pair_second}
 use Rattle.tables.proofs.Parts.{none_mapped}
@@ -205,7 +205,7 @@ module _ (t : Tables) (org ws : List ℕ) where
   body_found n =
       by_row (find (is_version org ws n) t.versions) refl
       ∙ ap (λ (o : Option (Kept VersionRow)). option_map (λ (v : Version). v.text) (option_map (λ (x : Kept VersionRow). version_at t org ws x.1.it) o))
-      (find_same (is_version org ws n) (λ x. is_version_of org ws x && numbered n (version_at t org ws x.1.it)) (λ x. sym (and_assoc (bytes_eq x.1.org org) (bytes_eq x.1.ws ws) (x.1.it.number == n))) t.versions)
+      (find_same (is_version org ws n) (λ x. is_version_of org ws x && numbered n (version_at t org ws x.1.it)) (λ x. sym (and_assoc (bytes_eq x.1.org org) (bytes_eq x.1.name ws) (x.1.it.number == n))) t.versions)
       ∙ ap (option_map (λ (v : Version). v.text)) (find-slice (is_version_of org ws) (λ (x : Kept VersionRow). version_at t org ws x.1.it) (numbered n) t.versions ∙ sym (version_stays t org ws n))
     where
       by_row : (r : Option (Kept VersionRow)) → find (is_version org ws n) t.versions ≡ r
@@ -222,8 +222,8 @@ module _ (t : Tables) (org ws : List ℕ) where
   waiting_rows : filter (finds.is_waiting_of org ws) t.runs ≡ filter waits (filter (is_run_of org ws) t.runs)
   waiting_rows =
       filter_same (finds.is_waiting_of org ws) (λ x. is_run_of org ws x && waits x)
-      (λ x. sym (and_assoc (bytes_eq x.1.org org) (bytes_eq x.1.ws ws) (finds.is_pending_of x.1.it.status && not x.1.it.plan_only))
-      ∙ ap (λ (b : Bool). (bytes_eq x.1.org org && bytes_eq x.1.ws ws) && (b && not x.1.it.plan_only)) (pending_same x.1.it.status)) t.runs
+      (λ x. sym (and_assoc (bytes_eq x.1.org org) (bytes_eq x.1.name ws) (finds.is_pending_of x.1.it.status && not x.1.it.plan_only))
+      ∙ ap (λ (b : Bool). (bytes_eq x.1.org org && bytes_eq x.1.name ws) && (b && not x.1.it.plan_only)) (pending_same x.1.it.status)) t.runs
       ∙ filter_both (is_run_of org ws) waits t.runs
 
   pub first_waiting_found : first_waiting_of org ws t ≡ first_waiting (runs_at t org ws)
@@ -235,7 +235,7 @@ module _ (t : Tables) (org ws : List ℕ) where
 
   pub status_found : (n : ℕ) → status_at_number org ws n t ≡ option_map (λ (r : Run). r.status) (run_of n (runs_at t org ws))
   status_found n =
-      ap (option_map (λ (x : Kept RunRow). x.1.it.status)) (find_same (is_run_row org ws n) (λ x. is_run_of org ws x && x.1.it.number == n) (λ x. sym (and_assoc (bytes_eq x.1.org org) (bytes_eq x.1.ws ws) (x.1.it.number == n))) t.runs)
+      ap (option_map (λ (x : Kept RunRow). x.1.it.status)) (find_same (is_run_row org ws n) (λ x. is_run_of org ws x && x.1.it.number == n) (λ x. sym (and_assoc (bytes_eq x.1.org org) (bytes_eq x.1.name ws) (x.1.it.number == n))) t.runs)
       ∙ mapped (λ (x : Kept RunRow). x.1.it) (λ (r : Run). r.status) (find (λ x. is_run_of org ws x && x.1.it.number == n) t.runs)
       ∙ ap (option_map (λ (r : Run). r.status)) (find-slice (is_run_of org ws) (λ (x : Kept RunRow). x.1.it) (λ (r : Run). r.number == n) t.runs ∙ sym (run_stays t org ws n))
 
@@ -246,12 +246,12 @@ module _ (t : Tables) (org ws : List ℕ) where
       ∙ find-slice (is_run_of org ws) (λ (x : Kept RunRow). x.1.it) q t.runs
 
   numbered_found : (n : ℕ) → finds.run_at_number org ws n t ≡ run_of n (runs_at t org ws)
-  numbered_found n = run_found (is_run_row org ws n) (is_numbered n) (λ x. sym (and_assoc (bytes_eq x.1.org org) (bytes_eq x.1.ws ws) (x.1.it.number == n))) ∙ sym (run_stays t org ws n)
+  numbered_found n = run_found (is_run_row org ws n) (is_numbered n) (λ x. sym (and_assoc (bytes_eq x.1.org org) (bytes_eq x.1.name ws) (x.1.it.number == n))) ∙ sym (run_stays t org ws n)
 
   keyed_found : KeysDiffer (runs_at t org ws) → (key : Option (List ℕ)) → keyed_run_in key org ws t ≡ keyed_run key (runs_at t org ws)
   keyed_found differ None = refl
   keyed_found differ (Some key) = run_found (finds.is_run_with_key org ws key) (is_keyed key) (λ x.
-      sym (and_assoc (bytes_eq x.1.org org) (bytes_eq x.1.ws ws) (finds.is_key_of key x.1.it.key)) ∙ ap (λ (b : Bool). (bytes_eq x.1.org org && bytes_eq x.1.ws ws) && b) (key_same key x.1.it.key))
+      sym (and_assoc (bytes_eq x.1.org org) (bytes_eq x.1.name ws) (finds.is_key_of key x.1.it.key)) ∙ ap (λ (b : Bool). (bytes_eq x.1.org org && bytes_eq x.1.name ws) && b) (key_same key x.1.it.key))
       ∙ sym (keyed_stays t org ws key differ)
 
   pub asked_run_found : KeysDiffer (runs_at t org ws) → (number : Option ℕ) (key : Option (List ℕ)) → asked_run_in number key org ws t ≡ asked_run number key (runs_at t org ws)
@@ -267,7 +267,7 @@ module _ (t : Tables) (org ws : List ℕ) where
           ap open_runs (runs_sorted t org ws) ∙ count_sorted by_run by_run_total (λ (r : Run). is_open r.status) (runs_in t org ws)
           ∙ ap length (sym (filter-slice (is_run_of org ws) (λ (x : Kept RunRow). x.1.it) (λ (r : Run). is_open r.status) t.runs))
           ∙ length-map (filter (λ (x : Kept RunRow). is_run_of org ws x && is_open x.1.it.status) t.runs) (λ (x : Kept RunRow). x.1.it)
-          ∙ ap length (sym (filter_same (finds.is_open_run_of org ws) (λ (x : Kept RunRow). is_run_of org ws x && is_open x.1.it.status) (λ x. sym (and_assoc (bytes_eq x.1.org org) (bytes_eq x.1.ws ws) (is_open x.1.it.status))) t.runs))
+          ∙ ap length (sym (filter_same (finds.is_open_run_of org ws) (λ (x : Kept RunRow). is_run_of org ws x && is_open x.1.it.status) (λ x. sym (and_assoc (bytes_eq x.1.org org) (bytes_eq x.1.name ws) (is_open x.1.it.status))) t.runs))
 
       least : (n m : ℕ) → m ≡ n → m ≤ 100 → min n 9_223_372_036_854_775_807 ≡ m
       least n m e h = omega arith
@@ -282,7 +282,7 @@ module _ (t : Tables) (org ws : List ℕ) where
     kept_found : (n : ℕ) → is_some (size_of org ws n t) ≡ is_some (version_of n (versions_at t org ws))
     kept_found n =
         is_some-map (λ (x : Kept VersionRow). x.1.it.size) (find (is_version org ws n) t.versions)
-        ∙ ap is_some (find_same (is_version org ws n) (λ x. is_version_of org ws x && numbered n (version_at t org ws x.1.it)) (λ x. sym (and_assoc (bytes_eq x.1.org org) (bytes_eq x.1.ws ws) (x.1.it.number == n))) t.versions)
+        ∙ ap is_some (find_same (is_version org ws n) (λ x. is_version_of org ws x && numbered n (version_at t org ws x.1.it)) (λ x. sym (and_assoc (bytes_eq x.1.org org) (bytes_eq x.1.name ws) (x.1.it.number == n))) t.versions)
         ∙ sym (is_some-map (λ (x : Kept VersionRow). version_at t org ws x.1.it) (find (λ x. is_version_of org ws x && numbered n (version_at t org ws x.1.it)) t.versions))
         ∙ ap is_some (find-slice (is_version_of org ws) (λ (x : Kept VersionRow). version_at t org ws x.1.it) (numbered n) t.versions ∙ sym (version_stays t org ws n))
         ∙ ap is_some (first_is_last 0 next n (versions_at t org ws) rise)
@@ -298,7 +298,7 @@ module _ (t : Tables) (org ws : List ℕ) where
     where
       whole : (x : Kept VersionRow) → HasText t x → is_version_of org ws x ≡ true → IsWhole org ws x.1.it.number x.1.it.size t
       whole x there e =
-          subst (λ (p : List ℕ). IsWhole p ws x.1.it.number x.1.it.size t) (pair_first org ws x.1.org x.1.ws e) (subst (λ (q : List ℕ). IsWhole x.1.org q x.1.it.number x.1.it.size t) (pair_second org ws x.1.org x.1.ws e) there)
+          subst (λ (p : List ℕ). IsWhole p ws x.1.it.number x.1.it.size t) (pair_first org ws x.1.org x.1.name e) (subst (λ (q : List ℕ). IsWhole x.1.org q x.1.it.number x.1.it.size t) (pair_second org ws x.1.org x.1.name e) there)
 
   -- where numbers rise, the rows from the greatest number down are those in the order of numbers, the other way round
   above : (x y : Kept VersionRow) → x.1.it.number < y.1.it.number → back_by_number x y ≡ Greater
@@ -450,7 +450,7 @@ module _ (t : Tables) (sound : IsSound t) (org : List ℕ) where
             released = w.released;
             next_version = w.next_version;
             next_run = w.next_run;
-            newest = if_needed (needs act).newest (newest_unit_found t org ws w.next_version lawful.versions.rise (sound_texts t sound) (needs act).text i);
+            newest = if_needed (needs act).newest (newest_unit_found t org ws w.next_version lawful.versions.rise sound.contents (needs act).text i);
             outgoing = outgoing_found t org ws w.next_version lawful.versions.rise (sound.workspaces org ws _ stands).gapless lawful.versions.next.1 (needs act).outgoing (retention_in (needs act).retention org ws t) i;
             first_waiting = if_needed (needs act).waiting (first_waiting_found t org ws i);
             has_version = has_version_found t org ws w.next_version lawful.versions.rise (needs act).version i;
@@ -480,15 +480,15 @@ module _ (t : Tables) (sound : IsSound t) (org : List ℕ) where
   none_is ws e = any_is_found (is_ws org ws) t.wss ∙ ap is_some (none_mapped (λ (x : Kept WsRow). x.1.it) (find (is_ws org ws) t.wss) e)
 
   pub no_version_rows : (ws : List ℕ) → workspace_of org ws t ≡ None → filter (is_version_of org ws) t.versions ≡ []
-  no_version_rows ws e = no_orphans (is_version_of org ws) (λ x. is_ws x.1.org x.1.ws) t.wss
-      (λ x f. ap₂ (λ (a b : List ℕ). list_any (is_ws a b) t.wss) (pair_first org ws x.1.org x.1.ws f) (pair_second org ws x.1.org x.1.ws f) ∙ none_is ws e) t.versions sound.versions_owned
+  no_version_rows ws e = no_orphans (is_version_of org ws) (λ x. is_ws x.1.org x.1.name) t.wss
+      (λ x f. ap₂ (λ (a b : List ℕ). list_any (is_ws a b) t.wss) (pair_first org ws x.1.org x.1.name f) (pair_second org ws x.1.org x.1.name f) ∙ none_is ws e) t.versions sound.versions_owned
 
   pub no_versions : (ws : List ℕ) → workspace_of org ws t ≡ None → versions_at t org ws ≡ []
   no_versions ws e = ap (λ (xs : List (Kept VersionRow)). map (λ (x : Kept VersionRow). version_at t org ws x.1.it) (sort_by version_cmp xs)) (no_version_rows ws e)
 
   pub no_run_rows : (ws : List ℕ) → workspace_of org ws t ≡ None → filter (is_run_of org ws) t.runs ≡ []
-  no_run_rows ws e = no_orphans (is_run_of org ws) (λ x. is_ws x.1.org x.1.ws) t.wss
-      (λ x f. ap₂ (λ (a b : List ℕ). list_any (is_ws a b) t.wss) (pair_first org ws x.1.org x.1.ws f) (pair_second org ws x.1.org x.1.ws f) ∙ none_is ws e) t.runs sound.runs_owned
+  no_run_rows ws e = no_orphans (is_run_of org ws) (λ x. is_ws x.1.org x.1.name) t.wss
+      (λ x f. ap₂ (λ (a b : List ℕ). list_any (is_ws a b) t.wss) (pair_first org ws x.1.org x.1.name f) (pair_second org ws x.1.org x.1.name f) ∙ none_is ws e) t.runs sound.runs_owned
 
   pub no_runs : (ws : List ℕ) → workspace_of org ws t ≡ None → runs_at t org ws ≡ []
   no_runs ws e = ap (λ (xs : List (Kept RunRow)). map (λ (x : Kept RunRow). x.1.it) (sort_by run_cmp xs)) (no_run_rows ws e)

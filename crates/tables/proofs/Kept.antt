@@ -5,7 +5,6 @@ use Rattle.std.specs.Str.{bytes_eq}
 use Rattle.std.specs.List.{AllByRecursion, list_any}
 use Rattle.std.specs.FinMap.{get, empty, len-entries, len-empty}
 use Rattle.sqlite_keyed.specs.Keyed.{next_key}
-use Rattle.sqlite_keyed.specs.Rules.{AreApart}
 use Rattle.sqlite_keyed.proofs.ListLemmas.{all_weaker, all-append, none_from_any}
 use Rattle.sqlite_keyed.proofs.SliceLemmas.{any_is_found, is_some-map}
 use Rattle.basis.specs.Names.{is_org_name, is_ws_name, is_prefix}
@@ -29,10 +28,10 @@ use Rattle.statements.specs.Changes.{is_org, is_token, is_digest_of, is_bound, o
 use Rattle.statements.specs.Finds.{cap_of, role_of_name, role_of_digest}
 use Rattle.statements.proofs.Found.{apart_pushed}
 use Rattle.tables.specs.Records.{workspace_by, tokens_at, organization_at, record_of}
-use Rattle.tables.specs.Sound.{StoresVersion, IsOrgRow, IsTokenRow, IsBoundRow, IsGapless, IsSoundWorkspace, IsSound}
+use Rattle.tables.specs.Sound.{StoresVersion, IsOrgRow, IsTokenRow, IsBoundRow, IsGapless, IsSoundWorkspace, IsSound, AreAccountsIn}
 use Rattle.tables.specs.Inner.Edits.{changed_rows, TakesEdit}
 use Rattle.texts.proofs.TextLaws.{carried_sound, no_rows_sound}
-use Rattle.tables.proofs.TextRows.{AreTexts, sound_texts, texts_carried, KeepsWorkspaces, workspace_carried, workspaces_carried}
+use Rattle.tables.proofs.TextRows.{AreTexts, texts_carried, KeepsWorkspaces, workspace_carried, workspaces_carried}
 use Rattle.tables.proofs.KeptTexts.{changed_texts}
 use Rattle.tables.proofs.Names.{is_pair, pair_is, pair_first, pair_second, turned_apart}
 use Rattle.tables.proofs.Reporting.{reported_changed}
@@ -42,35 +41,9 @@ use Rattle.tables.proofs.Edits.{changed_puts}
 use Rattle.tables.proofs.Changes.{lawful_after, gapless_after}
 use Rattle.tables.proofs.Lawful.{limit_there, limit_is}
 use Rattle.tables.proofs.Counting.{count_within}
-use Rattle.tables.proofs.Owned.{AreOwned, changed_are_owned, any_pushed, last_found, pair_turned}
+use Rattle.tables.proofs.Belonging.{any_pushed, pair_turned, apart_more, of_orgs_more, of_other_orgs, both_more}
+use Rattle.tables.proofs.Owned.{AreOwned, accounts_in, owned_in, changed_are_owned}
 use Rattle.tables.proofs.Managed.{org_own, org_other, none_bound}
-
--- the laws of the rows of organizations and tokens, and of how far these reach, alone
-record AreInOrder (orgs : List (Kept OrgRow)) (tokens : List (Kept TokenRow)) (bounds : List (Kept BoundRow)) : Type 0 where
-  orgs_apart : AreApart (λ a b. is_org a.1.name b) orgs
-  tokens_apart : AreApart (λ a b. is_token a.1.org a.1.name b) tokens
-  digests_apart : AreApart (λ a b. is_digest_of a.1.org a.1.it.digest b) tokens
-  bounds_apart : AreApart (λ a b. is_bound a.1.org a.1.name b) bounds
-  tokens_bound : AllByRecursion (λ x. list_any (is_bound x.1.org x.1.name) bounds ≡ true) tokens
-  tokens_owned : AllByRecursion (λ x. list_any (is_org x.1.org) orgs ≡ true) tokens
-  bounds_owned : AllByRecursion (λ x. list_any (is_token x.1.org x.1.name) tokens ≡ true) bounds
-  org_rows : AllByRecursion IsOrgRow orgs
-  token_rows : AllByRecursion IsTokenRow tokens
-  bound_rows : AllByRecursion IsBoundRow bounds
-
-sound_in_order : (t : Tables) → IsSound t → AreInOrder t.orgs t.tokens t.bounds
-sound_in_order t sound = record {
-  orgs_apart = sound.orgs_apart;
-  tokens_apart = sound.tokens_apart;
-  digests_apart = sound.digests_apart;
-  bounds_apart = sound.bounds_apart;
-  tokens_bound = sound.tokens_bound;
-  tokens_owned = sound.tokens_owned;
-  bounds_owned = sound.bounds_owned;
-  org_rows = sound.org_rows;
-  token_rows = sound.token_rows;
-  bound_rows = sound.bound_rows;
-}
 
 if_there : (P : Workspace → Type 0) (o : Option Workspace) (w : Workspace) → IfSome o P → o ≡ Some w → P w
 if_there P None w h e = absurd (let none : ⊥ = cc in none)
@@ -84,8 +57,9 @@ org_there t org cap e = any_is_found (is_org org) t.orgs ∙ sym (is_some-map (�
 -- a lawful workspace that is put in its place, or goes from it, leaves sound tables sound, where what they say of texts and of owners holds
 module _ (org ws : List ℕ) (after : Option Workspace) (t u : Tables) (sound : IsSound t) (named : IsTrue (is_ws_name ws)) (lawful : IsLawfulIfThere after) (gapless : IfSome after IsGapless) (o : Organization) (there : record_of t org ≡ Some o)
     (few : count_of (placed o ws after) ≤ 100_000) (reported : StoresVersion SCHEMA_VERSION u) (texts : AreTexts u) (owned : AreOwned u) (puts : Puts org ws after t u) where
-  put_in_order : AreInOrder u.orgs u.tokens u.bounds
-  put_in_order = subst (λ os. AreInOrder os u.tokens u.bounds) (sym puts.orgs) (subst (λ ts. AreInOrder t.orgs ts u.bounds) (sym puts.tokens) (subst (λ bs. AreInOrder t.orgs t.tokens bs) (sym puts.bounds) (sound_in_order t sound)))
+  accounts : AreAccountsIn SCHEMA_VERSION u.orgs u.tokens u.bounds
+  accounts =
+      subst (λ os. AreAccountsIn SCHEMA_VERSION os u.tokens u.bounds) (sym puts.orgs) (subst (λ ts. AreAccountsIn SCHEMA_VERSION t.orgs ts u.bounds) (sym puts.tokens) (subst (AreAccountsIn SCHEMA_VERSION t.orgs t.tokens) (sym puts.bounds) sound.accounts))
 
   put_is : (a b : List ℕ) (w : Workspace) → workspace_by u a b ≡ Some w → is_pair org ws a b ≡ true → after ≡ Some w
   put_is a b w e same = sym puts.own ∙ subst (λ (x : List ℕ). workspace_by u x ws ≡ Some w) (pair_first org ws a b same) (subst (λ (y : List ℕ). workspace_by u a y ≡ Some w) (pair_second org ws a b same) e)
@@ -107,27 +81,10 @@ module _ (org ws : List ℕ) (after : Option Workspace) (t u : Tables) (sound : 
   pub placed_keeps : IsSound u
   placed_keeps = record {
     reported = reported;
-    orgs_apart = put_in_order.orgs_apart;
-    tokens_apart = put_in_order.tokens_apart;
-    digests_apart = put_in_order.digests_apart;
-    wss_apart = owned.wss_apart;
-    bounds_apart = put_in_order.bounds_apart;
-    tokens_bound = put_in_order.tokens_bound;
-    tokens_owned = put_in_order.tokens_owned;
-    bounds_owned = put_in_order.bounds_owned;
-    retentions_apart = owned.retentions_apart;
-    wss_kept = owned.wss_kept;
-    wss_owned = owned.wss_owned;
-    retentions_owned = owned.retentions_owned;
-    versions_owned = owned.versions_owned;
-    runs_owned = owned.runs_owned;
-    org_rows = put_in_order.org_rows;
-    token_rows = put_in_order.token_rows;
-    bound_rows = put_in_order.bound_rows;
+    accounts = accounts;
+    owned = owned;
+    contents = texts;
     counts = λ q p e. put_within q p e (bytes_eq q org) refl;
-    places = texts.places;
-    placed = texts.placed;
-    texts = texts.texts;
     workspaces = λ a b w e. named_there a b w e (is_pair org ws a b) refl;
   }
 
@@ -150,35 +107,23 @@ no_row t org e = none_from_any (is_org org) t.orgs (any_is_found (is_org org) t.
 pub org_added_keeps : (org : List ℕ) (limit : ℕ) (t : Tables) → IsSound t → IsTrue (is_org_name org) → limit ≤ 100_000 → cap_of org t ≡ None → IsSound (org_row_added org limit t)
 org_added_keeps org limit t sound named most none = record {
   reported = sound.reported;
-  orgs_apart = apart_pushed (λ a b. is_org a.1.name b) t.orgs new sound.orgs_apart (all_weaker (λ x. is_org org x ≡ false) (λ x. is_org x.1.name new ≡ false) (λ x e. turned_apart x.1.name org e) t.orgs (no_row t org none));
-  tokens_apart = sound.tokens_apart;
-  digests_apart = sound.digests_apart;
-  wss_apart = sound.wss_apart;
-  bounds_apart = sound.bounds_apart;
-  tokens_bound = sound.tokens_bound;
-  bounds_owned = sound.bounds_owned;
-  tokens_owned = all_weaker (λ x. list_any (is_org x.1.org) t.orgs ≡ true) (λ x. list_any (is_org x.1.org) (t.orgs ++ new ∷ []) ≡ true) (λ x e. any_pushed (is_org x.1.org) t.orgs new e) t.tokens sound.tokens_owned;
-  wss_owned = all_weaker (λ x. list_any (is_org x.1.org) t.orgs ≡ true) (λ x. list_any (is_org x.1.org) (t.orgs ++ new ∷ []) ≡ true) (λ x e. any_pushed (is_org x.1.org) t.orgs new e) t.wss sound.wss_owned;
-  retentions_apart = sound.retentions_apart;
-  wss_kept = sound.wss_kept;
-  retentions_owned = sound.retentions_owned;
-  versions_owned = sound.versions_owned;
-  runs_owned = sound.runs_owned;
-  org_rows = all-append IsOrgRow t.orgs (new ∷ []) sound.org_rows (record { named = named; limit = most }, tt);
-  token_rows = sound.token_rows;
-  bound_rows = sound.bound_rows;
+  accounts = accounts_in t (t.orgs ++ new ∷ []) sound
+      (apart_pushed (λ a b. is_org a.1.name b) t.orgs new sound.orgs_apart (all_weaker (λ x. is_org org x ≡ false) (λ x. is_org x.1.name new ≡ false) (λ x e. turned_apart x.1.name org e) t.orgs (no_row t org none)))
+      (all-append IsOrgRow t.orgs (new ∷ []) sound.org_rows (record { named = named; limit = most }, tt)) (of_other_orgs t.tokens t.orgs (t.orgs ++ new ∷ []) still sound.tokens_owned);
+  owned = owned_in t (t.orgs ++ new ∷ []) sound (of_other_orgs t.wss t.orgs (t.orgs ++ new ∷ []) still sound.wss_owned);
+  contents = texts;
   counts = λ q o e. within q o e (bytes_eq q org) refl;
-  places = texts.places;
-  placed = texts.placed;
-  texts = texts.texts;
   workspaces = λ a w v e. sound.workspaces a w v (sym (workspace_carried t (org_row_added org limit t) (record { wss = refl; versions = refl; runs = refl; pages = refl; vpages = refl; kept = λ o w. refl }) a w) ∙ e);
 }
   where
     new : Kept OrgRow
     new = (next_key id_of t.orgs, record { name = org; cap = limit })
 
+    still : (q : List ℕ) → list_any (is_org q) t.orgs ≡ true → list_any (is_org q) (t.orgs ++ new ∷ []) ≡ true
+    still q = any_pushed (is_org q) t.orgs new
+
     texts : AreTexts (org_row_added org limit t)
-    texts = texts_carried t (org_row_added org limit t) refl refl refl (sound_texts t sound)
+    texts = texts_carried t (org_row_added org limit t) refl refl refl sound.contents
 
     none_yet : count_of (new_organization limit) ≡ 0
     none_yet = sym (len-entries (empty {X = Workspace} {R = name_cmp})) ∙ len-empty name_cmp Workspace
@@ -194,37 +139,23 @@ pub token_added_keeps : (org name digest : List ℕ) (role : Role) (bounds : Bou
     → role_of_name org name t ≡ None → role_of_digest org digest t ≡ None → IsSound (token_added org name digest role bounds.until bounds.prefix t)
 token_added_keeps org name digest role bounds t sound named long ends begins cap there unnamed unknown = record {
   reported = sound.reported;
-  orgs_apart = sound.orgs_apart;
-  tokens_apart = apart_pushed (λ a b. is_token a.1.org a.1.name b) t.tokens new sound.tokens_apart
-      (all_weaker (λ x. is_token org name x ≡ false) (λ x. is_token x.1.org x.1.name new ≡ false) (λ x e. pair_turned org name x.1.org x.1.name e) t.tokens
-      (none_from_any (is_token org name) t.tokens (any_is_found (is_token org name) t.tokens ∙ ap is_some no_such)));
-  digests_apart = apart_pushed (λ a b. is_digest_of a.1.org a.1.it.digest b) t.tokens new sound.digests_apart
-      (all_weaker (λ x. is_digest_of org digest x ≡ false) (λ x. is_digest_of x.1.org x.1.it.digest new ≡ false) (λ x e. pair_turned org digest x.1.org x.1.it.digest e) t.tokens
-      (none_from_any (is_digest_of org digest) t.tokens (any_is_found (is_digest_of org digest) t.tokens ∙ ap is_some (none_mapped (λ (x : Kept TokenRow). x.1.it.role) (find (is_digest_of org digest) t.tokens) unknown))));
-  wss_apart = sound.wss_apart;
-  bounds_apart = apart_pushed (λ a b. is_bound a.1.org a.1.name b) t.bounds new_bound sound.bounds_apart
-      (all_weaker (λ x. is_bound org name x ≡ false) (λ x. is_bound x.1.org x.1.name new_bound ≡ false) (λ x e. pair_turned org name x.1.org x.1.name e) t.bounds
-      (none_from_any (is_bound org name) t.bounds (any_is_found (is_bound org name) t.bounds ∙ ap is_some (none_bound t sound org name no_such))));
-  tokens_bound = all-append (λ x. list_any (is_bound x.1.org x.1.name) (t.bounds ++ new_bound ∷ []) ≡ true) t.tokens (new ∷ [])
-      (all_weaker (λ x. list_any (is_bound x.1.org x.1.name) t.bounds ≡ true) (λ x. list_any (is_bound x.1.org x.1.name) (t.bounds ++ new_bound ∷ []) ≡ true) (λ x e. any_pushed (is_bound x.1.org x.1.name) t.bounds new_bound e) t.tokens sound.tokens_bound)
-      (last_found (is_bound org name) t.bounds new_bound (pair_is org name), tt);
-  tokens_owned = all-append (λ x. list_any (is_org x.1.org) t.orgs ≡ true) t.tokens (new ∷ []) sound.tokens_owned (org_there t org cap there, tt);
-  bounds_owned = all-append (λ x. list_any (is_token x.1.org x.1.name) (t.tokens ++ new ∷ []) ≡ true) t.bounds (new_bound ∷ [])
-      (all_weaker (λ x. list_any (is_token x.1.org x.1.name) t.tokens ≡ true) (λ x. list_any (is_token x.1.org x.1.name) (t.tokens ++ new ∷ []) ≡ true) (λ x e. any_pushed (is_token x.1.org x.1.name) t.tokens new e) t.bounds sound.bounds_owned)
-      (last_found (is_token org name) t.tokens new (pair_is org name), tt);
-  wss_owned = sound.wss_owned;
-  retentions_apart = sound.retentions_apart;
-  wss_kept = sound.wss_kept;
-  retentions_owned = sound.retentions_owned;
-  versions_owned = sound.versions_owned;
-  runs_owned = sound.runs_owned;
-  org_rows = sound.org_rows;
-  token_rows = all-append IsTokenRow t.tokens (new ∷ []) sound.token_rows (record { named = named; digest = long }, tt);
-  bound_rows = all-append IsBoundRow t.bounds (new_bound ∷ []) sound.bound_rows (record { until = ends; prefix = begins }, tt);
+  accounts = record {
+    orgs_apart = sound.orgs_apart;
+    tokens_apart = apart_more t.tokens new (none_from_any (is_token org name) t.tokens (any_is_found (is_token org name) t.tokens ∙ ap is_some no_such)) sound.tokens_apart;
+    digests_apart = apart_pushed (λ a b. is_digest_of a.1.org a.1.it.digest b) t.tokens new sound.digests_apart
+        (all_weaker (λ x. is_digest_of org digest x ≡ false) (λ x. is_digest_of x.1.org x.1.it.digest new ≡ false) (λ x e. pair_turned org digest x.1.org x.1.it.digest e) t.tokens
+        (none_from_any (is_digest_of org digest) t.tokens (any_is_found (is_digest_of org digest) t.tokens ∙ ap is_some (none_mapped (λ (x : Kept TokenRow). x.1.it.role) (find (is_digest_of org digest) t.tokens) unknown))));
+    bounds_apart = apart_more t.bounds new_bound (none_from_any (is_bound org name) t.bounds (any_is_found (is_bound org name) t.bounds ∙ ap is_some (none_bound t sound org name no_such))) sound.bounds_apart;
+    tokens_bound = both_more t.bounds t.tokens new_bound new (pair_is org name) sound.tokens_bound;
+    tokens_owned = of_orgs_more t.tokens t.orgs new (org_there t org cap there) sound.tokens_owned;
+    bounds_owned = both_more t.tokens t.bounds new new_bound (pair_is org name) sound.bounds_owned;
+    org_rows = sound.org_rows;
+    token_rows = all-append IsTokenRow t.tokens (new ∷ []) sound.token_rows (record { named = named; digest = long }, tt);
+    bound_rows = all-append IsBoundRow t.bounds (new_bound ∷ []) sound.bound_rows (record { until = ends; prefix = begins }, tt);
+  };
+  owned = sound.owned;
+  contents = texts;
   counts = λ q o e. within q o (cap_of q t) refl e;
-  places = texts.places;
-  placed = texts.placed;
-  texts = texts.texts;
   workspaces = λ a w v e. sound.workspaces a w v (sym (workspace_carried t (token_added org name digest role bounds.until bounds.prefix t) same_rows a w) ∙ e);
 }
   where
@@ -232,7 +163,7 @@ token_added_keeps org name digest role bounds t sound named long ends begins cap
     new = (next_key id_of t.tokens, record { org = org; name = name; it = record { digest = digest; role = role } })
 
     new_bound : Kept BoundRow
-    new_bound = (next_key id_of t.bounds, record { org = org; name = name; until = bounds.until; prefix = bounds.prefix })
+    new_bound = (next_key id_of t.bounds, record { org = org; name = name; it = record { until = bounds.until; prefix = bounds.prefix } })
 
     no_such : find (is_token org name) t.tokens ≡ None
     no_such = none_mapped (λ (x : Kept TokenRow). x.1.it.role) (find (is_token org name) t.tokens) unnamed
@@ -241,7 +172,7 @@ token_added_keeps org name digest role bounds t sound named long ends begins cap
     same_rows = record { wss = refl; versions = refl; runs = refl; pages = refl; vpages = refl; kept = λ o w. refl }
 
     texts : AreTexts (token_added org name digest role bounds.until bounds.prefix t)
-    texts = texts_carried t (token_added org name digest role bounds.until bounds.prefix t) refl refl refl (sound_texts t sound)
+    texts = texts_carried t (token_added org name digest role bounds.until bounds.prefix t) refl refl refl sound.contents
 
     within : (q : List ℕ) (o : Organization) (c : Option ℕ) → cap_of q t ≡ c → option_map (organization_at (token_added org name digest role bounds.until bounds.prefix t) q) c ≡ Some o → count_of o ≤ 100_000
     within q o None f e = absurd (let none : ⊥ = cc in none)
@@ -257,26 +188,32 @@ no_record editions org = refl
 pub no_rows_are_sound : (editions : List (Kept ℕ)) → StoresVersion SCHEMA_VERSION (record no_rows { editions = editions }) → IsSound (record no_rows { editions = editions })
 no_rows_are_sound editions reported = record {
   reported = reported;
-  orgs_apart = tt;
-  tokens_apart = tt;
-  digests_apart = tt;
-  wss_apart = tt;
-  bounds_apart = tt;
-  tokens_bound = tt;
-  retentions_apart = tt;
-  wss_kept = tt;
-  tokens_owned = tt;
-  bounds_owned = tt;
-  wss_owned = tt;
-  retentions_owned = tt;
-  versions_owned = tt;
-  runs_owned = tt;
-  org_rows = tt;
-  token_rows = tt;
-  bound_rows = tt;
+  accounts = record {
+    orgs_apart = tt;
+    tokens_apart = tt;
+    digests_apart = tt;
+    bounds_apart = tt;
+    tokens_bound = tt;
+    tokens_owned = tt;
+    bounds_owned = tt;
+    org_rows = tt;
+    token_rows = tt;
+    bound_rows = tt;
+  };
+  owned = record {
+    wss_apart = tt;
+    retentions_apart = tt;
+    wss_kept = tt;
+    wss_owned = tt;
+    retentions_owned = tt;
+    versions_owned = tt;
+    runs_owned = tt;
+  };
+  contents = record {
+    places = carried_sound no_rows (record no_rows { editions = editions }) refl refl no_rows_sound;
+    placed = tt;
+    texts = tt;
+  };
   counts = λ org o e. absurd (let none : ⊥ = cc in none);
-  places = carried_sound no_rows (record no_rows { editions = editions }) refl refl no_rows_sound;
-  placed = tt;
-  texts = tt;
   workspaces = λ org name w e. absurd (let none : ⊥ = cc in none);
 }

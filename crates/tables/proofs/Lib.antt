@@ -1,4 +1,5 @@
 pub mod Absent
+pub mod Belonging
 pub mod Changes
 pub mod Climbing
 pub mod Committed

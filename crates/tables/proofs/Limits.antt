@@ -4,7 +4,6 @@ use Rattle.std.proofs.lemmas.Option.{same_Some}
 use Rattle.std.specs.Str.{bytes_eq}
 use Rattle.std.specs.List.{list_any}
 use Rattle.sqlite_keyed.specs.Lists.{update_where}
-use Rattle.sqlite_keyed.proofs.ListLemmas.{all_weaker}
 use Rattle.sqlite_keyed.proofs.RuleLemmas.{apart_update}
 use Rattle.basis.proofs.NameLemmas.{equal_bytes}
 use Rattle.machine.specs.Effects.{effect}
@@ -20,7 +19,9 @@ use Rattle.statements.specs.Finds.{cap_of}
 use Rattle.statements.proofs.Found.{find_changed, find_unchanged, all_updated}
 use Rattle.tables.specs.Records.{organization_at, record_of}
 use Rattle.tables.specs.Sound.{IsOrgRow, IsSound}
-use Rattle.tables.proofs.TextRows.{AreTexts, sound_texts, texts_carried, KeepsWorkspaces, workspace_carried, organization_carried}
+use Rattle.tables.proofs.Belonging.{of_other_orgs}
+use Rattle.tables.proofs.Owned.{accounts_in, owned_in}
+use Rattle.tables.proofs.TextRows.{AreTexts, texts_carried, KeepsWorkspaces, workspace_carried, organization_carried}
 use Rattle.tables.proofs.Names.{apart_name}
 use Rattle.tables.proofs.Lists.{any_updated}
 use Rattle.tables.proofs.Managed.{record_there, record_missing}
@@ -62,35 +63,19 @@ module _ (org : List ℕ) (limit : ℕ) where
       pub limit_keeps : IsSound t → limit ≤ 100_000 → IsSound (org_capped org limit t)
       limit_keeps sound most = record {
         reported = sound.reported;
-        orgs_apart = apart_update (λ a b. is_org a.1.name b) (is_org org) recapped (λ a b. refl) (λ a b. refl) t.orgs sound.orgs_apart;
-        tokens_apart = sound.tokens_apart;
-        digests_apart = sound.digests_apart;
-        wss_apart = sound.wss_apart;
-        bounds_apart = sound.bounds_apart;
-        tokens_bound = sound.tokens_bound;
-        bounds_owned = sound.bounds_owned;
-        tokens_owned = all_weaker (λ x. list_any (is_org x.1.org) t.orgs ≡ true) (λ x. list_any (is_org x.1.org) (update_where (is_org org) recapped t.orgs) ≡ true) (λ x h. still x.1.org ∙ h) t.tokens sound.tokens_owned;
-        wss_owned = all_weaker (λ x. list_any (is_org x.1.org) t.orgs ≡ true) (λ x. list_any (is_org x.1.org) (update_where (is_org org) recapped t.orgs) ≡ true) (λ x h. still x.1.org ∙ h) t.wss sound.wss_owned;
-        retentions_apart = sound.retentions_apart;
-        wss_kept = sound.wss_kept;
-        retentions_owned = sound.retentions_owned;
-        versions_owned = sound.versions_owned;
-        runs_owned = sound.runs_owned;
-        org_rows = all_updated IsOrgRow (is_org org) recapped (λ x is. record { named = is.named; limit = most }) t.orgs sound.org_rows;
-        token_rows = sound.token_rows;
-        bound_rows = sound.bound_rows;
+        accounts = accounts_in t (update_where (is_org org) recapped t.orgs) sound (apart_update (λ a b. is_org a.1.name b) (is_org org) recapped (λ a b. refl) (λ a b. refl) t.orgs sound.orgs_apart)
+            (all_updated IsOrgRow (is_org org) recapped (λ x is. record { named = is.named; limit = most }) t.orgs sound.org_rows) (of_other_orgs t.tokens t.orgs (update_where (is_org org) recapped t.orgs) still sound.tokens_owned);
+        owned = owned_in t (update_where (is_org org) recapped t.orgs) sound (of_other_orgs t.wss t.orgs (update_where (is_org org) recapped t.orgs) still sound.wss_owned);
+        contents = texts;
         counts = λ q o e. within q o e (bytes_eq q org) refl;
-        places = texts.places;
-        placed = texts.placed;
-        texts = texts.texts;
         workspaces = λ o w v e. sound.workspaces o w v (sym (workspace_carried t (org_capped org limit t) same_rows o w) ∙ e);
       }
         where
           texts : AreTexts (org_capped org limit t)
-          texts = texts_carried t (org_capped org limit t) refl refl refl (sound_texts t sound)
+          texts = texts_carried t (org_capped org limit t) refl refl refl sound.contents
 
-          still : (q : List ℕ) → list_any (is_org q) (update_where (is_org org) recapped t.orgs) ≡ list_any (is_org q) t.orgs
-          still q = any_updated (is_org q) (is_org org) recapped (λ x. refl) t.orgs
+          still : (q : List ℕ) → list_any (is_org q) t.orgs ≡ true → list_any (is_org q) (update_where (is_org org) recapped t.orgs) ≡ true
+          still q there = any_updated (is_org q) (is_org org) recapped (λ x. refl) t.orgs ∙ there
 
           within : (q : List ℕ) (o : Organization) → record_of (org_capped org limit t) q ≡ Some o → (c : Bool) → bytes_eq q org ≡ c → count_of o ≤ 100_000
           within q o e true same =

@@ -38,7 +38,7 @@ use Rattle.tables.specs.Records.{settings_of_cells, retention_at, version_at, ve
 use Rattle.tables.specs.Sound.{IsSoundWorkspace, IsSound}
 use Rattle.texts.specs.Texts.{IsWhole}
 use Rattle.texts.proofs.PieceLaws.{whole_size}
-use Rattle.tables.proofs.TextRows.{AreTexts, sound_texts}
+use Rattle.tables.proofs.TextRows.{AreTexts}
 use Rattle.tables.specs.Inner.Lists.{versions_listed_in, runs_listed_in, newest_number_in, newest_by, ws_row_in, workspaces_listed_in}
 use Rattle.tables.proofs.Sets.{entry_found}
 use Rattle.tables.proofs.Names.{pair_is}
@@ -88,7 +88,7 @@ module _ (t : Tables) (org ws : List ℕ) where
     before_found : version_before org ws next t ≡ find (λ (n : ℕ). n + 1 == next) (map (λ (x : Kept VersionRow). x.1.it.number) rows)
     before_found =
         ap (option_map (λ (x : Kept VersionRow). x.1.it.number)) (find_same (is_version_before org ws next) (λ x. is_version_of org ws x && (x.1.it.number + 1 == next))
-        (λ x. ap (λ (b : Bool). bytes_eq x.1.org org && (bytes_eq x.1.ws ws && b)) (one_less_is x.1.it.number next most) ∙ sym (and_assoc (bytes_eq x.1.org org) (bytes_eq x.1.ws ws) (x.1.it.number + 1 == next))) t.versions)
+        (λ x. ap (λ (b : Bool). bytes_eq x.1.org org && (bytes_eq x.1.name ws && b)) (one_less_is x.1.it.number next most) ∙ sym (and_assoc (bytes_eq x.1.org org) (bytes_eq x.1.name ws) (x.1.it.number + 1 == next))) t.versions)
         ∙ find-slice (is_version_of org ws) (λ (x : Kept VersionRow). x.1.it.number) (λ (n : ℕ). n + 1 == next) t.versions
         ∙ sym (found_sorted nat_cmp nat_cmp_total (λ (n : ℕ). n + 1 == next) one_before (map (λ (x : Kept VersionRow). x.1.it.number) (filter (is_version_of org ws) t.versions)))
         ∙ ap (find (λ (n : ℕ). n + 1 == next)) (sort_by-map nat_cmp (λ (x : Kept VersionRow). x.1.it.number) (filter (is_version_of org ws) t.versions))
@@ -118,7 +118,7 @@ module _ (t : Tables) (org ws : List ℕ) where
 
     -- the list of the versions is that of the record
     pub versions_reported : (after : ℕ) → versions_listed_in after org ws t ≡ showing.versions_after after (seen_workspace (record_of t org) ws)
-    versions_reported after = versions_rows (sound_texts t sound) after ∙ versions_row after (workspace_of org ws t) refl ∙ ap (showing.versions_after after) (sym (seen_in_rows t sound org ws))
+    versions_reported after = versions_rows sound.contents after ∙ versions_row after (workspace_of org ws t) refl ∙ ap (showing.versions_after after) (sym (seen_in_rows t sound org ws))
 
     runs_row : (after : ℕ) (r : Option WorkspaceCells) → workspace_of org ws t ≡ r → showing.runs_listed after (runs_at t org ws) ≡ showing.runs_after after (option_map (workspace_at t org ws) r)
     runs_row after None e = ap (showing.runs_listed after) (no_runs t sound org ws e)
@@ -178,26 +178,26 @@ none_of true false = refl
 none_of false b = refl
 
 -- no row behind one is of its version, where none of its workspace has its number
-numbered_apart : (x : Kept VersionRow) (ys : List (Kept VersionRow)) → AllByRecursion (λ y. (x.1.it.number == y.1.it.number) ≡ false) (filter (is_version_of x.1.org x.1.ws) ys)
-    → AllByRecursion (λ y. is_version x.1.org x.1.ws x.1.it.number y ≡ false) ys
+numbered_apart : (x : Kept VersionRow) (ys : List (Kept VersionRow)) → AllByRecursion (λ y. (x.1.it.number == y.1.it.number) ≡ false) (filter (is_version_of x.1.org x.1.name) ys)
+    → AllByRecursion (λ y. is_version x.1.org x.1.name x.1.it.number y ≡ false) ys
 numbered_apart x [] all = tt
-numbered_apart x (y ∷ ys) all = go (is_version_of x.1.org x.1.ws y) refl (numbered_apart x ys) all
+numbered_apart x (y ∷ ys) all = go (is_version_of x.1.org x.1.name y) refl (numbered_apart x ys) all
   where
     turned : (m n : ℕ) → (m == n) ≡ false → (n == m) ≡ false
     turned m n e = ne_eqb n m (λ same. let none : ⊥ = cc (sym (eq-eqb m n (sym same)) ∙ e) in none)
 
-    go : (b : Bool) → is_version_of x.1.org x.1.ws y ≡ b
-        → (AllByRecursion (λ z. (x.1.it.number == z.1.it.number) ≡ false) (filter (is_version_of x.1.org x.1.ws) ys) → AllByRecursion (λ z. is_version x.1.org x.1.ws x.1.it.number z ≡ false) ys)
-        → AllByRecursion (λ z. (x.1.it.number == z.1.it.number) ≡ false) (cond b (y ∷ filter (is_version_of x.1.org x.1.ws) ys) (filter (is_version_of x.1.org x.1.ws) ys))
-        → (is_version x.1.org x.1.ws x.1.it.number y ≡ false) × AllByRecursion (λ z. is_version x.1.org x.1.ws x.1.it.number z ≡ false) ys
+    go : (b : Bool) → is_version_of x.1.org x.1.name y ≡ b
+        → (AllByRecursion (λ z. (x.1.it.number == z.1.it.number) ≡ false) (filter (is_version_of x.1.org x.1.name) ys) → AllByRecursion (λ z. is_version x.1.org x.1.name x.1.it.number z ≡ false) ys)
+        → AllByRecursion (λ z. (x.1.it.number == z.1.it.number) ≡ false) (cond b (y ∷ filter (is_version_of x.1.org x.1.name) ys) (filter (is_version_of x.1.org x.1.name) ys))
+        → (is_version x.1.org x.1.name x.1.it.number y ≡ false) × AllByRecursion (λ z. is_version x.1.org x.1.name x.1.it.number z ≡ false) ys
     go true e later apart = (
-      ap (λ (c : Bool). bytes_eq y.1.org x.1.org && (bytes_eq y.1.ws x.1.ws && c)) (turned x.1.it.number y.1.it.number apart.0) ∙ none_of (bytes_eq y.1.org x.1.org) (bytes_eq y.1.ws x.1.ws),
+      ap (λ (c : Bool). bytes_eq y.1.org x.1.org && (bytes_eq y.1.name x.1.name && c)) (turned x.1.it.number y.1.it.number apart.0) ∙ none_of (bytes_eq y.1.org x.1.org) (bytes_eq y.1.name x.1.name),
       later apart.1,
     )
-    go false e later apart = (sym (and_assoc (bytes_eq y.1.org x.1.org) (bytes_eq y.1.ws x.1.ws) (y.1.it.number == x.1.it.number)) ∙ ap (λ (c : Bool). c && y.1.it.number == x.1.it.number) e, later apart)
+    go false e later apart = (sym (and_assoc (bytes_eq y.1.org x.1.org) (bytes_eq y.1.name x.1.name) (y.1.it.number == x.1.it.number)) ∙ ap (λ (c : Bool). c && y.1.it.number == x.1.it.number) e, later apart)
 
 -- rows of versions are apart where in each workspace their numbers are
-rows_apart : (xs : List (Kept VersionRow)) → ((org ws : List ℕ) → AreApart (λ (a b : Kept VersionRow). a.1.it.number == b.1.it.number) (filter (is_version_of org ws) xs)) → AreApart (λ a b. is_version a.1.org a.1.ws a.1.it.number b) xs
+rows_apart : (xs : List (Kept VersionRow)) → ((org ws : List ℕ) → AreApart (λ (a b : Kept VersionRow). a.1.it.number == b.1.it.number) (filter (is_version_of org ws) xs)) → AreApart (λ a b. is_version a.1.org a.1.name a.1.it.number b) xs
 rows_apart [] apart = tt
 rows_apart (x ∷ xs) apart = (numbered_apart x xs own.0, rows_apart xs (λ org ws. later (is_version_of org ws x) (filter (is_version_of org ws) xs) (apart org ws)))
   where
@@ -205,8 +205,8 @@ rows_apart (x ∷ xs) apart = (numbered_apart x xs own.0, rows_apart xs (λ org 
     later true ys h = h.1
     later false ys h = h
 
-    own : AreApart (λ (a b : Kept VersionRow). a.1.it.number == b.1.it.number) (x ∷ filter (is_version_of x.1.org x.1.ws) xs)
-    own = subst (λ (b : Bool). AreApart (λ (a c : Kept VersionRow). a.1.it.number == c.1.it.number) (cond b (x ∷ filter (is_version_of x.1.org x.1.ws) xs) (filter (is_version_of x.1.org x.1.ws) xs))) (pair_is x.1.org x.1.ws) (apart x.1.org x.1.ws)
+    own : AreApart (λ (a b : Kept VersionRow). a.1.it.number == b.1.it.number) (x ∷ filter (is_version_of x.1.org x.1.name) xs)
+    own = subst (λ (b : Bool). AreApart (λ (a c : Kept VersionRow). a.1.it.number == c.1.it.number) (cond b (x ∷ filter (is_version_of x.1.org x.1.name) xs) (filter (is_version_of x.1.org x.1.name) xs))) (pair_is x.1.org x.1.name) (apart x.1.org x.1.name)
 
 pub workspaces_apart : (t : Tables) → IsSound t → WorkspacesApart t
 workspaces_apart t sound = record { wss = sound.wss_apart; retentions = sound.retentions_apart; versions = rows_apart t.versions (λ org ws. versions_apart t org ws sound) }

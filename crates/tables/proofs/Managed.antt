@@ -38,7 +38,7 @@ use Rattle.tables.proofs.Parts.{none_mapped}
 use Rattle.tables.proofs.Sets.{entry_found, got_token, other_ws}
 use Rattle.tables.proofs.TokenRows.{ChangesToken, other_token, other_tokens}
 use Rattle.tables.proofs.Finding.{no_orphans, none_there}
-use Rattle.tables.proofs.Owned.{pair_turned}
+use Rattle.tables.proofs.Belonging.{pair_turned}
 
 -- ---- the first entry with a digest, of a map
 
@@ -241,7 +241,7 @@ module _ (t : Tables) (sound : IsSound t) (org name digest : List ℕ) (role : R
   new_row = (next_key id_of t.tokens, record { org = org; name = name; it = record { digest = digest; role = role } })
 
   abbrev new_bound : Kept BoundRow
-  new_bound = (next_key id_of t.bounds, record { org = org; name = name; until = bounds.until; prefix = bounds.prefix })
+  new_bound = (next_key id_of t.bounds, record { org = org; name = name; it = record { until = bounds.until; prefix = bounds.prefix } })
 
   changes : ChangesToken org name t added
   changes = record {

@@ -10,17 +10,17 @@ use Rattle.sqlite_schema.specs.declared.schema.Table.{Table}
 use Rattle.sqlite_schema.specs.Names.{same_name}
 use Rattle.sqlite_trees.specs.Tree.{IsAscending}
 use Rattle.sqlite_keyed.specs.Keyed.{next_key}
-use Rattle.sqlite_keyed.specs.Rules.{AreApart}
 use Rattle.sqlite_keyed.proofs.ListLemmas.{all_weaker, all-append, ascending-map, ascending_from_map, all_map, all_unmap}
 use Rattle.basis.specs.Names.{is_prefix}
 use Rattle.basis.specs.declared.numbers.TheConstants.{FIRST_KEPT}
 use Rattle.machine.specs.Order.{name_cmp}
 use Rattle.machine.specs.Ranges.{IsMoment}
 use Rattle.sqlite.specs.Effect.{Database}
-use Rattle.statements.specs.Rows.{Kept, id_of, TokenRow, WsRow, BoundRow, RetentionRow}
+use Rattle.statements.specs.Rows.{Kept, id_of, TokenRow, WsRow, BoundRow, RetentionRow, Owned}
+use Rattle.statements.specs.Belonging.{AreNamedApart, AreAmong}
 use Rattle.statements.specs.declared.making.TheConstants.{SCHEMA_VERSION}
 use Rattle.statements.specs.Tables.{Tables, HoldsIn, is_known, count_in, our_tables, later_tables, added_by, up_to, tables_of, tables_at}
-use Rattle.statements.specs.Changes.{is_bound, is_retention, with_next, with_all, unbounded, kept_first}
+use Rattle.statements.specs.Changes.{is_of, is_bound, is_retention, with_next, with_all, unbounded, kept_first}
 use Rattle.statements.specs.Finds.{cap_of, bound_in}
 use Rattle.statements.specs.Making.{sequence_name, IsNotNamed, NamesNoOther, raised, Raises}
 use Rattle.statements.proofs.Counts.{next_version, more_tables}
@@ -43,78 +43,54 @@ Pair = List ℕ × List ℕ
 abbrev is_same : List ℕ → List ℕ → Pair → Bool
 is_same org name p = bytes_eq p.0 org && bytes_eq p.1 name
 
-module _ {R S : Type 0} (f : R → S) where
-  -- each row of the one gets such a row of the other
-  abbrev filled : List (Kept R) → List (Kept S) → List (Kept S)
-  filled ts xs = with_all (map (λ x. f x.1) ts) xs
+abbrev pair_of : {T : Type 0} → Kept (Owned T) → Pair
+pair_of x = (x.1.org, x.1.name)
 
-  all_filled : (P : Kept S → Type 0) → ((k : _) (r : R) → P (k, f r)) → (ts : List (Kept R)) (xs : List (Kept S)) → AllByRecursion P xs → AllByRecursion P (filled ts xs)
-  all_filled P each [] xs h = h
-  all_filled P each (t ∷ ts) xs h = all_filled P each ts (with_next (f t.1) xs) (all-append P xs ((next_key id_of xs, f t.1) ∷ []) h (each (next_key id_of xs) t.1, tt))
-
-  module _ (owner : R → Pair) (pair : S → Pair) (same : (r : R) → pair (f r) ≡ owner r) where
-    abbrev owner_pair : Kept R → Pair
-    owner_pair x = owner x.1
-
-    abbrev own_pair : Kept S → Pair
-    own_pair x = pair x.1
-
-    names_filled : (ts : List (Kept R)) (xs : List (Kept S)) → map own_pair (filled ts xs) ≡ map own_pair xs ++ map owner_pair ts
-    names_filled [] xs = sym (append-nil (map own_pair xs))
-    names_filled (t ∷ ts) xs =
-        names_filled ts (with_next (f t.1) xs) ∙ ap (λ ps. ps ++ map owner_pair ts) (map-append own_pair xs ((next_key id_of xs, f t.1) ∷ []))
-        ∙ append_assoc (map own_pair xs) (pair (f t.1) ∷ []) (map owner_pair ts) ∙ ap (λ (p : Pair). map own_pair xs ++ p ∷ map owner_pair ts) (same t.1)
-
-    abbrev is_owner : List ℕ → List ℕ → Kept R → Bool
-    is_owner org name x = is_same org name (owner_pair x)
-
-    abbrev is_own : List ℕ → List ℕ → Kept S → Bool
-    is_own org name x = is_same org name (own_pair x)
-
-    abbrev IsIn : List (Kept R) → Kept R → Type 0
-    IsIn ys x = list_any (is_owner (owner_pair x).0 (owner_pair x).1) ys ≡ true
-
-    -- each of them is one of them
-    own_found : (xs ys : List (Kept R)) → ((org name : List ℕ) → list_any (is_owner org name) xs ≡ true → list_any (is_owner org name) ys ≡ true) → AllByRecursion (IsIn ys) xs
-    own_found [] ys within = tt
-    own_found (x ∷ xs) ys within = (
-      within (owner_pair x).0 (owner_pair x).1 (ap (λ (b : Bool). b || list_any (is_owner (owner_pair x).0 (owner_pair x).1) xs) (pair_is (owner_pair x).0 (owner_pair x).1)),
-      own_found xs ys (λ org name e. within org name (or_right (is_owner org name x) (list_any (is_owner org name) xs) e)),
-    )
-
-    module _ (ts : List (Kept R)) where
-      any_filled : (org name : List ℕ) → list_any (is_own org name) (filled ts []) ≡ list_any (is_owner org name) ts
-      any_filled org name = any_map own_pair (is_same org name) (filled ts []) ∙ ap (list_any (is_same org name)) (names_filled ts []) ∙ sym (any_map owner_pair (is_same org name) ts)
-
-      each_has : AllByRecursion (λ x. list_any (is_own (owner_pair x).0 (owner_pair x).1) (filled ts []) ≡ true) ts
-      each_has = all_weaker (IsIn ts) (λ x. list_any (is_own (owner_pair x).0 (owner_pair x).1) (filled ts []) ≡ true) (λ x e. any_filled (owner_pair x).0 (owner_pair x).1 ∙ e) ts (own_found ts ts (λ org name e. e))
-
-      abbrev IsOwned : Pair → Type 0
-      IsOwned p = list_any (is_owner p.0 p.1) ts ≡ true
-
-      each_owned : AllByRecursion (λ x. list_any (is_owner (own_pair x).0 (own_pair x).1) ts ≡ true) (filled ts [])
-      each_owned = all_unmap IsOwned own_pair (filled ts []) (subst (AllByRecursion IsOwned) (sym (names_filled ts [])) (all_map IsOwned owner_pair ts (own_found ts ts (λ org name e. e))))
-
-      filled_apart : AreApart (λ a b. is_owner (owner_pair a).0 (owner_pair a).1 b) ts → AreApart (λ a b. is_own (own_pair a).0 (own_pair a).1 b) (filled ts [])
-      filled_apart apart = ascending_from_map (λ (p q : Pair). is_same p.0 p.1 q ≡ false) own_pair (filled ts [])
-          (subst (IsAscending (λ (p q : Pair). is_same p.0 p.1 q ≡ false)) (sym (names_filled ts [])) (ascending-map (λ (p q : Pair). is_same p.0 p.1 q ≡ false) owner_pair ts apart))
+-- each of them is one of them
+own_found : {T : Type 0} (xs ys : List (Kept (Owned T))) → ((org name : List ℕ) → list_any (is_of org name) xs ≡ true → list_any (is_of org name) ys ≡ true) → AreAmong ys xs
+own_found [] ys within = tt
+own_found (x ∷ xs) ys within = (
+  within x.1.org x.1.name (ap (λ (b : Bool). b || list_any (is_of x.1.org x.1.name) xs) (pair_is x.1.org x.1.name)),
+  own_found xs ys (λ org name e. within org name (or_right (is_of org name x) (list_any (is_of org name) xs) e)),
+)
 
 -- ---- rows of bound, one for each token, and of keeping, one for each workspace
 
-abbrev token_pair : TokenRow → Pair
-token_pair r = (r.org, r.name)
+module _ {R S : Type 0} (f : Owned R → Owned S) where
+  -- each row of the one gets such a row of the other
+  abbrev filled : List (Kept (Owned R)) → List (Kept (Owned S)) → List (Kept (Owned S))
+  filled ts xs = with_all (map (λ x. f x.1) ts) xs
 
-abbrev bound_pair : BoundRow → Pair
-bound_pair r = (r.org, r.name)
+  all_filled : (P : Kept (Owned S) → Type 0) → ((k : _) (r : Owned R) → P (k, f r)) → (ts : List (Kept (Owned R))) (xs : List (Kept (Owned S))) → AllByRecursion P xs → AllByRecursion P (filled ts xs)
+  all_filled P each [] xs h = h
+  all_filled P each (t ∷ ts) xs h = all_filled P each ts (with_next (f t.1) xs) (all-append P xs ((next_key id_of xs, f t.1) ∷ []) h (each (next_key id_of xs) t.1, tt))
 
-abbrev ws_pair : WsRow → Pair
-ws_pair r = (r.org, r.name)
+  module _ (same : (k : _) (r : Owned R) → pair_of (k, f r) ≡ pair_of (k, r)) where
+    names_filled : (ts : List (Kept (Owned R))) (xs : List (Kept (Owned S))) → map pair_of (filled ts xs) ≡ map pair_of xs ++ map pair_of ts
+    names_filled [] xs = sym (append-nil (map pair_of xs))
+    names_filled (t ∷ ts) xs =
+        names_filled ts (with_next (f t.1) xs) ∙ ap (λ ps. ps ++ map pair_of ts) (map-append pair_of xs ((next_key id_of xs, f t.1) ∷ []))
+        ∙ append_assoc (map pair_of xs) (pair_of (t.0, f t.1) ∷ []) (map pair_of ts) ∙ ap (λ (p : Pair). map pair_of xs ++ p ∷ map pair_of ts) (same t.0 t.1)
 
-abbrev retention_pair : RetentionRow → Pair
-retention_pair r = (r.org, r.ws)
+    module _ (ts : List (Kept (Owned R))) where
+      any_filled : (org name : List ℕ) → list_any (is_of org name) (filled ts []) ≡ list_any (is_of org name) ts
+      any_filled org name = any_map pair_of (is_same org name) (filled ts []) ∙ ap (list_any (is_same org name)) (names_filled ts []) ∙ sym (any_map pair_of (is_same org name) ts)
+
+      each_has : AreAmong (filled ts []) ts
+      each_has = all_weaker (λ x. list_any (is_of x.1.org x.1.name) ts ≡ true) (λ x. list_any (is_of x.1.org x.1.name) (filled ts []) ≡ true) (λ x e. any_filled x.1.org x.1.name ∙ e) ts (own_found ts ts (λ org name e. e))
+
+      abbrev IsOwned : Pair → Type 0
+      IsOwned p = list_any (is_of p.0 p.1) ts ≡ true
+
+      each_owned : AreAmong ts (filled ts [])
+      each_owned = all_unmap IsOwned pair_of (filled ts []) (subst (AllByRecursion IsOwned) (sym (names_filled ts [])) (all_map IsOwned pair_of ts (own_found ts ts (λ org name e. e))))
+
+      filled_apart : AreNamedApart ts → AreNamedApart (filled ts [])
+      filled_apart apart = ascending_from_map (λ (p q : Pair). is_same p.0 p.1 q ≡ false) pair_of (filled ts [])
+          (subst (IsAscending (λ (p q : Pair). is_same p.0 p.1 q ≡ false)) (sym (names_filled ts [])) (ascending-map (λ (p q : Pair). is_same p.0 p.1 q ≡ false) pair_of ts apart))
 
 abbrev IsUnbounded : Kept BoundRow → Type 0
-IsUnbounded x = (x.1.until ≡ None) × (x.1.prefix ≡ [])
+IsUnbounded x = (x.1.it.until ≡ None) × (x.1.it.prefix ≡ [])
 
 all_unbounded : (ts : List (Kept TokenRow)) → AllByRecursion IsUnbounded (filled unbounded ts [])
 all_unbounded ts = all_filled unbounded IsUnbounded (λ k r. (refl, refl)) ts [] tt
@@ -123,7 +99,7 @@ filled_rows : (ts : List (Kept TokenRow)) → AllByRecursion IsBoundRow (filled 
 filled_rows ts = all_weaker IsUnbounded IsBoundRow (λ x is. record { until = subst (λ (u : Option ℕ). IfSome u IsMoment) (sym is.0) tt; prefix = subst (λ (p : List ℕ). IsTrue (is_prefix p)) (sym is.1) refl }) (filled unbounded ts []) (all_unbounded ts)
 
 abbrev KeepsFirst : Kept RetentionRow → Type 0
-KeepsFirst x = x.1.retention ≡ FIRST_KEPT
+KeepsFirst x = x.1.it ≡ FIRST_KEPT
 
 all_kept_first : (ts : List (Kept WsRow)) → AllByRecursion KeepsFirst (filled kept_first ts [])
 all_kept_first ts = all_filled kept_first KeepsFirst (λ k r. refl) ts [] tt
@@ -161,32 +137,34 @@ module _ (t : Tables) (none : t.bounds ≡ []) where
   pub raised_sound : IsSoundIn 1 t → IsSoundIn 2 second
   raised_sound sound = record {
     reported = (refl, refl);
-    orgs_apart = sound.orgs_apart;
-    tokens_apart = sound.tokens_apart;
-    digests_apart = sound.digests_apart;
-    wss_apart = sound.wss_apart;
-    bounds_apart = filled_apart unbounded token_pair bound_pair (λ r. refl) t.tokens sound.tokens_apart;
-    tokens_bound = each_has unbounded token_pair bound_pair (λ r. refl) t.tokens;
-    retentions_apart = sound.retentions_apart;
-    wss_kept = tt;
-    tokens_owned = sound.tokens_owned;
-    bounds_owned = each_owned unbounded token_pair bound_pair (λ r. refl) t.tokens;
-    wss_owned = sound.wss_owned;
-    retentions_owned = sound.retentions_owned;
-    versions_owned = sound.versions_owned;
-    runs_owned = sound.runs_owned;
-    org_rows = sound.org_rows;
-    token_rows = sound.token_rows;
-    bound_rows = filled_rows t.tokens;
+    accounts = record {
+      orgs_apart = sound.orgs_apart;
+      tokens_apart = sound.tokens_apart;
+      digests_apart = sound.digests_apart;
+      bounds_apart = filled_apart unbounded (λ k r. refl) t.tokens sound.tokens_apart;
+      tokens_bound = each_has unbounded (λ k r. refl) t.tokens;
+      tokens_owned = sound.tokens_owned;
+      bounds_owned = each_owned unbounded (λ k r. refl) t.tokens;
+      org_rows = sound.org_rows;
+      token_rows = sound.token_rows;
+      bound_rows = filled_rows t.tokens;
+    };
+    owned = record {
+      wss_apart = sound.wss_apart;
+      retentions_apart = sound.retentions_apart;
+      wss_kept = tt;
+      wss_owned = sound.wss_owned;
+      retentions_owned = sound.retentions_owned;
+      versions_owned = sound.versions_owned;
+      runs_owned = sound.runs_owned;
+    };
+    contents = texts;
     counts = λ org o e. sound.counts org o (sym (record_raised org) ∙ e);
-    places = texts.places;
-    placed = texts.placed;
-    texts = texts.texts;
     workspaces = λ org name w e. sound.workspaces org name w (sym (workspace_carried t second same_workspaces org name) ∙ e);
   }
     where
       texts : AreTexts second
-      texts = texts_carried t second refl refl refl (record { places = sound.places; placed = sound.placed; texts = sound.texts })
+      texts = texts_carried t second refl refl refl sound.contents
 
 -- ---- the second version's as those of the third: how many versions each workspace keeps is told by a row
 
@@ -198,12 +176,12 @@ module _ (t : Tables) (none : t.retentions ≡ []) where
   retention_filled : (org ws : List ℕ) → retention_at third org ws ≡ FIRST_KEPT
   retention_filled org ws = by_row (find (is_retention org ws) third.retentions) refl
     where
-      by_row : (o : Option (Kept RetentionRow)) → find (is_retention org ws) third.retentions ≡ o → unwrap_or (option_map (λ (x : Kept RetentionRow). x.1.retention) o) FIRST_KEPT ≡ FIRST_KEPT
+      by_row : (o : Option (Kept RetentionRow)) → find (is_retention org ws) third.retentions ≡ o → unwrap_or (option_map (λ (x : Kept RetentionRow). x.1.it) o) FIRST_KEPT ≡ FIRST_KEPT
       by_row None e = refl
       by_row (Some x) e = found_holds KeepsFirst (is_retention org ws) third.retentions x (all_kept_first t.wss) e
 
   retention_none : (org ws : List ℕ) → retention_at t org ws ≡ FIRST_KEPT
-  retention_none org ws = ap (λ (ks : List (Kept RetentionRow)). unwrap_or (option_map (λ (x : Kept RetentionRow). x.1.retention) (find (is_retention org ws) ks)) FIRST_KEPT) none
+  retention_none org ws = ap (λ (ks : List (Kept RetentionRow)). unwrap_or (option_map (λ (x : Kept RetentionRow). x.1.it) (find (is_retention org ws) ks)) FIRST_KEPT) none
 
   kept_workspaces : KeepsWorkspaces t third
   kept_workspaces = record { wss = refl; versions = refl; runs = refl; pages = refl; vpages = refl; kept = λ org ws. retention_filled org ws ∙ sym (retention_none org ws) }
@@ -215,32 +193,34 @@ module _ (t : Tables) (none : t.retentions ≡ []) where
   pub third_sound : IsSoundIn 2 t → IsSoundIn 3 third
   third_sound sound = record {
     reported = (ap (map (λ x. (x.0, 3))) sound.reported.0, sound.reported.1);
-    orgs_apart = sound.orgs_apart;
-    tokens_apart = sound.tokens_apart;
-    digests_apart = sound.digests_apart;
-    wss_apart = sound.wss_apart;
-    bounds_apart = sound.bounds_apart;
-    tokens_bound = sound.tokens_bound;
-    retentions_apart = filled_apart kept_first ws_pair retention_pair (λ r. refl) t.wss sound.wss_apart;
-    wss_kept = each_has kept_first ws_pair retention_pair (λ r. refl) t.wss;
-    tokens_owned = sound.tokens_owned;
-    bounds_owned = sound.bounds_owned;
-    wss_owned = sound.wss_owned;
-    retentions_owned = each_owned kept_first ws_pair retention_pair (λ r. refl) t.wss;
-    versions_owned = sound.versions_owned;
-    runs_owned = sound.runs_owned;
-    org_rows = sound.org_rows;
-    token_rows = sound.token_rows;
-    bound_rows = sound.bound_rows;
+    accounts = record {
+      orgs_apart = sound.orgs_apart;
+      tokens_apart = sound.tokens_apart;
+      digests_apart = sound.digests_apart;
+      bounds_apart = sound.bounds_apart;
+      tokens_bound = sound.tokens_bound;
+      tokens_owned = sound.tokens_owned;
+      bounds_owned = sound.bounds_owned;
+      org_rows = sound.org_rows;
+      token_rows = sound.token_rows;
+      bound_rows = sound.bound_rows;
+    };
+    owned = record {
+      wss_apart = sound.wss_apart;
+      retentions_apart = filled_apart kept_first (λ k r. refl) t.wss sound.wss_apart;
+      wss_kept = each_has kept_first (λ k r. refl) t.wss;
+      wss_owned = sound.wss_owned;
+      retentions_owned = each_owned kept_first (λ k r. refl) t.wss;
+      versions_owned = sound.versions_owned;
+      runs_owned = sound.runs_owned;
+    };
+    contents = texts;
     counts = λ org o e. sound.counts org o (sym (third_record org) ∙ e);
-    places = texts.places;
-    placed = texts.placed;
-    texts = texts.texts;
     workspaces = λ org name w e. sound.workspaces org name w (sym (workspace_carried t third kept_workspaces org name) ∙ e);
   }
     where
       texts : AreTexts third
-      texts = texts_carried t third refl refl refl (record { places = sound.places; placed = sound.placed; texts = sound.texts })
+      texts = texts_carried t third refl refl refl sound.contents
 
 -- ---- a step from a version to the next
 

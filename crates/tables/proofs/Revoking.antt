@@ -4,9 +4,8 @@ use Rattle.std.proofs.lemmas.Option.{same_Some}
 use Rattle.std.specs.Str.{bytes_eq}
 use Rattle.std.specs.List.{list_any}
 use Rattle.std.specs.FinMap.{get, remove, same_map}
-use Rattle.sqlite_keyed.proofs.ListLemmas.{all_both, all-filter}
+use Rattle.sqlite_keyed.proofs.ListLemmas.{all-filter}
 use Rattle.sqlite_keyed.proofs.RuleLemmas.{apart_delete}
-use Rattle.sqlite_keyed.proofs.SliceLemmas.{any_is_found}
 use Rattle.basis.specs.declared.roles.Role.{Role}
 use Rattle.basis.proofs.NameLemmas.{equal_bytes}
 use Rattle.machine.specs.Effects.{effect}
@@ -20,11 +19,12 @@ use Rattle.statements.specs.Rows.{Kept, TokenRow}
 use Rattle.statements.specs.Tables.{Tables}
 use Rattle.statements.specs.Changes.{is_org, is_token, is_digest_of, is_bound, token_removed}
 use Rattle.statements.specs.Finds.{cap_of, role_of_name, bound_in}
-use Rattle.statements.proofs.Found.{found_passes, find_deleted, find_left, found_holds, all_deleted}
+use Rattle.statements.proofs.Found.{found_passes, find_deleted, find_left, found_holds}
 use Rattle.tables.specs.Records.{token_at, tokens_at, organization_at, record_of}
 use Rattle.tables.specs.Sound.{IsTokenRow, IsBoundRow, IsSound}
-use Rattle.tables.proofs.TextRows.{AreTexts, sound_texts, texts_carried, KeepsWorkspaces, workspace_carried, workspaces_carried}
-use Rattle.tables.proofs.Names.{is_pair, pair_first, pair_apart}
+use Rattle.tables.proofs.Belonging.{apart_gone, of_orgs_gone, both_left}
+use Rattle.tables.proofs.TextRows.{AreTexts, texts_carried, KeepsWorkspaces, workspace_carried, workspaces_carried}
+use Rattle.tables.proofs.Names.{pair_first, pair_apart}
 use Rattle.tables.proofs.TokenRows.{ChangesToken, other_token, other_tokens}
 use Rattle.tables.proofs.Sets.{got_token, other_ws}
 use Rattle.tables.proofs.Finding.{none_there}
@@ -109,42 +109,26 @@ module _ (org name : List ℕ) (t : Tables) where
   pub revoke_keeps : IsSound t → IsSound left
   revoke_keeps sound = record {
     reported = sound.reported;
-    orgs_apart = sound.orgs_apart;
-    tokens_apart = apart_delete (λ a b. is_token a.1.org a.1.name b) (is_token org name) t.tokens sound.tokens_apart;
-    digests_apart = apart_delete (λ a b. is_digest_of a.1.org a.1.it.digest b) (is_token org name) t.tokens sound.digests_apart;
-    wss_apart = sound.wss_apart;
-    bounds_apart = apart_delete (λ a b. is_bound a.1.org a.1.name b) (is_bound org name) t.bounds sound.bounds_apart;
-    tokens_bound = all_both (λ x. is_token org name x ≡ false) (λ x. list_any (is_bound x.1.org x.1.name) t.bounds ≡ true) (λ x. list_any (is_bound x.1.org x.1.name) left.bounds ≡ true)
-        (λ x other any. bound_left x.1.org x.1.name other ∙ any) left.tokens (all_deleted (is_token org name) t.tokens)
-        (all-filter (λ x. list_any (is_bound x.1.org x.1.name) t.bounds ≡ true) (λ x. not (is_token org name x)) t.tokens sound.tokens_bound);
-    tokens_owned = all-filter (λ x. list_any (is_org x.1.org) t.orgs ≡ true) (λ x. not (is_token org name x)) t.tokens sound.tokens_owned;
-    bounds_owned = all_both (λ x. is_bound org name x ≡ false) (λ x. list_any (is_token x.1.org x.1.name) t.tokens ≡ true) (λ x. list_any (is_token x.1.org x.1.name) left.tokens ≡ true)
-        (λ x other any. token_left x.1.org x.1.name other ∙ any) left.bounds (all_deleted (is_bound org name) t.bounds)
-        (all-filter (λ x. list_any (is_token x.1.org x.1.name) t.tokens ≡ true) (λ x. not (is_bound org name x)) t.bounds sound.bounds_owned);
-    wss_owned = sound.wss_owned;
-    retentions_apart = sound.retentions_apart;
-    wss_kept = sound.wss_kept;
-    retentions_owned = sound.retentions_owned;
-    versions_owned = sound.versions_owned;
-    runs_owned = sound.runs_owned;
-    org_rows = sound.org_rows;
-    token_rows = all-filter IsTokenRow (λ x. not (is_token org name x)) t.tokens sound.token_rows;
-    bound_rows = all-filter IsBoundRow (λ x. not (is_bound org name x)) t.bounds sound.bound_rows;
+    accounts = record {
+      orgs_apart = sound.orgs_apart;
+      tokens_apart = apart_gone t.tokens (is_token org name) sound.tokens_apart;
+      digests_apart = apart_delete (λ a b. is_digest_of a.1.org a.1.it.digest b) (is_token org name) t.tokens sound.digests_apart;
+      bounds_apart = apart_gone t.bounds (is_bound org name) sound.bounds_apart;
+      tokens_bound = both_left t.bounds t.tokens org name sound.tokens_bound;
+      tokens_owned = of_orgs_gone t.tokens t.orgs (is_token org name) sound.tokens_owned;
+      bounds_owned = both_left t.tokens t.bounds org name sound.bounds_owned;
+      org_rows = sound.org_rows;
+      token_rows = all-filter IsTokenRow (λ x. not (is_token org name x)) t.tokens sound.token_rows;
+      bound_rows = all-filter IsBoundRow (λ x. not (is_bound org name x)) t.bounds sound.bound_rows;
+    };
+    owned = sound.owned;
+    contents = texts;
     counts = λ q o e. within q o (cap_of q t) refl e;
-    places = texts.places;
-    placed = texts.placed;
-    texts = texts.texts;
     workspaces = λ o w v e. sound.workspaces o w v (sym (workspace_carried t left same_rows o w) ∙ e);
   }
     where
-      bound_left : (a q : List ℕ) → is_pair org name a q ≡ false → list_any (is_bound a q) left.bounds ≡ list_any (is_bound a q) t.bounds
-      bound_left a q other = any_is_found (is_bound a q) left.bounds ∙ ap is_some (find_left (is_bound a q) (is_bound org name) (λ x e. pair_apart org name a q x.1.org x.1.name other e) t.bounds) ∙ sym (any_is_found (is_bound a q) t.bounds)
-
-      token_left : (a q : List ℕ) → is_pair org name a q ≡ false → list_any (is_token a q) left.tokens ≡ list_any (is_token a q) t.tokens
-      token_left a q other = any_is_found (is_token a q) left.tokens ∙ ap is_some (find_left (is_token a q) (is_token org name) (λ x e. pair_apart org name a q x.1.org x.1.name other e) t.tokens) ∙ sym (any_is_found (is_token a q) t.tokens)
-
       texts : AreTexts left
-      texts = texts_carried t left refl refl refl (sound_texts t sound)
+      texts = texts_carried t left refl refl refl sound.contents
 
       within : (q : List ℕ) (o : Organization) (c : Option ℕ) → cap_of q t ≡ c → option_map (organization_at left q) c ≡ Some o → count_of o ≤ 100_000
       within q o None f e = absurd (let none : ⊥ = cc in none)

@@ -27,7 +27,7 @@ use Rattle.tables.proofs.Kept.{placed_keeps}
 use Rattle.tables.proofs.Ordered.{ordered, workspace_ordered, lawful_ordered}
 use Rattle.tables.proofs.Owned.{row_there, owned_row, owned_becomes, owned_run, owned_made}
 use Rattle.tables.proofs.Sets.{Puts, put_own, put_other}
-use Rattle.tables.proofs.TextRows.{Becomes, sound_texts, texts_carried, comes}
+use Rattle.tables.proofs.TextRows.{Becomes, texts_carried, comes}
 
 -- ---- one part after the other
 
@@ -100,7 +100,7 @@ module _ (org ws : List ℕ) where
         bounds = puts.bounds;
         own = puts.own;
         others = puts.others;
-        texts = texts_carried t (made_rows org ws settings t) refl refl refl (sound_texts t sound);
+        texts = texts_carried t (made_rows org ws settings t) refl refl refl sound.contents;
         owned = owned_made org ws t sound settings none there;
       }
 

@@ -27,19 +27,16 @@ use Rattle.texts.specs.Texts.{is_place_of, pages_for, text_removed, text_of, IsW
 use Rattle.texts.proofs.PlaceLaws.{IsOtherVersion, version_parts, version_from}
 use Rattle.texts.proofs.TextLaws.{text_added_keeps, text_added_whole, text_added_text, text_added_others_whole, text_added_others_text, text_added_places, text_added_metas, text_added_orgs, text_added_tokens, text_added_wss, text_added_versions, text_added_runs, text_added_bounds, text_added_editions, text_added_retentions, text_removed_keeps, text_removed_others_whole, text_removed_others_text, text_removed_places, text_removed_none, text_removed_metas, text_removed_orgs, text_removed_tokens, text_removed_wss, text_removed_versions, text_removed_runs, text_removed_bounds, text_removed_editions, text_removed_retentions, carried_whole, carried_text, carried_sound}
 use Rattle.tables.specs.Records.{version_of_cells, no_bounds, token_of_cells, workspace_of_cells, retention_at, version_at, versions_at, workspace_by, is_token_of, tokens_at, workspaces_at, organization_at}
-use Rattle.tables.specs.Sound.{IsPlaced, HasText, IsSound}
+use Rattle.tables.specs.Sound.{IsPlaced, HasText}
 use Rattle.tables.specs.Inner.Edits.{first_gone, so_many_gone, gone_below, row_added, added_rows, FitsTwins}
 use Rattle.tables.proofs.Ordered.{versions_total, versions_in}
 use Rattle.tables.proofs.Names.{name_is, is_pair, pair_is, pair_apart}
 use Rattle.tables.proofs.TextLists.{none_goes, filter_fewer, absorbed, fewer_left, least, none_least, least_holds, least_passes, least_within}
 pub use Rattle.tables.specs.Inner.Standing.{AreTexts}
 
-pub sound_texts : (t : Tables) → IsSound t → AreTexts t
-sound_texts t sound = record { places = sound.places; placed = sound.placed; texts = sound.texts }
-
 -- the text of a row is as it was
 abbrev pub SameText : Tables → Tables → Kept VersionRow → Type 0
-SameText t u y = text_of y.1.org y.1.ws y.1.it.number y.1.it.size u ≡ text_of y.1.org y.1.ws y.1.it.number y.1.it.size t
+SameText t u y = text_of y.1.org y.1.name y.1.it.number y.1.it.size u ≡ text_of y.1.org y.1.name y.1.it.number y.1.it.size t
 
 -- the tables besides versions, pages and places stay
 pub record KeepsRest (t u : Tables) : Type 0 where
@@ -69,30 +66,30 @@ rest_then t u z one two = record {
 
 -- ---- rows of a version
 
-pub version_row_parts : (org ws : List ℕ) (n : ℕ) (y : Kept VersionRow) → is_version org ws n y ≡ true → (y.1.org ≡ org) × ((y.1.ws ≡ ws) × (y.1.it.number ≡ n))
+pub version_row_parts : (org ws : List ℕ) (n : ℕ) (y : Kept VersionRow) → is_version org ws n y ≡ true → (y.1.org ≡ org) × ((y.1.name ≡ ws) × (y.1.it.number ≡ n))
 version_row_parts org ws n y e =
-    let a = and_parts (bytes_eq y.1.org org) (bytes_eq y.1.ws ws && y.1.it.number == n) e in
-    let b = and_parts (bytes_eq y.1.ws ws) (y.1.it.number == n) a.1 in
-    (equal_bytes y.1.org org a.0, (equal_bytes y.1.ws ws b.0, eqb-true y.1.it.number n b.1))
+    let a = and_parts (bytes_eq y.1.org org) (bytes_eq y.1.name ws && y.1.it.number == n) e in
+    let b = and_parts (bytes_eq y.1.name ws) (y.1.it.number == n) a.1 in
+    (equal_bytes y.1.org org a.0, (equal_bytes y.1.name ws b.0, eqb-true y.1.it.number n b.1))
 
-pub version_row_from : (org ws : List ℕ) (n : ℕ) (y : Kept VersionRow) → y.1.org ≡ org → y.1.ws ≡ ws → y.1.it.number ≡ n → is_version org ws n y ≡ true
+pub version_row_from : (org ws : List ℕ) (n : ℕ) (y : Kept VersionRow) → y.1.org ≡ org → y.1.name ≡ ws → y.1.it.number ≡ n → is_version org ws n y ≡ true
 version_row_from org ws n y e f g =
-    and_from (bytes_eq y.1.org org) (bytes_eq y.1.ws ws && y.1.it.number == n) (subst (λ (x : List ℕ). bytes_eq y.1.org x ≡ true) e (name_is y.1.org))
-    (and_from (bytes_eq y.1.ws ws) (y.1.it.number == n) (subst (λ (x : List ℕ). bytes_eq y.1.ws x ≡ true) f (name_is y.1.ws)) (eq-eqb y.1.it.number n g))
+    and_from (bytes_eq y.1.org org) (bytes_eq y.1.name ws && y.1.it.number == n) (subst (λ (x : List ℕ). bytes_eq y.1.org x ≡ true) e (name_is y.1.org))
+    (and_from (bytes_eq y.1.name ws) (y.1.it.number == n) (subst (λ (x : List ℕ). bytes_eq y.1.name x ≡ true) f (name_is y.1.name)) (eq-eqb y.1.it.number n g))
 
-pub below_parts : (org ws : List ℕ) (below : ℕ) (y : Kept VersionRow) → is_version_below org ws below y ≡ true → (y.1.org ≡ org) × ((y.1.ws ≡ ws) × (nat_lt y.1.it.number below ≡ true))
+pub below_parts : (org ws : List ℕ) (below : ℕ) (y : Kept VersionRow) → is_version_below org ws below y ≡ true → (y.1.org ≡ org) × ((y.1.name ≡ ws) × (nat_lt y.1.it.number below ≡ true))
 below_parts org ws below y e =
-    let a = and_parts (bytes_eq y.1.org org) (bytes_eq y.1.ws ws && nat_lt y.1.it.number below) e in
-    let b = and_parts (bytes_eq y.1.ws ws) (nat_lt y.1.it.number below) a.1 in
-    (equal_bytes y.1.org org a.0, (equal_bytes y.1.ws ws b.0, b.1))
+    let a = and_parts (bytes_eq y.1.org org) (bytes_eq y.1.name ws && nat_lt y.1.it.number below) e in
+    let b = and_parts (bytes_eq y.1.name ws) (nat_lt y.1.it.number below) a.1 in
+    (equal_bytes y.1.org org a.0, (equal_bytes y.1.name ws b.0, b.1))
 
-below_from : (org ws : List ℕ) (below : ℕ) (y : Kept VersionRow) → y.1.org ≡ org → y.1.ws ≡ ws → nat_lt y.1.it.number below ≡ true → is_version_below org ws below y ≡ true
+below_from : (org ws : List ℕ) (below : ℕ) (y : Kept VersionRow) → y.1.org ≡ org → y.1.name ≡ ws → nat_lt y.1.it.number below ≡ true → is_version_below org ws below y ≡ true
 below_from org ws below y e f g =
-    and_from (bytes_eq y.1.org org) (bytes_eq y.1.ws ws && nat_lt y.1.it.number below) (subst (λ (x : List ℕ). bytes_eq y.1.org x ≡ true) e (name_is y.1.org))
-    (and_from (bytes_eq y.1.ws ws) (nat_lt y.1.it.number below) (subst (λ (x : List ℕ). bytes_eq y.1.ws x ≡ true) f (name_is y.1.ws)) g)
+    and_from (bytes_eq y.1.org org) (bytes_eq y.1.name ws && nat_lt y.1.it.number below) (subst (λ (x : List ℕ). bytes_eq y.1.org x ≡ true) e (name_is y.1.org))
+    (and_from (bytes_eq y.1.name ws) (nat_lt y.1.it.number below) (subst (λ (x : List ℕ). bytes_eq y.1.name x ≡ true) f (name_is y.1.name)) g)
 
 -- a row that isn't one of the version is one of another
-other_row : (org ws : List ℕ) (n : ℕ) (y : Kept VersionRow) → is_version org ws n y ≡ false → IsOtherVersion y.1.org y.1.ws y.1.it.number org ws n
+other_row : (org ws : List ℕ) (n : ℕ) (y : Kept VersionRow) → is_version org ws n y ≡ false → IsOtherVersion y.1.org y.1.name y.1.it.number org ws n
 other_row org ws n y e same = let none : ⊥ = cc (sym (version_row_from org ws n y same.0 same.1.0 same.1.1) ∙ e) in none
 
 -- ---- what rows denote
@@ -105,10 +102,10 @@ shown_same t u o w (x ∷ xs) all = go (is_version_of o w x) refl (shown_same t 
   where
     here : is_version_of o w x ≡ true → version_at u o w x.1.it ≡ version_at t o w x.1.it
     here e =
-        let a = and_parts (bytes_eq x.1.org o) (bytes_eq x.1.ws w) e in
+        let a = and_parts (bytes_eq x.1.org o) (bytes_eq x.1.name w) e in
         let moved : text_of o w x.1.it.number x.1.it.size u ≡ text_of o w x.1.it.number x.1.it.size t =
         subst (λ (p : List ℕ). text_of p w x.1.it.number x.1.it.size u ≡ text_of p w x.1.it.number x.1.it.size t) (equal_bytes x.1.org o a.0)
-        (subst (λ (q : List ℕ). text_of x.1.org q x.1.it.number x.1.it.size u ≡ text_of x.1.org q x.1.it.number x.1.it.size t) (equal_bytes x.1.ws w a.1) all.0) in
+        (subst (λ (q : List ℕ). text_of x.1.org q x.1.it.number x.1.it.size u ≡ text_of x.1.org q x.1.it.number x.1.it.size t) (equal_bytes x.1.name w a.1) all.0) in
         ap (λ (text : List ℕ). version_of_cells text x.1.it) moved
 
     go : (b : Bool) → is_version_of o w x ≡ b
@@ -132,7 +129,7 @@ module _ (t u : Tables) (versions : u.versions ≡ t.versions) (pages : u.pages 
   texts_carried a = record {
     places = carried_sound t u pages vpages a.places;
     placed = all_weaker (IsPlaced t) (IsPlaced u) (λ z. subst (λ (s : Option ℕ). IsSomeAnd s (λ size. z.1.place < pages_for size)) (sym (size_carried z.1.org z.1.ws z.1.number))) u.vpages (subst (AllByRecursion (IsPlaced t)) (sym vpages) a.placed);
-    texts = all_weaker (HasText t) (HasText u) (λ y. carried_whole t u pages vpages y.1.org y.1.ws y.1.it.number y.1.it.size) u.versions (subst (AllByRecursion (HasText t)) (sym versions) a.texts);
+    texts = all_weaker (HasText t) (HasText u) (λ y. carried_whole t u pages vpages y.1.org y.1.name y.1.it.number y.1.it.size) u.versions (subst (AllByRecursion (HasText t)) (sym versions) a.texts);
   }
 
 -- tokens, and how far each reaches
@@ -178,7 +175,7 @@ module _ (org ws : List ℕ) (below : ℕ) (t : Tables) (a : AreTexts t) (x : Ke
   abbrev left : Tables
   left = text_removed org ws n size without
 
-  of_row : (x.1.org ≡ org) × ((x.1.ws ≡ ws) × (nat_lt n below ≡ true))
+  of_row : (x.1.org ≡ org) × ((x.1.name ≡ ws) × (nat_lt n below ≡ true))
   of_row = below_parts org ws below x (least_passes version_cmp (is_version_below org ws below) t.versions x found)
 
   is_own : is_version org ws n x ≡ true
@@ -204,7 +201,7 @@ module _ (org ws : List ℕ) (below : ℕ) (t : Tables) (a : AreTexts t) (x : Ke
 
   was_whole : IsWhole org ws n size without
   was_whole =
-      let there : IsWhole x.1.org x.1.ws n size t = least_holds version_cmp (is_version_below org ws below) (HasText t) t.versions x a.texts found in
+      let there : IsWhole x.1.org x.1.name n size t = least_holds version_cmp (is_version_below org ws below) (HasText t) t.versions x a.texts found in
       carried_whole t without refl refl org ws n size (subst (λ (p : List ℕ). IsWhole p ws n size t) of_row.0 (subst (λ (q : List ℕ). IsWhole x.1.org q n size t) of_row.1.0 there))
 
   were_sound : HasSoundPlaces without
@@ -262,7 +259,7 @@ module _ (org ws : List ℕ) (below : ℕ) (t : Tables) (a : AreTexts t) (x : Ke
 
       still_whole : (y : Kept VersionRow) → HasText t y → is_version org ws n y ≡ false → HasText left y
       still_whole y whole e =
-          text_removed_others_whole org ws n size without were_sound was_whole y.1.org y.1.ws y.1.it.number (other_row org ws n y e) y.1.it.size (carried_whole t without refl refl y.1.org y.1.ws y.1.it.number y.1.it.size whole)
+          text_removed_others_whole org ws n size without were_sound was_whole y.1.org y.1.name y.1.it.number (other_row org ws n y e) y.1.it.size (carried_whole t without refl refl y.1.org y.1.name y.1.it.number y.1.it.size whole)
 
   gone_same : AllByRecursion (SameText t left) left.versions
   gone_same = subst (AllByRecursion (SameText t left)) (sym gone_versions)
@@ -270,13 +267,13 @@ module _ (org ws : List ℕ) (below : ℕ) (t : Tables) (a : AreTexts t) (x : Ke
     where
       same : (y : Kept VersionRow) → is_version org ws n y ≡ false → SameText t left y
       same y e =
-          text_removed_others_text org ws n size without were_sound was_whole y.1.org y.1.ws y.1.it.number (other_row org ws n y e) y.1.it.size ∙ carried_text t without refl refl y.1.org y.1.ws y.1.it.number y.1.it.size
+          text_removed_others_text org ws n size without were_sound was_whole y.1.org y.1.name y.1.it.number (other_row org ws n y e) y.1.it.size ∙ carried_text t without refl refl y.1.org y.1.name y.1.it.number y.1.it.size
 
 -- ---- versions that go
 
 -- the workspace of a version has a row
 abbrev pub HasWs : Tables → Kept VersionRow → Type 0
-HasWs t x = list_any (is_ws x.1.org x.1.ws) t.wss ≡ true
+HasWs t x = list_any (is_ws x.1.org x.1.name) t.wss ≡ true
 
 -- so many of the versions that go are gone
 record GoesTo (org ws : List ℕ) (below many : ℕ) (t u : Tables) : Type 0 where
@@ -356,7 +353,7 @@ module _ (org ws : List ℕ) (below : ℕ) (t : Tables) (a : AreTexts t) (few : 
 
   few_go : length (filter (is_version_below org ws below) t.versions) ≤ 1_001
   few_go =
-      let fewer = filter_fewer (is_version_below org ws below) (is_version_of org ws) (λ x e. first_two (bytes_eq x.1.org org) (bytes_eq x.1.ws ws) (nat_lt x.1.it.number below) e) t.versions in
+      let fewer = filter_fewer (is_version_below org ws below) (is_version_of org ws) (λ x e. first_two (bytes_eq x.1.org org) (bytes_eq x.1.name ws) (nat_lt x.1.it.number below) e) t.versions in
       let counted = versions_counted t org ws in
       omega (arith, fewer, counted, few)
 
@@ -376,10 +373,10 @@ module _ (org ws : List ℕ) (below : ℕ) (t : Tables) (a : AreTexts t) (few : 
     rest = all_go.rest;
     own = denoted org ws
         ∙ ap (λ xs. map (λ (x : Kept VersionRow). version_at t org ws x.1.it) (filter (is_version_of org ws) xs))
-        (filter_same (λ x. not (is_version_below org ws below x)) (λ x. not (is_version_of org ws x && nat_lt x.1.it.number below)) (λ x. and_three (bytes_eq x.1.org org) (bytes_eq x.1.ws ws) (nat_lt x.1.it.number below)) t.versions)
+        (filter_same (λ x. not (is_version_below org ws below x)) (λ x. not (is_version_of org ws x && nat_lt x.1.it.number below)) (λ x. and_three (bytes_eq x.1.org org) (bytes_eq x.1.name ws) (nat_lt x.1.it.number below)) t.versions)
         ∙ slice-delete_mine (is_version_of org ws) (λ (x : Kept VersionRow). version_at t org ws x.1.it) (λ (v : Version). nat_lt v.number below) t.versions;
     others = λ o w other. denoted o w ∙ slice-delete_other (is_version_of o w) (λ (x : Kept VersionRow). version_at t o w x.1.it) (is_version_below org ws below)
-        (λ x e. pair_apart org ws o w x.1.org x.1.ws other (first_two (bytes_eq x.1.org org) (bytes_eq x.1.ws ws) (nat_lt x.1.it.number below) e)) t.versions;
+        (λ x e. pair_apart org ws o w x.1.org x.1.name other (first_two (bytes_eq x.1.org org) (bytes_eq x.1.name ws) (nat_lt x.1.it.number below) e)) t.versions;
     texts = all_go.texts;
     owned = all_go.owned;
   }
@@ -388,7 +385,7 @@ module _ (org ws : List ℕ) (below : ℕ) (t : Tables) (a : AreTexts t) (few : 
 
 module _ (keys : ℕ → List ℕ) (org ws : List ℕ) (v : Version) (t : Tables) (a : AreTexts t) (fresh : size_of org ws v.number t ≡ None) (fits : FitsTwins keys org ws v t) where
   abbrev new : Kept VersionRow
-  new = (next_key id_of t.versions, record { org = org; ws = ws; it = new_version v.number v.serial v.lineage v.created (length v.text) })
+  new = (next_key id_of t.versions, record { org = org; name = ws; it = new_version v.number v.serial v.lineage v.created (length v.text) })
 
   abbrev mid : Tables
   mid = row_added org ws v t
@@ -434,8 +431,8 @@ module _ (keys : ℕ → List ℕ) (org ws : List ℕ) (v : Version) (t : Tables
 
   come_same : AllByRecursion (SameText t come) t.versions
   come_same = all_weaker (λ y. is_version org ws v.number y ≡ false) (SameText t come)
-      (λ y e. text_added_others_text keys org ws v.number v.text mid mid_sound no_places fits y.1.org y.1.ws y.1.it.number (other_row org ws v.number y e) y.1.it.size
-      ∙ carried_text t mid refl refl y.1.org y.1.ws y.1.it.number y.1.it.size) t.versions (none_passes (is_version org ws v.number) t.versions not_there)
+      (λ y e. text_added_others_text keys org ws v.number v.text mid mid_sound no_places fits y.1.org y.1.name y.1.it.number (other_row org ws v.number y e) y.1.it.size
+      ∙ carried_text t mid refl refl y.1.org y.1.name y.1.it.number y.1.it.size) t.versions (none_passes (is_version org ws v.number) t.versions not_there)
 
   come_texts : AreTexts come
   come_texts = record {
@@ -459,7 +456,7 @@ module _ (keys : ℕ → List ℕ) (org ws : List ℕ) (v : Version) (t : Tables
 
       still_whole : (y : Kept VersionRow) → HasText t y → is_version org ws v.number y ≡ false → HasText come y
       still_whole y whole e =
-          text_added_others_whole keys org ws v.number v.text mid mid_sound no_places fits y.1.org y.1.ws y.1.it.number (other_row org ws v.number y e) y.1.it.size (carried_whole t mid refl refl y.1.org y.1.ws y.1.it.number y.1.it.size whole)
+          text_added_others_whole keys org ws v.number v.text mid mid_sound no_places fits y.1.org y.1.name y.1.it.number (other_row org ws v.number y e) y.1.it.size (carried_whole t mid refl refl y.1.org y.1.name y.1.it.number y.1.it.size whole)
 
   denoted_new : version_at come org ws new.1.it ≡ v
   denoted_new = ap (λ (text : List ℕ). version_of_cells text new.1.it) (text_added_text keys org ws v.number v.text mid mid_sound no_places fits)

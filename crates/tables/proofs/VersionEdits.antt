@@ -20,7 +20,7 @@ use Rattle.tables.proofs.Ordered.{by_version, by_version_total, versions_in, ver
 use Rattle.tables.specs.Sound.{IsSound}
 use Rattle.tables.specs.Inner.Edits.{all_gone, settings_rows, configured_rows, numbered_rows, added_rows, left_rows, versioned_rows, TakesVersion}
 use Rattle.tables.proofs.Lists.{below_gone, any_updated}
-use Rattle.tables.proofs.TextRows.{AreTexts, sound_texts, texts_carried, versions_carried, rest_stays, rest_then, Becomes, go_below, comes}
+use Rattle.tables.proofs.TextRows.{AreTexts, texts_carried, versions_carried, rest_stays, rest_then, Becomes, go_below, comes}
 use Rattle.tables.proofs.Finding.{no_versions}
 
 pub becomes_then : (f g : List Version → List Version) (org ws : List ℕ) (t u z : Tables) → Becomes f org ws t u → Becomes g org ws u z → Becomes (λ vs. g (f vs)) org ws t z
@@ -29,8 +29,8 @@ becomes_then f g org ws t u z one two = record {
   own = two.own ∙ ap g one.own;
   others = λ o w other. two.others o w other ∙ one.others o w other;
   texts = two.texts;
-  owned = λ all. subst (λ wss. AllByRecursion (λ x. list_any (is_ws x.1.org x.1.ws) wss ≡ true) z.versions) one.rest.wss
-      (two.owned (subst (λ wss. AllByRecursion (λ x. list_any (is_ws x.1.org x.1.ws) wss ≡ true) u.versions) (sym one.rest.wss) (one.owned all)));
+  owned = λ all. subst (λ wss. AllByRecursion (λ x. list_any (is_ws x.1.org x.1.name) wss ≡ true) z.versions) one.rest.wss
+      (two.owned (subst (λ wss. AllByRecursion (λ x. list_any (is_ws x.1.org x.1.name) wss ≡ true) u.versions) (sym one.rest.wss) (one.owned all)));
 }
 
 pub becomes_as : (f g : List Version → List Version) (org ws : List ℕ) (t u : Tables) → f (versions_in t org ws) ≡ g (versions_in t org ws) → Becomes f org ws t u → Becomes g org ws t u
@@ -80,7 +80,7 @@ module _ (org ws : List ℕ) (t : Tables) (sound : IsSound t) where
   all_go =
       let few = few_versions in
       becomes_as (delete_where (λ (v : Version). nat_lt v.number 1_000_000_001)) (λ vs. []) org ws t (all_gone org ws t) all_below
-      (go_below org ws 1_000_000_001 t (sound_texts t sound) (omega (arith, few)))
+      (go_below org ws 1_000_000_001 t sound.contents (omega (arith, few)))
 
   -- settings are set, and versions up to a number go
   module _ (settings : Settings) where
@@ -88,7 +88,7 @@ module _ (org ws : List ℕ) (t : Tables) (sound : IsSound t) where
     set = settings_rows org ws settings t
 
     set_texts : AreTexts set
-    set_texts = texts_carried t set refl refl refl (sound_texts t sound)
+    set_texts = texts_carried t set refl refl refl sound.contents
 
     set_few : length (versions_in set org ws) ≤ 1_001
     set_few =
@@ -114,7 +114,7 @@ module _ (org ws : List ℕ) (t : Tables) (sound : IsSound t) where
     ws_there = any_is_found (is_ws org ws) t.wss ∙ sym (is_some-map (λ (x : Kept WsRow). x.1.it) (find (is_ws org ws) t.wss)) ∙ takes.there
 
     come : Becomes (λ vs. vs ++ v ∷ []) org ws numbered added
-    come = comes keys org ws v numbered (texts_carried t numbered refl refl refl (sound_texts t sound)) takes.fresh takes.fits
+    come = comes keys org ws v numbered (texts_carried t numbered refl refl refl sound.contents) takes.fresh takes.fits
         (any_updated (is_ws org ws) (is_ws org ws) (λ x. (x.0, record x.1 { it = with_next_version (v.number + 1) x.1.it })) (λ x. refl) t.wss ∙ ws_there)
 
     still_few : length (versions_in added org ws) ≤ 1_001

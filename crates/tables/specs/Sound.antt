@@ -1,6 +1,6 @@
 -- When tables are sound.
-use Rattle.std.specs.Prelude.{⊤, ◌≡◌, ◌≤◌, ◌<◌, ◌+◌, ℕ, zero, suc, pos, true, List, [], ◌∷◌, length, map, Some, IfSome, IsSomeAnd, IsTrue}
-use Rattle.std.specs.List.{AllByRecursion, list_any}
+use Rattle.std.specs.Prelude.{⊤, ◌≡◌, ◌≤◌, ◌<◌, ◌+◌, ℕ, zero, suc, pos, List, [], ◌∷◌, length, map, Some, IfSome, IsSomeAnd, IsTrue}
+use Rattle.std.specs.List.{AllByRecursion}
 use Rattle.sqlite_keyed.specs.Rules.{AreApart}
 use Rattle.basis.specs.Names.{is_org_name, is_ws_name, is_prefix}
 use Rattle.basis.specs.declared.numbers.TheConstants.{MAX_LIMIT}
@@ -10,10 +10,11 @@ use Rattle.machine.specs.Records.{count_of}
 use Rattle.machine.specs.declared.records.Version.{Version}
 use Rattle.machine.specs.declared.records.Workspace.{Workspace}
 use Rattle.machine.specs.declared.records.Organization.{Organization}
-use Rattle.statements.specs.Rows.{Kept, OrgRow, TokenRow, BoundRow, VersionRow, VpageRow}
+use Rattle.statements.specs.Rows.{Kept, OrgRow, TokenRow, BoundRow, WsRow, RetentionRow, VersionRow, RunRow, VpageRow}
 use Rattle.statements.specs.declared.making.TheConstants.{SCHEMA_VERSION}
 use Rattle.statements.specs.Tables.{Tables, rows_in}
-use Rattle.statements.specs.Changes.{is_org, is_token, is_digest_of, is_bound, is_ws, is_retention}
+use Rattle.statements.specs.Changes.{is_org, is_digest_of}
+use Rattle.statements.specs.Belonging.{AreNamedApart, AreOfOrgs, AreAmong}
 use Rattle.statements.specs.Finds.{size_of}
 use Rattle.texts.specs.Texts.{pages_for, IsWhole, HasSoundPlaces}
 use Rattle.tables.specs.Records.{workspace_by, record_of}
@@ -29,8 +30,8 @@ pub record IsTokenRow (x : Kept TokenRow) : Type 0 where
 
 -- the expiry of a token is in range, and its prefix is valid
 pub record IsBoundRow (x : Kept BoundRow) : Type 0 where
-  pub until : IfSome x.1.until IsMoment
-  pub prefix : IsTrue (is_prefix x.1.prefix)
+  pub until : IfSome x.1.it.until IsMoment
+  pub prefix : IsTrue (is_prefix x.1.it.prefix)
 
 -- The one row with the version: in the first version it is in meta; in each later version it is in edition, and meta is empty.
 abbrev pub StoresVersion : ℕ → Tables → Type 0
@@ -44,7 +45,43 @@ IsPlaced t x = IsSomeAnd (size_of x.1.org x.1.ws x.1.number t) (λ size. x.1.pla
 
 -- every page of the version's text exists
 abbrev pub HasText : Tables → Kept VersionRow → Type 0
-HasText t x = IsWhole x.1.org x.1.ws x.1.it.number x.1.it.size t
+HasText t x = IsWhole x.1.org x.1.name x.1.it.number x.1.it.size t
+
+-- When the rows of organizations and tokens are sound, with those of the tokens' expiries and prefixes.
+pub record AreAccountsIn (n : ℕ) (orgs : List (Kept OrgRow)) (tokens : List (Kept TokenRow)) (bounds : List (Kept BoundRow)) : Type 0 where
+  -- an organization and a token each have one row; no two tokens of an organization have the same digest
+  pub orgs_apart : AreApart (λ a b. is_org a.1.name b) orgs
+  pub tokens_apart : AreNamedApart tokens
+  pub digests_apart : AreApart (λ a b. is_digest_of a.1.org a.1.it.digest b) tokens
+  -- each token has one row of bound, in a version that has that table
+  pub bounds_apart : AreNamedApart bounds
+  pub tokens_bound : AreAmong bounds (rows_in n 8 tokens)
+  -- each row has the row that it belongs to
+  pub tokens_owned : AreOfOrgs orgs tokens
+  pub bounds_owned : AreAmong tokens bounds
+  -- names, limits, digests, expiries and prefixes are valid
+  pub org_rows : AllByRecursion IsOrgRow orgs
+  pub token_rows : AllByRecursion IsTokenRow tokens
+  pub bound_rows : AllByRecursion IsBoundRow bounds
+
+-- When the rows of workspaces are sound, with those that belong to them.
+pub record AreOwnedIn (n : ℕ) (orgs : List (Kept OrgRow)) (wss : List (Kept WsRow)) (retentions : List (Kept RetentionRow)) (versions : List (Kept VersionRow)) (runs : List (Kept RunRow)) : Type 0 where
+  pub wss_apart : AreNamedApart wss
+  -- each workspace has one row of keeping, in a version that has that table
+  pub retentions_apart : AreNamedApart retentions
+  pub wss_kept : AreAmong retentions (rows_in n 10 wss)
+  -- each row has the row that it belongs to
+  pub wss_owned : AreOfOrgs orgs wss
+  pub retentions_owned : AreAmong wss retentions
+  pub versions_owned : AreAmong wss versions
+  pub runs_owned : AreAmong wss runs
+
+-- The pages are sound, the uses of each are the number of places that name it, and each place of a version has one row. Only places of
+-- versions have rows, and the text of each version is complete.
+pub record AreTexts (t : Tables) : Type 0 where
+  pub places : HasSoundPlaces t
+  pub placed : AllByRecursion (IsPlaced t) t.vpages
+  pub texts : AllByRecursion (HasText t) t.versions
 
 -- each number is followed by the next one, and the last one by `next`
 abbrev pub HasNoGap : List ℕ → ℕ → Type 0
@@ -67,35 +104,14 @@ pub record IsSoundWorkspace (name : List ℕ) (w : Workspace) : Type 0 where
 pub record IsSoundIn (n : ℕ) (t : Tables) : Type 0 where
   -- the tables are those of this version, and store it
   pub reported : StoresVersion n t
-  -- an organization, a token and a workspace each have one row; no two tokens of an organization have the same digest
-  pub orgs_apart : AreApart (λ a b. is_org a.1.name b) t.orgs
-  pub tokens_apart : AreApart (λ a b. is_token a.1.org a.1.name b) t.tokens
-  pub digests_apart : AreApart (λ a b. is_digest_of a.1.org a.1.it.digest b) t.tokens
-  pub wss_apart : AreApart (λ a b. is_ws a.1.org a.1.name b) t.wss
-  -- each token has one row of bound, in a version that has that table
-  pub bounds_apart : AreApart (λ a b. is_bound a.1.org a.1.name b) t.bounds
-  pub tokens_bound : AllByRecursion (λ x. list_any (is_bound x.1.org x.1.name) t.bounds ≡ true) (rows_in n 8 t.tokens)
-  -- each workspace has one row of keeping, in a version that has that table
-  pub retentions_apart : AreApart (λ a b. is_retention a.1.org a.1.ws b) t.retentions
-  pub wss_kept : AllByRecursion (λ x. list_any (is_retention x.1.org x.1.name) t.retentions ≡ true) (rows_in n 10 t.wss)
-  -- each row has the row that it belongs to
-  pub tokens_owned : AllByRecursion (λ x. list_any (is_org x.1.org) t.orgs ≡ true) t.tokens
-  pub bounds_owned : AllByRecursion (λ x. list_any (is_token x.1.org x.1.name) t.tokens ≡ true) t.bounds
-  pub wss_owned : AllByRecursion (λ x. list_any (is_org x.1.org) t.orgs ≡ true) t.wss
-  pub retentions_owned : AllByRecursion (λ x. list_any (is_ws x.1.org x.1.ws) t.wss ≡ true) t.retentions
-  pub versions_owned : AllByRecursion (λ x. list_any (is_ws x.1.org x.1.ws) t.wss ≡ true) t.versions
-  pub runs_owned : AllByRecursion (λ x. list_any (is_ws x.1.org x.1.ws) t.wss ≡ true) t.runs
-  -- names, limits, digests, expiries and prefixes are valid
-  pub org_rows : AllByRecursion IsOrgRow t.orgs
-  pub token_rows : AllByRecursion IsTokenRow t.tokens
-  pub bound_rows : AllByRecursion IsBoundRow t.bounds
+  pub accounts : AreAccountsIn n t.orgs t.tokens t.bounds
+  pub open accounts use *
+  pub owned : AreOwnedIn n t.orgs t.wss t.retentions t.versions t.runs
+  pub open owned use *
+  pub contents : AreTexts t
+  pub open contents use *
   -- no organization has more workspaces than the greatest limit; if its own limit was lowered, it may have more than that
   pub counts : (org : List ℕ) (o : Organization) → record_of t org ≡ Some o → count_of o ≤ MAX_LIMIT
-  -- The pages are sound, the uses of each are the number of places that name it, and each place of a version has one row. Only places of
-  -- versions have rows, and the text of each version is complete.
-  pub places : HasSoundPlaces t
-  pub placed : AllByRecursion (IsPlaced t) t.vpages
-  pub texts : AllByRecursion (HasText t) t.versions
   -- each workspace that the rows denote is lawful: what it holds is in range, and no two of its versions or runs have the same number; and
   -- no version between two that are kept is missing
   pub workspaces : (org name : List ℕ) (w : Workspace) → workspace_by t org name ≡ Some w → IsSoundWorkspace name w

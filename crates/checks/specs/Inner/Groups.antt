@@ -1,7 +1,9 @@
 -- Rows by the places where they stand in their list.
-use Rattle.std.specs.Prelude.{◌≡◌, ℕ, Bool, List, [], ◌∷◌, filter, Option, Some, None, slice_get, String, Vec}
+use Rattle.std.specs.Prelude.{◌≡◌, ℕ, List, [], ◌∷◌, filter, Option, Some, None, slice_get, String, Vec}
 use Rattle.std.specs.Option.{option_map_or}
 use Rattle.std.specs.BTreeMap.{BTreeMap, get_by_text}
+use Rattle.statements.specs.Rows.{Kept, Owned}
+use Rattle.statements.specs.Changes.{is_of}
 use Rattle.checks.specs.declared.groups.Groups.{Groups}
 
 abbrev pub with_some : {X : Type 0} → Option X → List X → List X
@@ -21,6 +23,6 @@ indices_at wss ws = option_map_or (λ row_indices. row_indices.items) (get_by_te
 abbrev pub indices_in : Groups → List ℕ → List ℕ → List ℕ
 indices_in groups org ws = option_map_or (λ wss. indices_at wss ws) (get_by_text groups.orgs org) []
 
--- each group has the places of the rows that pass the test of its workspace
-abbrev pub AreGrouped : {X : Type 0} → (List ℕ → List ℕ → X → Bool) → List X → Groups → Type 0
-AreGrouped is_of rows groups = (org ws : List ℕ) → picked rows (indices_in groups org ws) ≡ filter (is_of org ws) rows
+-- each group has the places of the rows of its workspace
+abbrev pub AreGrouped : {T : Type 0} → List (Kept (Owned T)) → Groups → Type 0
+AreGrouped rows groups = (org ws : List ℕ) → picked rows (indices_in groups org ws) ≡ filter (is_of org ws) rows

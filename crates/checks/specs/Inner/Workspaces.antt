@@ -5,7 +5,6 @@ use Rattle.machine.specs.Ranges.{IsRetention}
 use Rattle.statements.specs.Rows.{Kept, WsRow, VersionRow, RunRow, RetentionRow}
 use Rattle.statements.specs.Tables.{Tables}
 use Rattle.statements.specs.declared.rows.Rows.{Rows}
-use Rattle.statements.specs.Changes.{is_retention, is_version_of, is_run_of}
 use Rattle.tables.specs.Records.{workspace_at}
 use Rattle.tables.specs.Sound.{IsSoundWorkspace}
 use Rattle.checks.specs.declared.found.Fault.{Fault}
@@ -35,9 +34,9 @@ OfGroups rows groups x =
 
 -- the groups are those of the rows
 pub record AreAllGrouped (rows : Rows) (groups : Grouped) : Type 0 where
-  pub versions : AreGrouped is_version_of rows.versions groups.versions
-  pub runs : AreGrouped is_run_of rows.runs groups.runs
-  pub retentions : AreGrouped is_retention rows.retentions groups.retentions
+  pub versions : AreGrouped rows.versions groups.versions
+  pub runs : AreGrouped rows.runs groups.runs
+  pub retentions : AreGrouped rows.retentions groups.retentions
 
 -- tables with these rows of workspaces, versions, runs and keeping
 pub record HasWsRows (rows : Rows) (t : Tables) : Type 0 where

@@ -1,37 +1,24 @@
 -- A workspace as its rows stand, also while they are being added.
-use Rattle.std.specs.Prelude.{◌≡◌, ℕ, Bool, true, false, ◌&&◌, List, map, filter, Option, Some, option_map}
+use Rattle.std.specs.Prelude.{◌≡◌, ℕ, Bool, false, ◌&&◌, List, map, filter, Option, Some, option_map}
 use Rattle.std.specs.Str.{bytes_eq}
-use Rattle.std.specs.List.{AllByRecursion, list_any}
-use Rattle.sqlite_keyed.specs.Rules.{AreApart}
 use Rattle.basis.specs.declared.rows.RunRow.{RunRow as Run}
 use Rattle.machine.specs.declared.records.Version.{Version}
 use Rattle.machine.specs.declared.records.Workspace.{Workspace}
 use Rattle.statements.specs.declared.rows.Workspace.{Workspace as WorkspaceCells}
+use Rattle.statements.specs.declared.making.TheConstants.{SCHEMA_VERSION}
 use Rattle.statements.specs.Tables.{Tables}
-use Rattle.statements.specs.Changes.{is_org, is_ws, is_retention, is_version_of, is_run_of}
+use Rattle.statements.specs.Changes.{is_version_of, is_run_of}
 use Rattle.statements.specs.Finds.{workspace_of}
-use Rattle.texts.specs.Texts.{HasSoundPlaces}
 use Rattle.tables.specs.Records.{version_at, workspace_of_cells, retention_at}
-use Rattle.tables.specs.Sound.{IsPlaced, HasText}
+pub use Rattle.tables.specs.Sound.{AreTexts}
+use Rattle.tables.specs.Sound.{AreOwnedIn}
 
 abbrev pub is_pair : List ℕ → List ℕ → List ℕ → List ℕ → Bool
 is_pair a b p q = bytes_eq p a && bytes_eq q b
 
--- what sound tables say about texts
-pub record AreTexts (t : Tables) : Type 0 where
-  pub places : HasSoundPlaces t
-  pub placed : AllByRecursion (IsPlaced t) t.vpages
-  pub texts : AllByRecursion (HasText t) t.versions
-
 -- a workspace has one row and one row of keeping, and each row has the row that it belongs to
-pub record AreOwned (t : Tables) : Type 0 where
-  pub wss_apart : AreApart (λ a b. is_ws a.1.org a.1.name b) t.wss
-  pub retentions_apart : AreApart (λ a b. is_retention a.1.org a.1.ws b) t.retentions
-  pub wss_kept : AllByRecursion (λ x. list_any (is_retention x.1.org x.1.name) t.retentions ≡ true) t.wss
-  pub wss_owned : AllByRecursion (λ x. list_any (is_org x.1.org) t.orgs ≡ true) t.wss
-  pub retentions_owned : AllByRecursion (λ x. list_any (is_ws x.1.org x.1.ws) t.wss ≡ true) t.retentions
-  pub versions_owned : AllByRecursion (λ x. list_any (is_ws x.1.org x.1.ws) t.wss ≡ true) t.versions
-  pub runs_owned : AllByRecursion (λ x. list_any (is_ws x.1.org x.1.ws) t.wss ≡ true) t.runs
+abbrev pub AreOwned : Tables → Type 0
+AreOwned t = AreOwnedIn SCHEMA_VERSION t.orgs t.wss t.retentions t.versions t.runs
 
 -- ---- as the rows stand
 

@@ -5,10 +5,10 @@ use Rattle.std.proofs.lemmas.Result.{on_ok_weaker}
 pub returns : goal.returns
 returns c =
     let x = c.args.found.now in
-    let x1 = c.tokens_bound.new.found in
-    let x2 = c.tokens_owned.new.found in
-    let z = c.bounds_owned.new.found in
-    on_ok_weaker c.bounds_owned.result (λ last.
+    let x1 = c.all_among.new.found in
+    let x2 = c.all_of_orgs.new.found in
+    let z = c.all_among-2.new.found in
+    on_ok_weaker c.all_among-2.result (λ last.
     judges_as x z (λ laws. record { bound = laws.0; tokens = laws.1.0; bounds = laws.1.1 }) (λ r. (r.bound, (r.tokens, r.bounds)))
-    (judges_both x x1 z (rw (c.as_slice-tokens.ensures, c.as_slice-bounds.ensures) at c.in_ok-tokens_bound.ensures) (judges_both x1 x2 z (rw (c.as_slice-tokens.ensures, c.as_slice-orgs.ensures) at c.in_ok-tokens_owned.ensures) last)))
-    (rw (c.as_slice-tokens.ensures, c.as_slice-bounds.ensures) at c.bounds_owned.ensures)
+    (judges_both x x1 z (rw (c.as_slice-tokens.ensures, c.as_slice-bounds.ensures) at c.in_ok-all_among.ensures) (judges_both x1 x2 z (rw (c.as_slice-tokens.ensures, c.as_slice-orgs.ensures) at c.in_ok-all_of_orgs.ensures) last)))
+    (rw (c.as_slice-tokens.ensures, c.as_slice-bounds.ensures) at c.all_among-2.ensures)

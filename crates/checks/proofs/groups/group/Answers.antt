@@ -1,6 +1,7 @@
 use Rattle.std.proofs.Common.{◌≡◌, ◌∙◌, ◌++◌, ◌∷◌, [], ◌&&◌, ◌+◌, ap, sym, cond, take}
 use Rattle.std.specs.Str.{bytes_eq}
 use Rattle.std.proofs.lemmas.List.{take_more}
+use Rattle.statements.specs.Changes.{is_of}
 use Rattle.checks.specs.Inner.Groups.{indices_in}
 use Rattle.checks.proofs.GroupLemmas.{one_grouped, there_is}
 use Rattle.checks.proofs.groups.group.Goals as goal
@@ -13,5 +14,5 @@ loop-row_index-preserved g c = λ org ws.
     let old = indices_in c.loop-row_index.groups org ws in
     let longer : take (i + 1) c.args.rows.now ≡ take i c.args.rows.now ++ x ∷ [] =
     take_more c.args.rows.now i x c.loop-row_index-test.true ∙ ap (λ y. take i c.args.rows.now ++ y ∷ []) (sym c.index-rows-row_index.is) in
-    one_grouped c.args.rows.now (λ y. bytes_eq (g.R.Named.org_of y.1) org && bytes_eq (g.R.Named.name_of y.1) ws) i x (there_is c.args.rows.now i x c.loop-row_index-test.true c.index-rows-row_index.is) longer old (indices_in c.add.new.self org ws)
-    (c.in_ok-add.ensures org ws ∙ (λ j. cond (bytes_eq (c.org.ensures j) org && bytes_eq (c.name.ensures j) ws) (old ++ i ∷ []) old)) (c.loop-row_index.invariant org ws)
+    one_grouped c.args.rows.now (is_of org ws) i x (there_is c.args.rows.now i x c.loop-row_index-test.true c.index-rows-row_index.is) longer old (indices_in c.add.new.self org ws)
+    (c.in_ok-add.ensures org ws ∙ (λ j. cond (bytes_eq (c.as_str.ensures j) org && bytes_eq (c.as_str-in-loop-row_index.ensures j) ws) (old ++ i ∷ []) old)) (c.loop-row_index.invariant org ws)

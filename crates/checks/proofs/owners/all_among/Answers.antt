@@ -1,7 +1,10 @@
-use Rattle.std.proofs.Common.{◌≡◌, ◌&&◌, true, ◌∙◌}
-use Rattle.std.specs.Str.{bytes_eq}
+use Rattle.std.proofs.Common.{◌≡◌, true, subst, ◌∙◌}
 use Rattle.std.specs.List.{list_any}
-use Rattle.checks.specs.Judging.{fault_of, Breaks}
+use Rattle.std.proofs.lemmas.List.{take_all}
+use Rattle.statements.specs.Belonging.{AreAmong}
+use Rattle.statements.specs.Changes.{is_of}
+use Rattle.checks.specs.Judging.{fault_of, Breaks, Judges}
+use Rattle.checks.specs.Faults.{Unmatched}
 use Rattle.checks.specs.Inner.Keys.{has_key}
 use Rattle.checks.proofs.JudgingLemmas.{judges_where, judges_named}
 use Rattle.checks.proofs.KeyLemmas.{reported_by}
@@ -10,13 +13,14 @@ use Rattle.checks.proofs.owners.all_among.Goals as goal
 
 pub loop-row-preserved : goal.loop-row-preserved
 loop-row-preserved g c =
-    let org = g.R.Named.org_of in
-    let name = g.R.Named.name_of in
     let x = c.loop-row-item.result in
     let reported =
-    reported_by c.has_texts-known.result (λ m n. has_key c.in_ok-keys.keys m n 0 0) c.as_bytes.result.now c.as_bytes-in-loop-row.result.now (org x.1) (name x.1) _
-    c.has_texts-known.ensures (c.as_bytes.ensures.value ∙ c.org-org.ensures) (c.as_bytes-in-loop-row.ensures.value ∙ c.name-name.ensures) (c.in_ok-keys.ensures (org x.1) (name x.1)) in
-    all_judged (λ y. Breaks (list_any (λ z. bytes_eq (g.O.Named.org_of z.1) (org y.1) && bytes_eq (g.O.Named.name_of z.1) (name y.1)) c.args.others.now ≡ true) (fault_of c.args.kind (org y.1) (name y.1) (g.R.Named.number_of y.1)))
-    (λ y. list_any (λ z. bytes_eq (g.O.Named.org_of z.1) (org y.1) && bytes_eq (g.O.Named.name_of z.1) (name y.1)) c.args.others.now ≡ true)
+    reported_by c.has_texts-known.result (λ m n. has_key c.in_ok-keys.keys m n 0 0) c.as_bytes.result.now c.as_bytes-in-loop-row.result.now x.1.org x.1.name _
+    c.has_texts-known.ensures (c.as_bytes.ensures.value ∙ c.as_str-org.ensures) (c.as_bytes-in-loop-row.ensures.value ∙ c.as_str-name.ensures) (c.in_ok-keys.ensures x.1.org x.1.name) in
+    all_judged (λ y. Breaks (list_any (is_of y.1.org y.1.name) c.args.others.now ≡ true) (fault_of c.args.kind y.1.org y.1.name (g.T.Numbered.number_of y.1.it)))
+    (λ y. list_any (is_of y.1.org y.1.name) c.args.others.now ≡ true)
     c.args.rows.now c.loop-row.row-index x c.args.found.now c.loop-row.found c.judge.new.self c.loop-row-test.true c.loop-row-item.is
-    c.loop-row.invariant (judges_where reported (judges_named c.loop-row.found c.judge.new.self (λ j. fault_of c.args.kind (c.org-org.ensures j) (c.name-name.ensures j) (c.number-number.ensures j)) c.in_ok-judge.ensures))
+    c.loop-row.invariant (judges_where reported (judges_named c.loop-row.found c.judge.new.self (λ j. fault_of c.args.kind (c.as_str-org.ensures j) (c.as_str-name.ensures j) (c.number-number.ensures j)) c.in_ok-judge.ensures))
+
+pub returns : goal.returns
+returns g c = subst (λ l. Judges (Unmatched c.args.kind g.T.Numbered.number_of c.args.others.now l) (AreAmong c.args.others.now l) c.args.found.now c.loop-row.found) (take_all c.loop-row.row-index c.args.rows.now c.loop-row-test.false) c.loop-row.invariant

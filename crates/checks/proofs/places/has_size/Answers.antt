@@ -9,14 +9,14 @@ pub returns-in-Some : goal.returns-in-Some
 returns-in-Some c heads vpages has =
     let x = c.args.version.now in
     let its = c.place_key.ensures in
-    let key : IsKeyOf c.place_key.result x.org x.ws x.it.number c.args.place = record { its_first = its.its_first; its_second = its.its_second; its_number = its.its_number ∙ c.from-number.ensures ∙ c.get.ensures.value; its_place = its.its_place } in
-    size_there (piece_in x.org x.ws x.it.number c.args.place heads vpages) c.in-Some.piece.now c.args.size c.eq.result
-    (sym (has x.org x.ws x.it.number c.args.place) ∙ at_key x.org x.ws x.it.number c.args.place c.place_key.result c.args.pieces.now key ∙ sym c.in-Some.ensures.value) c.eq.ensures
+    let key : IsKeyOf c.place_key.result x.org x.name x.it.number c.args.place = record { its_first = its.its_first; its_second = its.its_second; its_number = its.its_number ∙ c.from-number.ensures ∙ c.get.ensures.value; its_place = its.its_place } in
+    size_there (piece_in x.org x.name x.it.number c.args.place heads vpages) c.in-Some.piece.now c.args.size c.eq.result
+    (sym (has x.org x.name x.it.number c.args.place) ∙ at_key x.org x.name x.it.number c.args.place c.place_key.result c.args.pieces.now key ∙ sym c.in-Some.ensures.value) c.eq.ensures
 
 pub returns-in-None : goal.returns-in-None
 returns-in-None c heads vpages has =
     let x = c.args.version.now in
     let its = c.place_key.ensures in
-    let key : IsKeyOf c.place_key.result x.org x.ws x.it.number c.args.place = record { its_first = its.its_first; its_second = its.its_second; its_number = its.its_number ∙ c.from-number.ensures ∙ c.get.ensures.value; its_place = its.its_place } in
-    size_nowhere (piece_in x.org x.ws x.it.number c.args.place heads vpages) c.args.size
-    (sym (has x.org x.ws x.it.number c.args.place) ∙ at_key x.org x.ws x.it.number c.args.place c.place_key.result c.args.pieces.now key ∙ sym c.in-None.ensures.value)
+    let key : IsKeyOf c.place_key.result x.org x.name x.it.number c.args.place = record { its_first = its.its_first; its_second = its.its_second; its_number = its.its_number ∙ c.from-number.ensures ∙ c.get.ensures.value; its_place = its.its_place } in
+    size_nowhere (piece_in x.org x.name x.it.number c.args.place heads vpages) c.args.size
+    (sym (has x.org x.name x.it.number c.args.place) ∙ at_key x.org x.name x.it.number c.args.place c.place_key.result c.args.pieces.now key ∙ sym c.in-None.ensures.value)

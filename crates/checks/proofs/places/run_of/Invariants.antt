@@ -8,4 +8,4 @@ use Rattle.checks.proofs.places.run_of.Given as goal
 
 -- the places so far name whole pages
 abbrev pub invariant-loop-place : goal.invariant-loop-place
-invariant-loop-place l = (heads : List PageHead) (vpages : List (Kept VpageRow)) → HasPieces heads vpages l.pieces → (k : ℕ) → k < l.place → piece_in l.version.org l.version.ws l.version.it.number k heads vpages ≡ Some (Some PAGE_BYTES)
+invariant-loop-place l = (heads : List PageHead) (vpages : List (Kept VpageRow)) → HasPieces heads vpages l.pieces → (k : ℕ) → k < l.place → piece_in l.version.org l.version.name l.version.it.number k heads vpages ≡ Some (Some PAGE_BYTES)
