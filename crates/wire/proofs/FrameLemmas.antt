@@ -1,5 +1,5 @@
 -- The verdict on the parts of a head, rule by rule.
-use Rattle.std.proofs.Common.{◌≡◌, ℕ, ◌+◌, ◌<◌, ◌≤◌, List, [], length, Bool, true, false, cond, Option, Some, None, Result, refl, sym, ap, subst, ◌∙◌, arith}
+use Rattle.std.proofs.Common.{◌≡◌, ℕ, ◌+◌, ◌<◌, ◌≤◌, List, [], length, Bool, true, false, Option, Some, None, Result, refl, sym, subst, arith}
 use Rattle.std.proofs.lemmas.List.{append-nil}
 use Rattle.httparse.specs.Grammar.{is_token_byte as is_tchar, IsToken as IsName, RequestHead, ReadsRequest, HasNoRequest}
 use Rattle.httparse.specs.Spans.{RequestOverflows}
@@ -11,7 +11,7 @@ use Rattle.wire.specs.declared.framing.Frame.{Frame}
 use Rattle.wire.specs.declared.framing.FrameFault.{FrameFault}
 use Rattle.wire.specs.Heads.{feeds_of}
 use Rattle.wire.specs.Targets.{origin_of}
-use Rattle.wire.specs.Framing.{Parts, parts_of, is_misframed, is_chunked, content_length, length_refusal, max_body, is_head_method, frame_of, judged_by, judged, Verdict, refuses, accepts, parsed, IsJudged}
+use Rattle.wire.specs.Framing.{Parts, parts_of, are_misframed, is_chunked, content_length, length_refusal, max_body, is_head_method, frame_of, judged, Verdict, refuses, accepts, parsed, IsJudged}
 use Rattle.wire.specs.Inner.Spans.{GivesBy, verdict_by, Judges, Frames}
 use Rattle.wire.proofs.FeedLemmas.{feeds_request}
 
@@ -20,39 +20,28 @@ pub same_token : (bytes : List ℕ) → IsName bytes → IsToken bytes
 unfolding is_tchar is_token_byte
 same_token bytes t = t
 
-abbrev after_frame : Parts → Option Refusal
-after_frame p = cond (is_chunked p.fields) (Some NoLength) (length_refusal (content_length p.fields) (max_body p.method))
+pub refuses_target : (p : Parts) (h : Bool) → h ≡ is_head_method p.method → None ≡ origin_of p.target → refuses BadMessage h ≡ judged p
+refuses_target p h e o = rw (e, ← o) refl
 
-abbrev judged_at : Parts → Option Refusal → Verdict
-judged_at p refusal = judged_by refusal (origin_of p.target) p
+pub refuses_frame : (p : Parts) (origin : List ℕ) (h : Bool) → h ≡ is_head_method p.method → Some origin ≡ origin_of p.target
+    → true ≡ are_misframed p.minor p.fields → refuses BadMessage h ≡ judged p
+refuses_frame p origin h e o m = rw (e, ← o, ← m) refl
 
-unframed : (p : Parts) (b : Bool) → b ≡ is_misframed p → judged p ≡ judged_at p (cond b (Some BadMessage) (after_frame p))
-unframed p b m = ap (λ t. judged_at p (cond t (Some BadMessage) (after_frame p))) (sym m)
+pub refuses_chunks : (p : Parts) (origin : List ℕ) (h : Bool) → h ≡ is_head_method p.method → Some origin ≡ origin_of p.target
+    → false ≡ are_misframed p.minor p.fields → true ≡ is_chunked p.fields → refuses NoLength h ≡ judged p
+refuses_chunks p origin h e o m t = rw (e, ← o, ← m, ← t) refl
 
-unchunked : (p : Parts) (b : Bool) → b ≡ is_chunked p.fields
-    → judged_at p (after_frame p) ≡ judged_at p (cond b (Some NoLength) (length_refusal (content_length p.fields) (max_body p.method)))
-unchunked p b t = ap (λ t. judged_at p (cond t (Some NoLength) (length_refusal (content_length p.fields) (max_body p.method)))) (sym t)
-
-pub refuses_frame : (p : Parts) (h : Bool) → h ≡ is_head_method p.method → true ≡ is_misframed p → refuses BadMessage h ≡ judged p
-refuses_frame p h e m = ap (refuses BadMessage) e ∙ sym (unframed p true m)
-
-pub refuses_chunks : (p : Parts) (h : Bool) → h ≡ is_head_method p.method → false ≡ is_misframed p → true ≡ is_chunked p.fields
-    → refuses NoLength h ≡ judged p
-refuses_chunks p h e m t = ap (refuses NoLength) e ∙ sym (unframed p false m ∙ unchunked p true t)
-
-pub refuses_length : (p : Parts) (h : Bool) (text : Option (List ℕ)) (most : ℕ) (r : Refusal) → h ≡ is_head_method p.method
-    → false ≡ is_misframed p → false ≡ is_chunked p.fields → text ≡ content_length p.fields → most ≡ max_body p.method
-    → length_refusal text most ≡ Some r → refuses r h ≡ judged p
-refuses_length p h text most r e m t c b l =
-    let here : length_refusal (content_length p.fields) (max_body p.method) ≡ Some r = rw (← c, ← b) l in
-    ap (refuses r) e ∙ sym (unframed p false m ∙ unchunked p false t ∙ ap (judged_at p) here)
+pub refuses_length : (p : Parts) (origin : List ℕ) (h : Bool) (text : Option (List ℕ)) (most : ℕ) (r : Refusal) → h ≡ is_head_method p.method
+    → Some origin ≡ origin_of p.target → false ≡ are_misframed p.minor p.fields → false ≡ is_chunked p.fields → text ≡ content_length p.fields
+    → most ≡ max_body p.method → length_refusal text most ≡ Some r → refuses r h ≡ judged p
+refuses_length p origin h text most r e o m t c b l = rw (e, ← o, ← m, ← t, ← c, ← b, l) refl
 
 pub takes_all : (p : Parts) (origin : List ℕ) (frame : Frame) (text : Option (List ℕ)) (most : ℕ)
-    → false ≡ is_misframed p → false ≡ is_chunked p.fields → text ≡ content_length p.fields → most ≡ max_body p.method
-    → length_refusal text most ≡ None → Some origin ≡ origin_of p.target → frame ≡ frame_of p origin → accepts frame ≡ judged p
-takes_all p origin frame text most m t c b l o f =
+    → Some origin ≡ origin_of p.target → false ≡ are_misframed p.minor p.fields → false ≡ is_chunked p.fields → text ≡ content_length p.fields
+    → most ≡ max_body p.method → length_refusal text most ≡ None → frame ≡ frame_of p origin → accepts frame ≡ judged p
+takes_all p origin frame text most o m t c b l f =
     let here : length_refusal (content_length p.fields) (max_body p.method) ≡ None = rw (← c, ← b) l in
-    ap accepts f ∙ ap (λ z. judged_by None z p) o ∙ sym (unframed p false m ∙ unchunked p false t ∙ ap (judged_at p) here)
+    rw (f, ← o, ← m, ← t, here) refl
 
 -- ---- a whole head
 

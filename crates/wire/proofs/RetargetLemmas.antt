@@ -15,7 +15,7 @@ use Rattle.wire.specs.declared.framing.TheConstants.{MAX_FEEDS}
 use Rattle.wire.specs.declared.framing.Frame.{Frame}
 use Rattle.wire.specs.declared.messages.Message.{Message}
 use Rattle.wire.specs.Heads.{has_feed, empty_line, text_len, head_len, HeadEnd, Whole, head_end_by, head_end_of, feeds_of}
-use Rattle.wire.specs.Framing.{Parts, parts_of, crowded, parsed, is_without_host, repeats_a_field, is_framed_twice, is_chunked, length_refusal, content_length, max_body, refusal_of, frame_of, Verdict, refuses, accepts, judged_by, judged}
+use Rattle.wire.specs.Framing.{Parts, parts_of, crowded, parsed, are_misframed, is_chunked, length_refusal, content_length, max_body, refusal_of, frame_of, Verdict, refuses, accepts, judged_by, judged}
 use Rattle.wire.specs.Messages.{unfinished, refused, whole, framed_message, reading_by, ReadsByEnd, Reads}
 use Rattle.wire.specs.Targets.{origin_of, path_of, query_of}
 use Rattle.wire.specs.Retargeting.{RetargetedReads}
@@ -205,7 +205,7 @@ printed_crowded h behind is size many =
 -- the verdict doesn't hang on the target, where it has one of its forms
 abbrev refusal_where : Parts → Option (List ℕ) → Option Refusal
 refusal_where parts origin =
-    if is_without_host parts.minor parts.fields || repeats_a_field parts.fields || is_none origin || is_framed_twice parts.fields then Some BadMessage
+    if is_none origin || are_misframed parts.minor parts.fields then Some BadMessage
     else (if is_chunked parts.fields then Some NoLength else length_refusal (content_length parts.fields) (max_body parts.method))
 
 same_refusal : (parts : Parts) (aim from to : List ℕ) → origin_of parts.target ≡ Some from → origin_of aim ≡ Some to → refusal_of (record parts { target = aim }) ≡ refusal_of parts

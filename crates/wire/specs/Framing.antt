@@ -1,5 +1,5 @@
 -- What a whole head says: refused, or a message with a body of so many bytes (RFC 9112, sections 3.2 and 6; RFC 9110, section 10.1.1).
-use Rattle.std.specs.Prelude.{◌≡◌, ℕ, ◌<◌, ◌≤◌, List, length, map, Bool, true, false, not, ◌&&◌, ◌||◌, ◌==◌, nat_lt, if◌then◌else◌, Option, Some, None, is_none, codes, bytes_eq}
+use Rattle.std.specs.Prelude.{◌≡◌, ℕ, ◌<◌, ◌≤◌, List, [], length, map, Bool, true, false, not, ◌&&◌, ◌||◌, ◌==◌, nat_lt, if◌then◌else◌, Option, Some, None, is_none, codes, bytes_eq}
 use Rattle.std.specs.List.{list_all}
 use Rattle.std.specs.Char.{is_ascii_digit}
 use Rattle.std.specs.Str.Parse.{digits_value}
@@ -81,10 +81,11 @@ abbrev pub awaits_continue : ℕ → Fields → Bool
 awaits_continue minor fields = minor == 1 && not (body_length fields == 0) && has_value (codes "expect") (codes "100-continue") fields
 
 -- the first rules, each of which refuses the head as no message
+abbrev pub are_misframed : ℕ → Fields → Bool
+are_misframed minor fields = is_without_host minor fields || repeats_a_field fields || is_framed_twice fields
+
 abbrev pub is_misframed : Parts → Bool
-is_misframed parts =
-    is_without_host parts.minor parts.fields || repeats_a_field parts.fields || is_none (origin_of parts.target)
-    || is_framed_twice parts.fields
+is_misframed parts = is_none (origin_of parts.target) || are_misframed parts.minor parts.fields
 
 -- the refusal by the length of the body, if it is refused
 abbrev pub length_refusal : Option (List ℕ) → ℕ → Option Refusal
@@ -102,14 +103,17 @@ refusal_of parts =
 abbrev pub is_head_method : List ℕ → Bool
 is_head_method method = bytes_eq method (codes "HEAD")
 
--- the parts that a message keeps; `origin` is the target without scheme and host
+-- the message, without its body so far; `origin` is the target without scheme and host
 abbrev pub frame_of : Parts → List ℕ → Frame
 frame_of parts origin = record {
-  method = parts.method;
-  path = path_of origin;
-  query = query_of origin;
-  authorization = value_of (codes "authorization") parts.fields;
-  content_md5 = value_of (codes "content-md5") parts.fields;
+  message = record {
+    method = parts.method;
+    path = path_of origin;
+    query = query_of origin;
+    authorization = value_of (codes "authorization") parts.fields;
+    content_md5 = value_of (codes "content-md5") parts.fields;
+    body = [];
+  };
   body_len = body_length parts.fields;
   awaits_continue = awaits_continue parts.minor parts.fields;
 }

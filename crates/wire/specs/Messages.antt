@@ -17,14 +17,7 @@ pub data Reading : Type 0 where
   whole : Message → Bool → Reading
 
 abbrev pub framed_message : Frame → List ℕ → Message
-framed_message frame body = record {
-  method = frame.method;
-  path = frame.path;
-  query = frame.query;
-  authorization = frame.authorization;
-  content_md5 = frame.content_md5;
-  body = body;
-}
+framed_message frame body = record frame.message { body = body }
 
 -- the verdict on the head, and the bytes that follow it: those past the body aren't part of the message
 abbrev pub reading_by : Verdict → List ℕ → Reading

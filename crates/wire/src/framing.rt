@@ -3,10 +3,11 @@ ghost use Rattle.std.specs.Prelude.{◌≡◌, ◌≤◌, ℕ, List, IfOk};
 ghost use Rattle.std.specs.Option.{option_copied};
 ghost use Rattle.httparse.specs.Grammar.{IsToken, RequestHead};
 ghost use Rattle.httparse.specs.Spans.{IsRequestWithin, IsRequestOf, IsRequestAt};
-ghost use Rattle.wire.specs.Framing.{is_without_host, repeats_a_field, is_framed_twice, max_body, awaits_continue, is_misframed, frame_of, body_length, is_head_method, parts_of, Verdict, IsJudged};
+ghost use Rattle.wire.specs.Framing.{is_without_host, repeats_a_field, is_framed_twice, max_body, awaits_continue, are_misframed, frame_of, body_length, is_head_method, parts_of, Verdict, IsJudged};
 ghost use Rattle.wire.specs.Inner.Spans.{fields_at, AreWithin, capped_length, parts_at, Judges, Frames, GivesLength};
 
 use crate::heads::{feeds, has_value, is_there, origin, path, query, stands_twice, value};
+use crate::messages::Message;
 use basis::{Bytes, Down, Refusal, Text};
 use http::Method;
 use http::method::MethodError;
@@ -30,14 +31,10 @@ pub const MAX_OTHER_BODY: usize = 16_384;
 // A length above every limit is as good as this one.
 const LENGTH_CAP: usize = MAX_STATE_BODY + 1;
 
-/// The parts of a head that a message keeps, the length of its body, and whether a `100 Continue` is awaited.
+/// A message whose body is still to be read, the length of that, and whether a `100 Continue` is awaited.
 #[derive(Drop)]
 pub struct Frame {
-    pub method: Method,
-    pub path: Text,
-    pub query: Option<Text>,
-    pub authorization: Option<Bytes>,
-    pub content_md5: Option<Bytes>,
+    pub message: Message,
     pub body_len: usize,
     pub awaits_continue: bool,
 }
@@ -106,12 +103,12 @@ fn judge(
     ensures { Judges (parts_at method.now target.now minor head.now fields.now) result }
 {
     let is_head = is_head_method(method);
-    if is_misframed(target, minor, head, fields) {
-        return Err(FrameFault::Refused(Refusal::BadMessage, is_head));
-    }
     let Some(origin) = origin(target) else {
         return Err(FrameFault::Refused(Refusal::BadMessage, is_head));
     };
+    if are_misframed(minor, head, fields) {
+        return Err(FrameFault::Refused(Refusal::BadMessage, is_head));
+    }
     if is_there(head, fields, b"transfer-encoding") {
         return Err(FrameFault::Refused(Refusal::NoLength, is_head));
     }
@@ -124,13 +121,12 @@ fn judge(
     }
 }
 
-fn is_misframed(target: &str, minor: u8, head: &[u8], fields: &[HeaderSpan]) -> bool
+fn are_misframed(minor: u8, head: &[u8], fields: &[HeaderSpan]) -> bool
     requires { AreWithin head.now fields.now }
-    ensures { (method : List ℕ) → result ≡ is_misframed (parts_at method target.now minor head.now fields.now) }
+    ensures { result ≡ are_misframed minor (fields_at head.now fields.now) }
 {
     is_without_host(head, fields, minor)
         || repeats_a_field(head, fields)
-        || origin(target).is_none()
         || is_framed_twice(head, fields)
 }
 
@@ -230,12 +226,16 @@ fn taken(
     let query = text_copied(alloc, query(origin))?;
     let authorization = bytes_copied(alloc, value(head, fields, b"authorization"))?;
     let content_md5 = bytes_copied(alloc, value(head, fields, b"content-md5"))?;
+    let body = Bytes::new(Vec::new(alloc));
     Ok(Frame {
-        method,
-        path,
-        query,
-        authorization,
-        content_md5,
+        message: Message {
+            method,
+            path,
+            query,
+            authorization,
+            content_md5,
+            body,
+        },
         body_len,
         awaits_continue: awaits_continue(minor, body_len, head, fields),
     })

@@ -4,7 +4,6 @@ ghost use Rattle.std.specs.Io.KnownBytes.{Consumes};
 ghost use Rattle.wire.specs.Heads.{head_end_of, Whole};
 ghost use Rattle.wire.specs.Links.{ReportsReceived, ReportsInput, Writes, continue_if};
 ghost use Rattle.wire.specs.Inner.Bodies.{Fills, Finishes, ReadsBody, body_fault, wire_fault, refusal_fault};
-ghost use Rattle.wire.specs.Messages.{framed_message};
 
 use crate::devices::{Inlet, Outlet};
 use crate::framing::{Frame, FrameFault, read_frame};
@@ -154,7 +153,10 @@ fn finish<I: Inlet, O: Outlet>(
         inlet,
         outlet,
     ) {
-        Ok(body) => Ok(framed_message(frame, body)),
+        Ok(body) => Ok(Message {
+            body,
+            ..frame.message
+        }),
         Err(fault) => Err(fault),
     }
 }
@@ -253,19 +255,6 @@ fn body_fault(fault: BodyFault) -> WireFault
     match fault {
         BodyFault::Ended => WireFault::Ended,
         BodyFault::Failed => WireFault::Read,
-    }
-}
-
-fn framed_message(frame: Frame, body: Bytes) -> Message
-    ensures { result ≡ framed_message frame body }
-{
-    Message {
-        method: frame.method,
-        path: frame.path,
-        query: frame.query,
-        authorization: frame.authorization,
-        content_md5: frame.content_md5,
-        body,
     }
 }
 
