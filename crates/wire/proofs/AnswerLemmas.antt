@@ -5,8 +5,6 @@ use Rattle.std.proofs.lemmas.List.{append-nil, take-append-le, drop-append-le}
 use Rattle.std.proofs.lemmas.Bool.{lt-leb, le-leb}
 use Rattle.std.proofs.KnownBytes.{Appends-nil}
 use Rattle.wire.specs.declared.framing.Frame.{Frame}
-use Rattle.wire.specs.declared.framing.FrameFault.{FrameFault}
-use Rattle.wire.specs.declared.framing.FrameFault.TheVariants.{Refused as HeadRefused, Down as NoMemory}
 use Rattle.wire.specs.declared.messages.Message.{Message}
 use Rattle.wire.specs.declared.messages.WireFault.{WireFault}
 use Rattle.wire.specs.declared.messages.WireFault.TheVariants.{Ended, Read, Continue, Refused, Down}
@@ -15,7 +13,7 @@ use Rattle.wire.specs.Framing.{Verdict, refuses, accepts, IsJudged}
 use Rattle.wire.specs.Inner.Spans.{Frames}
 use Rattle.wire.specs.Messages.{Reading, unfinished, refused, whole, framed_message, reading_by, ReadsByEnd, Reads, AwaitsContinueBy, AwaitsContinue, IsAwaited}
 use Rattle.wire.specs.Links.{continue_text, continue_if, WritesPrefix, Writes, WritesContinue, ReportsReceived, ReportsInput}
-use Rattle.wire.specs.Inner.Bodies.{Finishes, refusal_fault}
+use Rattle.wire.specs.Inner.Bodies.{Finishes}
 use Rattle.wire.proofs.HeadLemmas.{head_end_more}
 use Rattle.wire.proofs.ReadingLemmas.{judged_one, reads_more, awaited_more}
 
@@ -80,11 +78,14 @@ finish_reports received more n frame left old new (Err Continue) e h j f = ((awa
 finish_reports received more n frame left old new (Err (Refused refusal is_head)) e h j f = absurd f
 finish_reports received more n frame left old new (Err Down) e h j f = f
 
-pub refused_reports : (received : List ℕ) (n : ℕ) (fault : FrameFault) (left old : Option (List ℕ))
+pub refused_reports : (received : List ℕ) (n : ℕ) (fault : WireFault) (left old : Option (List ℕ))
     → head_end_of received ≡ Whole n → n ≤ length received → Frames (take n received) (Err fault)
-    → ReportsReceived (received ++ []) left old old (Err (refusal_fault fault))
-refused_reports received n (HeadRefused refusal is_head) left old e h j = (rests received [] n (refuses refusal is_head) e h j, Appends-nil old)
-refused_reports received n NoMemory left old e h j = Appends-nil old
+    → ReportsReceived (received ++ []) left old old (Err fault)
+refused_reports received n (Refused refusal is_head) left old e h j = (rests received [] n (refuses refusal is_head) e h j, Appends-nil old)
+refused_reports received n Down left old e h j = Appends-nil old
+refused_reports received n Ended left old e h j = absurd j
+refused_reports received n Read left old e h j = absurd j
+refused_reports received n Continue left old e h j = absurd j
 
 -- the same, by the two parts that the head was cut into
 pub finished : (received head rest more : List ℕ) (n : ℕ) (frame : Frame) (left old new : Option (List ℕ)) (result : Result Message WireFault)
@@ -95,13 +96,12 @@ finished received head rest more n frame left old new result a b e h j f =
     let F : List ℕ → Type 0 = λ z. Finishes frame (z ++ more) left old new result in
     finish_reports received more n frame left old new result e h (subst J a j) (subst F b f)
 
-pub refused_here : (received head : List ℕ) (n : ℕ) (fault : FrameFault) (wire : WireFault) (left old : Option (List ℕ))
-    → head ≡ take n received → head_end_of received ≡ Whole n → n ≤ length received → Frames head (Err fault) → wire ≡ refusal_fault fault
-    → ReportsReceived (received ++ []) left old old (Err wire)
-refused_here received head n fault wire left old a e h j w =
+pub refused_here : (received head : List ℕ) (n : ℕ) (fault : WireFault) (left old : Option (List ℕ))
+    → head ≡ take n received → head_end_of received ≡ Whole n → n ≤ length received → Frames head (Err fault)
+    → ReportsReceived (received ++ []) left old old (Err fault)
+refused_here received head n fault left old a e h j =
     let J : List ℕ → Type 0 = λ z. Frames z (Err fault) in
-    let A : WireFault → Type 0 = λ z. ReportsReceived (received ++ []) left old old (Err z) in
-    subst A (sym w) (refused_reports received n fault left old e h (subst J a j))
+    refused_reports received n fault left old e h (subst J a j)
 
 pub continue_refused : {T E : Type 0} (r : Result T E) (old new : Option (List ℕ)) (awaited : Bool) → is_err r ≡ true
     → Writes old new (continue_if awaited) r → OnErr r (IsTrue awaited) → IsTrue awaited × WritesPrefix old new continue_text

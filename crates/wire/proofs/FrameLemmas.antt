@@ -1,5 +1,5 @@
 -- The verdict on the parts of a head, rule by rule.
-use Rattle.std.proofs.Common.{◌≡◌, ℕ, ◌+◌, ◌<◌, ◌≤◌, List, [], length, Bool, true, false, Option, Some, None, Result, refl, sym, subst, arith}
+use Rattle.std.proofs.Common.{◌≡◌, ℕ, ◌+◌, ◌<◌, ◌≤◌, List, [], length, Bool, true, false, Option, Some, None, Result, Ok, Err, refl, sym, subst, arith}
 use Rattle.std.proofs.lemmas.List.{append-nil}
 use Rattle.httparse.specs.Grammar.{is_token_byte as is_tchar, IsToken as IsName, RequestHead, ReadsRequest, HasNoRequest}
 use Rattle.httparse.specs.Spans.{RequestOverflows}
@@ -8,11 +8,12 @@ use Rattle.basis.specs.declared.refusals.Refusal.{Refusal}
 use Rattle.basis.specs.declared.refusals.Refusal.TheVariants.{BadMessage, NoLength}
 use Rattle.wire.specs.declared.framing.TheConstants.{MAX_FEEDS}
 use Rattle.wire.specs.declared.framing.Frame.{Frame}
-use Rattle.wire.specs.declared.framing.FrameFault.{FrameFault}
+use Rattle.wire.specs.declared.messages.WireFault.{WireFault}
+use Rattle.wire.specs.declared.messages.WireFault.TheVariants.{Ended, Read, Continue, Refused, Down}
 use Rattle.wire.specs.Heads.{feeds_of}
 use Rattle.wire.specs.Targets.{origin_of}
 use Rattle.wire.specs.Framing.{Parts, parts_of, are_misframed, is_chunked, content_length, length_refusal, max_body, is_head_method, frame_of, judged, Verdict, refuses, accepts, parsed, IsJudged}
-use Rattle.wire.specs.Inner.Spans.{GivesBy, verdict_by, Judges, Frames}
+use Rattle.wire.specs.Inner.Spans.{GivesBy, Judges, Frames}
 use Rattle.wire.proofs.FeedLemmas.{feeds_request}
 
 -- a method of the grammar is a token
@@ -45,14 +46,18 @@ takes_all p origin frame text most o m t c b l f =
 
 -- ---- a whole head
 
-pub gives_weaker : (P Q : Verdict → Type 0) (o : Option Verdict) → ((v : Verdict) → P v → Q v) → GivesBy P o → GivesBy Q o
-gives_weaker P Q (Some v) f p = f v p
-gives_weaker P Q None f p = tt
+pub gives_weaker : (P Q : Verdict → Type 0) (r : Result Frame WireFault) → ((v : Verdict) → P v → Q v) → GivesBy P r → GivesBy Q r
+gives_weaker P Q (Ok frame) f p = f (accepts frame) p
+gives_weaker P Q (Err (Refused refusal is_head)) f p = f (refuses refusal is_head) p
+gives_weaker P Q (Err Ended) f p = p
+gives_weaker P Q (Err Read) f p = p
+gives_weaker P Q (Err Continue) f p = p
+gives_weaker P Q (Err Down) f p = p
 
-pub judged_head : (head : List ℕ) (h : RequestHead) (rest : List ℕ) (result : Result Frame FrameFault) → feeds_of head ≤ MAX_FEEDS
+pub judged_head : (head : List ℕ) (h : RequestHead) (rest : List ℕ) (result : Result Frame WireFault) → feeds_of head ≤ MAX_FEEDS
     → ReadsRequest head h rest → Judges (parts_of h) result → Frames head result
 judged_head head h rest result few reads judges =
-    gives_weaker (λ v. v ≡ judged (parts_of h)) (IsJudged head) (verdict_by result)
+    gives_weaker (λ v. v ≡ judged (parts_of h)) (IsJudged head) result
     (λ v e. (parsed (parts_of h), (few, (h, rest, reads, refl)), e)) judges
 
 -- more than 64 fields have more than 66 line feeds

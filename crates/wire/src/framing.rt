@@ -7,7 +7,7 @@ ghost use Rattle.wire.specs.Framing.{is_without_host, repeats_a_field, is_framed
 ghost use Rattle.wire.specs.Inner.Spans.{fields_at, AreWithin, capped_length, parts_at, Judges, Frames, GivesLength};
 
 use crate::heads::{feeds, has_value, is_there, origin, path, query, stands_twice, value};
-use crate::messages::Message;
+use crate::messages::{Message, WireFault};
 use basis::{Bytes, Down, Refusal, Text};
 use http::Method;
 use http::method::MethodError;
@@ -39,28 +39,19 @@ pub struct Frame {
     pub awaits_continue: bool,
 }
 
-/// Why a whole head gives no frame.
-#[derive(Clone, Copy)]
-pub enum FrameFault {
-    /// The flag says that the head could be parsed and its method is HEAD.
-    Refused(Refusal, bool),
-    /// Memory was refused.
-    Down,
-}
-
 /// The verdict on a whole head.
-pub fn read_frame(alloc: Global, head: &[u8]) -> Result<Frame, FrameFault>
+pub fn read_frame(alloc: Global, head: &[u8]) -> Result<Frame, WireFault>
     ensures { Frames head.now result }
 {
     let lines = feeds(head);
     if lines > MAX_FEEDS {
-        return Err(FrameFault::Refused(Refusal::HeadTooLarge, false));
+        return Err(WireFault::Refused(Refusal::HeadTooLarge, false));
     }
     let mut fields = [EMPTY_HEADER_SPAN; MAX_FIELDS];
     match parse_request(head, &mut fields) {
         Ok(Status::Complete(spans)) => parsed(alloc, head, spans, &fields),
-        Ok(Status::Partial) => Err(FrameFault::Refused(Refusal::BadMessage, false)),
-        Err(_) => Err(FrameFault::Refused(Refusal::BadMessage, false)),
+        Ok(Status::Partial) => Err(WireFault::Refused(Refusal::BadMessage, false)),
+        Err(_) => Err(WireFault::Refused(Refusal::BadMessage, false)),
     }
 }
 
@@ -70,7 +61,7 @@ fn parsed(
     head: &[u8],
     spans: RequestSpans,
     fields: &[HeaderSpan],
-) -> Result<Frame, FrameFault>
+) -> Result<Frame, WireFault>
     requires within { IsRequestWithin head.now fields.now spans }
     requires of { IsRequestOf head.now fields.now spans }
     ensures { (h : RequestHead) → IsRequestAt head.now fields.now spans h → Judges (parts_of h) result }
@@ -97,26 +88,26 @@ fn judge(
     minor: u8,
     head: &[u8],
     fields: &[HeaderSpan],
-) -> Result<Frame, FrameFault>
+) -> Result<Frame, WireFault>
     requires within { AreWithin head.now fields.now }
     requires token { IsToken method.now }
     ensures { Judges (parts_at method.now target.now minor head.now fields.now) result }
 {
     let is_head = is_head_method(method);
     let Some(origin) = origin(target) else {
-        return Err(FrameFault::Refused(Refusal::BadMessage, is_head));
+        return Err(WireFault::Refused(Refusal::BadMessage, is_head));
     };
     if are_misframed(minor, head, fields) {
-        return Err(FrameFault::Refused(Refusal::BadMessage, is_head));
+        return Err(WireFault::Refused(Refusal::BadMessage, is_head));
     }
     if is_there(head, fields, b"transfer-encoding") {
-        return Err(FrameFault::Refused(Refusal::NoLength, is_head));
+        return Err(WireFault::Refused(Refusal::NoLength, is_head));
     }
     match read_length(value(head, fields, b"content-length"), max_body(method)) {
-        Length::Refuses(refusal) => Err(FrameFault::Refused(refusal, is_head)),
+        Length::Refuses(refusal) => Err(WireFault::Refused(refusal, is_head)),
         Length::Of(len) => match taken(alloc, method, origin, minor, len, head, fields) {
             Ok(frame) => Ok(frame),
-            Err(Down) => Err(FrameFault::Down),
+            Err(Down) => Err(WireFault::Down),
         },
     }
 }

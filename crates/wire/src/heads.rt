@@ -13,7 +13,8 @@ ghost use Rattle.wire.specs.Inner.Spans.{fields_at, AreWithin, LooksUp};
 ghost use Rattle.wire.specs.Targets.{begins_with_slash, begins_with_scheme, ends_host, origin_of, or_root, path_of, query_of};
 
 use crate::devices::Inlet;
-use basis::Bytes;
+use crate::messages::WireFault;
+use basis::{Bytes, Refusal};
 use httparse::spans::{HeaderSpan, Span};
 use std::alloc::Global;
 
@@ -30,25 +31,12 @@ pub struct ReceivedHead {
     pub len: usize,
 }
 
-/// Why no head was read.
-#[derive(Clone, Copy)]
-pub enum HeadFault {
-    /// The input ended before the head.
-    Ended,
-    /// A read failed.
-    Failed,
-    /// So many bytes were received without the head's end.
-    TooLarge,
-    /// Memory was refused.
-    Down,
-}
-
 /// Reads up to the end of the head, and asks for nothing once it is received.
-pub fn read_head<I: Inlet>(alloc: Global, inlet: &mut I) -> Result<ReceivedHead, HeadFault>
+pub fn read_head<I: Inlet>(alloc: Global, inlet: &mut I) -> Result<ReceivedHead, WireFault>
     requires { I.broken inlet.old ≡ false }
     ensures found { (received : List ℕ) × Consumes (I.left inlet.old) (I.left inlet.new) received × Finds received (I.left inlet.new) result }
-    ensures cause { (I.broken inlet.new ≡ true) ↔ IsErrOf result HeadFault.Failed }
-    ensures end { I.ended inlet.old ≡ false → ((I.ended inlet.new ≡ true) ↔ IsErrOf result HeadFault.Ended) }
+    ensures cause { (I.broken inlet.new ≡ true) ↔ IsErrOf result WireFault.Read }
+    ensures end { I.ended inlet.old ≡ false → ((I.ended inlet.new ≡ true) ↔ IsErrOf result WireFault.Ended) }
 {
     let mut bytes = Vec::new(alloc);
     let mut chunk = [0; CHUNK];
@@ -56,15 +44,15 @@ pub fn read_head<I: Inlet>(alloc: Global, inlet: &mut I) -> Result<ReceivedHead,
     'reading: while bytes.len() < MAX_HEAD {
         let room = CHUNK.min(MAX_HEAD - bytes.len());
         let Ok(count) = inlet.read(&mut chunk[..room]) else {
-            return Err(HeadFault::Failed);
+            return Err(WireFault::Read);
         };
         if count == 0 {
-            return Err(HeadFault::Ended);
+            return Err(WireFault::Ended);
         }
         let piece = &chunk[..count];
         let before = bytes.len();
         if bytes.extend_from_slice(piece).is_err() {
-            return Err(HeadFault::Down);
+            return Err(WireFault::Down);
         }
         if let Some(end) = end_in(&mut position, piece) {
             return Ok(ReceivedHead {
@@ -73,7 +61,7 @@ pub fn read_head<I: Inlet>(alloc: Global, inlet: &mut I) -> Result<ReceivedHead,
             });
         }
     }
-    Err(HeadFault::TooLarge)
+    Err(WireFault::Refused(Refusal::HeadTooLarge, false))
 }
 
 /// Where the reading of a head stands.

@@ -1,13 +1,13 @@
 //! A message of HTTP, and reading it: its head, the `100 Continue` where it is awaited, and its body.
-ghost use Rattle.std.specs.Prelude.{◌≡◌, ◌≤◌, ◌↔◌, ◌++◌, ℕ, List, length, take, true, false, Err, IfSome, IsErrOf, IsTrue, OnErr, is_err, min};
+ghost use Rattle.std.specs.Prelude.{◌≡◌, ◌≤◌, ◌↔◌, ◌++◌, ℕ, List, length, take, true, false, IfSome, IsErrOf, IsTrue, OnErr, is_err, min};
 ghost use Rattle.std.specs.Io.KnownBytes.{Consumes};
 ghost use Rattle.wire.specs.Heads.{head_end_of, Whole};
 ghost use Rattle.wire.specs.Links.{ReportsReceived, ReportsInput, Writes, continue_if};
-ghost use Rattle.wire.specs.Inner.Bodies.{Fills, Finishes, ReadsBody, body_fault, wire_fault, refusal_fault};
+ghost use Rattle.wire.specs.Inner.Bodies.{Fills, Finishes, ReadsBody};
 
 use crate::devices::{Inlet, Outlet};
-use crate::framing::{Frame, FrameFault, read_frame};
-use crate::heads::{HeadFault, ReceivedHead, read_head};
+use crate::framing::{Frame, read_frame};
+use crate::heads::{ReceivedHead, read_head};
 use crate::replies::{WriteFault, write_all};
 use basis::{Bytes, Refusal, Text};
 use http::Method;
@@ -101,7 +101,7 @@ fn read_through<I: Inlet, O: Outlet>(
 {
     match read_head(alloc, inlet) {
         Ok(received_head) => read_on(alloc, received_head, inlet, outlet),
-        Err(fault) => Err(wire_fault(fault)),
+        Err(fault) => Err(fault),
     }
 }
 
@@ -125,7 +125,7 @@ fn read_on<I: Inlet, O: Outlet>(
     let (head, rest) = received_head.bytes.as_slice().split_at(received_head.len);
     match read_frame(alloc, head) {
         Ok(frame) => finish(alloc, frame, rest, inlet, outlet),
-        Err(fault) => Err(refusal_fault(fault)),
+        Err(fault) => Err(fault),
     }
 }
 
@@ -187,7 +187,7 @@ fn read_body<I: Inlet, O: Outlet>(
     let filled = rest.len().min(len);
     match fill(body.as_mut_slice(), filled, inlet) {
         Ok(()) => Ok(Bytes::new(body)),
-        Err(fault) => Err(body_fault(fault)),
+        Err(fault) => Err(fault),
     }
 }
 
@@ -220,60 +220,24 @@ fn write_continue<O: Outlet>(awaits_continue: bool, outlet: &mut O) -> Result<()
 }
 
 // Reads what the body lacks behind its first bytes, right into its place.
-fn fill<I: Inlet>(body: &mut [u8], body_start: usize, inlet: &mut I) -> Result<(), BodyFault>
+fn fill<I: Inlet>(body: &mut [u8], body_start: usize, inlet: &mut I) -> Result<(), WireFault>
     requires sound { I.broken inlet.old ≡ false }
     requires short { body_start ≤ length body.old }
     ensures filled { (received : List ℕ) × Consumes (I.left inlet.old) (I.left inlet.new) received
         × Fills (take body_start body.old ++ received) (length body.old) (I.left inlet.new) body.new result }
-    ensures cause { (I.broken inlet.new ≡ true) ↔ (result ≡ Err BodyFault.Failed) }
-    ensures end { I.ended inlet.old ≡ false → ((I.ended inlet.new ≡ true) ↔ (result ≡ Err BodyFault.Ended)) }
+    ensures cause { (I.broken inlet.new ≡ true) ↔ IsErrOf result WireFault.Read }
+    ensures end { I.ended inlet.old ≡ false → ((I.ended inlet.new ≡ true) ↔ IsErrOf result WireFault.Ended) }
 {
     let len = body.len();
     let mut filled = body_start;
     'filling: while filled < len {
         let Ok(count) = inlet.read(&mut body[filled..]) else {
-            return Err(BodyFault::Failed);
+            return Err(WireFault::Read);
         };
         if count == 0 {
-            return Err(BodyFault::Ended);
+            return Err(WireFault::Ended);
         }
         filled += count;
     }
     Ok(())
-}
-
-/// Why a body was not read whole.
-#[derive(Clone, Copy)]
-pub enum BodyFault {
-    Ended,
-    Failed,
-}
-
-fn body_fault(fault: BodyFault) -> WireFault
-    ensures { result ≡ body_fault fault }
-{
-    match fault {
-        BodyFault::Ended => WireFault::Ended,
-        BodyFault::Failed => WireFault::Read,
-    }
-}
-
-fn wire_fault(fault: HeadFault) -> WireFault
-    ensures { result ≡ wire_fault fault }
-{
-    match fault {
-        HeadFault::Ended => WireFault::Ended,
-        HeadFault::Failed => WireFault::Read,
-        HeadFault::TooLarge => WireFault::Refused(Refusal::HeadTooLarge, false),
-        HeadFault::Down => WireFault::Down,
-    }
-}
-
-fn refusal_fault(fault: FrameFault) -> WireFault
-    ensures { result ≡ refusal_fault fault }
-{
-    match fault {
-        FrameFault::Refused(refusal, is_head) => WireFault::Refused(refusal, is_head),
-        FrameFault::Down => WireFault::Down,
-    }
 }

@@ -2,25 +2,18 @@
 use Rattle.std.specs.Prelude.{◌≡◌, ℕ, ◌<◌, ◌≤◌, List, [], length, take, Bool, Option, Result, Ok, Err, IsTrue}
 use Rattle.std.specs.Io.KnownBytes.{Appends, IsAtEnd}
 use Rattle.wire.specs.declared.framing.Frame.{Frame}
-use Rattle.wire.specs.declared.framing.FrameFault.{FrameFault}
-use Rattle.wire.specs.declared.framing.FrameFault.TheVariants.{Refused as HeadRefused, Down as NoMemory}
-use Rattle.wire.specs.declared.heads.HeadFault.{HeadFault}
-use Rattle.wire.specs.declared.heads.HeadFault.TheVariants.{Ended as HeadEnded, Failed as HeadFailed, TooLarge, Down as NoRoom}
-use Rattle.wire.specs.declared.messages.BodyFault.{BodyFault}
-use Rattle.wire.specs.declared.messages.BodyFault.TheVariants.{Ended as BodyEnded, Failed as BodyFailed}
 use Rattle.wire.specs.declared.messages.Message.{Message}
 use Rattle.wire.specs.declared.messages.WireFault.{WireFault}
 use Rattle.wire.specs.declared.messages.WireFault.TheVariants.{Ended, Read, Continue, Refused, Down}
-use Rattle.basis.specs.declared.refusals.Refusal.TheVariants.{HeadTooLarge}
-use Rattle.std.specs.Prelude.{false}
 use Rattle.wire.specs.Messages.{framed_message}
 use Rattle.wire.specs.Links.{WritesPrefix, continue_text, continue_if}
 
 -- the bytes of a body so far, those left, and the body: it is whole, or the input ended or a read failed before
-abbrev pub Fills : List ℕ → ℕ → Option (List ℕ) → List ℕ → Result (Unit {0}) BodyFault → Type 0
+abbrev pub Fills : List ℕ → ℕ → Option (List ℕ) → List ℕ → Result (Unit {0}) WireFault → Type 0
 Fills received len left body (Ok done) = (body ≡ received) × (length received ≡ len)
-Fills received len left body (Err BodyEnded) = (length received < len) × IsAtEnd left
-Fills received len left body (Err BodyFailed) = length received < len
+Fills received len left body (Err Ended) = (length received < len) × IsAtEnd left
+Fills received len left body (Err Read) = length received < len
+Fills received len left body (Err fault) = ⊥
 
 -- why there is no body, by its length, whether a `100 Continue` is awaited, and the bytes received after the head
 abbrev pub LacksBody : ℕ → Bool → List ℕ → Option (List ℕ) → Option (List ℕ) → Option (List ℕ) → WireFault → Type 0
@@ -40,20 +33,3 @@ abbrev pub Finishes : Frame → List ℕ → Option (List ℕ) → Option (List 
 Finishes frame rest left old new (Ok message) =
     (frame.body_len ≤ length rest) × (message ≡ framed_message frame (take frame.body_len rest)) × Appends old new (continue_if frame.awaits_continue)
 Finishes frame rest left old new (Err fault) = LacksBody frame.body_len frame.awaits_continue rest left old new fault
-
--- the fault of a message whose body isn't whole
-abbrev pub body_fault : BodyFault → WireFault
-body_fault BodyEnded = Ended
-body_fault BodyFailed = Read
-
--- the fault of a message whose head wasn't read
-abbrev pub wire_fault : HeadFault → WireFault
-wire_fault HeadEnded = Ended
-wire_fault HeadFailed = Read
-wire_fault TooLarge = Refused HeadTooLarge false
-wire_fault NoRoom = Down
-
--- the fault of a message whose head is refused
-abbrev pub refusal_fault : FrameFault → WireFault
-refusal_fault (HeadRefused refusal is_head) = Refused refusal is_head
-refusal_fault NoMemory = Down

@@ -6,10 +6,10 @@ use Rattle.httparse.specs.Spans.{span_bytes, header_bytes, IsWithin, IsHeaderWit
 use Rattle.wire.specs.declared.heads.Lookup.{Lookup}
 use Rattle.wire.specs.declared.heads.Lookup.TheVariants.{Absent, Once, Again}
 use Rattle.wire.specs.declared.framing.Frame.{Frame}
-use Rattle.wire.specs.declared.framing.FrameFault.{FrameFault}
-use Rattle.wire.specs.declared.framing.FrameFault.TheVariants.{Refused, Down}
 use Rattle.wire.specs.declared.framing.Length.{Length}
 use Rattle.wire.specs.declared.framing.Length.TheVariants.{Refuses, Of}
+use Rattle.wire.specs.declared.messages.WireFault.{WireFault}
+use Rattle.wire.specs.declared.messages.WireFault.TheVariants.{Refused, Down}
 use Rattle.wire.specs.Fields.{Fields}
 use Rattle.wire.specs.Framing.{Parts, Verdict, refuses, accepts, IsJudged, judged, is_length, length_refusal, length_written}
 
@@ -38,19 +38,16 @@ GivesLength text most (Of len) = (length_refusal text most ≡ None) × (len ≡
 abbrev pub parts_at : List ℕ → List ℕ → ℕ → List ℕ → List HeaderSpan → Parts
 parts_at method target minor head spans = record { method = method; target = target; minor = minor; fields = fields_at head spans }
 
-abbrev pub verdict_by : Result Frame FrameFault → Option Verdict
-verdict_by (Ok frame) = Some (accepts frame)
-verdict_by (Err (Refused refusal is_head)) = Some (refuses refusal is_head)
-verdict_by (Err Down) = None
+-- a verdict, unless memory was refused
+abbrev pub GivesBy : (Verdict → Type 0) → Result Frame WireFault → Type 0
+GivesBy P (Ok frame) = P (accepts frame)
+GivesBy P (Err (Refused refusal is_head)) = P (refuses refusal is_head)
+GivesBy P (Err Down) = ⊤
+GivesBy P (Err fault) = ⊥
 
--- the verdict on the parts, unless memory was refused
-abbrev pub GivesBy : (Verdict → Type 0) → Option Verdict → Type 0
-GivesBy P (Some verdict) = P verdict
-GivesBy P None = ⊤
+abbrev pub Judges : Parts → Result Frame WireFault → Type 0
+Judges parts result = GivesBy (λ verdict. verdict ≡ judged parts) result
 
-abbrev pub Judges : Parts → Result Frame FrameFault → Type 0
-Judges parts result = GivesBy (λ verdict. verdict ≡ judged parts) (verdict_by result)
-
--- the verdict on a whole head, unless memory was refused
-abbrev pub Frames : List ℕ → Result Frame FrameFault → Type 0
-Frames head result = GivesBy (IsJudged head) (verdict_by result)
+-- the verdict on a whole head
+abbrev pub Frames : List ℕ → Result Frame WireFault → Type 0
+Frames head result = GivesBy (IsJudged head) result

@@ -1,4 +1,4 @@
-use Rattle.std.proofs.Common.{◌≡◌, ◌<◌, ◌≤◌, ◌++◌, ◌∙◌, ℕ, ◌+◌, List, Some, true, not, cond, ap, is_ok, take, drop, length, arith, length-append, length-take}
+use Rattle.std.proofs.Common.{◌≡◌, ◌<◌, ◌≤◌, ◌++◌, ◌∙◌, ℕ, ◌+◌, List, Some, true, not, cond, ap, refl, is_ok, take, drop, length, arith, length-append, length-take}
 use Rattle.std.proofs.lemmas.List.{take-append-le}
 use Rattle.std.proofs.KnownBytes.{Consumes-trans, Consumes-kept}
 use Rattle.wire.specs.Heads.{head_len}
@@ -42,4 +42,4 @@ returns-in-Some-clause-found g c =
 pub returns-clause-found : goal.returns-clause-found
 returns-clause-found g c =
     let many : 16_384 ≤ length c.reading.bytes.items = omega (arith, c.reading-test.false, c.len.ensures) in
-    (c.reading.bytes.items, c.reading.invariant.received, head_end_long c.reading.bytes.items (passes_none c.reading.bytes.items c.reading.position c.reading.invariant.goes) many)
+    (c.reading.bytes.items, c.reading.invariant.received, (refl, refl, head_end_long c.reading.bytes.items (passes_none c.reading.bytes.items c.reading.position c.reading.invariant.goes) many))

@@ -18,7 +18,7 @@ pub returns-clause-answer : goal.returns-clause-answer
 returns-clause-answer g c = (
   [],
   Consumes-nil _,
-  refused_here c.args.received_head.bytes c.split_at.result.0.now c.args.received_head.len c.in-Err.fault c.refusal_fault.result _ _
+  refused_here c.args.received_head.bytes c.split_at.result.0.now c.args.received_head.len c.in-Err.fault _ _
       (c.split_at.ensures.front ∙ ap (take c.args.received_head.len) c.as_slice.ensures)
-      c.requires.head_end c.requires.within c.in-Err.ensures c.refusal_fault.ensures,
+      c.requires.head_end c.requires.within c.in-Err.ensures,
 )
