@@ -39,19 +39,11 @@ fn asked_read(alloc: Global, routes: &Routes, message: &Message) -> Result<Asked
 fn asked_at(alloc: Global, message: &Message, found: &Found<'_, '_>) -> Result<Asked, Refusal>
     ensures { Follows result (asked_found message.now found.now.kind (pairs_of found.now.params)) }
 {
-    let org = match read_org(alloc, found.part("org")) {
-        Ok(org) => org,
-        Err(refusal) => return Err(refusal),
-    };
+    let org = read_org(alloc, found.part("org"))?;
     let bodyless = is_bodyless(message.body.as_slice());
-    let act = match act_named(alloc, found, message.method.as_str(), bodyless) {
-        Ok(act) => act,
-        Err(refusal) => return Err(refusal),
-    };
-    match read_query(alloc, query_bytes(&message.query)) {
-        Ok(query) => with_query(alloc, &message.authorization, org, act, query),
-        Err(refusal) => Err(refusal),
-    }
+    let act = act_named(alloc, found, message.method.as_str(), bodyless)?;
+    let query = read_query(alloc, query_bytes(&message.query))?;
+    with_query(alloc, &message.authorization, org, act, query)
 }
 
 // An act of an organization, with what the query and the token say.
@@ -64,24 +56,16 @@ fn with_query(
 ) -> Result<Asked, Refusal>
     ensures { Follows result (with_query authorization.now org act found) }
 {
-    let lock_id = match lock_id_in(alloc, found.id) {
-        Ok(lock_id) => lock_id,
-        Err(refusal) => return Err(refusal),
-    };
-    let act = match begin_after(alloc, act, found.after) {
-        Ok(act) => act,
-        Err(refusal) => return Err(refusal),
-    };
-    match read_bearer_token(alloc, field_bytes(authorization), text_bytes(&found.token)) {
-        Ok(token) => Ok(Asked {
-            caller: token.org,
-            secret: token.secret,
-            org,
-            act,
-            lock_id,
-        }),
-        Err(refusal) => Err(refusal),
-    }
+    let lock_id = lock_id_in(alloc, found.id)?;
+    let act = begin_after(alloc, act, found.after)?;
+    let token = read_bearer_token(alloc, field_bytes(authorization), text_bytes(&found.token))?;
+    Ok(Asked {
+        caller: token.org,
+        secret: token.secret,
+        org,
+        act,
+        lock_id,
+    })
 }
 
 // Whether nothing follows the head.
@@ -154,9 +138,7 @@ fn read_query(alloc: Global, query: &[u8]) -> Result<UrlQuery, Refusal>
         let Ok((name, value)) = pair else {
             return Err(Refusal::Unavailable);
         };
-        if let Err(refusal) = add_decoded_pair(alloc, &mut found, name, value) {
-            return Err(refusal);
-        }
+        add_decoded_pair(alloc, &mut found, name, value)?;
     }
     Ok(found)
 }

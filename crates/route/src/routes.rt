@@ -167,14 +167,8 @@ fn on_ws(
 ) -> Result<AskedAct, Refusal>
     ensures { Follows result (on_ws (pairs_of found.now.params) act) }
 {
-    let ws = match read_ws(alloc, found.part("ws")) {
-        Ok(ws) => ws,
-        Err(refusal) => return Err(refusal),
-    };
-    match act {
-        Ok(act) => Ok(AskedAct::OfWorkspace(ws, act)),
-        Err(refusal) => Err(refusal),
-    }
+    let ws = read_ws(alloc, found.part("ws"))?;
+    Ok(AskedAct::OfWorkspace(ws, act?))
 }
 
 // Among all workspaces.

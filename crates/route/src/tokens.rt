@@ -29,10 +29,8 @@ pub fn read_bearer_token(
 ) -> Result<BearerToken, Refusal>
     ensures { Follows result (bearer_token_read (option_map now_of authorization.entry) (option_map now_of in_query.entry)) }
 {
-    match one_token(authorization, in_query) {
-        Ok(text) => bearer_token_in(alloc, text),
-        Err(refusal) => Err(refusal),
-    }
+    let text = one_token(authorization, in_query)?;
+    bearer_token_in(alloc, text)
 }
 
 // The one token of a request.
@@ -65,14 +63,9 @@ fn bearer_token_in(alloc: Global, text: &[u8]) -> Result<BearerToken, Refusal>
     ensures { Follows result (or_refused Refusal.BadToken (bearer_token_of text.now)) }
 {
     let (org, secret) = cut_at(text, b'.');
-    let org = match org_in(alloc, org) {
-        Ok(org) => org,
-        Err(refusal) => return Err(refusal),
-    };
-    match secret_in(alloc, secret) {
-        Ok(secret) => Ok(BearerToken { org, secret }),
-        Err(refusal) => Err(refusal),
-    }
+    let org = org_in(alloc, org)?;
+    let secret = secret_in(alloc, secret)?;
+    Ok(BearerToken { org, secret })
 }
 
 fn org_in(alloc: Global, bytes: &[u8]) -> Result<OrgName, Refusal>
