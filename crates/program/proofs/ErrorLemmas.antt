@@ -1,5 +1,5 @@
 -- Lines on the error stream, one behind the other.
-use Rattle.std.proofs.Common.{◌≡◌, ◌<◌, ◌+◌, ◌++◌, ◌∷◌, [], ℕ, List, Result, Ok, Err, ◌∙◌, sym, subst, append_assoc, ap, refl, length, take, drop, take-append-drop, get_or, inl, inr}
+use Rattle.std.proofs.Common.{◌≡◌, ◌<◌, ◌+◌, ◌++◌, ◌∷◌, [], ℕ, List, Result, Ok, Err, ◌∙◌, sym, subst, append_assoc, ap, refl, length, take, drop, take-append-drop, get_or, inl, inr, IsErr}
 use Rattle.std.proofs.lemmas.List.{append-nil, at_drop_more}
 use Rattle.std.proofs.KnownBytes.{Appends-trans, Appends-kept}
 use Rattle.std.specs.Io.KnownBytes.{Appends, Keeps}
@@ -11,6 +11,10 @@ use Rattle.program.specs.Streams.{Reported, one_more, failures_after, GetsAll, G
 pub behind : (x y z end : List ℕ) → x ++ y ++ z ++ end ≡ x ++ (y ++ z ++ end)
 behind [] y z end = refl
 behind (b ∷ x) y z end = ap (λ (bytes : List ℕ). b ∷ bytes) (behind x y z end)
+
+pub failed : {T E : Type 0} (old new : Reported) (text : List ℕ) (r : Result T E) → IsErr r → GetsPart old new text → ReportsBy old new text r
+failed old new text (Ok done) ended h = absurd (let none : ⊥ = cc in none)
+failed old new text (Err fault) ended h = h
 
 -- a front of the first text, and nothing of the next
 part_longer : (old new : Reported) (x y : List ℕ) → GetsPart old new x → GetsPart old new (x ++ y)
@@ -27,8 +31,8 @@ pub all_behind : (old mid new : Reported) (x y : List ℕ) → GetsAll old mid x
 all_behind old mid new x y first h = (Appends-trans old.bytes mid.bytes new.bytes x y first.0 h.0, h.1 ∙ first.1)
 
 -- a call failed in the first piece, and the text goes on behind it
-pub wrote_first : (old new : Reported) (piece x y : List ℕ) → piece ≡ x → GetsPart old new piece → GetsPart old new (x ++ y)
-wrote_first old new piece x y is h = part_longer old new x y (subst (λ (z : List ℕ). GetsPart old new z) is h)
+pub wrote_first : {T E : Type 0} (old new : Reported) (piece x y : List ℕ) (r : Result T E) → IsErr r → piece ≡ x → GetsPart old new piece → ReportsBy old new (x ++ y) r
+wrote_first old new piece x y r ended is h = failed old new (x ++ y) r ended (part_longer old new x y (subst (λ (z : List ℕ). GetsPart old new z) is h))
 
 -- a piece was written, and then the rest of the text, unless a call failed
 pub wrote_then : {T E : Type 0} (old mid new : Reported) (piece x y : List ℕ) (r : Result T E) → piece ≡ x → GetsAll old mid piece → ReportsBy mid new y r → ReportsBy old new (x ++ y) r

@@ -16,10 +16,8 @@ fn write_text<E: ErrorStream>(errors: &mut E, text: &[u8]) -> io::Result<()>
 {
     let mut rest = text;
     'writing: while !rest.is_empty() {
-        match errors.write(rest) {
-            Ok(count) => rest = rest.split_at(count).1,
-            Err(error) => return Err(error),
-        }
+        let count = errors.write(rest)?;
+        rest = rest.split_at(count).1;
     }
     Ok(())
 }
@@ -28,28 +26,22 @@ fn write_text<E: ErrorStream>(errors: &mut E, text: &[u8]) -> io::Result<()>
 pub fn send_on<E: ErrorStream>(errors: &mut E, written: io::Result<()>) -> io::Result<()>
     ensures { (before : Reported) (text : List ℕ) → ReportsBy before (E.reported errors.old) text written → ReportsBy before (E.reported errors.new) text result }
 {
-    match written {
-        Ok(()) => errors.flush(),
-        Err(error) => Err(error),
-    }
+    written?;
+    errors.flush()
 }
 
 fn write_ended<E: ErrorStream>(errors: &mut E, text: &str) -> io::Result<()>
     ensures { ReportsBy (E.reported errors.old) (E.reported errors.new) (text.now ++ 10 ∷ []) result }
 {
-    match write_text(errors, text.as_bytes()) {
-        Ok(()) => write_text(errors, b"\n"),
-        Err(error) => Err(error),
-    }
+    write_text(errors, text.as_bytes())?;
+    write_text(errors, b"\n")
 }
 
 fn write_message<E: ErrorStream>(errors: &mut E, text: &str) -> io::Result<()>
     ensures { ReportsBy (E.reported errors.old) (E.reported errors.new) (codes ": " ++ text.now ++ 10 ∷ []) result }
 {
-    match write_text(errors, b": ") {
-        Ok(()) => write_ended(errors, text),
-        Err(error) => Err(error),
-    }
+    write_text(errors, b": ")?;
+    write_ended(errors, text)
 }
 
 fn write_numbered<E: ErrorStream>(errors: &mut E, connection: u64, text: &str) -> io::Result<()>
@@ -57,20 +49,16 @@ fn write_numbered<E: ErrorStream>(errors: &mut E, connection: u64, text: &str) -
 {
     let mut buffer = Buffer::new();
     let digits = buffer.format(connection);
-    match write_text(errors, digits.as_bytes()) {
-        Ok(()) => write_message(errors, text),
-        Err(error) => Err(error),
-    }
+    write_text(errors, digits.as_bytes())?;
+    write_message(errors, text)
 }
 
 /// Writes a line about the connection with this number.
 pub fn write_line<E: ErrorStream>(errors: &mut E, connection: u64, text: &str) -> io::Result<()>
     ensures { ReportsBy (E.reported errors.old) (E.reported errors.new) (connection_line connection text.now) result }
 {
-    match write_text(errors, b"custody: connection ") {
-        Ok(()) => write_numbered(errors, connection, text),
-        Err(error) => Err(error),
-    }
+    write_text(errors, b"custody: connection ")?;
+    write_numbered(errors, connection, text)
 }
 
 /// Writes a text and flushes it. Stops at the first call that fails.
@@ -93,10 +81,7 @@ fn write_faults<E: ErrorStream>(errors: &mut E, faults: &[Text]) -> io::Result<(
     ensures { ReportsBy (E.reported errors.old) (E.reported errors.new) (fault_lines faults.now) result }
 {
     for fault in faults {
-        match write_ended(errors, fault.as_str()) {
-            Ok(()) => {}
-            Err(error) => return Err(error),
-        }
+        write_ended(errors, fault.as_str())?;
     }
     Ok(())
 }
@@ -104,10 +89,8 @@ fn write_faults<E: ErrorStream>(errors: &mut E, faults: &[Text]) -> io::Result<(
 fn note_faults<E: ErrorStream>(errors: &mut E, cause: Cause, faults: &[Text]) -> io::Result<()>
     ensures { ReportsBy (E.reported errors.old) (E.reported errors.new) (cause_line cause ++ fault_lines faults.now) result }
 {
-    match write_text(errors, cause.line().as_bytes()) {
-        Ok(()) => write_faults(errors, faults),
-        Err(error) => Err(error),
-    }
+    write_text(errors, cause.line().as_bytes())?;
+    write_faults(errors, faults)
 }
 
 /// Reports what the command did not do because the file's tables have faults, then one line per fault.
@@ -130,19 +113,15 @@ fn write_frame<E: ErrorStream>(errors: &mut E, frame: usize) -> io::Result<()>
 pub fn note_bad_frame<E: ErrorStream>(errors: &mut E, frame: usize) -> io::Result<()>
     ensures { ReportsBy (E.reported errors.old) (E.reported errors.new) (bad_frame_text frame) result }
 {
-    match write_text(errors, b"custody: bad frame ") {
-        Ok(()) => write_frame(errors, frame),
-        Err(error) => Err(error),
-    }
+    write_text(errors, b"custody: bad frame ")?;
+    write_frame(errors, frame)
 }
 
 fn note_at<E: ErrorStream>(errors: &mut E, mark: &str, line: usize) -> io::Result<()>
     ensures { ReportsBy (E.reported errors.old) (E.reported errors.new) (mark.now ++ (decimal line ++ 10 ∷ [])) result }
 {
-    match write_text(errors, mark.as_bytes()) {
-        Ok(()) => write_frame(errors, line),
-        Err(error) => Err(error),
-    }
+    write_text(errors, mark.as_bytes())?;
+    write_frame(errors, line)
 }
 
 /// Writes a text and the number of a line of the input.
@@ -156,10 +135,8 @@ pub fn report_at<E: ErrorStream>(errors: &mut E, mark: &str, line: usize)
 fn note_memory<E: ErrorStream>(errors: &mut E, bytes: u64) -> io::Result<()>
     ensures { ReportsBy (E.reported errors.old) (E.reported errors.new) (memory_line bytes) result }
 {
-    match write_text(errors, b"custody: out of memory while opening the file of ") {
-        Ok(()) => write_bytes(errors, bytes),
-        Err(error) => Err(error),
-    }
+    write_text(errors, b"custody: out of memory while opening the file of ")?;
+    write_bytes(errors, bytes)
 }
 
 fn write_bytes<E: ErrorStream>(errors: &mut E, bytes: u64) -> io::Result<()>
@@ -167,10 +144,8 @@ fn write_bytes<E: ErrorStream>(errors: &mut E, bytes: u64) -> io::Result<()>
 {
     let mut buffer = Buffer::new();
     let digits = buffer.format(bytes);
-    match write_text(errors, digits.as_bytes()) {
-        Ok(()) => write_text(errors, b" bytes\n"),
-        Err(error) => Err(error),
-    }
+    write_text(errors, digits.as_bytes())?;
+    write_text(errors, b" bytes\n")
 }
 
 /// Reports that there was not enough memory to open a file of this many bytes.
@@ -190,22 +165,18 @@ fn write_version<E: ErrorStream>(errors: &mut E, version: u64) -> io::Result<()>
 {
     let mut buffer = Buffer::new();
     let digits = buffer.format(version);
-    match write_text(errors, digits.as_bytes()) {
-        Ok(()) => write_text(
-            errors,
-            b" of the schema, which this program does not know, or its tables are different\n",
-        ),
-        Err(error) => Err(error),
-    }
+    write_text(errors, digits.as_bytes())?;
+    write_text(
+        errors,
+        b" of the schema, which this program does not know, or its tables are different\n",
+    )
 }
 
 fn note_version<E: ErrorStream>(errors: &mut E, version: u64) -> io::Result<()>
     ensures { ReportsBy (E.reported errors.old) (E.reported errors.new) (version_line version) result }
 {
-    match write_text(errors, b"custody: the file has version ") {
-        Ok(()) => write_version(errors, version),
-        Err(error) => Err(error),
-    }
+    write_text(errors, b"custody: the file has version ")?;
+    write_version(errors, version)
 }
 
 fn report_version<E: ErrorStream>(errors: &mut E, version: u64)

@@ -56,10 +56,8 @@ fn send<O: Write>(output: &mut O, bytes: &[u8]) -> io::Result<()>
     ensures whole { OnOk result (Appends (O.contents output.old) (O.contents output.new) bytes.now) }
     ensures front { GetsFront (O.contents output.old) (O.contents output.new) bytes.now }
 {
-    match write_bytes(output, bytes) {
-        Ok(()) => output.flush(),
-        Err(error) => Err(error),
-    }
+    write_bytes(output, bytes)?;
+    output.flush()
 }
 
 fn send_line<O: Write>(output: &mut O, line: &[u8]) -> Result<(), Down>
@@ -82,10 +80,8 @@ fn write_line<O: Write>(
     ensures whole { OnOk result (Appends (O.contents output.old) (O.contents output.new) (log_line connection end.now row.now)) }
     ensures front { GetsFront (O.contents output.old) (O.contents output.new) (log_line connection end.now row.now) }
 {
-    match write_log_line(alloc, connection, end, row) {
-        Ok(line) => send_line(output, line.as_slice()),
-        Err(_) => Err(Down),
-    }
+    let line = write_log_line(alloc, connection, end, row)?;
+    send_line(output, line.as_slice())
 }
 
 /// Writes the line of an exchange, if it has one, and flushes it. Fails if an allocation fails or the stream does not take the

@@ -81,10 +81,8 @@ fn write_lines<E: ErrorStream>(
 ) -> io::Result<()>
     ensures { ReportsBy (E.reported errors.old) (E.reported errors.new) (down_line connection is_down ++ fault_line connection ended) result }
 {
-    match report_down(errors, connection, is_down) {
-        Ok(()) => report_fault(errors, connection, ended),
-        Err(error) => Err(error),
-    }
+    report_down(errors, connection, is_down)?;
+    report_fault(errors, connection, ended)
 }
 
 // What is told of a connection on the error stream, where there is something to tell.
@@ -191,10 +189,7 @@ fn answer_next<K: Keep, N: Connections, C: Clock, O: Write, E: ErrorStream>(
     ensures answers { IfOk result (λ is_logged. (at : ℕ) × Answers K.Keep N.Connections C.Clock N.Reader.Inlet N.Writer.Outlet terms.now connection at service.new.was_down is_logged (state network.old clock.old service.old.keep (E.reported errors.old) (O.contents output.old)) (state network.new clock.new service.new.keep (E.reported errors.new) (O.contents output.new))) }
     ensures refused { IfErr result (λ cause. AcceptsNone N.Connections C.Clock terms.now.timeouts network.old network.new clock.old clock.new cause × (service.new.keep ≡ service.old.keep) × (E.reported errors.new ≡ E.reported errors.old) × (O.contents output.new ≡ O.contents output.old)) }
 {
-    let (reader, writer, now) = match accept(network, &terms.timeouts, clock) {
-        Ok(found) => found,
-        Err(cause) => return Err(cause),
-    };
+    let (reader, writer, now) = accept(network, &terms.timeouts, clock)?;
     Ok(serve_one(
         alloc, service, now, network, reader, writer, terms, connection, output, errors,
     ))
@@ -232,12 +227,9 @@ fn serve_next<K: Keep, F: Files<K>, N: Connections, C: Clock, O: Write, E: Error
     ensures answers { OnOk result ((at : ℕ) × AnswersNext K.Keep F.Files N.Connections C.Clock N.Reader.Inlet N.Writer.Outlet terms.now connection at false true (state network.old clock.old service.old.keep (E.reported errors.old) (O.contents output.old)) (state network.new clock.new service.new.keep (E.reported errors.new) (O.contents output.new))) }
     ensures refused { IfErr result (EndsEarly K.Keep F.Files N.Connections C.Clock N.Reader.Inlet N.Writer.Outlet terms.now connection (state network.old clock.old service.old.keep (E.reported errors.old) (O.contents output.old)) (state network.new clock.new service.new.keep (E.reported errors.new) (O.contents output.new))) }
 {
-    let is_logged = match answer_next(
+    let is_logged = answer_next(
         alloc, network, terms, service, clock, connection, output, errors,
-    ) {
-        Ok(is_logged) => is_logged,
-        Err(cause) => return Err(cause),
-    };
+    )?;
     if after_reply(files, service) {
         Err(Cause::Shut)
     } else if is_logged {

@@ -186,10 +186,8 @@ fn open_door<I: Read>(alloc: Global, input: &mut I) -> Result<Door, Unfit>
     ensures has { OnOk result (HasDoor true (I.remaining input.old)) }
     ensures syntax { IsErrOf result Unfit.Syntax → HasNoSecret (I.remaining input.old) }
 {
-    match input_secret(alloc, input) {
-        Ok(secret) => Ok(Door::opened_by(&secret)),
-        Err(unfit) => Err(unfit),
-    }
+    let secret = input_secret(alloc, input)?;
+    Ok(Door::opened_by(&secret))
 }
 
 // The door that is asked for: open if `operates` is true.

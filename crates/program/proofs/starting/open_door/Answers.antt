@@ -1,4 +1,4 @@
 use Rattle.program.proofs.starting.open_door.Goals as goal
 
-pub returns-in-Ok-clause-is : goal.returns-in-Ok-clause-is
-returns-in-Ok-clause-is g c = (c.in-Ok.secret, c.in-Ok.ensures.is, c.opened_by.ensures)
+pub returns-clause-is : goal.returns-clause-is
+returns-clause-is g c = (c.in_ok-secret.secret, c.in_ok-secret.ensures.is, c.opened_by.ensures)
