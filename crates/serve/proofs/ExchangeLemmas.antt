@@ -38,7 +38,7 @@ use Rattle.serve.proofs.TakenLemmas.{prepared_after, carries_after}
 prepared_said : (rows : List ℕ → Option Organization) (at : ℕ) (awaited : Bool) (message : Message) (asking : Asking) (p : Prepared)
     → IsPrepared rows (asked_by at awaited message asking) p → said_to rows (asked_by at awaited message asking) ≡ replies awaited at p.reply
 prepared_said rows at awaited message (route.refused refusal) p h = ap (replies awaited at) (sym h.0)
-prepared_said rows at awaited message (asks asked) p h = ap (replies awaited at) (sym h.0.answer)
+prepared_said rows at awaited message (asks asked) p h = ap (replies awaited at) (sym h.answer)
 
 -- a message is prepared, and its change follows
 pub message_answered : (old mid new : List ℕ → Option Organization) (at : ℕ) (awaited : Bool) (message : Message) (p : Prepared)

@@ -14,8 +14,7 @@ use Rattle.basis.specs.declared.acts.WsAct.{WsAct}
 use Rattle.serve.specs.Checks.{require, is_found, found, digest_checked, act_of, task_of}
 use Rattle.serve.specs.Steps.{answer_to, ruled_in, refusing, carried}
 use Rattle.serve.specs.Inner.Judging.{judged_task, missed}
-use Rattle.serve.specs.Inner.Prepared.{IsTaskInRange, workspace_of_task}
-use Rattle.serve.specs.Logs.{workspace_named}
+use Rattle.serve.specs.Inner.Prepared.{IsTaskInRange}
 use Rattle.serve.specs.declared.checks.Task.{Task}
 use Rattle.serve.specs.declared.checks.Task.TheVariants.{ListAll, Carry}
 use Rattle.serve.proofs.ActLemmas.{act_is}
@@ -46,14 +45,6 @@ task_in_range prefix (OfWorkspace ws what) id body task e =
 -- the documents of what was judged good are in their ranges
 pub judged_in_range : (prefix : List ℕ) (asked : AskedAct) (content_md5 id : Option (List ℕ)) (body : List ℕ) (task : Task) → judged_task prefix asked content_md5 id body ≡ Ok task → IsTaskInRange task
 judged_in_range prefix asked content_md5 id body task e = task_in_range prefix asked id body task (passed (digest_checked content_md5 body) (λ _. task_of prefix asked id body) task e).2
-
-task_placed : (prefix : List ℕ) (asked : AskedAct) (id : Option (List ℕ)) (body : List ℕ) (task : Task) → task_of prefix asked id body ≡ Ok task → workspace_of_task task ≡ workspace_named asked
-task_placed prefix (ListWorkspaces after) id body task e = let same : ListAll after prefix ≡ task = cc in sym (ap workspace_of_task same)
-task_placed prefix (OfWorkspace ws what) id body task e = sym (ap workspace_of_task (task_made ws (act_of what id body) task e).2)
-
--- what was judged good is of the workspace that is named
-pub judged_placed : (prefix : List ℕ) (asked : AskedAct) (content_md5 id : Option (List ℕ)) (body : List ℕ) (task : Task) → judged_task prefix asked content_md5 id body ≡ Ok task → workspace_of_task task ≡ workspace_named asked
-judged_placed prefix asked content_md5 id body task e = task_placed prefix asked id body task (passed (digest_checked content_md5 body) (λ _. task_of prefix asked id body) task e).2
 
 -- what was judged good comes to what passed the checks does, where what isn't there comes to what a refusal does
 pub judged_as : {A : Type 0} (f : Result Task Refusal → A) (r : Option Organization) (prefix : List ℕ) (asked : AskedAct) (content_md5 id : Option (List ℕ)) (body : List ℕ) (task : Task)

@@ -21,6 +21,7 @@ use Rattle.machine.specs.declared.acts.Act.{Act}
 use Rattle.machine.specs.declared.acts.Decision.{Decision}
 use Rattle.machine.specs.declared.acts.Answer.{Answer as ActAnswer}
 use Rattle.machine.specs.declared.acts.Change.{Change}
+use Rattle.serve.specs.declared.requests.WsChange.{WsChange}
 use Rattle.machine.specs.declared.acts.Decision.TheVariants.{Refused, Accepted}
 use Rattle.machine.specs.declared.acts.Unit.{Unit as AnyUnit}
 use Rattle.basis.specs.declared.rows.Holder.{Holder}
@@ -67,7 +68,7 @@ standing_at (Some o) ws = standing_is (nat_lt (count_of o) o.limit) (get o.works
 -- a refusal by the rules is foreseen
 pub refusal_foreseen : (r : Option Organization) (org ws : List ℕ) (unit : AnyUnit) (refusal : Refusal) (reply : Reply)
     → reply ≡ answer_to org ws (refused_by refusal (holder_in unit)) → holder_in unit ≡ holder_of (workspace_in r ws)
-    → Foresees r (Some ws) (ruled_in org ws r (meaning (Refused refusal) (workspace_in r ws))) reply None
+    → Foresees r org (ruled_in org ws r (meaning (Refused refusal) (workspace_in r ws))) reply None
 refusal_foreseen r org ws unit refusal reply is seen = record {
   answer = is ∙ ap (λ (h : Holder). answer_to org ws (refused_by refusal h)) seen;
   changes = placed_same r ws;
@@ -76,41 +77,41 @@ refusal_foreseen r org ws unit refusal reply is seen = record {
 -- an accepted act is foreseen, with its change
 pub acceptance_foreseen : (r : Option Organization) (org ws : List ℕ) (answer : ActAnswer) (change : Option Change) (reply : Reply)
     → IsSome r → reply ≡ answer_to org ws (answered answer (workspace_in r ws)) → ((o : Organization) → r ≡ Some o → ChangeIsDue (seen_in o ws) (Accepted answer change))
-    → Foresees r (Some ws) (ruled_in org ws r (meaning (Accepted answer change) (workspace_in r ws))) reply change
+    → Foresees r org (ruled_in org ws r (meaning (Accepted answer change) (workspace_in r ws))) reply (option_map (λ (c : Change). record { org = org; ws = ws; change = c }) change)
 acceptance_foreseen r org ws answer None reply some is due = record { answer = is; changes = placed_same r ws }
 acceptance_foreseen None org ws answer (Some c) reply some is due = absurd (let none : ⊥ = cc in none)
-acceptance_foreseen (Some o) org ws answer (Some c) reply some is due = record { answer = is; changes = (o, refl, due o refl, refl) }
+acceptance_foreseen (Some o) org ws answer (Some c) reply some is due = record { answer = is; changes = (o, refl, refl, due o refl, refl) }
 
 holder_seen : (o : Organization) (act : Act) (w : Option Workspace) → holder_in (unit_by o act w) ≡ holder_of w
 holder_seen o act None = refl
 holder_seen o act (Some w) = refl
 
 -- the rules, by way of a decision, over rows that a read of them left alone
-pub rule_foreseen : (r seen : Option Organization) (org ws : List ℕ) (act : Act) (now : ℕ) (unit : AnyUnit) (decision : Decision) (reply : Reply) (change : Option Change)
+pub rule_foreseen : (r seen : Option Organization) (org ws : List ℕ) (act : Act) (now : ℕ) (unit : AnyUnit) (decision : Decision) (reply : Reply) (change : Option WsChange)
     → seen ≡ r → ((o : Organization) → r ≡ Some o → IsLawfulOrganization o) → ((o : Organization) → r ≡ Some o → unit ≡ unit_of o ws act)
     → ((o : Organization) (name : List ℕ) → IsLawfulOrganization o → unit ≡ unit_of o name act → Meets (seen_in o name) act now decision)
     → (IsSome seen → holder_in unit ≡ holder_of (workspace_in seen ws) → ((o : Organization) → seen ≡ Some o → ChangeIsDue (seen_in o ws) decision)
-    → Foresees seen (Some ws) (ruled_in org ws seen (meaning decision (workspace_in seen ws))) reply change)
-    → IsMoment now → IsSome r → IsInRange act → Foresees r (Some ws) (ruled_in org ws r (rules act now (seen_at r ws))) reply change
+    → Foresees seen org (ruled_in org ws seen (meaning decision (workspace_in seen ws))) reply change)
+    → IsMoment now → IsSome r → IsInRange act → Foresees r org (ruled_in org ws r (rules act now (seen_at r ws))) reply change
 rule_foreseen None seen org ws act now unit decision reply change same lawful units meets carried moment some range = absurd (let none : ⊥ = cc in none)
 rule_foreseen (Some o) seen org ws act now unit decision reply change same lawful units meets carried moment some range =
     let m : Meets (seen_in o ws) act now decision = meets o ws (lawful o refl) (units o refl) in
     let stands : standing (seen_in o ws) ≡ get o.workspaces ws = standing_at (Some o) ws in
     let held : holder_in unit ≡ holder_of (get o.workspaces ws) = ap holder_in (units o refl) ∙ holder_seen o act (get o.workspaces ws) in
     let Carried : Option Organization → Type 0 = λ x. IsSome x → holder_in unit ≡ holder_of (workspace_in x ws) → ((q : Organization) → x ≡ Some q → ChangeIsDue (seen_in q ws) decision)
-    → Foresees x (Some ws) (ruled_in org ws x (meaning decision (workspace_in x ws))) reply change in
+    → Foresees x org (ruled_in org ws x (meaning decision (workspace_in x ws))) reply change in
     let due : (q : Organization) → Some o ≡ Some q → ChangeIsDue (seen_in q ws) decision = λ q e. subst (λ (x : Organization). ChangeIsDue (seen_in x ws) decision) (same_Some o q e) (m.due range moment) in
-    let f : Foresees (Some o) (Some ws) (ruled_in org ws (Some o) (meaning decision (get o.workspaces ws))) reply change = subst Carried same carried refl held due in
-    subst (λ (x : Ruling). Foresees (Some o) (Some ws) (ruled_in org ws (Some o) x) reply change) (ap (meaning decision) (sym stands) ∙ m.model) f
+    let f : Foresees (Some o) org (ruled_in org ws (Some o) (meaning decision (get o.workspaces ws))) reply change = subst Carried same carried refl held due in
+    subst (λ (x : Ruling). Foresees (Some o) org (ruled_in org ws (Some o) x) reply change) (ap (meaning decision) (sym stands) ∙ m.model) f
 
 -- a refusal is foreseen where it is what is wanted, with what else is given beside it
-pub refused_then : {E X : Type 0} (refusal : Refusal) (r : Option Organization) (named : Option (List ℕ)) (want : Answered) (res : Result (Reply × Option Change × X) E)
+pub refused_then : {E X : Type 0} (refusal : Refusal) (r : Option Organization) (org : List ℕ) (want : Answered) (res : Result (Reply × Option WsChange × X) E)
     → (refusal ≢ Unavailable → want ≡ refusing refusal r) → OnOk res (refusal ≢ Unavailable)
     → IfOk res (λ p. (p.0 ≡ refused_answer refusal (error_text refusal) false) × (p.1 ≡ None))
-    → IfOk res (λ p. Foresees r named want p.0 p.1)
-refused_then refusal r named want (Ok p) is known h =
-    subst (λ (w : Answered). Foresees r named w p.0 p.1) (sym (is known)) (record { answer = h.0; changes = subst (ChangesTo r named r) (sym h.1) refl })
-refused_then refusal r named want (Err fault) is known h = tt
+    → IfOk res (λ p. Foresees r org want p.0 p.1)
+refused_then refusal r org want (Ok p) is known h =
+    subst (λ (w : Answered). Foresees r org w p.0 p.1) (sym (is known)) (record { answer = h.0; changes = subst (ChangesTo r org r) (sym h.1) refl })
+refused_then refusal r org want (Err fault) is known h = tt
 
 -- whether what is told of is there, by what was seen of it
 seen_named : (version run : Option ℕ) (key : Option (List ℕ)) (w : Workspace)

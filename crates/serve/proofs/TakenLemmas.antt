@@ -13,7 +13,6 @@ use Rattle.serve.specs.declared.messages.Prepared.{Prepared}
 use Rattle.serve.specs.Asks.{Ask, silent, requests, commands, organization}
 use Rattle.serve.specs.Asks as ask
 use Rattle.serve.specs.Inner.Prepared.{IsPrepared, Foresees}
-use Rattle.serve.specs.Logs.{workspace_named}
 use Rattle.serve.specs.Steps.{request_step, command_step}
 use Rattle.serve.specs.Service.{asked_by, Asks, Carries, Stays, said_to, IsSaidText, after_ask, is_own, ask_of}
 use Rattle.serve.specs.Service.{IsAsked, IsAdminAnswer, admin_word, token_list_text, reported_text, ListsAll, IsListedBy, IsListed}
@@ -35,7 +34,7 @@ pub prepared_after : (old new : List ℕ → Option Organization) (a : Ask) (p :
 prepared_after old new silent p stays h = h
 prepared_after old new (ask.refused at awaited refusal is_head) p stays h = h
 prepared_after old new (requests at awaited asked content_md5 body) p stays h =
-    (subst (λ (r : Option Organization). Foresees r (workspace_named asked.act) (request_step r at asked content_md5 body) p.reply p.change) (sym (stays asked.caller)) h.0, h.1, h.2)
+    subst (λ (r : Option Organization). Foresees r asked.caller (request_step r at asked content_md5 body) p.reply p.change) (sym (stays asked.caller)) h
 prepared_after old new (commands at command) p stays h = h
 
 pub carries_after : (old mid new : List ℕ → Option Organization) (a : Ask) → Stays old mid → Carries a mid new → Carries a old new

@@ -13,20 +13,20 @@ ghost use Rattle.serve.specs.Service.{is_head, asked_by, Asks, Carries, Stays, s
 
 use crate::exchanges::LinkFault;
 use crate::logs::{RowFacts, as_unavailable, refused_row, request_row, unavailable_row};
-use crate::requests::{refuse, request};
+use crate::requests::{WsChange, refuse, request};
 use basis::{Bytes, Down, Moment, Refusal};
 use docs::LogRow;
-use machine::{Change, Keep};
+use machine::Keep;
 use route::{Asked, Routes, asked};
 use std::alloc::Global;
 use wire::{FromRead, Message, Reply, ToWrite, WireFault, read_message, write_reply};
 
 /// An answer that is made in full before anything changes: the reply, the change that is to follow, and what the log tells
-/// once it is done. The change is of the workspace that the log's row names.
+/// once it is done.
 #[derive(Drop)]
 pub struct Prepared {
     pub reply: Reply,
-    pub change: Option<Change>,
+    pub change: Option<WsChange>,
     pub row: LogRow,
 }
 
@@ -53,7 +53,7 @@ fn ready(
     at: Moment,
     asked: Asked,
     reply: Reply,
-    change: Option<Change>,
+    change: Option<WsChange>,
     facts: RowFacts,
 ) -> Prepared
     ensures { result ≡ record { reply = reply; change = change; row = row_of_request at asked reply facts.token facts.id facts.trace } }
@@ -175,10 +175,9 @@ pub fn commit<K: Keep>(alloc: Global, keep: &mut K, prepared: &Prepared) -> Resu
         → Carries ask (K.rows keep.old) (K.rows keep.new)) }
     ensures err { K.clean keep.new → OnErr result (Stays (K.rows keep.old) (K.rows keep.new)) }
 {
-    let Prepared { change, row, .. } = prepared;
-    match (change, &row.organization, &row.workspace) {
-        (Some(change), Some(org), Some(ws)) => keep.apply(alloc, org, ws, change),
-        _ => Ok(()),
+    match &prepared.change {
+        Some(WsChange { org, ws, change }) => keep.apply(alloc, org, ws, change),
+        None => Ok(()),
     }
 }
 

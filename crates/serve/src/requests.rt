@@ -13,10 +13,10 @@ ghost use Rattle.docs.specs.Bodies.{error_text};
 ghost use Rattle.wire.specs.Replies.{refused_answer};
 ghost use Rattle.serve.specs.Steps.{holder_text, answer_to, ruled_in, carried, request_step};
 ghost use Rattle.serve.specs.Checks.{checked};
-ghost use Rattle.serve.specs.Logs.{id_of_task, id_spelt, task_read, traced, token_named, workspace_named};
+ghost use Rattle.serve.specs.Logs.{id_of_task, id_spelt, task_read, traced, token_named};
 ghost use Rattle.serve.specs.Inner.Judging.{Stands};
 ghost use Rattle.serve.specs.Inner.Tracing.{facts_of, read_so_far, AreReadSoFar};
-ghost use Rattle.serve.specs.Inner.Prepared.{Foresees, IsTaskInRange, workspace_of_task};
+ghost use Rattle.serve.specs.Inner.Prepared.{Foresees, IsTaskInRange};
 ghost use Rattle.serve.specs.Inner.Units.{holder_in};
 
 use crate::checks::{Task, in_reach, judged, known_caller, missed, spelt_id};
@@ -32,6 +32,14 @@ use route::{Asked, allowed};
 use std::alloc::Global;
 use wire::Reply;
 
+/// A change that is to follow, and the names of the workspace that it changes.
+#[derive(Drop)]
+pub struct WsChange {
+    pub org: OrgName,
+    pub ws: WsName,
+    pub change: Change,
+}
+
 /// What a request is answered at a moment, and the change that is to follow; or what had been read of it
 /// where memory or the store refused.
 pub fn request<K: Keep>(
@@ -41,9 +49,9 @@ pub fn request<K: Keep>(
     asked: &Asked,
     content_md5: &Option<Bytes>,
     body: Bytes,
-) -> Result<(Reply, Option<Change>, RowFacts), RowFacts>
+) -> Result<(Reply, Option<WsChange>, RowFacts), RowFacts>
     ensures unchanged { Unchanged K.rows K.clean K.sound K.keyed K.shielded keep.old keep.new }
-    ensures ok { K.clean keep.new → K.sound keep.old → IfOk result (λ p. Foresees (K.rows keep.old asked.now.caller) (workspace_named asked.now.act)
+    ensures ok { K.clean keep.new → K.sound keep.old → IfOk result (λ p. Foresees (K.rows keep.old asked.now.caller) asked.now.caller
         (request_step (K.rows keep.old asked.now.caller) at asked.now content_md5.now body) p.0 p.1) }
     ensures facts { K.clean keep.new → K.sound keep.old → IfOk result (λ p. p.2 ≡ facts_of (K.rows keep.old asked.now.caller) at asked.now content_md5.now body) }
     ensures down { K.clean keep.new → K.sound keep.old → IfErr result (λ facts. AreReadSoFar (K.rows keep.old asked.now.caller) at asked.now content_md5.now body facts) }
@@ -63,10 +71,10 @@ fn carry<K: Keep>(
     org: &OrgName,
     task: Task,
     token: Option<Text>,
-) -> Result<(Reply, Option<Change>, RowFacts), RowFacts>
+) -> Result<(Reply, Option<WsChange>, RowFacts), RowFacts>
     ensures unchanged { Unchanged K.rows K.clean K.sound K.keyed K.shielded keep.old keep.new }
     ensures ok { K.clean keep.new → K.sound keep.old → IfOk result (λ p. IsSome (K.rows keep.old org.now) → IsTaskInRange task
-        → Foresees (K.rows keep.old org.now) (workspace_of_task task) (carried org.now at (K.rows keep.old org.now) (Ok task)) p.0 p.1) }
+        → Foresees (K.rows keep.old org.now) org.now (carried org.now at (K.rows keep.old org.now) (Ok task)) p.0 p.1) }
     ensures facts { K.clean keep.new → K.sound keep.old → IfOk result (λ p. IsSome (K.rows keep.old org.now)
         → p.2 ≡ record { token = token; id = id_of_task task; trace = traced at (K.rows keep.old org.now) (Ok task) }) }
     ensures down { IfErr result (λ facts. (id : Option (List ℕ)) × ((id ≡ None) ⊎ (id ≡ id_of_task task)) × (facts ≡ read_so_far token id)) }
@@ -85,7 +93,7 @@ fn refuse_request(
     alloc: Global,
     why: Refusal,
     token: Option<Text>,
-) -> Result<(Reply, Option<Change>, RowFacts), RowFacts>
+) -> Result<(Reply, Option<WsChange>, RowFacts), RowFacts>
     ensures known { OnOk result (why ≢ Refusal.Unavailable) }
     ensures ok { IfOk result (λ p. (p.0 ≡ refused_answer why (error_text why) false) × (p.1 ≡ None)) }
     ensures facts { IfOk result (λ p. p.2 ≡ read_so_far token None) }
@@ -112,7 +120,6 @@ fn checked<K: Keep>(
     ensures unchanged { Unchanged K.rows K.clean K.sound K.keyed K.shielded keep.old keep.new }
     ensures ok { K.clean keep.new → K.sound keep.old → Stands result (K.rows keep.old asked.now.caller) at asked.now content_md5.now body }
     ensures range { IfOk result IsTaskInRange }
-    ensures workspace { IfOk result (λ task. workspace_of_task task ≡ workspace_named asked.now.act) }
     ensures there { K.clean keep.new → K.sound keep.old → OnOk result (IsSome (K.rows keep.old asked.now.caller)) }
     ensures traces { K.clean keep.new → K.sound keep.old → IfOk result (λ task. traced at (K.rows keep.old asked.now.caller) (Ok task)
         ≡ traced at (K.rows keep.old asked.now.caller) (checked (K.rows keep.old asked.now.caller) at asked.now content_md5.now body)) }
@@ -285,7 +292,7 @@ fn list_workspaces<K: Keep>(
 ) -> Result<Reply, Down>
     ensures unchanged { Unchanged K.rows K.clean K.sound K.keyed K.shielded keep.old keep.new }
     ensures ok { K.clean keep.new → K.sound keep.old → IfOk result (λ reply. (at : ℕ)
-        → Foresees (K.rows keep.old org.now) None (carried org.now at (K.rows keep.old org.now) (Ok (ListAll after.now prefix.now))) reply None) }
+        → Foresees (K.rows keep.old org.now) org.now (carried org.now at (K.rows keep.old org.now) (Ok (ListAll after.now prefix.now))) reply None) }
 {
     let list = keep.workspaces(alloc, org, name_in(after), prefix)?;
     Ok(Reply::document(Bytes::new(write_ws_list(alloc, &list)?)))
@@ -298,10 +305,10 @@ fn perform<K: Keep>(
     at: Moment,
     org: &OrgName,
     task: Task,
-) -> Result<(Reply, Option<Change>, Trace), Down>
+) -> Result<(Reply, Option<WsChange>, Trace), Down>
     ensures unchanged { Unchanged K.rows K.clean K.sound K.keyed K.shielded keep.old keep.new }
     ensures ok { K.clean keep.new → K.sound keep.old → IfOk result (λ p. IsSome (K.rows keep.old org.now) → IsTaskInRange task
-        → Foresees (K.rows keep.old org.now) (workspace_of_task task) (carried org.now at (K.rows keep.old org.now) (Ok task)) p.0 p.1) }
+        → Foresees (K.rows keep.old org.now) org.now (carried org.now at (K.rows keep.old org.now) (Ok task)) p.0 p.1) }
     ensures traces { K.clean keep.new → K.sound keep.old → IfOk result (λ p. IsSome (K.rows keep.old org.now) → p.2 ≡ traced at (K.rows keep.old org.now) (Ok task)) }
 {
     match task {
@@ -309,7 +316,7 @@ fn perform<K: Keep>(
             let reply = list_workspaces(alloc, keep, org, &after, &prefix)?;
             Ok((reply, None, Trace::none()))
         }
-        Task::Carry { ws, act } => rule(alloc, keep, at, org, &ws, &act),
+        Task::Carry { ws, act } => rule(alloc, keep, at, org, ws, &act),
     }
 }
 
@@ -318,26 +325,30 @@ fn answer_decision<K: Keep>(
     alloc: Global,
     keep: &mut K,
     org: &OrgName,
-    ws: &WsName,
+    ws: WsName,
     unit: &Unit,
     decision: Decision,
-) -> Result<(Reply, Option<Change>), Down>
+) -> Result<(Reply, Option<WsChange>), Down>
     ensures unchanged { Unchanged K.rows K.clean K.sound K.keyed K.shielded keep.old keep.new }
     ensures ok { K.clean keep.new → K.sound keep.old → IfOk result (λ p. IsSome (K.rows keep.old org.now)
-        → holder_in unit.now ≡ holder_of (workspace_in (K.rows keep.old org.now) ws.now)
-        → ((o : Organization) → K.rows keep.old org.now ≡ Some o → ChangeIsDue (seen_in o ws.now) decision)
-        → Foresees (K.rows keep.old org.now) (Some ws.now)
-        (ruled_in org.now ws.now (K.rows keep.old org.now)
-        (meaning decision (workspace_in (K.rows keep.old org.now) ws.now))) p.0 p.1) }
+        → holder_in unit.now ≡ holder_of (workspace_in (K.rows keep.old org.now) ws)
+        → ((o : Organization) → K.rows keep.old org.now ≡ Some o → ChangeIsDue (seen_in o ws) decision)
+        → Foresees (K.rows keep.old org.now) org.now
+        (ruled_in org.now ws (K.rows keep.old org.now)
+        (meaning decision (workspace_in (K.rows keep.old org.now) ws))) p.0 p.1) }
 {
     match decision {
         Decision::Refused(refusal) => {
-            let reply = refused_reply(alloc, org, ws, unit, refusal)?;
+            let reply = refused_reply(alloc, org, &ws, unit, refusal)?;
             Ok((reply, None))
         }
         Decision::Accepted { answer, change } => {
-            let reply = accepted_reply(alloc, keep, org, ws, answer)?;
-            Ok((reply, change))
+            let reply = accepted_reply(alloc, keep, org, &ws, answer)?;
+            let Some(change) = change else {
+                return Ok((reply, None));
+            };
+            let org = org.clone()?;
+            Ok((reply, Some(WsChange { org, ws, change })))
         }
     }
 }
@@ -348,17 +359,17 @@ fn rule<K: Keep>(
     keep: &mut K,
     at: Moment,
     org: &OrgName,
-    ws: &WsName,
+    ws: WsName,
     act: &Act,
-) -> Result<(Reply, Option<Change>, Trace), Down>
+) -> Result<(Reply, Option<WsChange>, Trace), Down>
     ensures unchanged { Unchanged K.rows K.clean K.sound K.keyed K.shielded keep.old keep.new }
     ensures ok { K.clean keep.new → K.sound keep.old → IfOk result (λ p. IsSome (K.rows keep.old org.now) → IsInRange act.now
-        → Foresees (K.rows keep.old org.now) (Some ws.now) (carried org.now at (K.rows keep.old org.now) (Ok (Carry ws.now act.now))) p.0 p.1) }
-    ensures traces { K.clean keep.new → K.sound keep.old → IfOk result (λ p. IsSome (K.rows keep.old org.now) → p.2 ≡ traced at (K.rows keep.old org.now) (Ok (Carry ws.now act.now))) }
+        → Foresees (K.rows keep.old org.now) org.now (carried org.now at (K.rows keep.old org.now) (Ok (Carry ws act.now))) p.0 p.1) }
+    ensures traces { K.clean keep.new → K.sound keep.old → IfOk result (λ p. IsSome (K.rows keep.old org.now) → p.2 ≡ traced at (K.rows keep.old org.now) (Ok (Carry ws act.now))) }
 {
     keep.records_are_lawful();
     prove!(at.seconds() <= MAX_MOMENT);
-    let unit = keep.unit(alloc, org, ws, act)?;
+    let unit = keep.unit(alloc, org, &ws, act)?;
     let decision = decide(&unit, act, at)?;
     let trace = trace_by(&unit, &decision);
     match answer_decision(alloc, keep, org, ws, &unit, decision) {

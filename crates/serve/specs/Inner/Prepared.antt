@@ -13,7 +13,6 @@ use Rattle.serve.specs.declared.checks.Task.{Task}
 use Rattle.serve.specs.declared.checks.Task.TheVariants.{ListAll, Carry}
 use Rattle.machine.specs.Changes.{changed_by, IsDue}
 use Rattle.machine.specs.Tokens.{asker_of}
-use Rattle.machine.specs.declared.acts.Change.{Change}
 use Rattle.machine.specs.declared.keeps.TokenRow.{TokenRow}
 use Rattle.machine.specs.declared.records.Organization.{Organization}
 use Rattle.route.specs.declared.routes.Asked.{Asked}
@@ -22,9 +21,9 @@ use Rattle.wire.specs.Replies.{Answer, refused_answer}
 use Rattle.serve.specs.Asks.{Ask, silent, requests, commands}
 use Rattle.serve.specs.Asks as ask
 use Rattle.serve.specs.Checks.{known_caller}
-use Rattle.serve.specs.Logs.{workspace_named}
 use Rattle.serve.specs.Steps.{Answered, request_step}
 use Rattle.serve.specs.declared.messages.Prepared.{Prepared}
+use Rattle.serve.specs.declared.requests.WsChange.{WsChange}
 
 -- a token that counts at a moment
 abbrev pub valid_token : ℕ → TokenRow → Result TokenRow Refusal
@@ -42,30 +41,23 @@ row_known r now asked = found_valid_token now (asker_of r (sha256 asked.secret))
 abbrev pub caller_known : Option Organization → ℕ → Asked → Result Caller Refusal
 caller_known r now asked = and_then (known_caller r now asked) (λ token. Ok token.caller)
 
--- the record of an organization after a change that is to follow, of the workspace that is named, or as it is
-abbrev pub ChangesTo : Option Organization → Option (List ℕ) → Option Organization → Option Change → Type 0
-ChangesTo r named after None = after ≡ r
-ChangesTo r None after (Some change) = ⊥
-ChangesTo r (Some ws) after (Some change) =
-    (o : Organization) × (r ≡ Some o) × IsDue (seen_in o ws) change
-    × (after ≡ Some (placed o ws (changed_by change (get o.workspaces ws))))
+-- the record of an organization after a change of it that is to follow, or as it is
+abbrev pub ChangesTo : Option Organization → List ℕ → Option Organization → Option WsChange → Type 0
+ChangesTo r org after None = after ≡ r
+ChangesTo r org after (Some c) =
+    (o : Organization) × (r ≡ Some o) × (c.org ≡ org) × IsDue (seen_in o c.ws) c.change
+    × (after ≡ Some (placed o c.ws (changed_by c.change (get o.workspaces c.ws))))
 
 -- the reply is the answer of the machine, and the change is that of the record of the organization
-pub record Foresees (r : Option Organization) (named : Option (List ℕ)) (want : Answered) (reply : Answer) (change : Option Change) : Type 0 where
+pub record Foresees (r : Option Organization) (org : List ℕ) (want : Answered) (reply : Answer) (change : Option WsChange) : Type 0 where
   pub answer : reply ≡ want.answer
-  pub changes : ChangesTo r named want.left change
+  pub changes : ChangesTo r org want.left change
 
--- the workspace of what is to be done
-abbrev pub workspace_of_task : Task → Option (List ℕ)
-workspace_of_task (ListAll after prefix) = None
-workspace_of_task (Carry ws act) = Some ws
-
--- what is prepared is what is to be said, by the records as they stand; the log's row names what is changed
+-- what is prepared is what is to be said, by the records as they stand
 abbrev pub IsPrepared : (List ℕ → Option Organization) → Ask → Prepared → Type 0
 IsPrepared rows silent p = ⊥
 IsPrepared rows (ask.refused at awaited refusal is_head) p = (p.reply ≡ refused_answer refusal (error_text refusal) is_head) × (p.change ≡ None)
-IsPrepared rows (requests at awaited asked content_md5 body) p = Foresees (rows asked.caller) (workspace_named asked.act) (request_step (rows asked.caller) at asked content_md5 body) p.reply p.change
-    × (p.row.organization ≡ Some asked.caller) × (p.row.workspace ≡ workspace_named asked.act)
+IsPrepared rows (requests at awaited asked content_md5 body) p = Foresees (rows asked.caller) asked.caller (request_step (rows asked.caller) at asked content_md5 body) p.reply p.change
 IsPrepared rows (commands at command) p = ⊥
 
 -- the documents of an act that is to be done are in their ranges

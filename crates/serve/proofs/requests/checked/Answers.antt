@@ -4,7 +4,7 @@ use Rattle.serve.specs.Logs.{traced}
 use Rattle.serve.specs.Steps.{carried}
 use Rattle.serve.specs.Inner.Judging.{missed}
 use Rattle.serve.proofs.CheckLemmas.{past_reach, after_reach, role_there, unknown_refused, policy_refuses, out_of_reach}
-use Rattle.serve.proofs.JudgingLemmas.{judged_in_range, judged_placed, judged_stands, missed_stands}
+use Rattle.serve.proofs.JudgingLemmas.{judged_in_range, judged_stands, missed_stands}
 use Rattle.serve.proofs.LogLemmas.{row_calls, no_row_calls, row_names, judged_traced, unknown_unread, refused_unread, out_of_reach_unread, judged_read}
 use Rattle.serve.proofs.requests.checked.Goals as goal
 
@@ -35,11 +35,6 @@ pub returns-in-Ok-judged-clause-range : goal.returns-in-Ok-judged-clause-range
 returns-in-Ok-judged-clause-range g c =
     let asked = c.args.asked.now in
     judged_in_range c.in-Ok.row.caller.prefix asked.act c.args.content_md5.now asked.lock_id c.args.body c.in-Ok-judged.task c.in-Ok-judged.ensures
-
-pub returns-in-Ok-judged-clause-workspace : goal.returns-in-Ok-judged-clause-workspace
-returns-in-Ok-judged-clause-workspace g c =
-    let asked = c.args.asked.now in
-    judged_placed c.in-Ok.row.caller.prefix asked.act c.args.content_md5.now asked.lock_id c.args.body c.in-Ok-judged.task c.in-Ok-judged.ensures
 
 pub returns-in-Err-clause-ok : goal.returns-in-Err-clause-ok
 returns-in-Err-clause-ok g c = λ clean sound apart.

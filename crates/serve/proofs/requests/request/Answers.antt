@@ -2,9 +2,9 @@ use Rattle.std.proofs.Common.{Ok, Err, IsSome, Option, subst, sym, ◌≡◌, ap
 use Rattle.std.proofs.lemmas.Result.{IfErr-weaker, IfOk-weaker}
 use Rattle.basis.specs.declared.refusals.Refusal.TheVariants.{Unavailable}
 use Rattle.machine.specs.declared.records.Organization.{Organization}
-use Rattle.serve.specs.Logs.{id_spelt, traced, workspace_named}
-use Rattle.serve.specs.Steps.{carried, request_step}
-use Rattle.serve.specs.Inner.Prepared.{Foresees, workspace_of_task}
+use Rattle.serve.specs.Logs.{id_spelt, traced}
+use Rattle.serve.specs.Steps.{carried}
+use Rattle.serve.specs.Inner.Prepared.{Foresees}
 use Rattle.serve.proofs.RecordLemmas.{refused_then}
 use Rattle.serve.proofs.LogLemmas.{ok_apart, err_apart, facts_same, with_known, carried_so_far, refused_so_far}
 use Rattle.serve.proofs.requests.request.Goals as goal
@@ -18,16 +18,15 @@ returns-in-Ok-clause-ok g c = λ clean sound.
     let some : IsSome (g.K.Keep.rows c.checked.new.keep org) = subst IsSome (sym same) (c.in-Ok.ensures.there before sound) in
     IfOk-weaker c.carry.result _ _
     (λ p foreseen.
-    subst (λ named. Foresees r named (request_step r c.args.at c.args.asked.now c.args.content_md5.now c.args.body) p.0 p.1) c.in-Ok.ensures.workspace
-    (subst (λ answered. Foresees r (workspace_of_task c.in-Ok.task) answered p.0 p.1) (c.in-Ok.ensures.ok before sound)
-    (subst (λ (x : Option Organization). Foresees x (workspace_of_task c.in-Ok.task) (carried org c.args.at x (Ok c.in-Ok.task)) p.0 p.1) same (foreseen some c.in-Ok.ensures.range))))
+    subst (λ answered. Foresees r org answered p.0 p.1) (c.in-Ok.ensures.ok before sound)
+    (subst (λ (x : Option Organization). Foresees x org (carried org c.args.at x (Ok c.in-Ok.task)) p.0 p.1) same (foreseen some c.in-Ok.ensures.range)))
     (c.carry.ensures.ok clean (c.checked.ensures.unchanged.kept before sound))
 
 pub returns-in-Err-clause-ok : goal.returns-in-Err-clause-ok
 returns-in-Err-clause-ok g c = λ clean sound.
     let org = c.args.asked.now.caller in
     let r = g.K.Keep.rows c.args.keep.now org in
-    refused_then c.in-Err.refusal r (workspace_named c.args.asked.now.act) _ c.refuse_request.result
+    refused_then c.in-Err.refusal r org _ c.refuse_request.result
     (λ apart. ap (carried org c.args.at r) (c.in-Err.ensures.ok clean sound apart)) c.refuse_request.ensures.known c.refuse_request.ensures.ok
 
 pub returns-in-Ok-clause-facts : goal.returns-in-Ok-clause-facts
