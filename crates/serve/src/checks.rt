@@ -385,12 +385,10 @@ fn task_at(
 ) -> Result<Task, Refusal>
     ensures { Follows result (task_of [] (OfWorkspace ws.now act) lock_id.now body) }
 {
-    match act_of(alloc, act, lock_id, body) {
-        Ok(act) => match ws.clone() {
-            Ok(ws) => Ok(Task::Carry { ws, act }),
-            Err(_) => Err(Refusal::Unavailable),
-        },
-        Err(refusal) => Err(refusal),
+    let act = act_of(alloc, act, lock_id, body)?;
+    match ws.clone() {
+        Ok(ws) => Ok(Task::Carry { ws, act }),
+        Err(_) => Err(Refusal::Unavailable),
     }
 }
 

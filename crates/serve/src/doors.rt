@@ -63,14 +63,9 @@ fn command_in(alloc: Global, body: &[u8]) -> Result<Admin, Refusal>
 fn commanded(alloc: Global, digest: &[u8; 32], message: &Message) -> Result<Admin, Refusal>
     ensures { Follows result (commanded digest.now message.now) }
 {
-    match may_enter(digest, message) {
-        Ok(()) => {}
-        Err(refusal) => return Err(refusal),
-    }
-    match digest_checked(&message.content_md5, &message.body) {
-        Ok(()) => command_in(alloc, message.body.as_slice()),
-        Err(refusal) => Err(refusal),
-    }
+    may_enter(digest, message)?;
+    digest_checked(&message.content_md5, &message.body)?;
+    command_in(alloc, message.body.as_slice())
 }
 
 fn act_of(asked: &Admin) -> LogAct

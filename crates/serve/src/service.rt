@@ -103,10 +103,7 @@ fn take_routes(alloc: Global, routes: &mut Option<Routes>) -> Result<Routes, Dow
 {
     match routes.take() {
         Some(routes) => Ok(routes),
-        None => match Routes::new(alloc) {
-            Ok(routes) => Ok(routes),
-            Err(_) => Err(Down),
-        },
+        None => Routes::new(alloc),
     }
 }
 
