@@ -1,10 +1,10 @@
 //! Operator's commands on the database of a file.
-ghost use Rattle.std.specs.Prelude.{◌≡◌, ◌⊎◌, ◌<◌, IfOk, OnOk, IsErrOf, length};
+ghost use Rattle.std.specs.Prelude.{◌≡◌, ◌⊎◌, ◌<◌, IfOk, OnOk, OnErr, IsErrOf, length};
 ghost use Rattle.program.specs.declared.reasons.Cause.{Cause as AnyCause};
 ghost use Rattle.command_line.specs.Orders.{with_secret};
 ghost use Rattle.machine.specs.StoreCalls.{Unchanged, Lasts};
 ghost use Rattle.program.specs.Streams.{Reports};
-ghost use Rattle.program.specs.Outcomes.{stream, error_stream, AnswersLine, AnswersList, AnswersTokens, ReportsList, ReportsTokens, ReportsAnswer, IsOperated, AnswersCommand, HasSecret, HasNoSecret, IsSecretOf, AddsToken, OperatesAt, AddsTokenAt, ReportsCause, opening_of, FailsAs, HasFailed};
+ghost use Rattle.program.specs.Outcomes.{stream, error_stream, AnswersLine, ReportsAnswer, IsOperated, AnswersCommand, HasSecret, HasNoSecret, IsSecretOf, AddsToken, OperatesAt, AddsTokenAt, ReportsCause, opening_of, FailsAs, HasFailed};
 ghost use Rattle.program.specs.Inner.Outcomes.{IsSaidWhy};
 
 use crate::environment::{Files, Opening};
@@ -21,6 +21,7 @@ use command_line::NewToken;
 use machine::{AdminAnswer, Keep};
 use serve::{Admin, Service};
 use std::alloc::Global;
+use std::io;
 use std::io::{Read, Write};
 
 /// The line for a secret that is not valid.
@@ -45,47 +46,32 @@ pub fn say_why<O: Write, E: ErrorStream>(
     }
 }
 
-fn say_list<O: Write>(output: &mut O, answer: &AdminAnswer) -> Exit
-    ensures line { AnswersList result (stream (O.contents output.old) (O.contents output.new)) }
-    ensures reports { ReportsList answer.now result (stream (O.contents output.old) (O.contents output.new)) }
+// How a command ends that printed a list.
+fn listed(printed: io::Result<()>) -> Exit
+    ensures ok { OnOk printed (result ≡ Exit.Done) }
+    ensures err { OnErr printed (result ≡ Exit.Unprinted) }
 {
-    match answer {
-        AdminAnswer::Organizations(rows) => match print_organizations(output, rows.as_slice()) {
-            Ok(()) => Exit::Done,
-            Err(_) => Exit::Unprinted,
-        },
-        AdminAnswer::Done | AdminAnswer::Exists | AdminAnswer::Absent => say(output, Exit::Down),
-        AdminAnswer::InUse | AdminAnswer::Tokens(_) => say(output, Exit::Down),
+    match printed {
+        Ok(()) => Exit::Done,
+        Err(_) => Exit::Unprinted,
     }
 }
 
-fn say_tokens<O: Write>(output: &mut O, answer: &AdminAnswer) -> Exit
-    ensures line { AnswersTokens result (stream (O.contents output.old) (O.contents output.new)) }
-    ensures reports { ReportsTokens answer.now result (stream (O.contents output.old) (O.contents output.new)) }
-{
-    match answer {
-        AdminAnswer::Tokens(rows) => match print_tokens(output, rows.as_slice()) {
-            Ok(()) => Exit::Done,
-            Err(_) => Exit::Unprinted,
-        },
-        AdminAnswer::Absent => say(output, Exit::Absent),
-        AdminAnswer::Done | AdminAnswer::Exists | AdminAnswer::InUse => say(output, Exit::Down),
-        AdminAnswer::Organizations(_) => say(output, Exit::Down),
-    }
-}
-
+// A list is printed, or a word. No store that is clean and sound answers otherwise.
 fn say_answer<O: Write>(output: &mut O, command: &Admin, answer: &AdminAnswer) -> Exit
     ensures line { AnswersCommand command.now result (stream (O.contents output.old) (O.contents output.new)) }
     ensures reports { ReportsAnswer command.now answer.now result (stream (O.contents output.old) (O.contents output.new)) }
 {
-    match command {
-        Admin::OrgList => say_list(output, answer),
-        Admin::OrgAdd { .. } => say_word(output, answer),
-        Admin::OrgLimit { .. } => say_word(output, answer),
-        Admin::OrgRemove { .. } => say_word(output, answer),
-        Admin::TokenAdd { .. } => say_word(output, answer),
-        Admin::TokenList { .. } => say_tokens(output, answer),
-        Admin::TokenRevoke { .. } => say_word(output, answer),
+    match (command, answer) {
+        (Admin::OrgList, AdminAnswer::Organizations(rows)) => {
+            listed(print_organizations(output, rows.as_slice()))
+        }
+        (Admin::TokenList { .. }, AdminAnswer::Tokens(rows)) => {
+            listed(print_tokens(output, rows.as_slice()))
+        }
+        (Admin::TokenList { .. }, AdminAnswer::Absent) => say(output, Exit::Absent),
+        (Admin::OrgList | Admin::TokenList { .. }, _) => say(output, Exit::Down),
+        (_, word) => say_word(output, word),
     }
 }
 
