@@ -70,7 +70,7 @@ start() {
     (run serve "$command" --db "$work/$side/custody.db" --port "$port" --count "$count") >"$work/$side/out" &
     pids+=($!)
     ports+=("$port")
-    until grep -q "^listening 127.0.0.1:$port" "$work/$side/out"; do
+    until grep -qs "^listening 127.0.0.1:$port" "$work/$side/out"; do
         tries=$((tries + 1))
         [ $tries -lt 200 ] || { echo "compare.sh: $command doesn't listen"; exit 3; }
         sleep 0.05

@@ -9,7 +9,7 @@ crates of the kit that it uses; those of the kit's SQLite count as one.
 import itertools
 import random
 
-from building import TOP
+from top import TOP
 
 LIST, PICTURE = f"{TOP}/crates.txt", f"{TOP}/docs/crates.svg"
 PROGRAM, TESTS = "custody", "stories"

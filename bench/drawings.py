@@ -11,7 +11,7 @@ import glob
 import re
 import sys
 
-from building import TOP
+from top import TOP
 
 MAKING, STEPS, WORDS = f"{TOP}/crates/statements/src/making.rt", f"{TOP}/crates/machine/specs/RunSteps.antt", f"{TOP}/crates/basis/src/runs.rt"
 BLUE, YELLOW, GREEN, GRAY, RED = ("#dbe9f4", "#1b6ca8"), ("#fdf1dc", "#d68910"), ("#e2f1e4", "#2e8b57"), ("#f2f2f2", "#777777"), ("#f9e3e0", "#c0392b")

@@ -30,7 +30,7 @@ import tempfile
 import time
 
 import pages as texts
-from building import TOP
+from top import TOP
 from sums import put_sums
 
 sys.path.append(f"{TOP}/tools")

@@ -11,7 +11,7 @@ import re
 import subprocess
 import sys
 
-from building import TOP
+from top import TOP
 
 # Sections of what exchanges.py prints, and the columns of the page that they are.
 COLUMNS = {

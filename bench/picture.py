@@ -10,7 +10,7 @@ the table of versions kept: milliseconds of a GET and of a POST.
 import math
 import re
 
-from building import TOP
+from top import TOP
 
 PAGE, PICTURE = f"{TOP}/docs/PERFORMANCE.md", f"{TOP}/docs/performance.svg"
 COLORS = ["#1b6ca8", "#c0392b", "#2e8b57", "#8e44ad", "#d68910", "#16a085", "#7f8c8d", "#2c3e50", "#b03a2e"]

@@ -54,7 +54,7 @@ def middle(runs, label, part):
 def ranged(runs, label):
     """The middle ratio of time, and the least and the greatest."""
     ratios = [float(run[label]['ratio']) for run in runs]
-    return f"{statistics.median_low(ratios):.2f} ({min(ratios):.2f} to {max(ratios):.2f})"
+    return f"{statistics.median_low(ratios):.2f} ({min(ratios):.2f}–{max(ratios):.2f})"
 
 
 def main():
