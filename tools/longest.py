@@ -21,16 +21,20 @@ def read(name):
         return file.read()
 
 
+def text():
+    """What the program is told: the definitions, the story that some go on from, and these stories."""
+    definitions, *parts = read("stdin").split("\nstory ")
+    base = [part for part in parts if part.split("\n", 1)[0] == BASE]
+    return "\n".join([definitions, "story " + base[0], read("longest")])
+
+
 def main():
     if len(sys.argv) != 2:
         sys.exit(__doc__)
     program = os.path.abspath(sys.argv[1])
-    definitions, *parts = read("stdin").split("\nstory ")
-    base = [part for part in parts if part.split("\n", 1)[0] == BASE]
-    text = "\n".join([definitions, "story " + base[0], read("longest")])
     with tempfile.TemporaryDirectory() as folder:
         shutil.copytree(os.path.join(STORIES, "data"), folder, dirs_exist_ok=True)
-        ran = subprocess.run([program], input=text.encode(), capture_output=True, cwd=folder)
+        ran = subprocess.run([program], input=text().encode(), capture_output=True, cwd=folder)
     due, came = read("longest.stdout"), ran.stdout.decode()
     if ran.returncode or came != due:
         for line in came.split("\n"):

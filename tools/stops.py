@@ -3,7 +3,7 @@
 
     python3 tools/stops.py [PROGRAM [TEXT]]    PROGRAM is crates/stories/out/stories, as `rt run` leaves it
 
-Tells the stories of TEXT (crates/stories/stdin) with STOPS_FOLDER set, so that the program writes the two files that every
+Tells the stories of TEXT (those of crates/stories/stdin and of crates/stories/longest) with STOPS_FOLDER set, so that the program writes the two files that every
 tenth stop leaves: as all was written, as it was synced, and torn. Beside each pair stand the rows before the step in which
 the power was cut (none where there was no database yet, and those of an earlier version's tables where it was the first open
 of such a file) and those behind it. SQLite has to find each pair sound (integrity check, foreign keys check), and its rows
@@ -17,6 +17,8 @@ import struct
 import subprocess
 import sys
 import tempfile
+
+import longest
 
 HERE = os.path.dirname(os.path.abspath(__file__))
 STORIES = os.path.join(HERE, "..", "crates", "stories")
@@ -89,16 +91,13 @@ def bytes_of(path):
         return file.read()
 
 
-def main():
-    program = os.path.abspath(sys.argv[1] if len(sys.argv) > 1 else os.path.join(STORIES, "out", "stories"))
-    text = os.path.abspath(sys.argv[2] if len(sys.argv) > 2 else os.path.join(STORIES, "stdin"))
-    counts = dict.fromkeys(["before the step", "behind it", "at the second version", "no database yet"], 0)
+def stopped(program, text, counts):
+    """How many stops of the stories of this text were looked at, and how many pairs of files."""
     stops, pairs = 0, 0
     with tempfile.TemporaryDirectory() as room, tempfile.TemporaryDirectory() as folder:
         shutil.copytree(os.path.join(STORIES, "data"), room, dirs_exist_ok=True)
-        with open(text, "rb") as told:
-            env = {**os.environ, "STOPS_FOLDER": folder}
-            done = subprocess.run([program], stdin=told, stdout=subprocess.DEVNULL, cwd=room, env=env)
+        env = {**os.environ, "STOPS_FOLDER": folder}
+        done = subprocess.run([program], input=text, stdout=subprocess.DEVNULL, cwd=room, env=env)
         if done.returncode != 0:
             sys.exit(f"the stories ended with status {done.returncode}")
         for name in sorted(it[: -len(".before")] for it in os.listdir(folder) if it.endswith(".before")):
@@ -115,6 +114,14 @@ def main():
                     sys.exit(f"{path}: its rows are neither those before the step nor those behind it")
                 where = "before the step" if found == before else "behind it" if found == after else "at the second version"
                 counts[where if found else "no database yet"] += 1
+    return stops, pairs
+
+
+def main():
+    program = os.path.abspath(sys.argv[1] if len(sys.argv) > 1 else os.path.join(STORIES, "out", "stories"))
+    texts = [bytes_of(sys.argv[2])] if len(sys.argv) > 2 else [bytes_of(os.path.join(STORIES, "stdin")), longest.text().encode()]
+    counts = dict.fromkeys(["before the step", "behind it", "at the second version", "no database yet"], 0)
+    stops, pairs = (sum(it) for it in zip(*(stopped(program, text, counts) for text in texts)))
     told = ", ".join(f"{count} {what}" for what, count in counts.items())
     print(f"{stops} stops, {pairs} pairs of files: SQLite finds each sound ({told})")
 
