@@ -23,6 +23,33 @@ use std::alloc::Global;
 use std::io::{Read, Write};
 use std::net::Ipv4Addr;
 
+fn answer_at<K: Keep, F: Files<K>, N: Connections, C: Clock, O: Write, E: ErrorStream>(
+    alloc: Global,
+    files: &F,
+    network: &mut N,
+    clock: &mut C,
+    service: &mut Service<K>,
+    port: u16,
+    count: u64,
+    terms: &Terms,
+    output: &mut O,
+    errors: &mut E,
+) -> Exit
+    ensures lasts { Lasts K.clean K.sound K.keyed K.shielded service.old.keep service.new.keep }
+    ensures listens { Listens terms.now.logs result (O.contents output.old) (O.contents output.new) }
+    ensures answers { AnswersAtPort K.Keep F.Files N.Connections C.Clock N.Reader.Inlet N.Writer.Outlet port terms.now count (state network.old clock.old service.old.keep (E.reported errors.old) (O.contents output.old)) (state network.new clock.new service.new.keep (E.reported errors.new) (O.contents output.new)) result }
+{
+    match network.bind(Ipv4Addr::LOCALHOST, port) {
+        Ok(given) => serve_loop(
+            alloc, files, network, given, service, count, terms, clock, output, errors,
+        ),
+        Err(cause) => {
+            report_cause(errors, cause);
+            Exit::Down
+        }
+    }
+}
+
 fn serve_at<K: Keep, F: Files<K>, N: Connections, C: Clock, O: Write, E: ErrorStream>(
     alloc: Global,
     files: &F,
@@ -40,15 +67,10 @@ fn serve_at<K: Keep, F: Files<K>, N: Connections, C: Clock, O: Write, E: ErrorSt
     ensures listens { Listens terms.now.logs result (O.contents output.old) (O.contents output.new) }
     ensures answers { AnswersAtPort K.Keep F.Files N.Connections C.Clock N.Reader.Inlet N.Writer.Outlet port terms.now count (state network.old clock.old service.old.keep (E.reported errors.old) (O.contents output.old)) (state network.new clock.new service.new.keep (E.reported errors.new) (O.contents output.new)) result }
 {
-    match network.bind(Ipv4Addr::LOCALHOST, port) {
-        Ok(given) => serve_loop(
-            alloc, files, network, given, service, count, terms, clock, output, errors,
-        ),
-        Err(cause) => {
-            report_cause(errors, cause);
-            Exit::Down
-        }
-    }
+    service.keep.records_are_lawful();
+    answer_at(
+        alloc, files, network, clock, service, port, count, terms, output, errors,
+    )
 }
 
 fn say_served<O: Write>(output: &mut O, exit: Exit) -> Exit

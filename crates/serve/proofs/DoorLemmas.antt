@@ -314,9 +314,13 @@ entered digest message u e =
     let by_query = passed_check (is_none message.query) BadQuery _ u by_method.1 in
     last_check (brings_secret digest message.authorization) BadSecret u by_query.1
 
+-- a message that asks for a command brings the secret
+pub brings : (digest : List ℕ) (message : Message) (command : Admin) → commanded digest message ≡ Ok command → BringsSecret digest message
+brings digest message command asks =
+    let enters = first_passes (may_enter digest message) _ command asks in
+    field_brings digest message message.authorization refl (entered digest message enters.0 enters.1)
+
 pub only_the_secret_opens : OnlyTheSecretOpens
-only_the_secret_opens digest now message old new text row false (inl done) =
-    let enters = first_passes (may_enter digest message) _ done.command done.asks in
-    inl (field_brings digest message message.authorization refl (entered digest message enters.0 enters.1))
+only_the_secret_opens digest now message old new text row false (inl done) = inl (brings digest message done.command done.asks)
 only_the_secret_opens digest now message old new text row false (inr away) = inr away.stays
 only_the_secret_opens digest now message old new text row true down = inr down.stays

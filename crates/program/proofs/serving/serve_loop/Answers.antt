@@ -1,17 +1,13 @@
 use Rattle.std.proofs.Common.{◌≡◌, ℕ, suc, length, ◌<◌, ◌+◌, arith, refl, sym, subst, ◌++◌, ◌∷◌, [], rules}
 use Rattle.machine.proofs.LastingLemmas.{lasts_still, lasts_then}
 use Rattle.program.specs.Serving.{state, EndsEarly, listening_line}
-use Rattle.program.proofs.ServingLemmas.{serves_none, serves_more, serves_of, answers_more, one_more}
+use Rattle.program.proofs.ServingLemmas.{answers_more, one_more}
 use Rattle.program.proofs.LogLemmas.{grows_then, grows_all, grows_early, heard_log}
 use Rattle.program.proofs.serving.serve_loop.Goals as goal
-
-pub returns-then-is_err-clause-serves : goal.returns-then-is_err-clause-serves
-returns-then-is_err-clause-serves g c clean sound = serves_of c.args.terms.now.door 0 c.args.count _ _ (omega arith) (serves_none c.args.terms.now.door (g.K.Keep.rows c.args.service.now.keep))
 
 pub connections-init : goal.connections-init
 connections-init g c = record {
   lasts = lasts_still c.args.service.now.keep;
-  serves = λ clean sound. serves_none c.args.terms.now.door (g.K.Keep.rows c.args.service.now.keep);
   answers = ([], refl, refl);
 }
 
@@ -23,8 +19,6 @@ connections-preserved g c =
     let next = c.in-Ok.ensures.lasts in
     record {
       lasts = lasts_then c.args.service.now.keep c.connections.service.keep c.serve_next.new.service.keep before next;
-      serves = λ clean sound. serves_more c.args.terms.now.door c.connections.connection (g.K.Keep.rows c.args.service.now.keep) (g.K.Keep.rows c.connections.service.keep) (g.K.Keep.rows c.serve_next.new.service.keep)
-          (c.connections.invariant.serves (next.so_far clean) sound) (c.in-Ok.ensures.takes clean (before.kept (next.so_far clean) sound));
       answers = (
         so_far.0 ++ one.0 ∷ [],
         one_more so_far.0 one.0 c.connections.connection so_far.1,
@@ -34,14 +28,6 @@ connections-preserved g c =
             (state c.serve_next.new.network c.serve_next.new.clock c.serve_next.new.service.keep (g.E.ErrorStream.reported c.serve_next.new.errors) (g.O.Write.contents c.serve_next.new.output)) (let is = so_far.1 in omega arith) so_far.2 one.1,
       );
     }
-
-pub returns-in-Err-clause-serves : goal.returns-in-Err-clause-serves
-returns-in-Err-clause-serves g c clean sound =
-    let so_far = c.connections.invariant in
-    let before = c.in-Err.ensures.lasts.so_far clean in
-    serves_of c.args.terms.now.door (c.connections.connection + 1) c.args.count _ _ (let within = c.connections-test.true in omega arith)
-    (serves_more c.args.terms.now.door c.connections.connection (g.K.Keep.rows c.args.service.now.keep) (g.K.Keep.rows c.connections.service.keep) (g.K.Keep.rows c.serve_next.new.service.keep)
-    (so_far.serves before sound) (c.in-Err.ensures.takes clean (so_far.lasts.kept before sound)))
 
 pub returns-in-Err-clause-answers : goal.returns-in-Err-clause-answers
 returns-in-Err-clause-answers g c =
