@@ -25,7 +25,7 @@ use Rattle.program.specs.declared.environment.Files as files
 use Rattle.program.specs.declared.exits.Exit.{Exit}
 use Rattle.program.specs.declared.exits.Exit.TheVariants as exit
 use Rattle.program.specs.declared.reasons.Cause.{Cause}
-use Rattle.program.specs.Serving.{State, state, AnswersNext, AnswersAll, EndsEarly, ServesNext, ServesAll, EndsServed, ServesCount, LoopsAreServed, AnswersAtPort, Serves}
+use Rattle.program.specs.Serving.{State, state, AnswersNext, AnswersAll, EndsEarly, AnswersCount, ServesNext, ServesAll, EndsServed, ServesCount, LoopsAreServed, ServesAtPort, Serves}
 use Rattle.program.proofs.ServingLemmas.{after_reply_lasts, after_reply_rows}
 use Rattle.program.proofs.LogLemmas.{clean_next, clean_all, sound_next}
 
@@ -170,13 +170,40 @@ module _ {K F N C R W : Type 0} (k : keep.Ghosts K) (f : files.Ghosts F K) (n : 
   few_served port terms count es old new exit.BadFrame h = absurd h
   few_served port terms count es old new exit.Schema h = absurd h
 
-  -- what is served at a port is as promised
-  pub ports_are_served : (port : ℕ) (terms : Terms) (count : ℕ) (old new : State N C K) (e : Exit) → AnswersAtPort k f n c i o port terms count old new e → k.clean new.store → k.sound old.store
-      → AreLawful (k.rows old.store) → Serves terms.door count (k.rows old.store) (k.rows new.store)
-  ports_are_served port terms count old new e (inl h) clean sound lawful =
-      let begun = state h.0 old.clock old.store old.errors old.output in
-      let served = loops_are_served h.1 terms count begun new e h.3 clean sound in
-      record { exchanges = served.0; few = few_served h.1 terms count served.0 begun new e served.1; served = served.2; promised = services_are_as_promised terms.door served.0 (k.rows old.store) (k.rows new.store) served.2 lawful }
-  ports_are_served port terms count old new e (inr h) clean sound lawful =
-      let stays = none_since terms.door old new h.3 in
-      record { exchanges = []; few = omega arith; served = stays; promised = services_are_as_promised terms.door [] (k.rows old.store) (k.rows new.store) stays lawful }
+  -- what a loop serves is as promised
+  pub loop_serves : (port : ℕ) (terms : Terms) (count : ℕ) (old new : State N C K) (e : Exit) → AnswersCount k f n c i o port terms count old new e → k.clean new.store → k.sound old.store
+      → AreLawful (k.rows old.store) → Serves (λ es. ServesCount k f n c i o port terms count es old new e) terms.door count (k.rows old.store) (k.rows new.store)
+  loop_serves port terms count old new e answers clean sound lawful =
+      let served = loops_are_served port terms count old new e answers clean sound in
+      record {
+        exchanges = served.0;
+        few = few_served port terms count served.0 old new e served.1;
+        of_connections = served.1;
+        served = served.2;
+        promised = services_are_as_promised terms.door served.0 (k.rows old.store) (k.rows new.store) served.2 lawful;
+      }
+
+  -- so is what it serves at the port that was bound
+  pub bound_serves : (port given : ℕ) (terms : Terms) (count : ℕ) (bound : N) (old new : State N C K) (e : Exit) → n.binds old.network (127 ∷ 0 ∷ 0 ∷ 1 ∷ []) port (Ok given) bound
+      → Serves (λ es. ServesCount k f n c i o given terms count es (state bound old.clock old.store old.errors old.output) new e) terms.door count (k.rows old.store) (k.rows new.store)
+      → Serves (λ es. ServesAtPort k f n c i o port terms count es old new e) terms.door count (k.rows old.store) (k.rows new.store)
+  bound_serves port given terms count bound old new e binds serves = record {
+    exchanges = serves.exchanges;
+    few = serves.few;
+    of_connections = inl (bound, given, binds, serves.of_connections);
+    served = serves.served;
+    promised = serves.promised;
+  }
+
+  -- and nothing, if no port was bound
+  pub none_serves : (port : ℕ) (terms : Terms) (count : ℕ) (why : Cause) (old new : State N C K) → n.binds old.network (127 ∷ 0 ∷ 0 ∷ 1 ∷ []) port (Err why) new.network → new.clock ≡ old.clock → new.store ≡ old.store
+      → AreLawful (k.rows old.store) → Serves (λ es. ServesAtPort k f n c i o port terms count es old new exit.Down) terms.door count (k.rows old.store) (k.rows new.store)
+  none_serves port terms count why old new binds clock store lawful =
+      let stays = none_since terms.door old new store in
+      record {
+        exchanges = [];
+        few = omega arith;
+        of_connections = inr (refl, why, binds, clock, store, refl);
+        served = stays;
+        promised = services_are_as_promised terms.door [] (k.rows old.store) (k.rows new.store) stays lawful;
+      }

@@ -192,9 +192,19 @@ module _ {K F N C R W : Type 0} (k : keep.Ghosts K) (f : files.Ghosts F K) (n : 
       → AnswersCount port terms count old new e → k.clean new.store → k.sound old.store
       → (es : List Exchange) × ServesCount port terms count es old new e × AreServed terms.door es (k.rows old.store) (k.rows new.store)
 
--- at most this many exchanges were served with this door, one after the other, as promised, and nothing else changed a record
-pub record Serves (door : Door) (count : ℕ) (old new : List ℕ → Option Organization) : Type 0 where
+  -- the exchanges at a port, as `AnswersAtPort` says; none if the network cannot listen there
+  abbrev pub ServesAtPort : ℕ → Terms → ℕ → List Exchange → State N C K → State N C K → Exit → Type 0
+  ServesAtPort port terms count es old new e =
+      ((bound : N) × (given : ℕ) × n.binds old.network (127 ∷ 0 ∷ 0 ∷ 1 ∷ []) port (Ok given) bound
+      × ServesCount given terms count es (state bound old.clock old.store old.errors old.output) new e)
+      ⊎ ((es ≡ []) × (why : Cause) × n.binds old.network (127 ∷ 0 ∷ 0 ∷ 1 ∷ []) port (Err why) new.network
+      × (new.clock ≡ old.clock) × (new.store ≡ old.store) × (e ≡ exit.Down))
+
+-- at most this many exchanges were served with this door, one after the other, as promised, and nothing else changed a record. They are
+-- those of the connections (`AreOf`)
+pub record Serves (AreOf : List Exchange → Type 0) (door : Door) (count : ℕ) (old new : List ℕ → Option Organization) : Type 0 where
   pub exchanges : List Exchange
   pub few : length exchanges ≤ count
+  pub of_connections : AreOf exchanges
   pub served : AreServed door exchanges old new
   pub promised : IsAsPromised door exchanges old new

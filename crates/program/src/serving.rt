@@ -6,7 +6,7 @@ ghost use Rattle.machine.specs.StoreCalls.{Lasts};
 ghost use Rattle.serve.specs.Doors.{ExchangesWith};
 ghost use Rattle.serve.specs.Exchanges.{ChangesAsLogged};
 ghost use Rattle.program.specs.Errors.{GetsConnectionLines, fault_text, down_line, fault_line};
-ghost use Rattle.program.specs.Serving.{listening_line, ListensAt, state, AcceptsNone, AnswersOne, Answers, AfterReply, AnswersNext, EndsEarly, AnswersCount, LogReportsChanges, LoopsAreServed};
+ghost use Rattle.program.specs.Serving.{listening_line, ListensAt, state, AcceptsNone, AnswersOne, Answers, AfterReply, AnswersNext, EndsEarly, AnswersCount, ServesCount, Serves, LogReportsChanges, LoopsAreServed};
 ghost use Rattle.program.specs.Streams.{ReportsBy};
 ghost use Rattle.machine.specs.Ranges.{IsMoment};
 
@@ -236,12 +236,8 @@ fn serve_next<K: Keep, F: Files<K>, N: Connections, C: Clock, O: Write, E: Error
     }
 }
 
-/// Prints the port it listens on, then answers this many connections, one after the other, each with one exchange. The network
-/// already listens on that port. A connection that ends in a link fault or a timeout still counts, and a line of the error stream
-/// reports it. A 503 for a failed allocation or store is reported, too. It stops, with a line that says why, if an accept fails,
-/// the clock is out of range, or a disk error has closed the store. If the terms have the log on, it prints one line per exchange
-/// to standard output, and stops if a line cannot be written completely.
-pub fn serve_loop<K: Keep, F: Files<K>, N: Connections, C: Clock, O: Write, E: ErrorStream>(
+// Prints the port, then answers this many connections, unless it stops before.
+fn answer_all<K: Keep, F: Files<K>, N: Connections, C: Clock, O: Write, E: ErrorStream>(
     alloc: Global,
     files: &F,
     network: &mut N,
@@ -280,6 +276,35 @@ pub fn serve_loop<K: Keep, F: Files<K>, N: Connections, C: Clock, O: Write, E: E
         }
     }
     Exit::Done
+}
+
+/// Prints the port it listens on, then answers this many connections, one after the other, each with one exchange. The network
+/// already listens on that port. A connection that ends in a link fault or a timeout still counts, and a line of the error stream
+/// reports it. A 503 for a failed allocation or store is reported, too. It stops, with a line that says why, if an accept fails,
+/// the clock is out of range, or a disk error has closed the store. If the terms have the log on, it prints one line per exchange
+/// to standard output, and stops if a line cannot be written completely.
+pub fn serve_loop<K: Keep, F: Files<K>, N: Connections, C: Clock, O: Write, E: ErrorStream>(
+    alloc: Global,
+    files: &F,
+    network: &mut N,
+    port: u16,
+    service: &mut Service<K>,
+    count: u64,
+    terms: &Terms,
+    clock: &mut C,
+    output: &mut O,
+    errors: &mut E,
+) -> Exit
+    ensures lasts { Lasts K.clean K.sound K.keyed K.shielded service.old.keep service.new.keep }
+    ensures serves { K.clean service.new.keep → K.sound service.old.keep → Serves (λ exchanges. ServesCount K.Keep F.Files N.Connections C.Clock N.Reader.Inlet N.Writer.Outlet port terms.now count exchanges (state network.old clock.old service.old.keep (E.reported errors.old) (O.contents output.old)) (state network.new clock.new service.new.keep (E.reported errors.new) (O.contents output.new)) result)
+        terms.now.door count (K.rows service.old.keep) (K.rows service.new.keep) }
+    ensures answers { AnswersCount K.Keep F.Files N.Connections C.Clock N.Reader.Inlet N.Writer.Outlet port terms.now count (state network.old clock.old service.old.keep (E.reported errors.old) (O.contents output.old)) (state network.new clock.new service.new.keep (E.reported errors.new) (O.contents output.new)) result }
+    ensures listens { ListensAt port terms.now.logs result (O.contents output.old) (O.contents output.new) }
+{
+    service.keep.records_are_lawful();
+    answer_all(
+        alloc, files, network, port, service, count, terms, clock, output, errors,
+    )
 }
 
 /// The log has a line for each answered connection, in order. Between two lines, only the record of the organization that the

@@ -1,7 +1,7 @@
 use Rattle.std.proofs.Common.{◌≡◌, ℕ, List, length}
 use Rattle.machine.specs.StoreCalls.{Lasts}
 use Rattle.program.specs.Serving.{AnswersAll, state}
-use Rattle.program.proofs.serving.serve_loop.Given as goal
+use Rattle.program.proofs.serving.answer_all.Given as goal
 
 -- the connections so far are served
 abbrev pub invariant-connections : goal.invariant-connections
