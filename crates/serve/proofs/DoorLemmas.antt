@@ -29,7 +29,7 @@ use Rattle.wire.specs.declared.messages.WireFault.{WireFault}
 use Rattle.wire.specs.declared.messages.WireFault.TheVariants.{Refused, Down, Ended, Read, Continue}
 use Rattle.wire.proofs.ReadingLemmas.{reads_one}
 use Rattle.serve.specs.Asks.{commands, organization}
-use Rattle.serve.specs.Doors.{commanded, act_commanded, org_commanded, subject_of, reported_row, unserved_row, IsReportedAtDoor, ComeNotToDoor, PassesDoor, ExchangesOpen, ExchangesWith, BringsSecret, OnlyTheSecretOpens}
+use Rattle.serve.specs.Doors.{commanded, act_commanded, org_commanded, token_commanded, reported_row, unserved_row, IsReportedAtDoor, ComeNotToDoor, PassesDoor, ExchangesOpen, ExchangesWith, BringsSecret, OnlyTheSecretOpens}
 use Rattle.serve.specs.Exchanges.{Exchanges, ChangesAtMostOne, OfNamed, Makes, ComesAsLogged, ChangesAsLogged}
 use Rattle.serve.specs.Logs.{operator_row}
 use Rattle.serve.specs.Service.{is_head, is_own, after_ask, Carries, Stays, IsAdminAnswer, reported_refusal}
@@ -117,14 +117,14 @@ at_door {T = T} digest now message old new b c is_down row text (Err e) comes is
 -- a command that is carried out has its reply and its row
 pub carried_out : (at : ℕ) (command : Admin) (old new : List ℕ → Option Organization) (reported : CommandReport) (done : Operated) → IsCarriedOut command old new reported
     → done.reply ≡ text_answer reported.refusal reported.text
-    → done.row ≡ operator_row at (Some (act_commanded command)) (org_commanded command) (subject_of command reported.refusal) (text_answer reported.refusal reported.text)
+    → done.row ≡ operator_row at (Some (act_commanded command)) (org_commanded command) (token_commanded command) (text_answer reported.refusal reported.text)
     → Operates at command old new done
 carried_out at command old new reported done carried reply row = record {
   answer = carried.answer;
   answered = carried.answered;
   carries = carried.carries at;
   reply = reply ∙ ap₂ text_answer carried.reports.refusal carried.reports.text;
-  row = row ∙ ap₂ (λ (r : Option Refusal) (t : List ℕ). operator_row at (Some (act_commanded command)) (org_commanded command) (subject_of command r) (text_answer r t)) carried.reports.refusal carried.reports.text;
+  row = row ∙ ap₂ (λ (r : Option Refusal) (t : List ℕ). operator_row at (Some (act_commanded command)) (org_commanded command) (token_commanded command) (text_answer r t)) carried.reports.refusal carried.reports.text;
 }
 
 -- a message that is turned away changes nothing
