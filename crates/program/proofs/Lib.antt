@@ -7,6 +7,7 @@ mod OutcomeLemmas
 mod EnvironmentLemmas
 mod ErrorLemmas
 mod LogLemmas
+mod ServedLemmas
 mod MoveLemmas
 mod CopyLemmas
 mod BatchLemmas

@@ -120,15 +120,15 @@ module _ {K F N C R W : Type 0} (k : keep.Ghosts K) (f : files.Ghosts F K) (n : 
       let one = unreported.1.answers.answers in
       grows_one terms.logs false (row_text connection one.result one.row) last.output new.output one.logged
 
-  clean_next : (terms : Terms) (connection at : ℕ) (is_shut is_logged : Bool) (old new : State N C K) → AnswersNext k f n c i o terms connection at is_shut is_logged old new → k.clean new.store → k.clean old.store
+  pub clean_next : (terms : Terms) (connection at : ℕ) (is_shut is_logged : Bool) (old new : State N C K) → AnswersNext k f n c i o terms connection at is_shut is_logged old new → k.clean new.store → k.clean old.store
   clean_next terms connection at is_shut is_logged old new one clean = one.answers.answers.lasts.so_far ((after_reply_lasts k f one.is_down one.store is_shut new.store one.after_reply).so_far clean)
 
-  clean_all : (terms : Terms) (connection : ℕ) (moments : List ℕ) (old new : State N C K) → AnswersAll k f n c i o terms connection moments old new → k.clean new.store → k.clean old.store
+  pub clean_all : (terms : Terms) (connection : ℕ) (moments : List ℕ) (old new : State N C K) → AnswersAll k f n c i o terms connection moments old new → k.clean new.store → k.clean old.store
   clean_all terms connection [] old new same clean = subst (λ (s : State N C K). k.clean s.store) same clean
   clean_all terms connection (at ∷ moments) old new all clean =
       clean_next terms connection at false true old all.0 all.1 (clean_all terms (suc connection) moments all.0 new all.2 clean)
 
-  sound_next : (terms : Terms) (connection at : ℕ) (is_shut is_logged : Bool) (old new : State N C K) → AnswersNext k f n c i o terms connection at is_shut is_logged old new → k.clean new.store → k.sound old.store → k.sound new.store
+  pub sound_next : (terms : Terms) (connection at : ℕ) (is_shut is_logged : Bool) (old new : State N C K) → AnswersNext k f n c i o terms connection at is_shut is_logged old new → k.clean new.store → k.sound old.store → k.sound new.store
   sound_next terms connection at is_shut is_logged old new one clean sound =
       (after_reply_lasts k f one.is_down one.store is_shut new.store one.after_reply).kept clean (one.answers.answers.lasts.kept ((after_reply_lasts k f one.is_down one.store is_shut new.store one.after_reply).so_far clean) sound)
 

@@ -39,7 +39,7 @@ use Rattle.program.specs.Moves.{org_copied, IsFilled, SomeAreCopied, CopiesBetwe
 use Rattle.program.specs.Paths.{AllStay, OthersStay, OthersStayBut, LeavesVacant, makes}
 use Rattle.program.specs.Replies.{printed, bad_frame_text, answer_line, fault_lines, AreReplies, Replays}
 use Rattle.program.specs.Secrets.{secret_in}
-use Rattle.program.specs.Serving.{listening_line, Serves, state, AnswersAtPort}
+use Rattle.program.specs.Serving.{listening_line, Serves, ServesAtPort, state, AnswersAtPort}
 use Rattle.program.specs.Streams.{Reported, GetsAll, Reports}
 use Rattle.program.specs.declared.environment.Clock as clock
 use Rattle.program.specs.declared.environment.Connections as connections
@@ -631,10 +631,11 @@ module _ {K F N C R W : Type 0} (k : keep.Ghosts K) (f : files.Ghosts F K) (n : 
     pub noted : Reported
     pub opens : Opens k f path opening.Created old.files worked before (error_stream errors.old noted)
     pub lasts : Lasts k.clean k.sound k.keyed k.shielded before after
-    pub serves : k.clean after → k.sound before → Serves terms.door count (k.rows before) (k.rows after)
     pub served : Exit
     pub reported : Option (List ℕ)
     pub lines : Reported
+    pub serves : k.clean after → k.sound before
+        → Serves (λ es. ServesAtPort k f n c i o port terms count es (state old.network old.clock before noted output.old) (state new.network new.clock after lines reported) served) terms.door count (k.rows before) (k.rows after)
     pub answers : AnswersAtPort k f n c i o port terms count (state old.network old.clock before noted output.old) (state new.network new.clock after lines reported) served
     pub says : SaysServed served e reported output.new
     pub closes : Closes k f path worked new.files after (error_stream lines errors.new)
@@ -649,13 +650,15 @@ module _ {K F N C R W : Type 0} (k : keep.Ghosts K) (f : files.Ghosts F K) (n : 
     pub noted : Reported
     pub opens : OpensSound k f path old.files worked before (error_stream errors.old noted)
     pub lasts : Lasts k.clean k.sound k.keyed k.shielded before after
-    pub serves : k.clean after → k.sound before → Serves terms.door count (k.rows before) (k.rows after)
-    pub sound_ours : k.clean after → f.is_ours opens.opened → k.sound opens.opened × k.sound after
-    pub keyed_ours : k.clean after → f.is_ours opens.opened → k.keyed opens.opened × k.keyed after
-    pub serves_ours : k.clean after → f.is_ours opens.opened → Serves terms.door count (k.rows opens.opened) (k.rows after)
     pub served : Exit
     pub reported : Option (List ℕ)
     pub lines : Reported
+    pub serves : k.clean after → k.sound before
+        → Serves (λ es. ServesAtPort k f n c i o port terms count es (state old.network old.clock before noted output.old) (state new.network new.clock after lines reported) served) terms.door count (k.rows before) (k.rows after)
+    pub sound_ours : k.clean after → f.is_ours opens.opened → k.sound opens.opened × k.sound after
+    pub keyed_ours : k.clean after → f.is_ours opens.opened → k.keyed opens.opened × k.keyed after
+    pub serves_ours : k.clean after → f.is_ours opens.opened
+        → Serves (λ es. ServesAtPort k f n c i o port terms count es (state old.network old.clock before noted output.old) (state new.network new.clock after lines reported) served) terms.door count (k.rows opens.opened) (k.rows after)
     pub answers : AnswersAtPort k f n c i o port terms count (state old.network old.clock before noted output.old) (state new.network new.clock after lines reported) served
     pub says : SaysServed served e reported output.new
     pub closes : Closes k f path worked new.files after (error_stream lines errors.new)

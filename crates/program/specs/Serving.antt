@@ -5,17 +5,14 @@ use Rattle.basis.specs.declared.memory.Down.{Down}
 use Rattle.docs.specs.declared.logs.LogRow.{LogRow}
 use Rattle.machine.specs.declared.keeps.Keep as keep
 use Rattle.machine.specs.declared.records.Organization.{Organization}
+use Rattle.machine.specs.Ranges.{IsMoment}
 use Rattle.machine.specs.StoreCalls.{Unchanged, Lasts}
 use Rattle.serve.specs.declared.exchanges.LinkFault.{LinkFault}
-use Rattle.serve.specs.declared.steps.Step.{Step}
-use Rattle.serve.specs.declared.steps.Step.TheVariants.{Request, Command}
-use Rattle.serve.specs.Asks.{Ask}
 use Rattle.serve.specs.Doors.{ExchangesWith}
 use Rattle.serve.specs.Exchanges.{ChangesAsLogged}
 use Rattle.serve.specs.declared.doors.Door.{Door}
-use Rattle.serve.specs.declared.doors.Door.TheVariants.{Closed, Open}
-use Rattle.serve.specs.Service.{AreAsked}
-use Rattle.serve.specs.Runs.{IsOwnRecord}
+use Rattle.serve.specs.Served.{Exchange, IsServed, AreServed}
+use Rattle.serve.specs.Promises.{IsAsPromised}
 use Rattle.program.specs.Errors.{GetsConnectionLines, cause_line}
 use Rattle.program.specs.Streams.{Reported, Reports}
 use Rattle.program.specs.Checkpoints.{Checkpoints}
@@ -78,6 +75,7 @@ module _ {K N R W : Type 0} (k : keep.Ghosts K) (n : connections.Ghosts N R W) (
     pub written : W
     pub result : Result (Unit {0}) LinkFault
     pub row : Option LogRow
+    pub timely : IsMoment at
     pub lasts : Lasts k.clean k.sound k.keyed k.shielded store store'
     pub exchanges : k.clean store' → k.sound store → (received : List ℕ) × Consumes (i.left reader) (i.left read) received
         × ExchangesWith terms.door at received (i.left read) (k.rows store) (k.rows store') (o.written writer) (o.written written) is_down row result
@@ -155,23 +153,58 @@ module _ {K F N C R W : Type 0} (k : keep.Ghosts K) (f : files.Ghosts F K) (n : 
       → AnswersAll terms connection moments old new → k.clean new.store → k.sound old.store
       → (lines : List Line) × (length lines ≡ length moments) × Appends old.output new.output (log_text connection lines) × ChangeByLines lines (k.rows old.store) (k.rows new.store)
 
--- every step is a request
-abbrev pub AreRequests : List Step → Type 0
-AreRequests [] = ⊤
-AreRequests (Request at bytes ∷ steps) = AreRequests steps
-AreRequests (Command at command ∷ steps) = ⊥
+  -- a connection is answered in this way, and this is its exchange: it received what the connection's reader gave, wrote what its writer
+  -- took, and is served from the records before it
+  pub record ServesNext (terms : Terms) (connection : ℕ) (e : Exchange) (is_shut is_logged : Bool) (old new : State N C K) : Type 0 where
+    pub next : AnswersNext terms connection e.at is_shut is_logged old new
+    pub received : Consumes (i.left next.answers.reader) (i.left next.answers.answers.read) e.received
+    pub written : Appends (o.written next.answers.writer) (o.written next.answers.answers.written) e.written
+    pub served : IsServed terms.door e (k.rows old.store) (k.rows new.store)
 
--- which steps may come with this door: if it is closed, only requests; if it is open, operator's commands, too
-abbrev pub ComeBy : Door → List Step → Type 0
-ComeBy Closed steps = AreRequests steps
-ComeBy (Open digest) steps = ⊤
+  -- connections are answered in order, as `AnswersAll` says, and these are their exchanges
+  abbrev pub ServesAll : Terms → ℕ → List Exchange → State N C K → State N C K → Type 0
+  ServesAll terms connection [] old new = new ≡ old
+  ServesAll terms connection (e ∷ es) old new = (mid : State N C K) × ServesNext terms connection e false true old mid × ServesAll terms (suc connection) es mid new
 
--- steps of at most this many connections were carried out, one after the other, and nothing else. Each organization's record is what its own
--- machine leaves over its own steps
-pub record Serves (door : Door) (count : ℕ) (old new : List ℕ → Option Organization) : Type 0 where
-  pub steps : List Step
-  pub few : length steps ≤ count
-  pub come : ComeBy door steps
-  pub asked : List Ask
-  pub are : AreAsked steps asked
-  pub rows : (org : List ℕ) → IsOwnRecord asked old new org
+  -- no further connection is accepted, for this cause, as `EndsEarly` says, and these are the exchanges since: none, or one
+  abbrev pub EndsServed : Terms → ℕ → List Exchange → State N C K → State N C K → Cause → Type 0
+  EndsServed terms connection es last new why =
+      ((es ≡ []) × AcceptsNone n c terms.timeouts last.network new.network last.clock new.clock why × (new.store ≡ last.store) × (new.errors ≡ last.errors) × (new.output ≡ last.output))
+      ⊎ (((e : Exchange) × (is_logged : Bool) × (es ≡ e ∷ []) × ServesNext terms connection e true is_logged last new × (why ≡ cause.Shut))
+      ⊎ ((e : Exchange) × (es ≡ e ∷ []) × ServesNext terms connection e false false last new × (why ≡ cause.Log)))
+
+  -- the exchanges of a loop, by how it ended, as `AnswersCount` says
+  abbrev pub ServesCount : ℕ → Terms → ℕ → List Exchange → State N C K → State N C K → Exit → Type 0
+  ServesCount port terms count es old new exit.Done =
+      (heard : Option (List ℕ)) × Appends old.output heard (listening_line port)
+      × (length es ≡ count) × ServesAll terms 1 es (state old.network old.clock old.store old.errors heard) new
+  ServesCount port terms count es old new exit.Down =
+      (heard : Option (List ℕ)) × Appends old.output heard (listening_line port)
+      × (before : List Exchange) × (since : List Exchange) × (es ≡ before ++ since) × (last : State N C K) × (length before < count)
+      × ServesAll terms 1 before (state old.network old.clock old.store old.errors heard) last
+      × (why : Cause) × (errors : Reported) × EndsServed terms (suc (length before)) since last (state new.network new.clock new.store errors new.output) why × Reports errors new.errors (cause_line why)
+  ServesCount port terms count es old new exit.Unprinted = (es ≡ []) × (new.network ≡ old.network) × (new.clock ≡ old.clock) × (new.store ≡ old.store) × (new.errors ≡ old.errors)
+  ServesCount port terms count es old new other = ⊥
+
+  -- what a loop answered are exchanges, each with the bytes of its connection, served one after the other
+  abbrev pub LoopsAreServed : Type 0
+  LoopsAreServed = (port : ℕ) (terms : Terms) (count : ℕ) (old new : State N C K) (e : Exit)
+      → AnswersCount port terms count old new e → k.clean new.store → k.sound old.store
+      → (es : List Exchange) × ServesCount port terms count es old new e × AreServed terms.door es (k.rows old.store) (k.rows new.store)
+
+  -- the exchanges at a port, as `AnswersAtPort` says; none if the network cannot listen there
+  abbrev pub ServesAtPort : ℕ → Terms → ℕ → List Exchange → State N C K → State N C K → Exit → Type 0
+  ServesAtPort port terms count es old new e =
+      ((bound : N) × (given : ℕ) × n.binds old.network (127 ∷ 0 ∷ 0 ∷ 1 ∷ []) port (Ok given) bound
+      × ServesCount given terms count es (state bound old.clock old.store old.errors old.output) new e)
+      ⊎ ((es ≡ []) × (why : Cause) × n.binds old.network (127 ∷ 0 ∷ 0 ∷ 1 ∷ []) port (Err why) new.network
+      × (new.clock ≡ old.clock) × (new.store ≡ old.store) × (e ≡ exit.Down))
+
+-- at most this many exchanges were served with this door, one after the other, as promised, and nothing else changed a record. They are
+-- those of the connections (`AreOf`)
+pub record Serves (AreOf : List Exchange → Type 0) (door : Door) (count : ℕ) (old new : List ℕ → Option Organization) : Type 0 where
+  pub exchanges : List Exchange
+  pub few : length exchanges ≤ count
+  pub of_connections : AreOf exchanges
+  pub served : AreServed door exchanges old new
+  pub promised : IsAsPromised door exchanges old new

@@ -6,9 +6,9 @@ ghost use Rattle.machine.specs.StoreCalls.{Lasts};
 ghost use Rattle.serve.specs.Doors.{ExchangesWith};
 ghost use Rattle.serve.specs.Exchanges.{ChangesAsLogged};
 ghost use Rattle.program.specs.Errors.{GetsConnectionLines, fault_text, down_line, fault_line};
-ghost use Rattle.program.specs.Serving.{listening_line, ListensAt, Serves, state, AcceptsNone, AnswersOne, Answers, AfterReply, AnswersNext, EndsEarly, AnswersCount, LogReportsChanges};
+ghost use Rattle.program.specs.Serving.{listening_line, ListensAt, state, AcceptsNone, AnswersOne, Answers, AfterReply, AnswersNext, EndsEarly, AnswersCount, ServesCount, Serves, LogReportsChanges, LoopsAreServed};
 ghost use Rattle.program.specs.Streams.{ReportsBy};
-ghost use Rattle.program.specs.Inner.Serving.{TakesOne};
+ghost use Rattle.machine.specs.Ranges.{IsMoment};
 
 use crate::environment::{Clock, Connections, Files};
 use crate::errors::{report_cause, send_on, write_line};
@@ -109,10 +109,10 @@ fn exchange_one<K: Keep, I: Inlet, O: Outlet>(
     requires reads { I.broken inlet.old ≡ false }
     requires writes { O.broken outlet.old ≡ false }
     ensures lasts { Lasts K.clean K.sound K.keyed K.shielded service.old.keep service.new.keep }
-    ensures takes { K.clean service.new.keep → K.sound service.old.keep → TakesOne door.now (K.rows service.old.keep) (K.rows service.new.keep) }
     ensures reported { K.clean service.new.keep → K.sound service.old.keep → (received : List ℕ) × Consumes (I.left inlet.old) (I.left inlet.new) received
         × ExchangesWith door.now now received (I.left inlet.new) (K.rows service.old.keep) (K.rows service.new.keep) (O.written outlet.old) (O.written outlet.new) service.new.was_down service.new.row result }
     ensures changes { K.clean service.new.keep → K.sound service.old.keep → IfSome service.new.row (λ row. ChangesAsLogged row (K.rows service.old.keep) (K.rows service.new.keep)) }
+    ensures timely { IsMoment now }
 {
     prove!(now.seconds() <= MAX_MOMENT);
     service.exchange_with(alloc, door, now, inlet, outlet)
@@ -134,7 +134,6 @@ fn serve_one<K: Keep, N: Connections, O: Write, E: ErrorStream>(
     requires reads { N.Reader.broken reader ≡ false }
     requires writes { N.Writer.broken writer ≡ false }
     ensures lasts { Lasts K.clean K.sound K.keyed K.shielded service.old.keep service.new.keep }
-    ensures takes { K.clean service.new.keep → K.sound service.old.keep → TakesOne terms.now.door (K.rows service.old.keep) (K.rows service.new.keep) }
     ensures answers { AnswersOne K.Keep N.Connections N.Reader.Inlet N.Writer.Outlet terms.now connection now service.new.was_down result reader writer network.old network.new service.old.keep service.new.keep (E.reported errors.old) (E.reported errors.new) (O.contents output.old) (O.contents output.new) }
 {
     let mut inlet = reader;
@@ -185,7 +184,6 @@ fn answer_next<K: Keep, N: Connections, C: Clock, O: Write, E: ErrorStream>(
     errors: &mut E,
 ) -> Result<bool, Cause>
     ensures lasts { Lasts K.clean K.sound K.keyed K.shielded service.old.keep service.new.keep }
-    ensures takes { K.clean service.new.keep → K.sound service.old.keep → TakesOne terms.now.door (K.rows service.old.keep) (K.rows service.new.keep) }
     ensures answers { IfOk result (λ is_logged. (at : ℕ) × Answers K.Keep N.Connections C.Clock N.Reader.Inlet N.Writer.Outlet terms.now connection at service.new.was_down is_logged (state network.old clock.old service.old.keep (E.reported errors.old) (O.contents output.old)) (state network.new clock.new service.new.keep (E.reported errors.new) (O.contents output.new))) }
     ensures refused { IfErr result (λ cause. AcceptsNone N.Connections C.Clock terms.now.timeouts network.old network.new clock.old clock.new cause × (service.new.keep ≡ service.old.keep) × (E.reported errors.new ≡ E.reported errors.old) × (O.contents output.new ≡ O.contents output.old)) }
 {
@@ -223,7 +221,6 @@ fn serve_next<K: Keep, F: Files<K>, N: Connections, C: Clock, O: Write, E: Error
     errors: &mut E,
 ) -> Result<(), Cause>
     ensures lasts { Lasts K.clean K.sound K.keyed K.shielded service.old.keep service.new.keep }
-    ensures takes { K.clean service.new.keep → K.sound service.old.keep → TakesOne terms.now.door (K.rows service.old.keep) (K.rows service.new.keep) }
     ensures answers { OnOk result ((at : ℕ) × AnswersNext K.Keep F.Files N.Connections C.Clock N.Reader.Inlet N.Writer.Outlet terms.now connection at false true (state network.old clock.old service.old.keep (E.reported errors.old) (O.contents output.old)) (state network.new clock.new service.new.keep (E.reported errors.new) (O.contents output.new))) }
     ensures refused { IfErr result (EndsEarly K.Keep F.Files N.Connections C.Clock N.Reader.Inlet N.Writer.Outlet terms.now connection (state network.old clock.old service.old.keep (E.reported errors.old) (O.contents output.old)) (state network.new clock.new service.new.keep (E.reported errors.new) (O.contents output.new))) }
 {
@@ -239,12 +236,8 @@ fn serve_next<K: Keep, F: Files<K>, N: Connections, C: Clock, O: Write, E: Error
     }
 }
 
-/// Prints the port it listens on, then answers this many connections, one after the other, each with one exchange. The network
-/// already listens on that port. A connection that ends in a link fault or a timeout still counts, and a line of the error stream
-/// reports it. A 503 for a failed allocation or store is reported, too. It stops, with a line that says why, if an accept fails,
-/// the clock is out of range, or a disk error has closed the store. If the terms have the log on, it prints one line per exchange
-/// to standard output, and stops if a line cannot be written completely.
-pub fn serve_loop<K: Keep, F: Files<K>, N: Connections, C: Clock, O: Write, E: ErrorStream>(
+// Prints the port, then answers this many connections, unless it stops before.
+fn answer_all<K: Keep, F: Files<K>, N: Connections, C: Clock, O: Write, E: ErrorStream>(
     alloc: Global,
     files: &F,
     network: &mut N,
@@ -257,7 +250,6 @@ pub fn serve_loop<K: Keep, F: Files<K>, N: Connections, C: Clock, O: Write, E: E
     errors: &mut E,
 ) -> Exit
     ensures lasts { Lasts K.clean K.sound K.keyed K.shielded service.old.keep service.new.keep }
-    ensures serves { K.clean service.new.keep → K.sound service.old.keep → Serves terms.now.door count (K.rows service.old.keep) (K.rows service.new.keep) }
     ensures answers { AnswersCount K.Keep F.Files N.Connections C.Clock N.Reader.Inlet N.Writer.Outlet port terms.now count (state network.old clock.old service.old.keep (E.reported errors.old) (O.contents output.old)) (state network.new clock.new service.new.keep (E.reported errors.new) (O.contents output.new)) result }
     ensures listens { ListensAt port terms.now.logs result (O.contents output.old) (O.contents output.new) }
 {
@@ -286,8 +278,42 @@ pub fn serve_loop<K: Keep, F: Files<K>, N: Connections, C: Clock, O: Write, E: E
     Exit::Done
 }
 
+/// Prints the port it listens on, then answers this many connections, one after the other, each with one exchange. The network
+/// already listens on that port. A connection that ends in a link fault or a timeout still counts, and a line of the error stream
+/// reports it. A 503 for a failed allocation or store is reported, too. It stops, with a line that says why, if an accept fails,
+/// the clock is out of range, or a disk error has closed the store. If the terms have the log on, it prints one line per exchange
+/// to standard output, and stops if a line cannot be written completely.
+pub fn serve_loop<K: Keep, F: Files<K>, N: Connections, C: Clock, O: Write, E: ErrorStream>(
+    alloc: Global,
+    files: &F,
+    network: &mut N,
+    port: u16,
+    service: &mut Service<K>,
+    count: u64,
+    terms: &Terms,
+    clock: &mut C,
+    output: &mut O,
+    errors: &mut E,
+) -> Exit
+    ensures lasts { Lasts K.clean K.sound K.keyed K.shielded service.old.keep service.new.keep }
+    ensures serves { K.clean service.new.keep → K.sound service.old.keep → Serves (λ exchanges. ServesCount K.Keep F.Files N.Connections C.Clock N.Reader.Inlet N.Writer.Outlet port terms.now count exchanges (state network.old clock.old service.old.keep (E.reported errors.old) (O.contents output.old)) (state network.new clock.new service.new.keep (E.reported errors.new) (O.contents output.new)) result)
+        terms.now.door count (K.rows service.old.keep) (K.rows service.new.keep) }
+    ensures answers { AnswersCount K.Keep F.Files N.Connections C.Clock N.Reader.Inlet N.Writer.Outlet port terms.now count (state network.old clock.old service.old.keep (E.reported errors.old) (O.contents output.old)) (state network.new clock.new service.new.keep (E.reported errors.new) (O.contents output.new)) result }
+    ensures listens { ListensAt port terms.now.logs result (O.contents output.old) (O.contents output.new) }
+{
+    service.keep.records_are_lawful();
+    answer_all(
+        alloc, files, network, port, service, count, terms, clock, output, errors,
+    )
+}
+
 /// The log has a line for each answered connection, in order. Between two lines, only the record of the organization that the
 /// later line names changes.
 pub fn log_reports_changes<K: Keep, F: Files<K>, N: Connections, C: Clock>()
     ensures { LogReportsChanges K.Keep F.Files N.Connections C.Clock N.Reader.Inlet N.Writer.Outlet }
+{}
+
+/// What a loop of `serve` answers, however it ends, are exchanges in a row (`Served`), each with the bytes of its connection.
+pub fn loops_are_served<K: Keep, F: Files<K>, N: Connections, C: Clock>()
+    ensures { LoopsAreServed K.Keep F.Files N.Connections C.Clock N.Reader.Inlet N.Writer.Outlet }
 {}

@@ -3,7 +3,7 @@ ghost use Rattle.std.specs.Prelude.{◌≡◌, ◌≢◌, ◌⊎◌, true, IfOk,
 ghost use Rattle.machine.specs.StoreCalls.{Lasts};
 ghost use Rattle.program.specs.Outcomes.{stream, error_stream, IsSaid, ServesAt, ServesFrom, ServesChecked, ServesAsAsked, RefusesUnsound, RefusesToOpen, environment, IsAlone, SaysServed, HasNoSecret, IsDoor, HasDoor, ServesBehind, ServesWithDoor};
 ghost use Rattle.program.specs.Inner.Outcomes.{ServesOpened};
-ghost use Rattle.program.specs.Serving.{Listens, Serves, state, AnswersAtPort};
+ghost use Rattle.program.specs.Serving.{Listens, Serves, ServesAtPort, state, AnswersAtPort};
 
 use crate::checking::check_first;
 use crate::environment::{Clock, Connections, Files, Opening};
@@ -36,10 +36,12 @@ fn serve_at<K: Keep, F: Files<K>, N: Connections, C: Clock, O: Write, E: ErrorSt
     errors: &mut E,
 ) -> Exit
     ensures lasts { Lasts K.clean K.sound K.keyed K.shielded service.old.keep service.new.keep }
-    ensures serves { K.clean service.new.keep → K.sound service.old.keep → Serves terms.now.door count (K.rows service.old.keep) (K.rows service.new.keep) }
+    ensures serves { K.clean service.new.keep → K.sound service.old.keep → Serves (λ exchanges. ServesAtPort K.Keep F.Files N.Connections C.Clock N.Reader.Inlet N.Writer.Outlet port terms.now count exchanges (state network.old clock.old service.old.keep (E.reported errors.old) (O.contents output.old)) (state network.new clock.new service.new.keep (E.reported errors.new) (O.contents output.new)) result)
+        terms.now.door count (K.rows service.old.keep) (K.rows service.new.keep) }
     ensures listens { Listens terms.now.logs result (O.contents output.old) (O.contents output.new) }
     ensures answers { AnswersAtPort K.Keep F.Files N.Connections C.Clock N.Reader.Inlet N.Writer.Outlet port terms.now count (state network.old clock.old service.old.keep (E.reported errors.old) (O.contents output.old)) (state network.new clock.new service.new.keep (E.reported errors.new) (O.contents output.new)) result }
 {
+    service.keep.records_are_lawful();
     match network.bind(Ipv4Addr::LOCALHOST, port) {
         Ok(given) => serve_loop(
             alloc, files, network, given, service, count, terms, clock, output, errors,

@@ -251,7 +251,7 @@ means_of at bytes awaited asked content_md5 body h = by_reading h.reading h.read
     by_reading (wire.refused refusal head) reads is = absurd (let none : ⊥ = cc in none)
     by_reading (whole message flag) reads is = by_asking message flag (asked_of message) refl reads is
 
-form_asks : (at : ℕ) (bytes other org ws : List ℕ) (awaited : Bool) (asked : Asked) (content_md5 : Option (List ℕ)) (body : List ℕ) (ask : Ask) → Asks at bytes (requests at awaited asked content_md5 body)
+pub form_asks : (at : ℕ) (bytes other org ws : List ℕ) (awaited : Bool) (asked : Asked) (content_md5 : Option (List ℕ)) (body : List ℕ) (ask : Ask) → Asks at bytes (requests at awaited asked content_md5 body)
     → IsFormOf bytes other org ws → Asks at other ask → ask ≡ requests at awaited (record asked { org = org; act = renamed asked.act ws }) content_md5 body
 form_asks at bytes other org ws awaited asked content_md5 body ask h form k =
     let m = means_of at bytes awaited asked content_md5 body h in

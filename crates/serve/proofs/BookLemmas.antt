@@ -42,14 +42,14 @@ use Rattle.serve.specs.declared.steps.Admin.{Admin}
 use Rattle.serve.specs.declared.checks.Task.{Task}
 use Rattle.serve.specs.declared.checks.Task.TheVariants.{ListAll, Carry}
 use Rattle.serve.specs.declared.steps.Step.{Step}
-use Rattle.serve.specs.Asks.{Ask, silent, requests, commands, Owner, organization}
+use Rattle.serve.specs.Asks.{Ask, silent, requests, commands, Owner, organization, IsTimely}
 use Rattle.serve.specs.Asks as ask
 use Rattle.serve.specs.Checks.{spelt, act_of, checked}
 use Rattle.serve.specs.Steps.{Said, replies, answer_to, seen_at, carried, step}
-use Rattle.serve.specs.Service.{with_own, is_own, own_asks}
+use Rattle.serve.specs.Service.{with_own, is_own, own_asks, AreAsked}
 use Rattle.serve.specs.Custody.{NamesIn, Names, RemovesOrganization, ForcesRemoval, IsForcedRemoval, IsInUseIn, CarriesId, IsActOn, ReleasesLock, asked_again, MayRepeat, IsAccepted}
-use Rattle.serve.specs.Book.{Entry, book, BooksAreOfTheRun, if_so, put_if, as_long_as, begun_periods, periods, PeriodsAreTheStepsBetween, InEachPeriod, is_lock, is_held, is_run, life, AsksOf, AsksFor, CarriesNoId, IsAcceptedUpdate, IsAcceptedPurge, next_version, MakesVersion, kept_versions, LosesVersion, WritesState, IsApplying, starts, Repeats, IsDoneOnce, IsRemovedByForce, LocksKeepOthersOut, RunsKeepOthersOut, NoIdWhereNobodyHolds, LocksEndByUnlock, OneRunAtATime, StartsRise, RepeatsLeaveIt, DoneOnceIsDone, OfEachBook}
-use Rattle.serve.specs.Inner.Taking.{IsTimely, RunsTo}
+use Rattle.serve.specs.Book.{Entry, book, BooksAreOfTheRun, if_so, put_if, as_long_as, begun_periods, periods, PeriodsAreTheStepsBetween, InEachPeriod, is_lock, is_held, is_run, life, AsksOf, AsksFor, CarriesNoId, IsAcceptedUpdate, IsAcceptedPurge, next_version, MakesVersion, kept_versions, LosesVersion, WritesState, IsApplying, starts, Repeats, IsDoneOnce, IsRemovedByForce, LocksKeepOthersOut, RunsKeepOthersOut, NoIdWhereNobodyHolds, LocksEndByUnlock, OneRunAtATime, StartsRise, RepeatsLeaveIt, DoneOnceIsDone, OfEachBookOf, KeepsCustody, CustodyIsKept}
+use Rattle.serve.specs.Inner.Taking.{RunsTo}
 use Rattle.serve.proofs.ActLemmas.{IsKeyed, IsAction, act_is, once_is}
 use Rattle.serve.proofs.CheckLemmas.{Passes, order_passes, list_passes}
 use Rattle.serve.proofs.RecordLemmas.{standing_at, workspace_lawful}
@@ -736,9 +736,26 @@ own_timely owner (a ∷ asked) all = chosen (is_own owner a) (own_timely owner a
     chosen true rest = (all.0, rest)
     chosen false rest = rest
 
-pub of_each_book : (Law : List ℕ → List Entry → Type 0) → ((ws : List ℕ) (w : Option Workspace) (es : List Entry) → AreLegal ws w es → Law ws es)
-    → (steps : List Step) (old new : List ℕ → Option Organization) (ts : List (List ℕ)) → RunsTo steps old new ts → AreLawful old → OfEachBook Law steps old
-of_each_book Law holds_of steps old new ts run lawful asked are org ws =
-    let timely : AllByRecursion IsTimely asked = subst (λ (x : List Ask). AllByRecursion IsTimely x) (all_asked_one steps run.asked asked run.are are) run.timely in
-    holds_of ws (workspace_in (old org) ws) (book ws (old org) (own_asks (organization org) asked))
-    (book_is_legal ws (old org) (own_asks (organization org) asked) (workspace_lawful old org ws lawful) (own_timely (organization org) asked timely))
+pub of_each_book_of : (Law : List ℕ → List Entry → Type 0) → ((ws : List ℕ) (w : Option Workspace) (es : List Entry) → AreLegal ws w es → Law ws es)
+    → (asked : List Ask) (rows : List ℕ → Option Organization) → AllByRecursion IsTimely asked → AreLawful rows → OfEachBookOf Law asked rows
+of_each_book_of Law holds_of asked rows timely lawful org ws =
+    holds_of ws (workspace_in (rows org) ws) (book ws (rows org) (own_asks (organization org) asked))
+    (book_is_legal ws (rows org) (own_asks (organization org) asked) (workspace_lawful rows org ws lawful) (own_timely (organization org) asked timely))
+
+pub custody_is_kept : CustodyIsKept
+custody_is_kept asked rows timely lawful = record {
+  lock_periods = of_each_book_of _ locks_keep_others_out asked rows timely lawful;
+  run_periods = of_each_book_of _ runs_keep_others_out asked rows timely lawful;
+  unheld = of_each_book_of _ no_id_where_nobody_holds asked rows timely lawful;
+  lock_ends = of_each_book_of _ locks_end_by_unlock asked rows timely lawful;
+  one_active = of_each_book_of _ one_run_is_active asked rows timely lawful;
+  starts_rise = of_each_book_of _ runs_start_in_order asked rows timely lawful;
+  repeats = of_each_book_of _ repeats_leave_it asked rows timely lawful;
+  done_once = of_each_book_of _ done_once_is_done asked rows timely lawful;
+}
+
+-- of a run of steps, by whatever reading of them
+pub custody_of_run : (steps : List Step) (old new : List ℕ → Option Organization) (ts : List (List ℕ)) → RunsTo steps old new ts → AreLawful old
+    → (asked : List Ask) → AreAsked steps asked → KeepsCustody asked old
+custody_of_run steps old new ts run lawful asked are =
+    custody_is_kept asked old (subst (λ (x : List Ask). AllByRecursion IsTimely x) (all_asked_one steps run.asked asked run.are are) run.timely) lawful

@@ -29,7 +29,7 @@ use Rattle.wire.specs.declared.messages.WireFault.{WireFault}
 use Rattle.wire.specs.declared.messages.WireFault.TheVariants.{Refused, Down, Ended, Read, Continue}
 use Rattle.wire.proofs.ReadingLemmas.{reads_one}
 use Rattle.serve.specs.Asks.{commands, organization}
-use Rattle.serve.specs.Doors.{commanded, act_commanded, org_commanded, subject_of, reported_row, unserved_row, IsReportedAtDoor, ComeNotToDoor, PassesDoor, ExchangesOpen, ExchangesWith, BringsSecret, OnlyTheSecretOpens}
+use Rattle.serve.specs.Doors.{commanded, act_commanded, org_commanded, token_commanded, reported_row, unserved_row, IsReportedAtDoor, ComeNotToDoor, PassesDoor, ExchangesOpen, ExchangesWith, BringsSecret, OnlyTheSecretOpens}
 use Rattle.serve.specs.Exchanges.{Exchanges, ChangesAtMostOne, OfNamed, Makes, ComesAsLogged, ChangesAsLogged}
 use Rattle.serve.specs.Logs.{operator_row}
 use Rattle.serve.specs.Service.{is_head, is_own, after_ask, Carries, Stays, IsAdminAnswer, reported_refusal}
@@ -117,14 +117,14 @@ at_door {T = T} digest now message old new b c is_down row text (Err e) comes is
 -- a command that is carried out has its reply and its row
 pub carried_out : (at : ℕ) (command : Admin) (old new : List ℕ → Option Organization) (reported : CommandReport) (done : Operated) → IsCarriedOut command old new reported
     → done.reply ≡ text_answer reported.refusal reported.text
-    → done.row ≡ operator_row at (Some (act_commanded command)) (org_commanded command) (subject_of command reported.refusal) (text_answer reported.refusal reported.text)
+    → done.row ≡ operator_row at (Some (act_commanded command)) (org_commanded command) (token_commanded command) (text_answer reported.refusal reported.text)
     → Operates at command old new done
 carried_out at command old new reported done carried reply row = record {
   answer = carried.answer;
   answered = carried.answered;
   carries = carried.carries at;
   reply = reply ∙ ap₂ text_answer carried.reports.refusal carried.reports.text;
-  row = row ∙ ap₂ (λ (r : Option Refusal) (t : List ℕ). operator_row at (Some (act_commanded command)) (org_commanded command) (subject_of command r) (text_answer r t)) carried.reports.refusal carried.reports.text;
+  row = row ∙ ap₂ (λ (r : Option Refusal) (t : List ℕ). operator_row at (Some (act_commanded command)) (org_commanded command) (token_commanded command) (text_answer r t)) carried.reports.refusal carried.reports.text;
 }
 
 -- a message that is turned away changes nothing
@@ -314,9 +314,13 @@ entered digest message u e =
     let by_query = passed_check (is_none message.query) BadQuery _ u by_method.1 in
     last_check (brings_secret digest message.authorization) BadSecret u by_query.1
 
+-- a message that asks for a command brings the secret
+pub brings : (digest : List ℕ) (message : Message) (command : Admin) → commanded digest message ≡ Ok command → BringsSecret digest message
+brings digest message command asks =
+    let enters = first_passes (may_enter digest message) _ command asks in
+    field_brings digest message message.authorization refl (entered digest message enters.0 enters.1)
+
 pub only_the_secret_opens : OnlyTheSecretOpens
-only_the_secret_opens digest now message old new text row false (inl done) =
-    let enters = first_passes (may_enter digest message) _ done.command done.asks in
-    inl (field_brings digest message message.authorization refl (entered digest message enters.0 enters.1))
+only_the_secret_opens digest now message old new text row false (inl done) = inl (brings digest message done.command done.asks)
 only_the_secret_opens digest now message old new text row false (inr away) = inr away.stays
 only_the_secret_opens digest now message old new text row true down = inr down.stays

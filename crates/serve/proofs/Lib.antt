@@ -19,3 +19,4 @@ pub mod LogLemmas
 pub mod LoggedChanges
 pub mod DoorLemmas
 pub mod LogInputs
+pub mod ServedLemmas

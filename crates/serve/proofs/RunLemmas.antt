@@ -14,11 +14,11 @@ use Rattle.serve.specs.declared.steps.Step.TheVariants.{Request, Command}
 use Rattle.serve.specs.declared.steps.Admin.{Admin}
 use Rattle.serve.specs.declared.steps.Admin.TheVariants.{OrgAdd, OrgLimit, OrgRemove, OrgList, TokenAdd, TokenList, TokenRevoke}
 use Rattle.machine.specs.declared.keeps.AdminAnswer.{AdminAnswer}
-use Rattle.serve.specs.Asks.{Ask, silent, refused, requests, commands, Owner, organization, unattributed, operator, commanded_of, owner_of}
+use Rattle.serve.specs.Asks.{Ask, silent, refused, requests, commands, Owner, organization, unattributed, operator, commanded_of, owner_of, IsTimely}
 use Rattle.serve.specs.Steps.{Said, nothing, replies, reports, lists, lists_tokens, command_step, command_said, step, own_said, own_record}
 use Rattle.serve.specs.Service.{IsAsked, AreAsked, AreTexts, IsSaidText, ask_of, same_owner, is_own, with_own, own_asks, replies_at, record_for, after_ask, records_after, IsListed, said_to}
 use Rattle.serve.specs.Runs.{IsOwnMachine, IsOwnRecord, AreOwnReplies, ListsAreReported}
-use Rattle.serve.specs.Inner.Taking.{IsTaken, RunsTo, IsTimely}
+use Rattle.serve.specs.Inner.Taking.{IsTaken, RunsTo}
 use Rattle.serve.specs.Laws.{TwoWorlds, own_steps, SameStepsAskTheSame}
 use Rattle.std.specs.List.{AllByRecursion}
 
@@ -29,6 +29,10 @@ with_own-append false a xs ys = refl
 own_asks-push : (owner : Owner) (asked : List Ask) (a : Ask) → own_asks owner (asked ++ a ∷ []) ≡ own_asks owner asked ++ with_own (is_own owner a) a []
 own_asks-push owner [] a = refl
 own_asks-push owner (b ∷ asked) a = ap (with_own (is_own owner b) b) (own_asks-push owner asked a) ∙ with_own-append (is_own owner b) b (own_asks owner asked) (with_own (is_own owner a) a [])
+
+pub own_asks-append : (owner : Owner) (asked more : List Ask) → own_asks owner (asked ++ more) ≡ own_asks owner asked ++ own_asks owner more
+own_asks-append owner [] more = refl
+own_asks-append owner (b ∷ asked) more = ap (with_own (is_own owner b) b) (own_asks-append owner asked more) ∙ with_own-append (is_own owner b) b (own_asks owner asked) (own_asks owner more)
 
 replies_at-push : (owner : Owner) (asked : List Ask) (a : Ask) (ts : List (List ℕ)) (t : List ℕ) → length asked ≡ length ts
     → replies_at owner (asked ++ a ∷ []) (ts ++ t ∷ []) ≡ replies_at owner asked ts ++ with_own (is_own owner a) t []
@@ -74,7 +78,7 @@ after_more true r a = refl
 after_more false r a = refl
 
 -- equal owners
-owner_is : (owner other : Owner) → same_owner owner other ≡ true → owner ≡ other
+pub owner_is : (owner other : Owner) → same_owner owner other ≡ true → owner ≡ other
 owner_is (organization a) (organization b) e = ap organization ((bytes_eq-Decides a b).0 e)
 owner_is (organization a) unattributed e = absurd (let no : ⊥ = cc in no)
 owner_is (organization a) operator e = absurd (let no : ⊥ = cc in no)
@@ -103,7 +107,7 @@ nobody_commands (TokenAdd org name role secret bounds) e = let no : ⊥ = cc in 
 nobody_commands (TokenList org) e = let no : ⊥ = cc in no
 nobody_commands (TokenRevoke org name) e = let no : ⊥ = cc in no
 
-nobody_still : (b : Ask) (r : Option Organization) → same_owner unattributed (owner_of b) ≡ true → (step r b).left ≡ r
+pub nobody_still : (b : Ask) (r : Option Organization) → same_owner unattributed (owner_of b) ≡ true → (step r b).left ≡ r
 nobody_still silent r e = refl
 nobody_still (refused at awaited refusal is_head) r e = refl
 nobody_still (requests at awaited asked content_md5 body) r e = absurd (let no : ⊥ = cc in no)
@@ -118,7 +122,7 @@ list_still (TokenAdd org name role secret bounds) r e = absurd (let no : ⊥ = c
 list_still (TokenList org) r e = refl
 list_still (TokenRevoke org name) r e = absurd (let no : ⊥ = cc in no)
 
-operator_still : (b : Ask) (r : Option Organization) → same_owner operator (owner_of b) ≡ true → (step r b).left ≡ r
+pub operator_still : (b : Ask) (r : Option Organization) → same_owner operator (owner_of b) ≡ true → (step r b).left ≡ r
 operator_still silent r e = absurd (let no : ⊥ = cc in no)
 operator_still (refused at awaited refusal is_head) r e = absurd (let no : ⊥ = cc in no)
 operator_still (requests at awaited asked content_md5 body) r e = absurd (let no : ⊥ = cc in no)
@@ -209,7 +213,7 @@ all_asked_one (s ∷ steps) (a ∷ xs) [] h k = absurd k
 all_asked_one (s ∷ steps) (a ∷ xs) (b ∷ ys) h k = ap (λ (x : Ask). x ∷ xs) (asked_one s a b h.0 k.0) ∙ ap (λ (l : List Ask). b ∷ l) (all_asked_one steps xs ys h.1 k.1)
 
 -- what an organization's machine says: anything but the operator's lists
-abbrev IsOfOne : Said → Type 0
+abbrev pub IsOfOne : Said → Type 0
 IsOfOne nothing = ⊤
 IsOfOne (replies awaited at answer) = ⊤
 IsOfOne (reports answer) = ⊤
@@ -231,11 +235,11 @@ step_of_one org r (refused at awaited refusal is_head) own = tt
 step_of_one org r (requests at awaited asked content_md5 body) own = tt
 step_of_one org r (commands at command) own = said_of_one org command (command_step r command).answer own
 
-abbrev AreOfOne : List Said → Type 0
+abbrev pub AreOfOne : List Said → Type 0
 AreOfOne [] = ⊤
 AreOfOne (s ∷ said) = IsOfOne s × AreOfOne said
 
-own_of_one : (org : List ℕ) (r : Option Organization) (asked : List Ask) → AreOfOne (own_said r (own_asks (organization org) asked))
+pub own_of_one : (org : List ℕ) (r : Option Organization) (asked : List Ask) → AreOfOne (own_said r (own_asks (organization org) asked))
 own_of_one org r [] = tt
 own_of_one org r (a ∷ asked) = chosen (is_own (organization org) a) refl (λ q. own_of_one org q asked)
   where

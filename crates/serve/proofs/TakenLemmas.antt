@@ -10,13 +10,13 @@ use Rattle.wire.specs.declared.messages.Message.{Message}
 use Rattle.wire.specs.Messages.{unfinished, whole, Reading}
 use Rattle.wire.specs.Messages as wire
 use Rattle.serve.specs.declared.messages.Prepared.{Prepared}
-use Rattle.serve.specs.Asks.{Ask, silent, requests, commands, organization}
+use Rattle.serve.specs.Asks.{Ask, silent, requests, commands, organization, IsTimely}
 use Rattle.serve.specs.Asks as ask
 use Rattle.serve.specs.Inner.Prepared.{IsPrepared, Foresees}
 use Rattle.serve.specs.Steps.{request_step, command_step}
 use Rattle.serve.specs.Service.{asked_by, Asks, Carries, Stays, said_to, IsSaidText, after_ask, is_own, ask_of}
 use Rattle.serve.specs.Service.{IsAsked, IsAdminAnswer, admin_word, token_list_text, reported_text, ListsAll, IsListedBy, IsListed}
-use Rattle.serve.specs.Inner.Taking.{IsTaken, IsOnOne, IsTimely, IsReported, IsCarriedOut}
+use Rattle.serve.specs.Inner.Taking.{IsTaken, IsOnOne, IsReported, IsCarriedOut}
 use Rattle.serve.specs.declared.commands.CommandReport.{CommandReport}
 use Rattle.serve.specs.declared.steps.Step.{Step}
 use Rattle.serve.specs.declared.steps.Step.TheVariants.{Command, Request}

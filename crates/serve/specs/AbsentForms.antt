@@ -1,6 +1,6 @@
 -- Absent forms of a request that is out of its caller's reach, or on a workspace that the caller's prefix doesn't admit: the same request on a
 -- workspace that the caller's own organization lacks.
-use Rattle.std.specs.Prelude.{◌≡◌, ℕ, Bool, true, false, List, ◌∷◌, take, slice_get, Option, Some, None, Ok}
+use Rattle.std.specs.Prelude.{◌≡◌, ℕ, Bool, true, false, List, ◌∷◌, ◌++◌, take, slice_get, Option, Some, None, Ok}
 use Rattle.basis.specs.Names.{is_org_name, is_ws_name}
 use Rattle.basis.specs.declared.refusals.Refusal.TheVariants.{NotFound}
 use Rattle.docs.specs.Bodies.{error_text}
@@ -20,6 +20,8 @@ use Rattle.serve.specs.Checks.{is_in_reach, known_caller, may_do}
 use Rattle.serve.specs.Laws.{NeedsWorkspace}
 use Rattle.serve.specs.Service.{Asks, AreAsked, IsSaidText, own_asks}
 use Rattle.serve.specs.Steps.{replies, step, own_record}
+use Rattle.serve.specs.Served.{Exchange, IsTold, AreServed, asked_in}
+use Rattle.serve.specs.declared.doors.Door.{Door}
 
 -- one target names what another does, but for the workspace, and for the organization or not: the parts of the path are else the same, and so is the query
 pub record NamesInstead (target aim org ws : List ℕ) : Type 0 where
@@ -92,3 +94,38 @@ abbrev pub RepliesOutsideThePrefixAreNotFound : List Step → (List ℕ → Opti
 RepliesOutsideThePrefixAreNotFound steps rows texts = (a : AnsweredRequest steps texts) (token : Token)
     → known_caller (record_before rows a.asked.caller a.earlier) a.at a.asked ≡ Ok token → is_admitted token.caller.prefix a.asked.act ≡ false → may_do token a.asked ≡ Ok tt
     → IsSaidText (replies a.awaited a.at (refused_answer NotFound (error_text NotFound) false)) a.text
+
+-- ---- the same of exchanges in a row
+
+-- at a place of exchanges: one that carried out a request, and those before it
+pub record ServedRequest (es : List Exchange) : Type 0 where
+  pub earlier : List Exchange
+  pub one : Exchange
+  pub later : List Exchange
+  pub stands : es ≡ earlier ++ one ∷ later
+  pub asked : Asked
+  pub content_md5 : Option (List ℕ)
+  pub body : List ℕ
+  pub asks : one.ask ≡ Some (requests one.at one.awaited asked content_md5 body)
+
+-- the record of its caller's organization before it
+abbrev pub record_at : {es : List Exchange} → (List ℕ → Option Organization) → ServedRequest es → Option Organization
+record_at rows a = record_before rows a.asked.caller (asked_in a.earlier)
+
+-- what was written to a request out of its caller's reach, or outside the caller's prefix, is what the machine says to each of its absent
+-- forms; and, if the caller is known and has the role, not-found, whatever it asks
+pub record AbsentFormsAreTold (es : List Exchange) (rows : List ℕ → Option Organization) : Type 0 where
+  pub absent_forms : (a : ServedRequest es) (other org ws : List ℕ) (ask : Ask) → is_in_reach a.asked ≡ false → NeedsWorkspace a.asked.act
+      → workspace_in (record_at rows a) ws ≡ None → IsFormOf a.one.received other org ws → Asks a.one.at other ask → IsTold (step (record_at rows a) ask).answer a.one
+  pub out_of_reach : (a : ServedRequest es) (token : Token) → is_in_reach a.asked ≡ false
+      → known_caller (record_at rows a) a.one.at a.asked ≡ Ok token → may_do token a.asked ≡ Ok tt
+      → IsTold (replies a.one.awaited a.one.at (refused_answer NotFound (error_text NotFound) false)) a.one
+  pub outside_the_prefix : (a : ServedRequest es) (token : Token) (other org ws : List ℕ) (ask : Ask)
+      → known_caller (record_at rows a) a.one.at a.asked ≡ Ok token → is_admitted token.caller.prefix a.asked.act ≡ false → NeedsWorkspace a.asked.act
+      → workspace_in (record_at rows a) ws ≡ None → IsFormOf a.one.received other org ws → Asks a.one.at other ask → IsTold (step (record_at rows a) ask).answer a.one
+  pub not_admitted : (a : ServedRequest es) (token : Token)
+      → known_caller (record_at rows a) a.one.at a.asked ≡ Ok token → is_admitted token.caller.prefix a.asked.act ≡ false → may_do token a.asked ≡ Ok tt
+      → IsTold (replies a.one.awaited a.one.at (refused_answer NotFound (error_text NotFound) false)) a.one
+
+abbrev pub ServedTellAbsentForms : Type 0
+ServedTellAbsentForms = (door : Door) (es : List Exchange) (old new : List ℕ → Option Organization) → AreServed door es old new → AbsentFormsAreTold es old

@@ -1,6 +1,7 @@
 -- What a step asks, and whose step it is.
-use Rattle.std.specs.Prelude.{ℕ, Bool, List, Option}
+use Rattle.std.specs.Prelude.{ℕ, Bool, List, Option, ⊤}
 use Rattle.basis.specs.declared.refusals.Refusal.{Refusal}
+use Rattle.machine.specs.Ranges.{IsMoment}
 use Rattle.route.specs.declared.routes.Asked.{Asked}
 use Rattle.serve.specs.declared.steps.Admin.{Admin}
 use Rattle.serve.specs.declared.steps.Admin.TheVariants.{OrgAdd, OrgLimit, OrgRemove, OrgList, TokenAdd, TokenList, TokenRevoke}
@@ -41,3 +42,10 @@ owner_of silent = unattributed
 owner_of (refused at awaited refusal is_head) = unattributed
 owner_of (requests at awaited asked content_md5 body) = organization asked.caller
 owner_of (commands at command) = commanded_of command
+
+-- the moment of a request is in range
+abbrev pub IsTimely : Ask → Type 0
+IsTimely silent = ⊤
+IsTimely (refused at awaited refusal is_head) = ⊤
+IsTimely (requests at awaited asked content_md5 body) = IsMoment at
+IsTimely (commands at command) = ⊤

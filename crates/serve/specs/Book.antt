@@ -5,7 +5,7 @@ use Rattle.std.specs.List.{AllByRecursion, Contains, flat_map}
 use Rattle.std.specs.Str.{bytes_eq}
 use Rattle.basis.specs.Names.{run_id}
 use Rattle.basis.specs.declared.runs.RunStatus.TheVariants.{Applying}
-use Rattle.machine.specs.Laws.{holds, is_nobody}
+use Rattle.machine.specs.Laws.{holds, is_nobody, AreLawful}
 use Rattle.machine.specs.Queue.{is_active_run}
 use Rattle.machine.specs.Records.{workspace_in}
 use Rattle.machine.specs.Workspaces.{run_of}
@@ -21,7 +21,7 @@ use Rattle.route.specs.declared.routes.AskedAct.TheVariants.{OfWorkspace}
 use Rattle.basis.specs.declared.acts.WsAct.{WsAct}
 use Rattle.basis.specs.declared.acts.WsAct.TheVariants.{UpdateState, PurgeState}
 use Rattle.serve.specs.declared.steps.Step.{Step}
-use Rattle.serve.specs.Asks.{Ask, silent, requests, commands, organization}
+use Rattle.serve.specs.Asks.{Ask, silent, requests, commands, organization, IsTimely}
 use Rattle.serve.specs.Asks as ask
 use Rattle.serve.specs.Custody.{Names, IsActOn, CarriesId, ReleasesLock, ForcesRemoval, asked_again, MayRepeat, IsAccepted}
 use Rattle.serve.specs.Service.{AreAsked, own_asks}
@@ -220,6 +220,25 @@ DoneOnceIsDone ws [] = ⊤
 DoneOnceIsDone ws (e ∷ es) =
     ((act : Act) → AsksFor ws act e.ask → IsDoneOnce act → IsAccepted e.said → AllByRecursion (λ (f : Entry). Repeats e f → f.after ≡ f.before) (life e es)) × DoneOnceIsDone ws es
 
--- a law holds of the book of each workspace of each organization, over the steps from its record at the start
+-- a law holds of the book of each workspace of each organization, over what is asked, from its record at the start
+abbrev pub OfEachBookOf : (List ℕ → List Entry → Type 0) → List Ask → (List ℕ → Option Organization) → Type 0
+OfEachBookOf Law asked rows = (org ws : List ℕ) → Law ws (book ws (rows org) (own_asks (organization org) asked))
+
+-- the same over what steps ask
 abbrev pub OfEachBook : (List ℕ → List Entry → Type 0) → List Step → (List ℕ → Option Organization) → Type 0
-OfEachBook Law steps rows = (asked : List Ask) → AreAsked steps asked → (org ws : List ℕ) → Law ws (book ws (rows org) (own_asks (organization org) asked))
+OfEachBook Law steps rows = (asked : List Ask) → AreAsked steps asked → OfEachBookOf Law asked rows
+
+-- custody, over the book of each workspace: its eight laws hold of what is asked, from these records
+pub record KeepsCustody (asked : List Ask) (rows : List ℕ → Option Organization) : Type 0 where
+  pub lock_periods : OfEachBookOf LocksKeepOthersOut asked rows
+  pub run_periods : OfEachBookOf RunsKeepOthersOut asked rows
+  pub unheld : OfEachBookOf NoIdWhereNobodyHolds asked rows
+  pub lock_ends : OfEachBookOf LocksEndByUnlock asked rows
+  pub one_active : OfEachBookOf OneRunAtATime asked rows
+  pub starts_rise : OfEachBookOf StartsRise asked rows
+  pub repeats : OfEachBookOf RepeatsLeaveIt asked rows
+  pub done_once : OfEachBookOf DoneOnceIsDone asked rows
+
+-- of whatever is asked at moments in range, from lawful records, custody is kept
+abbrev pub CustodyIsKept : Type 0
+CustodyIsKept = (asked : List Ask) (rows : List ℕ → Option Organization) → AllByRecursion IsTimely asked → AreLawful rows → KeepsCustody asked rows

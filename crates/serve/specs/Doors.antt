@@ -65,7 +65,7 @@ org_commanded (TokenAdd org name role secret bounds) = Some org
 org_commanded (TokenList org) = Some org
 org_commanded (TokenRevoke org name) = Some org
 
--- the token that a command adds or revokes
+-- the token that a command adds or revokes: the log names it whenever the command was read, and the status says whether it was done
 abbrev pub token_commanded : Admin → Option (List ℕ)
 token_commanded (OrgAdd org limit) = None
 token_commanded (OrgLimit org limit) = None
@@ -75,28 +75,20 @@ token_commanded (TokenAdd org name role secret bounds) = Some name
 token_commanded (TokenList org) = None
 token_commanded (TokenRevoke org name) = Some name
 
-abbrev pub unless_refused : Option Refusal → Option (List ℕ) → Option (List ℕ)
-unless_refused None name = name
-unless_refused (Some refusal) name = None
-
--- the token that was added or revoked; none if the command is refused
-abbrev pub subject_of : Admin → Option Refusal → Option (List ℕ)
-subject_of command refusal = unless_refused refusal (token_commanded command)
-
 -- the reply to a command that is carried out: what the program would print
 abbrev pub reported_answer : AdminAnswer → Answer
 reported_answer answer = text_answer (reported_refusal answer) (reported_text answer)
 
 -- the row of the log for a command that is carried out, for a message that is turned away, and for a 503: with the command if it had been read
 abbrev pub reported_row : ℕ → Admin → AdminAnswer → LogRow
-reported_row now command answer = operator_row now (Some (act_commanded command)) (org_commanded command) (subject_of command (reported_refusal answer)) (reported_answer answer)
+reported_row now command answer = operator_row now (Some (act_commanded command)) (org_commanded command) (token_commanded command) (reported_answer answer)
 
 abbrev pub turned_row : ℕ → Answer → LogRow
 turned_row now answer = operator_row now None None None answer
 
 abbrev pub unserved_row : ℕ → Option Admin → LogRow
 unserved_row now None = operator_row now None None None (unavailable_answer false)
-unserved_row now (Some command) = operator_row now (Some (act_commanded command)) (org_commanded command) None (unavailable_answer false)
+unserved_row now (Some command) = operator_row now (Some (act_commanded command)) (org_commanded command) (token_commanded command) (unavailable_answer false)
 
 -- the command that a message asks for is carried out: the machine's step, of the organization that it names alone. This is the reply's
 -- text, and the row of the log

@@ -14,4 +14,6 @@ pub mod Laws
 pub mod Custody
 pub mod Book
 pub mod AbsentForms
+pub mod Served
+pub mod Promises
 pub mod Inner

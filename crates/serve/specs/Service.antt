@@ -158,7 +158,7 @@ own_asks owner [] = []
 own_asks owner (a ∷ asked) = with_own (is_own owner a) a (own_asks owner asked)
 
 -- the replies at the places of its own steps
-abbrev pub replies_at : Owner → List Ask → List (List ℕ) → List (List ℕ)
+abbrev pub replies_at : {A : Type 0} → Owner → List Ask → List A → List A
 replies_at owner [] ts = []
 replies_at owner (a ∷ asked) [] = []
 replies_at owner (a ∷ asked) (t ∷ ts) = with_own (is_own owner a) t (replies_at owner asked ts)

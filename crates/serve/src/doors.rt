@@ -3,7 +3,7 @@ ghost use Rattle.std.specs.Prelude.{◌≡◌, ◌≢◌, Some, None, IfOk, IfEr
 ghost use Rattle.basis.specs.Inner.Checks.{Follows};
 ghost use Rattle.machine.specs.StoreCalls.{Lasts};
 ghost use Rattle.wire.specs.Replies.{text_answer};
-ghost use Rattle.serve.specs.Doors.{opened_by, command_in, commanded, act_commanded, org_commanded, token_commanded, unless_refused, subject_of, unserved_row};
+ghost use Rattle.serve.specs.Doors.{opened_by, command_in, commanded, act_commanded, org_commanded, token_commanded, unserved_row};
 ghost use Rattle.serve.specs.Logs.{operator_row};
 ghost use Rattle.serve.specs.Service.{Stays};
 ghost use Rattle.serve.specs.Inner.Doors.{Operates, TurnsAway, OperatesOrNot, IsRowSoFar};
@@ -129,16 +129,6 @@ fn names_in(asked: Admin) -> Names
     }
 }
 
-// The token that was added or revoked.
-fn subject_in(token: Option<OrgName>, refusal: Option<Refusal>) -> Option<OrgName>
-    ensures { result ≡ unless_refused refusal token }
-{
-    match refusal {
-        None => token,
-        Some(_) => None,
-    }
-}
-
 /// A reply at the door, and its row of the log.
 #[derive(Drop)]
 pub struct Operated {
@@ -149,13 +139,13 @@ pub struct Operated {
 // The reply and the row for a command that is carried out.
 fn answered(at: Moment, asked: Admin, reported: CommandReport) -> Operated
     ensures reply { result.reply ≡ text_answer reported.refusal reported.text }
-    ensures row { result.row ≡ operator_row at (Some (act_commanded asked)) (org_commanded asked) (subject_of asked reported.refusal) (text_answer reported.refusal reported.text) }
+    ensures row { result.row ≡ operator_row at (Some (act_commanded asked)) (org_commanded asked) (token_commanded asked) (text_answer reported.refusal reported.text) }
 {
     let CommandReport { refusal, text } = reported;
     let act = act_of(&asked);
     let Names { org, token } = names_in(asked);
     let reply = Reply::text(refusal, text);
-    let row = operator_row(at, Some(act), org, subject_in(token, refusal), &reply);
+    let row = operator_row(at, Some(act), org, token, &reply);
     Operated { reply, row }
 }
 
@@ -165,9 +155,8 @@ fn row_so_far(at: Moment, asked: Admin) -> LogRow
 {
     let act = act_of(&asked);
     let Names { org, token } = names_in(asked);
-    drop(token);
     let reply = Reply::unavailable(false);
-    operator_row(at, Some(act), org, None, &reply)
+    operator_row(at, Some(act), org, token, &reply)
 }
 
 // The row of a 503, if no command had been read.

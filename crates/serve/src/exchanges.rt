@@ -6,7 +6,7 @@ ghost use Rattle.wire.specs.Replies.{IsReplyText, unavailable_answer};
 ghost use Rattle.machine.specs.StoreCalls.{Lasts, LastsWhere};
 ghost use Rattle.serve.specs.Asks.{Ask};
 ghost use Rattle.serve.specs.Service.{Stays};
-ghost use Rattle.serve.specs.Exchanges.{Exchanges, ChangesAtMostOne, ChangesAsLogged};
+ghost use Rattle.serve.specs.Exchanges.{ChangesAtMostOne, ChangesAsLogged};
 ghost use Rattle.serve.specs.Doors.{ExchangesWith, IsReportedAtDoor};
 ghost use Rattle.serve.specs.Inner.Doors.{AnswersOpen};
 ghost use Rattle.serve.specs.Inner.Prepared.{IsPrepared};
@@ -146,36 +146,6 @@ fn answer_read<K: Keep, O: Outlet>(
     }
 }
 
-/// One exchange over a keep; `is_down` tells then whether it was answered by the 503 of memory or a store
-/// that refused, and `row` what the log tells of it.
-pub fn exchange<K: Keep, I: Inlet, O: Outlet>(
-    alloc: Global,
-    keep: &mut K,
-    routes: &Routes,
-    now: Moment,
-    inlet: &mut I,
-    outlet: &mut O,
-    is_down: &mut bool,
-    row: &mut Option<LogRow>,
-) -> Result<(), LinkFault>
-    requires reads { I.broken inlet.old ≡ false }
-    requires writes { O.broken outlet.old ≡ false }
-    ensures lasts { Lasts K.clean K.sound K.keyed K.shielded keep.old keep.new }
-    ensures reported { K.clean keep.new → K.sound keep.old → (received : List ℕ) × Consumes (I.left inlet.old) (I.left inlet.new) received
-        × Exchanges now received (I.left inlet.new) (K.rows keep.old) (K.rows keep.new) (O.written outlet.old) (O.written outlet.new) is_down.new row.new result }
-    ensures stays { K.clean keep.new → (IsErrOf result LinkFault.Ended ⊎ (IsErrOf result LinkFault.Read ⊎ IsErrOf result LinkFault.Continue))
-        → Stays (K.rows keep.old) (K.rows keep.new) }
-    ensures others { K.clean keep.new → K.sound keep.old → ChangesAtMostOne (K.rows keep.old) (K.rows keep.new) }
-    ensures changes { K.clean keep.new → K.sound keep.old → IfSome row.new (λ reported. ChangesAsLogged reported (K.rows keep.old) (K.rows keep.new)) }
-    ensures read { (I.broken inlet.new ≡ true) ↔ IsErrOf result LinkFault.Read }
-    ensures end { I.ended inlet.old ≡ false → ((I.ended inlet.new ≡ true) ↔ IsErrOf result LinkFault.Ended) }
-    ensures written { (O.broken outlet.new ≡ true) ↔ (IsErrOf result LinkFault.Continue ⊎ IsErrOf result LinkFault.Write) }
-{
-    keep.records_are_lawful();
-    let read = read_message(alloc, inlet, outlet);
-    answer_read(alloc, keep, routes, now, read, outlet, is_down, row)
-}
-
 // Answers a message at the open door, and carries out its command.
 fn answer_at_door<K: Keep, O: Outlet>(
     alloc: Global,
@@ -245,7 +215,8 @@ fn answer_open<K: Keep, O: Outlet>(
     }
 }
 
-/// The same as `exchange`, with an operator's door.
+/// One exchange over a keep, with an operator's door or without; `is_down` says whether the reply was the 503 of memory or a store that
+/// refused, and `row` what the log reports.
 pub fn exchange_with<K: Keep, I: Inlet, O: Outlet>(
     alloc: Global,
     keep: &mut K,

@@ -2,7 +2,10 @@
 ghost use Rattle.serve.specs.Laws.{OneAsking, TwoWorlds, SameStepsAskTheSame, RefusedStepsChangeNothing, OutOfReachIsNotFound, OutOfReachIsAsAbsent, OutsideThePrefixIsNotFound, OutsideThePrefixIsAsAbsent, NamesDecideNothing, SecretsAreNotLogged};
 ghost use Rattle.serve.specs.Custody.{StepsChangeWhatTheyName, LocksAreKept, OrganizationsGoByRemoval, RemovalsAreCarriedOut, OrganizationsBeginAnew, StepsAreRepeatable, RepeatsLeaveTheWorkspace, LockedNamesTheHolder, SameBytesAskAgain, RequestsChangeTheirWorkspaceAlone};
 ghost use Rattle.serve.specs.Doors.{OnlyTheSecretOpens};
-ghost use Rattle.serve.specs.Book.{BooksAreOfTheRun, PeriodsAreTheStepsBetween};
+ghost use Rattle.serve.specs.Book.{BooksAreOfTheRun, PeriodsAreTheStepsBetween, CustodyIsKept};
+ghost use Rattle.serve.specs.AbsentForms.{ServedTellAbsentForms};
+ghost use Rattle.serve.specs.Served.{ExchangesAreServed, EachIsServedAlone, OwnersAreTold, ServedKeepCustody, AsksInTurn, ServedInTurn, TwoServedWorlds};
+ghost use Rattle.serve.specs.Promises.{ServicesAreAsPromised};
 
 /// The steps of a list ask one list of things.
 pub fn one_asking()
@@ -122,4 +125,48 @@ pub fn secrets_are_not_logged()
 /// Nobody without the operator's secret changes anything at the operator's door.
 pub fn only_the_secret_opens()
     ensures { OnlyTheSecretOpens }
+{}
+
+/// Custody: its eight laws hold of the book of each workspace, over whatever is asked, as steps of `replay` or as
+/// exchanges of a service.
+pub fn custody_is_kept()
+    ensures { CustodyIsKept }
+{}
+
+/// An exchange is one of `Served`: it carries out what its bytes ask and writes what is said to it, or carries nothing out.
+pub fn exchanges_are_served()
+    ensures { ExchangesAreServed }
+{}
+
+/// Isolation of exchanges in a row, at whatever door: of every organization, what its own exchanges wrote and its record
+/// afterwards are those of its own machine, fed only its own.
+pub fn each_is_served_alone()
+    ensures alone { EachIsServedAlone }
+    ensures told { OwnersAreTold }
+{}
+
+/// Custody of exchanges in a row.
+pub fn served_keep_custody()
+    ensures { ServedKeepCustody }
+{}
+
+/// Services in turn: what the second serves from the records that the first left is, with what the first served, one run.
+pub fn served_in_turn()
+    ensures exchanges { ServedInTurn }
+    ensures asks { AsksInTurn }
+{}
+
+/// Exchanges in a row answer what is out of a caller's reach, or outside its prefix, as if it were absent.
+pub fn served_tell_absent_forms()
+    ensures { ServedTellAbsentForms }
+{}
+
+/// Exchanges in a row are as promised: isolation, replies, absent forms, the operator's secret, custody.
+pub fn services_are_as_promised()
+    ensures { ServicesAreAsPromised }
+{}
+
+/// Two worlds of exchanges.
+pub fn two_served_worlds()
+    ensures { TwoServedWorlds }
 {}

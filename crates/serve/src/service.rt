@@ -13,7 +13,7 @@ ghost use Rattle.serve.specs.Runs.{IsOwnMachine, IsOwnRecord, AreOwnReplies, Lis
 
 use crate::commands::{CommandReport, command, report};
 use crate::doors::Door;
-use crate::exchanges::{LinkFault, exchange, exchange_with, refuse_exchange};
+use crate::exchanges::{LinkFault, exchange_with, refuse_exchange};
 use crate::logs::unavailable_row;
 use crate::messages::take_request;
 use crate::steps::{Admin, Step};
@@ -190,27 +190,7 @@ impl<K: Keep> Service<K> {
         ensures written { (O.broken outlet.new ≡ true) ↔ (IsErrOf result LinkFault.Continue ⊎ IsErrOf result LinkFault.Write) }
         ensures taken { self.new.taken ≡ self.old.taken }
     {
-        match take_routes(alloc, &mut self.routes) {
-            Ok(routes) => {
-                let result = exchange(
-                    alloc,
-                    &mut self.keep,
-                    &routes,
-                    now,
-                    inlet,
-                    outlet,
-                    &mut self.was_down,
-                    &mut self.row,
-                );
-                self.routes = Some(routes);
-                result
-            }
-            Err(_) => {
-                self.was_down = true;
-                self.row = Some(unavailable_row(now));
-                refuse_exchange(false, now, outlet)
-            }
-        }
+        self.exchange_with(alloc, &Door::Closed, now, inlet, outlet)
     }
 
     /// The same as `exchange`, with an operator's door. If it is open, a request that comes to it with its secret has an

@@ -14,7 +14,7 @@ use Rattle.program.specs.declared.reasons.Cause.{Cause}
 use Rattle.program.specs.declared.serving.Terms.{Terms}
 use Rattle.program.specs.declared.totals.Findings.{Findings}
 use Rattle.program.specs.Outcomes.{Stream, Errors, Environment, error_stream, Says, GetsSome, SaysServed, ChecksStore, Closes, ReportsUnsound}
-use Rattle.program.specs.Serving.{Serves, state, AnswersAtPort}
+use Rattle.program.specs.Serving.{Serves, ServesAtPort, state, AnswersAtPort}
 use Rattle.program.specs.Streams.{Reported}
 
 -- the line of an exit on standard output and its cause on the error stream; or a stream did not take everything
@@ -36,10 +36,11 @@ module _ {K F N C R W : Type 0} (k : keep.Ghosts K) (f : files.Ghosts F K) (n : 
   pub record ServesOpened (path : List ℕ) (port : ℕ) (terms : Terms) (count : ℕ) (before : K) (old new : Environment F N C) (e : Exit) (output : Stream) (errors : Errors) : Type 0 where
     pub after : K
     pub lasts : Lasts k.clean k.sound k.keyed k.shielded before after
-    pub serves : k.clean after → k.sound before → Serves terms.door count (k.rows before) (k.rows after)
     pub served : Exit
     pub reported : Option (List ℕ)
     pub lines : Reported
+    pub serves : k.clean after → k.sound before
+        → Serves (λ es. ServesAtPort k f n c i o port terms count es (state old.network old.clock before errors.old output.old) (state new.network new.clock after lines reported) served) terms.door count (k.rows before) (k.rows after)
     pub answers : AnswersAtPort k f n c i o port terms count (state old.network old.clock before errors.old output.old) (state new.network new.clock after lines reported) served
     pub says : SaysServed served e reported output.new
     pub closes : Closes k f path old.files new.files after (error_stream lines errors.new)

@@ -4,21 +4,12 @@ use Rattle.machine.specs.declared.records.Organization.{Organization}
 use Rattle.serve.specs.declared.steps.Step.{Step}
 use Rattle.serve.specs.declared.steps.Admin.{Admin}
 use Rattle.serve.specs.declared.steps.Admin.TheVariants.{OrgAdd, OrgLimit, OrgRemove, OrgList, TokenAdd, TokenList, TokenRevoke}
-use Rattle.serve.specs.Asks.{Ask, Owner, silent, requests, commands}
+use Rattle.serve.specs.Asks.{Ask, Owner, commands, IsTimely}
 use Rattle.machine.specs.declared.keeps.AdminAnswer.{AdminAnswer}
 use Rattle.serve.specs.declared.commands.CommandReport.{CommandReport}
 use Rattle.serve.specs.Service.{IsAsked, AreAsked, Carries, said_to, IsSaidText, IsListed, IsAdminAnswer, reported_text, reported_refusal}
 use Rattle.serve.specs.Runs.{IsOwnRecord, AreOwnReplies, ListsAreReported}
 use Rattle.std.specs.List.{AllByRecursion}
-use Rattle.machine.specs.Ranges.{IsMoment}
-use Rattle.serve.specs.Asks as ask
-
--- the moment of a request is in range
-abbrev pub IsTimely : Ask → Type 0
-IsTimely silent = ⊤
-IsTimely (ask.refused at awaited refusal is_head) = ⊤
-IsTimely (requests at awaited asked content_md5 body) = IsMoment at
-IsTimely (commands at command) = ⊤
 
 -- one step taken: what it asks is carried out, and this is the text of what is said
 pub record IsTaken (s : Step) (text : List ℕ) (old new : List ℕ → Option Organization) : Type 0 where

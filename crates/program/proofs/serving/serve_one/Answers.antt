@@ -9,6 +9,7 @@ returns-clause-answers g c =
       written = exchanged.new.outlet;
       result = exchanged.result;
       row = exchanged.new.service.row;
+      timely = exchanged.ensures.timely;
       lasts = exchanged.ensures.lasts;
       exchanges = exchanged.ensures.reported;
       changes = exchanged.ensures.changes;

@@ -2,7 +2,7 @@ use Rattle.serve.specs.Asks.{unattributed, operator}
 use Rattle.serve.proofs.RunLemmas.{replies_given, lists_given, orgs_given, rows_by}
 use Rattle.serve.proofs.service.Service.replay.Goals as goal
 use Rattle.serve.proofs.AbsentLemmas.{absent_forms, out_of_reach, outside_the_prefix, not_admitted, each_reply}
-use Rattle.serve.proofs.BookLemmas as book
+use Rattle.serve.proofs.BookLemmas.{custody_of_run}
 
 pub returns-clause-readings : goal.returns-clause-readings
 returns-clause-readings g c = λ clean sound. let ran = c.run_all.ensures.ran clean sound in (ran.1.asked, ran.1.are)
@@ -29,44 +29,44 @@ returns-clause-rows g c = λ clean sound asked are org.
     rows_by _ (g.K.Keep.rows c.args.self.now.keep) (g.K.Keep.rows c.run_all.new.self.keep) ran.0 ran.1 asked are org
 
 pub returns-clause-lock_periods : goal.returns-clause-lock_periods
-returns-clause-lock_periods g c = λ clean sound.
+returns-clause-lock_periods g c = λ clean sound asked are.
     let ran = c.run_all.ensures.ran clean sound in
-    book.of_each_book _ book.locks_keep_others_out _ (g.K.Keep.rows c.args.self.now.keep) (g.K.Keep.rows c.run_all.new.self.keep) ran.0 ran.1 (c.records_are_lawful.ensures (c.run_all.ensures.lasts.so_far clean) sound)
+    (custody_of_run _ (g.K.Keep.rows c.args.self.now.keep) (g.K.Keep.rows c.run_all.new.self.keep) ran.0 ran.1 (c.records_are_lawful.ensures (c.run_all.ensures.lasts.so_far clean) sound) asked are).lock_periods
 
 pub returns-clause-run_periods : goal.returns-clause-run_periods
-returns-clause-run_periods g c = λ clean sound.
+returns-clause-run_periods g c = λ clean sound asked are.
     let ran = c.run_all.ensures.ran clean sound in
-    book.of_each_book _ book.runs_keep_others_out _ (g.K.Keep.rows c.args.self.now.keep) (g.K.Keep.rows c.run_all.new.self.keep) ran.0 ran.1 (c.records_are_lawful.ensures (c.run_all.ensures.lasts.so_far clean) sound)
+    (custody_of_run _ (g.K.Keep.rows c.args.self.now.keep) (g.K.Keep.rows c.run_all.new.self.keep) ran.0 ran.1 (c.records_are_lawful.ensures (c.run_all.ensures.lasts.so_far clean) sound) asked are).run_periods
 
 pub returns-clause-unheld : goal.returns-clause-unheld
-returns-clause-unheld g c = λ clean sound.
+returns-clause-unheld g c = λ clean sound asked are.
     let ran = c.run_all.ensures.ran clean sound in
-    book.of_each_book _ book.no_id_where_nobody_holds _ (g.K.Keep.rows c.args.self.now.keep) (g.K.Keep.rows c.run_all.new.self.keep) ran.0 ran.1 (c.records_are_lawful.ensures (c.run_all.ensures.lasts.so_far clean) sound)
+    (custody_of_run _ (g.K.Keep.rows c.args.self.now.keep) (g.K.Keep.rows c.run_all.new.self.keep) ran.0 ran.1 (c.records_are_lawful.ensures (c.run_all.ensures.lasts.so_far clean) sound) asked are).unheld
 
 pub returns-clause-lock_ends : goal.returns-clause-lock_ends
-returns-clause-lock_ends g c = λ clean sound.
+returns-clause-lock_ends g c = λ clean sound asked are.
     let ran = c.run_all.ensures.ran clean sound in
-    book.of_each_book _ book.locks_end_by_unlock _ (g.K.Keep.rows c.args.self.now.keep) (g.K.Keep.rows c.run_all.new.self.keep) ran.0 ran.1 (c.records_are_lawful.ensures (c.run_all.ensures.lasts.so_far clean) sound)
+    (custody_of_run _ (g.K.Keep.rows c.args.self.now.keep) (g.K.Keep.rows c.run_all.new.self.keep) ran.0 ran.1 (c.records_are_lawful.ensures (c.run_all.ensures.lasts.so_far clean) sound) asked are).lock_ends
 
 pub returns-clause-one_active : goal.returns-clause-one_active
-returns-clause-one_active g c = λ clean sound.
+returns-clause-one_active g c = λ clean sound asked are.
     let ran = c.run_all.ensures.ran clean sound in
-    book.of_each_book _ book.one_run_is_active _ (g.K.Keep.rows c.args.self.now.keep) (g.K.Keep.rows c.run_all.new.self.keep) ran.0 ran.1 (c.records_are_lawful.ensures (c.run_all.ensures.lasts.so_far clean) sound)
+    (custody_of_run _ (g.K.Keep.rows c.args.self.now.keep) (g.K.Keep.rows c.run_all.new.self.keep) ran.0 ran.1 (c.records_are_lawful.ensures (c.run_all.ensures.lasts.so_far clean) sound) asked are).one_active
 
 pub returns-clause-starts_rise : goal.returns-clause-starts_rise
-returns-clause-starts_rise g c = λ clean sound.
+returns-clause-starts_rise g c = λ clean sound asked are.
     let ran = c.run_all.ensures.ran clean sound in
-    book.of_each_book _ book.runs_start_in_order _ (g.K.Keep.rows c.args.self.now.keep) (g.K.Keep.rows c.run_all.new.self.keep) ran.0 ran.1 (c.records_are_lawful.ensures (c.run_all.ensures.lasts.so_far clean) sound)
+    (custody_of_run _ (g.K.Keep.rows c.args.self.now.keep) (g.K.Keep.rows c.run_all.new.self.keep) ran.0 ran.1 (c.records_are_lawful.ensures (c.run_all.ensures.lasts.so_far clean) sound) asked are).starts_rise
 
 pub returns-clause-repeats : goal.returns-clause-repeats
-returns-clause-repeats g c = λ clean sound.
+returns-clause-repeats g c = λ clean sound asked are.
     let ran = c.run_all.ensures.ran clean sound in
-    book.of_each_book _ book.repeats_leave_it _ (g.K.Keep.rows c.args.self.now.keep) (g.K.Keep.rows c.run_all.new.self.keep) ran.0 ran.1 (c.records_are_lawful.ensures (c.run_all.ensures.lasts.so_far clean) sound)
+    (custody_of_run _ (g.K.Keep.rows c.args.self.now.keep) (g.K.Keep.rows c.run_all.new.self.keep) ran.0 ran.1 (c.records_are_lawful.ensures (c.run_all.ensures.lasts.so_far clean) sound) asked are).repeats
 
 pub returns-clause-done_once : goal.returns-clause-done_once
-returns-clause-done_once g c = λ clean sound.
+returns-clause-done_once g c = λ clean sound asked are.
     let ran = c.run_all.ensures.ran clean sound in
-    book.of_each_book _ book.done_once_is_done _ (g.K.Keep.rows c.args.self.now.keep) (g.K.Keep.rows c.run_all.new.self.keep) ran.0 ran.1 (c.records_are_lawful.ensures (c.run_all.ensures.lasts.so_far clean) sound)
+    (custody_of_run _ (g.K.Keep.rows c.args.self.now.keep) (g.K.Keep.rows c.run_all.new.self.keep) ran.0 ran.1 (c.records_are_lawful.ensures (c.run_all.ensures.lasts.so_far clean) sound) asked are).done_once
 
 pub returns-clause-absent_forms : goal.returns-clause-absent_forms
 returns-clause-absent_forms g c = λ clean sound.

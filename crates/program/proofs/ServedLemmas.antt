@@ -1,0 +1,209 @@
+-- What a loop of `serve` answers, as exchanges in a row.
+use Rattle.std.proofs.Common.{◌≡◌, inl, inr, ◌<◌, ◌≤◌, ◌+◌, ◌++◌, arith, append-nil, ◌∷◌, [], List, ℕ, suc, Option, Some, IfSome, Result, Ok, Err, Bool, true, false, length, refl, sym, subst, ap, ◌∙◌}
+use Rattle.std.proofs.lemmas.List.{length_push}
+use Rattle.std.specs.Io.KnownBytes.{Appends, Consumes}
+use Rattle.docs.specs.declared.logs.LogRow.{LogRow}
+use Rattle.machine.specs.Laws.{AreLawful}
+use Rattle.machine.specs.declared.keeps.Keep as keep
+use Rattle.machine.specs.declared.records.Organization.{Organization}
+use Rattle.wire.specs.declared.devices.Inlet as inlet
+use Rattle.wire.specs.declared.devices.Outlet as outlet
+use Rattle.serve.specs.Doors.{ExchangesWith}
+use Rattle.serve.specs.Exchanges.{Exchanges, ChangesAsLogged}
+use Rattle.serve.specs.Logs.{silent_row}
+use Rattle.serve.specs.Service.{Stays}
+use Rattle.serve.specs.Served.{Exchange, HasNoReply, IsServed, AreServed}
+use Rattle.serve.specs.declared.doors.Door.{Door}
+use Rattle.serve.specs.declared.doors.Door.TheVariants.{Closed, Open}
+use Rattle.serve.specs.declared.exchanges.LinkFault.{LinkFault}
+use Rattle.serve.specs.declared.exchanges.LinkFault.TheVariants.{Ended, Read, Continue, Write}
+use Rattle.serve.proofs.ServedLemmas.{exchanges_are_served, served_in_turn, services_are_as_promised}
+use Rattle.program.specs.declared.serving.Terms.{Terms}
+use Rattle.program.specs.declared.environment.Clock as clock
+use Rattle.program.specs.declared.environment.Connections as connections
+use Rattle.program.specs.declared.environment.Files as files
+use Rattle.program.specs.declared.exits.Exit.{Exit}
+use Rattle.program.specs.declared.exits.Exit.TheVariants as exit
+use Rattle.program.specs.declared.reasons.Cause.{Cause}
+use Rattle.program.specs.Serving.{State, state, AnswersNext, AnswersAll, EndsEarly, AnswersCount, ServesNext, ServesAll, EndsServed, ServesCount, LoopsAreServed, ServesAtPort, Serves}
+use Rattle.program.proofs.ServingLemmas.{after_reply_lasts, after_reply_rows}
+use Rattle.program.proofs.LogLemmas.{clean_next, clean_all, sound_next}
+
+-- an exchange whose row has only the moment leaves all records
+silent : (at : ℕ) (old new : List ℕ → Option Organization) (row : Option LogRow) → row ≡ Some (silent_row at) → IfSome row (λ reported. ChangesAsLogged reported old new) → Stays old new
+silent at old new row is changes org =
+    let told : ChangesAsLogged (silent_row at) old new = subst (λ (r : Option LogRow). IfSome r (λ reported. ChangesAsLogged reported old new)) is changes in
+    told.others org (λ e. let none : ⊥ = cc in none)
+
+silent_exchange : {T : Type 0} (at : ℕ) (received : List ℕ) (left : Option (List ℕ)) (old new : List ℕ → Option Organization) (before after : Option (List ℕ)) (is_down : Bool) (row : Option LogRow) (res : Result T LinkFault)
+    → Exchanges at received left old new before after is_down row res → HasNoReply res → row ≡ Some (silent_row at)
+silent_exchange at received left old new before after is_down row (Ok done) h (inl e) = absurd (let none : ⊥ = cc in none)
+silent_exchange at received left old new before after is_down row (Ok done) h (inr (inl e)) = absurd (let none : ⊥ = cc in none)
+silent_exchange at received left old new before after is_down row (Ok done) h (inr (inr e)) = absurd (let none : ⊥ = cc in none)
+silent_exchange at received left old new before after is_down row (Err Write) h (inl e) = absurd (let none : ⊥ = cc in none)
+silent_exchange at received left old new before after is_down row (Err Write) h (inr (inl e)) = absurd (let none : ⊥ = cc in none)
+silent_exchange at received left old new before after is_down row (Err Write) h (inr (inr e)) = absurd (let none : ⊥ = cc in none)
+silent_exchange at received left old new before after is_down row (Err Ended) h none = h.1
+silent_exchange at received left old new before after is_down row (Err Read) h none = h.1
+silent_exchange at received left old new before after is_down row (Err Continue) h none = h.1
+
+silent_with : {T : Type 0} (door : Door) (at : ℕ) (received : List ℕ) (left : Option (List ℕ)) (old new : List ℕ → Option Organization) (before after : Option (List ℕ)) (is_down : Bool) (row : Option LogRow) (res : Result T LinkFault)
+    → ExchangesWith door at received left old new before after is_down row res → HasNoReply res → row ≡ Some (silent_row at)
+silent_with Closed at received left old new before after is_down row res h none = silent_exchange at received left old new before after is_down row res h none
+silent_with (Open digest) at received left old new before after is_down row res (inl h) none = silent_exchange at received left old new before after is_down row res h.1 none
+silent_with (Open digest) at received left old new before after is_down row (Ok done) (inr h) (inl e) = absurd (let none : ⊥ = cc in none)
+silent_with (Open digest) at received left old new before after is_down row (Ok done) (inr h) (inr (inl e)) = absurd (let none : ⊥ = cc in none)
+silent_with (Open digest) at received left old new before after is_down row (Ok done) (inr h) (inr (inr e)) = absurd (let none : ⊥ = cc in none)
+silent_with (Open digest) at received left old new before after is_down row (Err Write) (inr h) (inl e) = absurd (let none : ⊥ = cc in none)
+silent_with (Open digest) at received left old new before after is_down row (Err Write) (inr h) (inr (inl e)) = absurd (let none : ⊥ = cc in none)
+silent_with (Open digest) at received left old new before after is_down row (Err Write) (inr h) (inr (inr e)) = absurd (let none : ⊥ = cc in none)
+silent_with (Open digest) at received left old new before after is_down row (Err Ended) (inr h) none = absurd h.3
+silent_with (Open digest) at received left old new before after is_down row (Err Read) (inr h) none = absurd h.3
+silent_with (Open digest) at received left old new before after is_down row (Err Continue) (inr h) none = absurd h.3
+
+module _ {K F N C R W : Type 0} (k : keep.Ghosts K) (f : files.Ghosts F K) (n : connections.Ghosts N R W) (c : clock.Ghosts C) (i : inlet.Ghosts R) (o : outlet.Ghosts W) where
+  -- an exchange of a connection that was answered at its moment
+  of_connection : (terms : Terms) (connection at : ℕ) (is_shut is_logged : Bool) (old new : State N C K) (e : Exchange) → e.at ≡ at → IsServed terms.door e (k.rows old.store) (k.rows new.store)
+      → (next : AnswersNext k f n c i o terms connection at is_shut is_logged old new) → Consumes (i.left next.answers.reader) (i.left next.answers.answers.read) e.received
+      → Appends (o.written next.answers.writer) (o.written next.answers.answers.written) e.written → ServesNext k f n c i o terms connection e is_shut is_logged old new
+  of_connection terms connection at is_shut is_logged old new e moment served =
+      subst (λ (x : ℕ). (next : AnswersNext k f n c i o terms connection x is_shut is_logged old new) → Consumes (i.left next.answers.reader) (i.left next.answers.answers.read) e.received
+      → Appends (o.written next.answers.writer) (o.written next.answers.answers.written) e.written → ServesNext k f n c i o terms connection e is_shut is_logged old new) moment
+      (λ next received written. record { next = next; received = received; written = written; served = served })
+
+  pub served_next : (terms : Terms) (connection at : ℕ) (is_shut is_logged : Bool) (old new : State N C K) → AnswersNext k f n c i o terms connection at is_shut is_logged old new → k.clean new.store → k.sound old.store
+      → (e : Exchange) × ServesNext k f n c i o terms connection e is_shut is_logged old new
+  served_next terms connection at is_shut is_logged old new next clean sound =
+      let one = next.answers.answers in
+      let before = (after_reply_lasts k f next.is_down next.store is_shut new.store next.after_reply).so_far clean in
+      let exchanged = one.exchanges before sound in
+      let stays : HasNoReply one.result → Stays (k.rows old.store) (k.rows next.store) = λ none.
+      silent at (k.rows old.store) (k.rows next.store) one.row
+      (silent_with terms.door at exchanged.0 (i.left one.read) (k.rows old.store) (k.rows next.store) (o.written next.answers.writer) (o.written one.written) next.is_down one.row one.result exchanged.2 none) (one.changes before sound) in
+      let found = exchanges_are_served terms.door at exchanged.0 (i.left one.read) (k.rows old.store) (k.rows next.store) (o.written next.answers.writer) (o.written one.written) next.is_down one.row one.result one.timely exchanged.2 stays in
+      let rows : k.rows new.store ≡ k.rows next.store = after_reply_rows k f next.is_down next.store is_shut new.store next.after_reply clean (one.lasts.kept before sound) in (
+        found.0,
+        of_connection terms connection at is_shut is_logged old new found.0 found.1 (subst (λ (r : List ℕ → Option Organization). IsServed terms.door found.0 (k.rows old.store) r) (sym rows) found.4)
+            next (subst (λ (bytes : List ℕ). Consumes (i.left next.answers.reader) (i.left one.read) bytes) (sym found.2) exchanged.1) found.3,
+      )
+
+  pub served_all : (terms : Terms) (connection : ℕ) (moments : List ℕ) (old new : State N C K) → AnswersAll k f n c i o terms connection moments old new → k.clean new.store → k.sound old.store
+      → (es : List Exchange) × (length es ≡ length moments) × ServesAll k f n c i o terms connection es old new × AreServed terms.door es (k.rows old.store) (k.rows new.store)
+  served_all terms connection [] old new same clean sound = ([], refl, same, λ org. ap (λ (s : State N C K). k.rows s.store org) same)
+  served_all terms connection (at ∷ moments) old new all clean sound =
+      let before = clean_all k f n c i o terms (suc connection) moments all.0 new all.2 clean in
+      let one = served_next terms connection at false true old all.0 all.1 before sound in
+      let more = served_all terms (suc connection) moments all.0 new all.2 clean (sound_next k f n c i o terms connection at false true old all.0 all.1 before sound) in (
+        one.0 ∷ more.0,
+        ap suc more.1,
+        (all.0, one.1, more.2),
+        (k.rows all.0.store, one.1.served, more.3),
+      )
+
+  -- the records stay where no further connection is accepted
+  none_since : (door : Door) (last new : State N C K) → new.store ≡ last.store → AreServed door [] (k.rows last.store) (k.rows new.store)
+  none_since door last new same org = ap (λ (s : K). k.rows s org) same
+
+  served_early : (terms : Terms) (connection : ℕ) (last new : State N C K) (why : Cause) → EndsEarly k f n c i o terms connection last new why → k.clean new.store → k.sound last.store
+      → (es : List Exchange) × EndsServed k f n c i o terms connection es last new why × AreServed terms.door es (k.rows last.store) (k.rows new.store)
+  served_early terms connection last new why (inl none) clean sound = ([], inl (refl, none.0, none.1, none.2, none.3), none_since terms.door last new none.1)
+  served_early terms connection last new why (inr (inl shut)) clean sound =
+      let one = served_next terms connection shut.0 true shut.1 last new shut.2 clean sound in
+      (one.0 ∷ [], inr (inl (one.0, shut.1, refl, one.1, shut.3)), (k.rows new.store, one.1.served, λ org. refl))
+  served_early terms connection last new why (inr (inr unlogged)) clean sound =
+      let one = served_next terms connection unlogged.0 false false last new unlogged.1 clean sound in
+      (one.0 ∷ [], inr (inr (one.0, refl, one.1, unlogged.2)), (k.rows new.store, one.1.served, λ org. refl))
+
+  clean_early : (terms : Terms) (connection : ℕ) (last new : State N C K) (why : Cause) → EndsEarly k f n c i o terms connection last new why → k.clean new.store → k.clean last.store
+  clean_early terms connection last new why (inl none) clean = subst (λ (s : K). k.clean s) none.1 clean
+  clean_early terms connection last new why (inr (inl shut)) clean = clean_next k f n c i o terms connection shut.0 true shut.1 last new shut.2 clean
+  clean_early terms connection last new why (inr (inr unlogged)) clean = clean_next k f n c i o terms connection unlogged.0 false false last new unlogged.1 clean
+
+  sound_all : (terms : Terms) (connection : ℕ) (moments : List ℕ) (old new : State N C K) → AnswersAll k f n c i o terms connection moments old new → k.clean new.store → k.sound old.store → k.sound new.store
+  sound_all terms connection [] old new same clean sound = subst (λ (s : State N C K). k.sound s.store) (sym same) sound
+  sound_all terms connection (at ∷ moments) old new all clean sound =
+      let before = clean_all k f n c i o terms (suc connection) moments all.0 new all.2 clean in
+      sound_all terms (suc connection) moments all.0 new all.2 clean (sound_next k f n c i o terms connection at false true old all.0 all.1 before sound)
+
+  pub loops_are_served : LoopsAreServed k f n c i o
+  loops_are_served port terms count old new exit.Done h clean sound =
+      let served = served_all terms 1 h.2 (state old.network old.clock old.store old.errors h.0) new h.4 clean sound in
+      (served.0, (h.0, h.1, served.1 ∙ h.3, served.2), served.3)
+  loops_are_served port terms count old new exit.Down h clean sound =
+      let start = state old.network old.clock old.store old.errors h.0 in
+      let last = h.3 in
+      let ended = state new.network new.clock new.store h.7 new.output in
+      let clean_last = clean_early terms (suc (length h.2)) last ended h.6 h.8 clean in
+      let served = served_all terms 1 h.2 start last h.5 clean_last sound in
+      let since = served_early terms (suc (length h.2)) last ended h.6 h.8 clean (sound_all terms 1 h.2 start last h.5 clean_last sound) in (
+        served.0 ++ since.0,
+        (h.0, h.1, served.0, since.0, refl, last, subst (λ (m : ℕ). m < count) (sym served.1) h.4, served.2, h.6, h.7, subst (λ (m : ℕ). EndsServed k f n c i o terms (suc m) since.0 last ended h.6) (sym served.1) since.1, h.9),
+        served_in_turn terms.door served.0 since.0 (k.rows old.store) (k.rows last.store) (k.rows new.store) served.3 since.2,
+      )
+  loops_are_served port terms count old new exit.Unprinted h clean sound = ([], (refl, h.0, h.1, h.2, h.3), λ org. ap (λ (s : K). k.rows s org) h.2)
+  loops_are_served port terms count old new exit.Exists h clean sound = absurd h
+  loops_are_served port terms count old new exit.Absent h clean sound = absurd h
+  loops_are_served port terms count old new exit.InUse h clean sound = absurd h
+  loops_are_served port terms count old new exit.Faults h clean sound = absurd h
+  loops_are_served port terms count old new exit.Usage h clean sound = absurd h
+  loops_are_served port terms count old new exit.BadFrame h clean sound = absurd h
+  loops_are_served port terms count old new exit.Schema h clean sound = absurd h
+
+  few_since : (terms : Terms) (connection : ℕ) (before since es : List Exchange) (last new : State N C K) (why : Cause) (count : ℕ) → es ≡ before ++ since → length before < count
+      → EndsServed k f n c i o terms connection since last new why → length es ≤ count
+  few_since terms connection before since es last new why count is few (inl none) =
+      let same : length es ≡ length before = ap length (is ∙ ap (λ (x : List Exchange). before ++ x) none.0 ∙ append-nil before) in omega arith
+  few_since terms connection before since es last new why count is few (inr (inl shut)) =
+      let same : length es ≡ length before + 1 = ap length (is ∙ ap (λ (x : List Exchange). before ++ x) shut.2) ∙ length_push before shut.0 in omega arith
+  few_since terms connection before since es last new why count is few (inr (inr unlogged)) =
+      let same : length es ≡ length before + 1 = ap length (is ∙ ap (λ (x : List Exchange). before ++ x) unlogged.1) ∙ length_push before unlogged.0 in omega arith
+
+  few_served : (port : ℕ) (terms : Terms) (count : ℕ) (es : List Exchange) (old new : State N C K) (e : Exit) → ServesCount k f n c i o port terms count es old new e → length es ≤ count
+  few_served port terms count es old new exit.Done h = let all = h.2 in omega arith
+  few_served port terms count es old new exit.Down h = few_since terms (suc (length h.2)) h.2 h.3 es h.5 (state new.network new.clock new.store h.9 new.output) h.8 count h.4 h.6 h.10
+  few_served port terms count es old new exit.Unprinted h = let none : length es ≡ 0 = ap length h.0 in omega arith
+  few_served port terms count es old new exit.Exists h = absurd h
+  few_served port terms count es old new exit.Absent h = absurd h
+  few_served port terms count es old new exit.InUse h = absurd h
+  few_served port terms count es old new exit.Faults h = absurd h
+  few_served port terms count es old new exit.Usage h = absurd h
+  few_served port terms count es old new exit.BadFrame h = absurd h
+  few_served port terms count es old new exit.Schema h = absurd h
+
+  -- what a loop serves is as promised
+  pub loop_serves : (port : ℕ) (terms : Terms) (count : ℕ) (old new : State N C K) (e : Exit) → AnswersCount k f n c i o port terms count old new e → k.clean new.store → k.sound old.store
+      → AreLawful (k.rows old.store) → Serves (λ es. ServesCount k f n c i o port terms count es old new e) terms.door count (k.rows old.store) (k.rows new.store)
+  loop_serves port terms count old new e answers clean sound lawful =
+      let served = loops_are_served port terms count old new e answers clean sound in
+      record {
+        exchanges = served.0;
+        few = few_served port terms count served.0 old new e served.1;
+        of_connections = served.1;
+        served = served.2;
+        promised = services_are_as_promised terms.door served.0 (k.rows old.store) (k.rows new.store) served.2 lawful;
+      }
+
+  -- so is what it serves at the port that was bound
+  pub bound_serves : (port given : ℕ) (terms : Terms) (count : ℕ) (bound : N) (old new : State N C K) (e : Exit) → n.binds old.network (127 ∷ 0 ∷ 0 ∷ 1 ∷ []) port (Ok given) bound
+      → Serves (λ es. ServesCount k f n c i o given terms count es (state bound old.clock old.store old.errors old.output) new e) terms.door count (k.rows old.store) (k.rows new.store)
+      → Serves (λ es. ServesAtPort k f n c i o port terms count es old new e) terms.door count (k.rows old.store) (k.rows new.store)
+  bound_serves port given terms count bound old new e binds serves = record {
+    exchanges = serves.exchanges;
+    few = serves.few;
+    of_connections = inl (bound, given, binds, serves.of_connections);
+    served = serves.served;
+    promised = serves.promised;
+  }
+
+  -- and nothing, if no port was bound
+  pub none_serves : (port : ℕ) (terms : Terms) (count : ℕ) (why : Cause) (old new : State N C K) → n.binds old.network (127 ∷ 0 ∷ 0 ∷ 1 ∷ []) port (Err why) new.network → new.clock ≡ old.clock → new.store ≡ old.store
+      → AreLawful (k.rows old.store) → Serves (λ es. ServesAtPort k f n c i o port terms count es old new exit.Down) terms.door count (k.rows old.store) (k.rows new.store)
+  none_serves port terms count why old new binds clock store lawful =
+      let stays = none_since terms.door old new store in
+      record {
+        exchanges = [];
+        few = omega arith;
+        of_connections = inr (refl, why, binds, clock, store, refl);
+        served = stays;
+        promised = services_are_as_promised terms.door [] (k.rows old.store) (k.rows new.store) stays lawful;
+      }
