@@ -4,6 +4,7 @@
     python3 tools/apart.py [NAME..]                those of these crates, or of all; builds the libraries first where they are old
     python3 tools/apart.py NAME/WORD..             those of the crate whose names have WORD
     python3 tools/apart.py --over GATE [NAME..]    the same over the libraries that `rt ci` left in the clone GATE, of the same text
+    python3 tools/apart.py --unchanged ..          whether the functions that mutants change pass where they are as they were
     python3 tools/apart.py --rounds ..             which would be tried together, and of which functions
     python3 tools/apart.py --applies               whether each mutant and twin still applies, in a second
 
@@ -59,6 +60,7 @@ PLANTS = re.compile(r"\b[a-z_]\w*!?(?:::<[^>]*>)?\(|\b(?:if|match|fn)\b|&&|\|\||
 TEXT = re.compile(r'"(?:[^"\\]|\\.)*"')
 IMPORT = re.compile(r"\s*(?:pub )?(?:ghost )?use ")
 ITEM = re.compile(r"^([ \t]*)(?:#\[[^\]]*\]\s*)?(?:pub(?:\([^)]*\))? )?(?:(?:const |unsafe )*fn|const|static) (\w+)", re.M)
+FN = re.compile(r"\bfn \w+$")
 IMPL = re.compile(r"^impl\b[^{;]*", re.M)
 STUB = """use Rattle.{place}.Statement.{{statement}}
 {laws}
@@ -195,7 +197,7 @@ class Crate:
         if not item:
             return []
         item = item.pop()
-        if " fn " in f" {item[0]}":
+        if FN.search(item[0]):
             head = collections.deque(IMPL.finditer(text, 0, item.start()), 1)
             return self.named(inside, item[2], head.pop()[0] if item[1] and head else "")
         found = []
@@ -203,7 +205,7 @@ class Crate:
             if other == path or re.search(rf"\b{item[2]}\b", self.texts[other]):
                 for use in re.finditer(rf"(?<!const )(?<!static )\b{item[2]}\b", self.texts[other]):
                     at = collections.deque(ITEM.finditer(self.texts[other], 0, use.start()), 1)
-                    if at and " fn " in f" {at[0][0]}":
+                    if at and FN.search(at[0][0]):
                         found += self.around(other, use.start())
         return list(dict.fromkeys(found))
 
@@ -223,7 +225,7 @@ class Crate:
     def lemmas(self, edit):
         """The files of lemmas that name a constant which an edit changes."""
         items = [collections.deque(ITEM.finditer(self.texts[path], 0, place), 1) for path, place in self.places(edit)]
-        names = [it[0][2] for it in items if it and " fn " not in f" {it[0][0]}"]
+        names = [it[0][2] for it in items if it and not FN.search(it[0][0])]
         return {path for path, text in self.texts.items() if path.startswith("proofs/") and path.count("/") == 1 and any(re.search(rf"\b{it}\b", text) for it in names)}
 
     def closures(self, one):
@@ -237,11 +239,11 @@ class Try:
 
     def __init__(self, crate, kind, edit):
         self.crate, self.kind, self.edit = crate, kind, edit
-        self.label = f"{crate.name}/{os.path.basename(edit)}" + (" (twin)" if kind == "twins" else "")
-        self.changes = pairs(edit)
+        self.label = f"{crate.name}/{os.path.basename(edit)}" + {"twins": " (twin)", "unchanged": " (unchanged)"}.get(kind, "")
+        self.changes = pairs(edit) if kind != "unchanged" else []
         self.functions = crate.of(edit)
         self.lemmas = crate.lemmas(edit)
-        self.laws = [text.strip() for word, text in lines_of(edit) if word == "law"]
+        self.laws = [text.strip() for word, text in lines_of(edit) if word == "law"] if self.changes else []
         self.turns = any(not path.startswith("src/") for path, _, _ in self.changes)
         self.alone = self.turns or any(re.search(r"\bfn \w+[(<]", new) for _, _, new in self.changes)
         self.calls = {called for one in [*self.functions, *(it for f in self.functions for it in crate.closures(f))] for called in crate.functions.get(one, ())}
@@ -316,9 +318,9 @@ def stub(room, crate, one, laws=()):
 def emptied(crate, path, text, own):
     """The text of a file in which the functions that aren't named do nothing: no one's proof is asked, and what they call isn't read."""
     lines, at = text.split("\n"), 0
-    places = [(text.count("\n", 0, item.start(1)), item) for item in ITEM.finditer(text) if " fn " in f" {item[0]}"]
+    places = [(text.count("\n", 0, item.end()), item) for item in ITEM.finditer(text) if FN.search(item[0])]
     for start, item in reversed(places):
-        if "const " in item[0] or item[2] in own.get(path, ()):
+        if "const fn" in item[0] or item[2] in own.get(path, ()):
             continue
         indent = item[1]
         # the layout of rt fmt: a body begins in a line of its own, or at the end of the line that ends what the function takes
@@ -344,7 +346,7 @@ def checked(tries, over):
         for part in PARTS:
             if os.path.isdir(f"{crate.folder}/{part}"):
                 shutil.copytree(f"{crate.folder}/{part}", f"{room}/{part}")
-        for one in tries:
+        for one in (it for it in tries if it.changes):
             for path, text in edited(one.edit, lambda path: text_of(f"{room}/{path}")).items():
                 with open(f"{room}/{path}", "w", encoding="utf-8") as it:
                     it.write(text)
@@ -389,7 +391,7 @@ def lines_around(source, one, name):
             for item in ITEM.finditer(text):
                 if item[2] == name.split("::")[-1]:
                     after = ITEM.search(text, item.end())
-                    yield path, text.count("\n", 0, item.start()) + 1, text.count("\n", 0, after.start() if after else len(text)) + 1
+                    yield path, text.count("\n", 0, item.start(1)) + 1, text.count("\n", 0, after.start() if after else len(text)) + 1
 
 
 def judged(tries, status, said, source):
@@ -406,7 +408,7 @@ def judged(tries, status, said, source):
             continue
         open_calls = [it for it in lines.values() if re.match(r"no proof: it (calls|passes)", it)]
         passed = all(is_passed(it) for it in lines.values())
-        if one.kind == "twins":
+        if one.kind != "apart":
             told[one] = (passed, "passes") if passed else (None if open_calls else (False, f"NOT PASSED: {next(f'{it}: {of}' for it, of in lines.items() if not is_passed(of))[:300]}"))
             continue
         if one.turns:
@@ -486,8 +488,10 @@ def main():
         said = applies()
         print("\n".join(said) or "each edit and each twin applies")
         sys.exit(1 if said else 0)
-    shows = asked[:1] == ["--rounds"]
+    shows, kinds = asked[:1] == ["--rounds"], ("apart", "twins")
     asked = asked[shows:]
+    if asked[:1] == ["--unchanged"]:
+        asked, kinds = asked[1:], ("unchanged",)
     if asked[:1] == ["--over"] and len(asked) > 1:
         gate, asked = os.path.abspath(asked[1]), asked[2:]
     words = collections.defaultdict(list)
@@ -501,7 +505,7 @@ def main():
         if subprocess.run(["rt", "lib"], cwd=f"{TOP}/crates/{name}", stdin=subprocess.DEVNULL).returncode:
             sys.exit(f"{name} is not proved, so its mutants say nothing")
     crates = [Crate(gate or TOP, it) for it in names]
-    tries = {it.name: [Try(it, kind, edit) for kind in ("apart", "twins") for edit in edits(kind, it.name) if any(word in os.path.basename(edit) for word in words[it.name] or [""])] for it in crates}
+    tries = {it.name: [Try(it, kind, edit) for kind in kinds for edit in edits("twins" if kind == "twins" else "apart", it.name) if any(word in os.path.basename(edit) for word in words[it.name] or [""])] for it in crates}
     if not all(tries.values()):
         sys.exit(f"no mutant has such a name: {' '.join(asked)}")
     known = {one: kept(one.sum) for of in tries.values() for one in of} if not shows else {}
@@ -523,8 +527,8 @@ def main():
     wrong = [one for one, (is_well, _) in told.items() if not is_well]
     for one in wrong:
         print(f"FAILED: {one.label}: {told[one][1]}")
-    of = [sum(it.kind == kind and it not in wrong for it in told) for kind in ("apart", "twins")]
-    print(f"{of[0]} mutants refused, {of[1]} twins passed, {len(wrong)} failed; {len(told) - new} of them kept, {sum(map(len, plan))} rounds for the others")
+    of = [sum(it.kind == kind and it not in wrong for it in told) for kind in ("apart", "twins", "unchanged")]
+    print(f"{of[0]} mutants refused, {of[1]} twins passed, {f'{of[2]} unchanged passed, ' * (of[2] > 0)}{len(wrong)} failed; {len(told) - new} of them kept, {sum(map(len, plan))} rounds for the others")
     sys.exit(1 if wrong else 0)
 
 
