@@ -254,7 +254,9 @@ class Try:
         """Whether two edits can't be in one round."""
         mine, theirs = set(self.functions), set(other.functions)
         touch = any(a[0] == b[0] and (a[1] in b[1] or b[1] in a[1]) for a in self.changes for b in other.changes)
-        return self.alone or other.alone or touch or bool(mine & theirs or mine & other.calls or theirs & self.calls or self.lemmas & other.lemmas)
+        # what has to pass may call nothing that has to be refused
+        calls = self.kind != "apart" and self.calls & theirs or other.kind != "apart" and other.calls & mine
+        return self.alone or other.alone or touch or bool(mine & theirs or calls or self.lemmas & other.lemmas)
 
 
 def kit_sum():
@@ -403,42 +405,31 @@ def judged(tries, status, said, source):
     told = {}
     for one in tries:
         lines = {it: verdicts[it] for it in one.functions if it in verdicts}
-        if len(lines) < len(one.functions) or not lines or status not in (0, 1):
+        if len(lines) < len(one.functions) or not lines or status not in (0, 1) or any("could not tell" in it for it in lines.values()):
             told[one] = None
             continue
-        open_calls = [it for it in lines.values() if re.match(r"no proof: it (calls|passes)", it)]
-        passed = all(is_passed(it) for it in lines.values())
+        failing = [it for it, line in lines.items() if not is_passed(line)]
+        places = [f"proofs/{'/'.join(it.split('::')[1:])}/" for it in [*failing, *(c for f in failing for c in crate.closures(f))]]
+        spans = [span for it in failing for span in lines_around(source, one, it)]
+        own = [it for it in goals if any(it[0].startswith(place) for place in places) or any(it[0] == path and first <= it[1] < last for path, first, last in spans)]
+        if one.kind == "apart":
+            own = [it for it in goals if it[0] in one.lemmas] or own
+        meant = [it for it in own if not NAMES.search(it[2])]
         if one.kind != "apart":
-            told[one] = (passed, "passes") if passed else (None if open_calls else (False, f"NOT PASSED: {next(f'{it}: {of}' for it, of in lines.items() if not is_passed(of))[:300]}"))
-            continue
-        if one.turns:
-            own = [it for it in goals if it[0] in one.laws and not NAMES.search(it[2])]
-            if not passed:
+            # what fails without a goal of its own calls what fails
+            told[one] = (True, "passes") if not failing else (False, f"NOT PASSED: {own[0][2][:300]}") if own else None
+        elif one.turns:
+            by_law = [it for it in goals if it[0] in one.laws and not NAMES.search(it[2])]
+            if failing:
                 told[one] = False, f"NOT REFUSED by its law alone, since the function doesn't pass with its definition: {lines}"[:300]
             else:
-                told[one] = (True, f"refused: {own[0][2][:200]}") if own else (False, "NOT REFUSED by the law that it names")
-            continue
-        if passed:
+                told[one] = (True, f"refused: {by_law[0][2][:200]}") if by_law else (False, "NOT REFUSED by the law that it names")
+        elif not failing:
             told[one] = False, f"NOT REFUSED: {', '.join(lines)} still {'pass' if len(lines) > 1 else 'passes'}"
-            continue
-        if any("could not tell" in it for it in lines.values()):
-            told[one] = None
-            continue
-        refused = [it for it, line in lines.items() if not is_passed(line) and line not in open_calls]
-        if not refused:
-            told[one] = None
-            continue
-        places = [f"proofs/{'/'.join(it.split('::')[1:])}/" for it in [*refused, *(c for f in refused for c in crate.closures(f))]]
-        spans = [span for it in refused for span in lines_around(source, one, it)]
-        own = [it for it in goals if any(it[0].startswith(place) for place in places) or any(it[0] == path and first <= it[1] < last for path, first, last in spans)]
-        own = [it for it in goals if it[0] in one.lemmas] or own
-        meant = [it for it in own if not NAMES.search(it[2])]
-        if meant:
+        elif meant:
             told[one] = True, f"refused: {meant[0][2][:200]}"
-        elif own:
-            told[one] = False, f"NOT REFUSED for its meaning, but since a proof names what it took away: {own[0][2][:200]}"
         else:
-            told[one] = None
+            told[one] = (False, f"NOT REFUSED for its meaning, but since a proof names what it took away: {own[0][2][:200]}") if own else None
     return told
 
 
