@@ -31,7 +31,7 @@ use Rattle.wire.proofs.ReadingLemmas.{reads_one}
 use Rattle.serve.specs.Asks.{commands, organization}
 use Rattle.serve.specs.Doors.{commanded, act_commanded, org_commanded, token_commanded, reported_row, unserved_row, IsReportedAtDoor, ComeNotToDoor, PassesDoor, ExchangesOpen, ExchangesWith, BringsSecret, OnlyTheSecretOpens}
 use Rattle.serve.specs.Exchanges.{Exchanges, ChangesAtMostOne, OfNamed, Makes, ComesAsLogged, ChangesAsLogged}
-use Rattle.serve.specs.Logs.{operator_row}
+use Rattle.serve.specs.Logs.{operator_row, unavailable_row}
 use Rattle.serve.specs.Service.{is_head, is_own, after_ask, Carries, Stays, IsAdminAnswer, reported_refusal}
 use Rattle.serve.specs.Steps.{command_step}
 use Rattle.serve.specs.Inner.Doors.{Operates, TurnsAway, OperatesOrNot, AnswersOpen, ReadsElsewhere}
@@ -74,28 +74,46 @@ elsewhere received left before between (Err Read) away down continued reported o
 elsewhere received left before between (Err Down) away down continued reported other awaited comes = down refl
 elsewhere received left before between (Err Continue) away down continued reported other awaited comes = continued refl
 
-passes : {T : Type 0} (received : List ℕ) (is_down : Bool) (result : Result T LinkFault) → (is_down ≡ false → (result ≡ Err LinkContinue → ⊥) → ComeNotToDoor received) → PassesDoor received is_down result
-passes received false (Ok done) h = h refl (λ e. let none : ⊥ = cc in none)
-passes received false (Err LinkWrite) h = h refl (λ e. let none : ⊥ = cc in none)
-passes received false (Err LinkEnded) h = tt
-passes received false (Err LinkRead) h = tt
-passes received false (Err LinkContinue) h = tt
-passes received true (Ok done) h = tt
-passes received true (Err LinkWrite) h = tt
-passes received true (Err LinkEnded) h = tt
-passes received true (Err LinkRead) h = tt
-passes received true (Err LinkContinue) h = tt
+-- where no memory was short, and `100 Continue` was taken, it does not come to the door
+away_or_down : (received : List ℕ) (left before between : Option (List ℕ)) (read : Result Message WireFault) → ReadsElsewhere read → (read ≡ Err Continue → ⊥)
+    → ReportsReceived received left before between read → ComeNotToDoor received ⊎ (read ≡ Err Down)
+away_or_down received left before between (Ok message) away continued reported = inl (elsewhere received left before between (Ok message) away (λ e. let none : ⊥ = cc in none) continued reported)
+away_or_down received left before between (Err (Refused refusal head)) away continued reported =
+    inl (elsewhere received left before between (Err (Refused refusal head)) away (λ e. let none : ⊥ = cc in none) continued reported)
+away_or_down received left before between (Err Ended) away continued reported = inl (elsewhere received left before between (Err Ended) away (λ e. let none : ⊥ = cc in none) continued reported)
+away_or_down received left before between (Err Read) away continued reported = inl (elsewhere received left before between (Err Read) away (λ e. let none : ⊥ = cc in none) continued reported)
+away_or_down received left before between (Err Down) away continued reported = inr refl
+away_or_down received left before between (Err Continue) away continued reported = absurd (continued refl)
+
+away_or_unnamed : (now : ℕ) (received : List ℕ) (read : Result Message WireFault) (row : Option LogRow) → (IsErrOf read Down → row ≡ Some (unavailable_row now))
+    → ComeNotToDoor received ⊎ (read ≡ Err Down) → ComeNotToDoor received ⊎ (row ≡ Some (unavailable_row now))
+away_or_unnamed now received read row unread (inl away) = inl away
+away_or_unnamed now received read row unread (inr down) = inr (unread down)
+
+passes : {T : Type 0} (now : ℕ) (received : List ℕ) (is_down : Bool) (row : Option LogRow) (result : Result T LinkFault) → (is_down ≡ false → (result ≡ Err LinkContinue → ⊥) → ComeNotToDoor received)
+    → (is_down ≡ true → ComeNotToDoor received ⊎ (row ≡ Some (unavailable_row now))) → PassesDoor now received is_down row result
+passes now received false row (Ok done) h down = h refl (λ e. let none : ⊥ = cc in none)
+passes now received false row (Err LinkWrite) h down = h refl (λ e. let none : ⊥ = cc in none)
+passes now received false row (Err LinkEnded) h down = tt
+passes now received false row (Err LinkRead) h down = tt
+passes now received false row (Err LinkContinue) h down = tt
+passes now received true row result h down = down refl
 
 -- what was read elsewhere is answered as before
 pub passed : {T : Type 0} (digest : List ℕ) (now : ℕ) (read : Result Message WireFault) (old new : List ℕ → Option Organization) (b c : Option (List ℕ)) (is_down : Bool) (row : Option LogRow) (result : Result T LinkFault)
-    → ReadsElsewhere read → (IsErrOf read Down → is_down ≡ true) → (IsErrOf read Continue → IsErrOf result LinkContinue)
+    → ReadsElsewhere read → (IsErrOf read Down → is_down ≡ true) → (IsErrOf read Down → row ≡ Some (unavailable_row now)) → (IsErrOf read Continue → IsErrOf result LinkContinue)
     → AnswersTo now read old new b c is_down row result → AnswersOpen digest now read old new b c is_down row result
-passed digest now read old new b c is_down row result away down continued answers received left before reported = inl (
-  passes received is_down result (λ up written. elsewhere received left before b read away
-      (λ e. both_ways is_down up (down e))
-      (λ e. written (continued e)) reported),
-  answers received left before reported,
-)
+passed {T = T} digest now read old new b c is_down row result away down unread continued answers received left before reported =
+    let exchanges = answers received left before reported in
+    let taken : is_down ≡ true → read ≡ Err Continue → ⊥ = λ up e.
+    both_ways is_down (subst (λ (r : Result T LinkFault). Exchanges now received left old new before c is_down row r) (continued e) exchanges).0 up in
+    inl (
+      passes now received is_down row result (λ up written. elsewhere received left before b read away
+          (λ e. both_ways is_down up (down e))
+          (λ e. written (continued e)) reported)
+          (λ up. away_or_unnamed now received read row unread (away_or_down received left before b read away (taken up) reported)),
+      exchanges,
+    )
 
 -- a message at the door is answered there
 pub at_door : {T : Type 0} (digest : List ℕ) (now : ℕ) (message : Message) (old new : List ℕ → Option Organization) (b c : Option (List ℕ)) (is_down : Bool) (row : Option LogRow) (text : List ℕ) (result : Result T LinkFault)
@@ -278,13 +296,9 @@ open_reported digest left now received old new a c is_down row (Err LinkContinue
 
 -- nothing was read, and the refusal is written
 pub refused_with : {T : Type 0} (door : Door) (left : Option (List ℕ)) (now : ℕ) (received : List ℕ) (rows : List ℕ → Option Organization) (a c : Option (List ℕ)) (row : Option LogRow) (result : Result T LinkFault)
-    → Exchanges now received left rows rows a c true row result → ExchangesWith door now received left rows rows a c true row result
-refused_with Closed left now received rows a c row result h = h
-refused_with (Open digest) left now received rows a c row (Ok done) h = inl (tt, h)
-refused_with (Open digest) left now received rows a c row (Err LinkWrite) h = inl (tt, h)
-refused_with (Open digest) left now received rows a c row (Err LinkEnded) h = inl (tt, h)
-refused_with (Open digest) left now received rows a c row (Err LinkRead) h = inl (tt, h)
-refused_with (Open digest) left now received rows a c row (Err LinkContinue) h = inl (tt, h)
+    → row ≡ Some (unavailable_row now) → Exchanges now received left rows rows a c true row result → ExchangesWith door now received left rows rows a c true row result
+refused_with Closed left now received rows a c row result is h = h
+refused_with (Open digest) left now received rows a c row result is h = inl (inr is, h)
 
 -- ---- nobody without the secret
 

@@ -128,27 +128,27 @@ unanswered door at received old new before after written awaited moment stays cu
   (moment, (stays, inr (refl, cut))),
 )
 
-abbrev PassesAs : Door → List ℕ → Bool → {T : Type 0} → Result T LinkFault → Type 0
-PassesAs Closed received is_down result = ⊤
-PassesAs (Open digest) received is_down result = PassesDoor received is_down result
+abbrev PassesAs : Door → ℕ → List ℕ → Bool → Option LogRow → {T : Type 0} → Result T LinkFault → Type 0
+PassesAs Closed at received is_down row result = ⊤
+PassesAs (Open digest) at received is_down row result = PassesDoor at received is_down row result
 
-passes_done : {T : Type 0} (door : Door) (received : List ℕ) (is_down : Bool) (done : T) → PassesAs door received is_down (Ok done) → is_down ≡ false → PassesBy door received
-passes_done Closed received is_down done h e = tt
-passes_done (Open digest) received false done h e = h
-passes_done (Open digest) received true done h e = absurd (let none : ⊥ = cc in none)
+passes_done : {T : Type 0} (door : Door) (at : ℕ) (received : List ℕ) (is_down : Bool) (row : Option LogRow) (done : T) → PassesAs door at received is_down row (Ok done) → is_down ≡ false → PassesBy door received
+passes_done Closed at received is_down row done h e = tt
+passes_done (Open digest) at received false row done h e = h
+passes_done (Open digest) at received true row done h e = absurd (let none : ⊥ = cc in none)
 
-passes_cut : (T : Type 0) (door : Door) (received : List ℕ) (is_down : Bool) → PassesAs door received is_down {T = T} (Err Write) → is_down ≡ false → PassesBy door received
-passes_cut T Closed received is_down h e = tt
-passes_cut T (Open digest) received false h e = h
-passes_cut T (Open digest) received true h e = absurd (let none : ⊥ = cc in none)
+passes_cut : (T : Type 0) (door : Door) (at : ℕ) (received : List ℕ) (is_down : Bool) (row : Option LogRow) → PassesAs door at received is_down row {T = T} (Err Write) → is_down ≡ false → PassesBy door received
+passes_cut T Closed at received is_down row h e = tt
+passes_cut T (Open digest) at received false row h e = h
+passes_cut T (Open digest) at received true row h e = absurd (let none : ⊥ = cc in none)
 
 -- an exchange that passes by the door, or has none
 passed_by : {T : Type 0} (door : Door) (at : ℕ) (received : List ℕ) (left : Option (List ℕ)) (old new : List ℕ → Option Organization) (before after : Option (List ℕ)) (is_down : Bool) (row : Option LogRow) (res : Result T LinkFault)
-    → IsMoment at → PassesAs door received is_down res → Exchanges at received left old new before after is_down row res → (HasNoReply res → Stays old new) → Found door at received old new before after
+    → IsMoment at → PassesAs door at received is_down row res → Exchanges at received left old new before after is_down row res → (HasNoReply res → Stays old new) → Found door at received old new before after
 passed_by door at received left old new before after is_down row (Ok done) moment passes h stays =
-    answered door at received old new before after h.0 h.1 row true (continue_if h.0 ++ h.1) is_down moment (passes_done door received is_down done passes) refl h.3 h.2
+    answered door at received old new before after h.0 h.1 row true (continue_if h.0 ++ h.1) is_down moment (passes_done door at received is_down row done passes) refl h.3 h.2
 passed_by {T = T} door at received left old new before after is_down row (Err Write) moment passes h stays =
-    answered door at received old new before after h.0 (h.1 ++ h.2) row false (continue_if h.0 ++ h.1) is_down moment (passes_cut T door received is_down passes) (h.2, h.3, sym (append_assoc (continue_if h.0) h.1 h.2)) h.5 h.4
+    answered door at received old new before after h.0 (h.1 ++ h.2) row false (continue_if h.0 ++ h.1) is_down moment (passes_cut T door at received is_down row passes) (h.2, h.3, sym (append_assoc (continue_if h.0) h.1 h.2)) h.5 h.4
 passed_by door at received left old new before after is_down row (Err Ended) moment passes h stays =
     let continues = h.4 in
     unanswered door at received old new before after (continue_if continues.0) continues.0 moment (stays (inl refl)) (inl (h.2, continues.1, refl)) continues.2

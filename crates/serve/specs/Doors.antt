@@ -27,7 +27,7 @@ use Rattle.serve.specs.Asks.{commands}
 use Rattle.serve.specs.Checks.{digest_checked}
 use Rattle.serve.specs.Exchanges.{Exchanges}
 use Rattle.serve.specs.Lines.{only_line}
-use Rattle.serve.specs.Logs.{operator_row}
+use Rattle.serve.specs.Logs.{operator_row, unavailable_row}
 use Rattle.serve.specs.Service.{is_head, Carries, Stays, IsAdminAnswer, reported_text, reported_refusal}
 use Rattle.serve.specs.Words.{command_in_line}
 
@@ -142,17 +142,21 @@ AnswersAtDoor digest now message awaited old new before after is_down row (Err C
 abbrev pub ComeNotToDoor : List ℕ → Type 0
 ComeNotToDoor received = (message : Message) (awaited : Bool) → ComesToDoor received message awaited → ⊥
 
--- bytes pass by the door: if they were answered, and not by the 503 of a failed allocation or store, they do not come to it
-abbrev pub PassesDoor : List ℕ → Bool → {T : Type 0} → Result T LinkFault → Type 0
-PassesDoor received false (Ok done) = ComeNotToDoor received
-PassesDoor received false (Err Write) = ComeNotToDoor received
-PassesDoor received is_down result = ⊤
+-- bytes pass by the door: if they were answered, they do not come to it. Or an allocation failed while they were read, and the row of the
+-- 503 names nothing
+abbrev pub PassesDoor : ℕ → List ℕ → Bool → Option LogRow → {T : Type 0} → Result T LinkFault → Type 0
+PassesDoor now received false row (Ok done) = ComeNotToDoor received
+PassesDoor now received false row (Err Write) = ComeNotToDoor received
+PassesDoor now received false row (Err Ended) = ⊤
+PassesDoor now received false row (Err Read) = ⊤
+PassesDoor now received false row (Err Continue) = ⊤
+PassesDoor now received true row result = ComeNotToDoor received ⊎ (row ≡ Some (unavailable_row now))
 
 -- an exchange while the door is open to the secret of a digest. The bytes pass by the door, and it is the exchange that it would be without a
 -- door; or they come to it, and are answered there
 abbrev pub ExchangesOpen : List ℕ → ℕ → List ℕ → Option (List ℕ) → (List ℕ → Option Organization) → (List ℕ → Option Organization) → Option (List ℕ) → Option (List ℕ) → Bool → Option LogRow → {T : Type 0} → Result T LinkFault → Type 0
 ExchangesOpen digest now received left old new before after is_down row result =
-    (PassesDoor received is_down result × Exchanges now received left old new before after is_down row result)
+    (PassesDoor now received is_down row result × Exchanges now received left old new before after is_down row result)
     ⊎ ((message : Message) × (awaited : Bool) × ComesToDoor received message awaited × AnswersAtDoor digest now message awaited old new before after is_down row result)
 
 -- an exchange with a door; if it is closed, it is the exchange that it would be without a door

@@ -1,10 +1,11 @@
 //! One exchange: a request is read, answered and carried out, and its reply is written.
-ghost use Rattle.std.specs.Prelude.{◌≡◌, ◌↔◌, ℕ, List, ◌⊎◌, true, false, IfSome, IfErr, is_err, IsErrOf};
+ghost use Rattle.std.specs.Prelude.{◌≡◌, ◌↔◌, ℕ, List, ◌⊎◌, true, false, IfSome, IfErr, is_err, IsErrOf, Some};
 ghost use Rattle.std.specs.Io.KnownBytes.{Consumes};
 ghost use Rattle.wire.specs.Links.{Writes};
 ghost use Rattle.wire.specs.Replies.{IsReplyText, unavailable_answer};
 ghost use Rattle.machine.specs.StoreCalls.{Lasts, LastsWhere};
 ghost use Rattle.serve.specs.Asks.{Ask};
+ghost use Rattle.serve.specs.Logs.{unavailable_row};
 ghost use Rattle.serve.specs.Service.{Stays};
 ghost use Rattle.serve.specs.Exchanges.{ChangesAtMostOne, ChangesAsLogged};
 ghost use Rattle.serve.specs.Doors.{ExchangesWith, IsReportedAtDoor};
@@ -124,6 +125,7 @@ fn answer_read<K: Keep, O: Outlet>(
     ensures read { IsErrOf result LinkFault.Read ↔ IsErrOf read WireFault.Read }
     ensures continues { IsErrOf result LinkFault.Continue ↔ IsErrOf read WireFault.Continue }
     ensures down { K.clean keep.new → K.sound keep.old → IsErrOf read WireFault.Down → is_down.new ≡ true }
+    ensures unread { K.clean keep.new → K.sound keep.old → IsErrOf read WireFault.Down → row.new ≡ Some (unavailable_row now) }
     ensures written { (O.broken outlet.new ≡ true) ↔ (IsErrOf result LinkFault.Continue ⊎ IsErrOf result LinkFault.Write) }
 {
     *is_down = false;

@@ -20,5 +20,5 @@ pub use clock::SystemClock;
 pub use files::{DiskFiles, FileKeep, close_file, open_file};
 pub use laws::shielded_stores_are_clean_or_digests_collide;
 pub use running::run_here;
-pub use sockets::{LINGER_READS, LINGER_SECONDS, TcpSockets};
-pub use streams::TimedStream;
+pub use sockets::{LINGER_READS, LINGER_SECONDS, Sockets, TcpSockets};
+pub use streams::{Half, SystemHalf, Timed, TimedStream};

@@ -2,13 +2,14 @@
 ghost use Rattle.std.specs.Prelude.{◌≡◌, ⊤};
 ghost use Rattle.system.specs.Causes.{port_cause};
 
-use crate::streams::TimedStream;
+use crate::streams::{Half, SystemHalf, Timed};
 use basis::Down;
 use program::environment::Connections;
 use program::reasons::Cause;
 use program::timeouts::Timeouts;
 use std::io;
 use std::io::{ErrorKind, Read};
+use std::marker::PhantomData;
 use std::net::{Ipv4Addr, TcpListener};
 use std::rt::HostRuntime;
 use std::time::Duration;
@@ -20,17 +21,25 @@ pub const LINGER_SECONDS: u64 = 1;
 /// The most reads of what a peer still sends once its reply is written.
 pub const LINGER_READS: u32 = 8_192;
 
-/// The system's sockets. They listen on the address that was bound last.
+/// Sockets whose connections have these halves. They listen on the address that was bound last.
 #[derive(Drop)]
-pub struct TcpSockets<'a> {
+pub struct Sockets<'a, H: Half + Drop> {
     rt: &'a HostRuntime,
     listener: Option<TcpListener>,
+    halves: PhantomData<H>,
 }
 
-impl<'a> TcpSockets<'a> {
+/// The system's sockets.
+pub type TcpSockets<'a> = Sockets<'a, SystemHalf>;
+
+impl<'a, H: Half + Drop> Sockets<'a, H> {
     /// Sockets that do not listen yet.
-    pub fn new(rt: &'a HostRuntime) -> TcpSockets<'a> {
-        TcpSockets { rt, listener: None }
+    pub fn new(rt: &'a HostRuntime) -> Sockets<'a, H> {
+        Sockets {
+            rt,
+            listener: None,
+            halves: PhantomData,
+        }
     }
 }
 
@@ -48,7 +57,7 @@ fn port_cause(kind: ErrorKind) -> Cause
 
 // Lets the peer read its reply: what it still sends is read and dropped, within bounds, since a connection
 // that is closed over unread bytes is reset (RFC 9112, section 9.6).
-fn linger(stream: &mut TimedStream<'_>) -> io::Result<()> {
+fn linger<H: Half + Drop>(stream: &mut Timed<'_, H>) -> io::Result<()> {
     stream.end_writing(Duration::from_secs(LINGER_SECONDS))?;
     let mut dropped = [0u8; 4096];
     for _ in 0..LINGER_READS {
@@ -59,12 +68,12 @@ fn linger(stream: &mut TimedStream<'_>) -> io::Result<()> {
     Ok(())
 }
 
-impl<'a> Connections for TcpSockets<'a> {
-    type Reader = FromRead<TimedStream<'a>>;
+impl<'a, H: Half + Drop> Connections for Sockets<'a, H> {
+    type Reader = FromRead<Timed<'a, H>>;
 
-    type Writer = ToWrite<TimedStream<'a>>;
+    type Writer = ToWrite<Timed<'a, H>>;
 
-    // No contract says what a socket does.
+    // No contract says what the system does. What the halves give and take, they say themselves.
     ghost binds = { λ _ _ _ _ _. ⊤ };
 
     ghost accepts = { λ _ _ _ _. ⊤ };
@@ -86,14 +95,14 @@ impl<'a> Connections for TcpSockets<'a> {
     fn accept(
         &mut self,
         timeouts: &Timeouts,
-    ) -> Result<(FromRead<TimedStream<'a>>, ToWrite<TimedStream<'a>>), Down> {
+    ) -> Result<(FromRead<Timed<'a, H>>, ToWrite<Timed<'a, H>>), Down> {
         let Some(listener) = &self.listener else {
             return Err(Down);
         };
         let Ok((stream, _)) = listener.accept() else {
             return Err(Down);
         };
-        match TimedStream::sides(self.rt, stream, timeouts) {
+        match Timed::sides(self.rt, stream, timeouts) {
             Ok((reader, writer)) => Ok((FromRead::new(reader), ToWrite::new(writer))),
             Err(_) => Err(Down),
         }
@@ -103,8 +112,8 @@ impl<'a> Connections for TcpSockets<'a> {
     // it, nothing is unread.
     fn finish(
         &mut self,
-        reader: FromRead<TimedStream<'a>>,
-        writer: ToWrite<TimedStream<'a>>,
+        reader: FromRead<Timed<'a, H>>,
+        writer: ToWrite<Timed<'a, H>>,
         was_read: bool,
     ) {
         if reader.failed() || writer.failed() {

@@ -1,4 +1,8 @@
 //! Streams over TCP that wait no longer than they may.
+ghost use Rattle.std.specs.Prelude.{◌≡◌, ℕ, List, Option, None};
+ghost use Rattle.std.specs.Io.{ReadsAtMost, WritesAtMost};
+ghost use Rattle.std.specs.Io.KnownBytes.{ReadConsumes, WriteAppends};
+
 use program::timeouts::Timeouts;
 use std::io;
 use std::io::{ErrorKind, Read, Write};
@@ -10,32 +14,74 @@ use std::time::{Duration, Instant};
 /// How often a call that a signal interrupts is retried.
 const MOST_INTERRUPTIONS: u32 = 1_000_000;
 
+/// One side of a socket: what is assumed of the calls that read and write it. All else is proved for every half. The program names
+/// `SystemHalf`, which knows no bytes, because no contract says what the system's calls give and take.
+pub trait Half {
+    // The bytes that its reads will give from here on, if they are known.
+    ghost left: { Self → Option (List ℕ) };
+
+    // The bytes that its writes took so far, if they are known.
+    ghost taken: { Self → Option (List ℕ) };
+
+    /// The two sides of a socket.
+    fn pair(rt: &HostRuntime, stream: TcpStream) -> io::Result<(Self, Self)>
+    where
+        Self: Sized;
+
+    /// One read. If it fails, no byte is lost.
+    fn read(&mut self, buf: &mut [u8]) -> io::Result<usize>
+        ensures bound { ReadsAtMost result buf.new }
+        ensures bytes { ReadConsumes (left self.old) (left self.new) result buf.new };
+
+    /// One write. If it fails, no byte was taken.
+    fn write(&mut self, buf: &[u8]) -> io::Result<usize>
+        ensures bound { WritesAtMost result buf.now }
+        ensures bytes { WriteAppends (taken self.old) (taken self.new) result buf.now };
+
+    /// The socket, for its settings.
+    fn stream(&self) -> &TcpStream;
+}
+
 /// A socket that both sides share, or its handle for one side if there was no memory to share it.
 #[derive(Drop)]
-enum Socket {
+pub enum SystemHalf {
     Shared(Rc<TcpStream>),
     Own(TcpStream),
 }
 
-impl Socket {
-    fn pair(rt: &HostRuntime, stream: TcpStream) -> io::Result<(Socket, Socket)> {
+impl Half for SystemHalf {
+    ghost left = { λ _. None };
+
+    ghost taken = { λ _. None };
+
+    fn pair(rt: &HostRuntime, stream: TcpStream) -> io::Result<(SystemHalf, SystemHalf)> {
         match Rc::new(rt.alloc(), stream) {
             Ok(shared) => match shared.clone() {
-                Ok(other) => Ok((Socket::Shared(shared), Socket::Shared(other))),
+                Ok(other) => Ok((SystemHalf::Shared(shared), SystemHalf::Shared(other))),
                 Err(_) => Err(io::Error::from(ErrorKind::OutOfMemory)),
             },
             Err(failed) => {
                 let stream = failed.value;
                 let other = stream.try_clone()?;
-                Ok((Socket::Own(stream), Socket::Own(other)))
+                Ok((SystemHalf::Own(stream), SystemHalf::Own(other)))
             }
         }
     }
 
+    fn read(&mut self, buf: &mut [u8]) -> io::Result<usize> {
+        let mut stream = self.stream();
+        stream.read(buf)
+    }
+
+    fn write(&mut self, buf: &[u8]) -> io::Result<usize> {
+        let mut stream = self.stream();
+        stream.write(buf)
+    }
+
     fn stream(&self) -> &TcpStream {
         match self {
-            Socket::Shared(stream) => stream.as_ref(),
-            Socket::Own(stream) => stream,
+            SystemHalf::Shared(stream) => stream.as_ref(),
+            SystemHalf::Own(stream) => stream,
         }
     }
 }
@@ -43,9 +89,9 @@ impl Socket {
 /// One side of a connection. Each read or write fails if it makes no progress within its timeout, or before the connection's
 /// deadline. A call that a signal interrupts (a process that is stopped and continued) is retried for the rest of its time.
 #[derive(Drop)]
-pub struct TimedStream<'a> {
+pub struct Timed<'a, H: Half + Drop> {
     rt: &'a HostRuntime,
-    socket: Socket,
+    half: H,
     idle: Duration,
     end: Instant,
     /// The timeout that the system has for calls of this side, once it was set.
@@ -54,11 +100,14 @@ pub struct TimedStream<'a> {
     is_filled: bool,
 }
 
-impl<'a> TimedStream<'a> {
-    fn new(rt: &'a HostRuntime, socket: Socket, idle: Duration, end: Instant) -> TimedStream<'a> {
-        TimedStream {
+/// One side of a connection of the system.
+pub type TimedStream<'a> = Timed<'a, SystemHalf>;
+
+impl<'a, H: Half + Drop> Timed<'a, H> {
+    fn new(rt: &'a HostRuntime, half: H, idle: Duration, end: Instant) -> Timed<'a, H> {
+        Timed {
             rt,
-            socket,
+            half,
             idle,
             end,
             reported: None,
@@ -71,15 +120,15 @@ impl<'a> TimedStream<'a> {
         rt: &'a HostRuntime,
         stream: TcpStream,
         timeouts: &Timeouts,
-    ) -> io::Result<(TimedStream<'a>, TimedStream<'a>)> {
+    ) -> io::Result<(Timed<'a, H>, Timed<'a, H>)> {
         let idle = Duration::from_secs(timeouts.idle.get());
         let most = Duration::from_secs(timeouts.most.get());
         let Some(end) = Instant::now(rt)?.checked_add(most) else {
             return Err(io::Error::from(ErrorKind::InvalidData));
         };
-        let (one, other) = Socket::pair(rt, stream)?;
-        let reader = TimedStream::new(rt, one, idle, end);
-        let writer = TimedStream::new(rt, other, idle, end);
+        let (one, other) = H::pair(rt, stream)?;
+        let reader = Timed::new(rt, one, idle, end);
+        let writer = Timed::new(rt, other, idle, end);
         Ok((reader, writer))
     }
 
@@ -95,18 +144,22 @@ impl<'a> TimedStream<'a> {
     }
 
     // Lets reads wait for so long.
-    fn let_read(&mut self, wait: Duration) -> io::Result<()> {
+    fn let_read(&mut self, wait: Duration) -> io::Result<()>
+        ensures { self.new.half ≡ self.old.half }
+    {
         if self.reported != Some(wait) {
-            self.socket.stream().set_read_timeout(Some(wait))?;
+            self.half.stream().set_read_timeout(Some(wait))?;
             self.reported = Some(wait);
         }
         Ok(())
     }
 
     // Lets writes wait for so long.
-    fn let_write(&mut self, wait: Duration) -> io::Result<()> {
+    fn let_write(&mut self, wait: Duration) -> io::Result<()>
+        ensures { self.new.half ≡ self.old.half }
+    {
         if self.reported != Some(wait) {
-            self.socket.stream().set_write_timeout(Some(wait))?;
+            self.half.stream().set_write_timeout(Some(wait))?;
             self.reported = Some(wait);
         }
         Ok(())
@@ -120,7 +173,7 @@ impl<'a> TimedStream<'a> {
 
     // Whether bytes wait, as the system says at once; where none do, reads don't wait from then on.
     fn are_waiting(&self) -> bool {
-        let stream = self.socket.stream();
+        let stream = self.half.stream();
         if stream.set_nonblocking(true).is_err() {
             return false;
         }
@@ -133,18 +186,19 @@ impl<'a> TimedStream<'a> {
     /// Shuts down writing. From now on a read waits at most `idle`.
     pub fn end_writing(&mut self, idle: Duration) -> io::Result<()> {
         self.idle = idle;
-        self.socket.stream().shutdown(Shutdown::Write)
+        self.half.stream().shutdown(Shutdown::Write)
     }
 }
 
-impl Read for TimedStream<'_> {
+impl<H: Half + Drop> Read for Timed<'_, H> {
+    ghost remaining = { λ s. H.left s.half };
+
     fn read(&mut self, buf: &mut [u8]) -> io::Result<usize> {
         let begun = Instant::now(self.rt)?;
         let mut now = begun;
-        for _ in 0..MOST_INTERRUPTIONS {
+        'tries: for _ in 0..MOST_INTERRUPTIONS {
             self.let_read(self.left(begun, now)?)?;
-            let mut stream = self.socket.stream();
-            match stream.read(buf) {
+            match self.half.read(buf) {
                 Ok(count) => {
                     self.is_filled = count == buf.len();
                     return Ok(count);
@@ -158,14 +212,15 @@ impl Read for TimedStream<'_> {
     }
 }
 
-impl Write for TimedStream<'_> {
+impl<H: Half + Drop> Write for Timed<'_, H> {
+    ghost contents = { λ s. H.taken s.half };
+
     fn write(&mut self, buf: &[u8]) -> io::Result<usize> {
         let begun = Instant::now(self.rt)?;
         let mut now = begun;
-        for _ in 0..MOST_INTERRUPTIONS {
+        'tries: for _ in 0..MOST_INTERRUPTIONS {
             self.let_write(self.left(begun, now)?)?;
-            let mut stream = self.socket.stream();
-            match stream.write(buf) {
+            match self.half.write(buf) {
                 Err(error) if error.kind() == ErrorKind::Interrupted => {}
                 answer => return answer,
             }

@@ -14,9 +14,9 @@ pub returns-else-is_at_door-clause-reported : goal.returns-else-is_at_door-claus
 returns-else-is_at_door-clause-reported g c = λ clean sound.
     let away : is_at_door c.in-Ok.message ≡ false = search rules in
     rw c.in-Ok.is (passed c.args.digest.now c.args.now (Ok c.in-Ok.message) (g.K.Keep.rows c.args.keep.now) (g.K.Keep.rows c.answer_read.new.keep) (g.O.Outlet.written c.args.outlet.now) (g.O.Outlet.written c.answer_read.new.outlet)
-    c.answer_read.new.is_down c.answer_read.new.row c.answer_read.result away (c.answer_read.ensures.down clean sound) c.answer_read.ensures.continues.1 (c.answer_read.ensures.reported clean sound))
+    c.answer_read.new.is_down c.answer_read.new.row c.answer_read.result away (c.answer_read.ensures.down clean sound) (c.answer_read.ensures.unread clean sound) c.answer_read.ensures.continues.1 (c.answer_read.ensures.reported clean sound))
 
 pub returns-in-Err-clause-reported : goal.returns-in-Err-clause-reported
 returns-in-Err-clause-reported g c = λ clean sound.
     rw c.in-Err.is (passed c.args.digest.now c.args.now (Err c.in-Err.fault) (g.K.Keep.rows c.args.keep.now) (g.K.Keep.rows c.answer_read-in-Err.new.keep) (g.O.Outlet.written c.args.outlet.now) (g.O.Outlet.written c.answer_read-in-Err.new.outlet)
-    c.answer_read-in-Err.new.is_down c.answer_read-in-Err.new.row c.answer_read-in-Err.result tt (c.answer_read-in-Err.ensures.down clean sound) c.answer_read-in-Err.ensures.continues.1 (c.answer_read-in-Err.ensures.reported clean sound))
+    c.answer_read-in-Err.new.is_down c.answer_read-in-Err.new.row c.answer_read-in-Err.result tt (c.answer_read-in-Err.ensures.down clean sound) (c.answer_read-in-Err.ensures.unread clean sound) c.answer_read-in-Err.ensures.continues.1 (c.answer_read-in-Err.ensures.reported clean sound))

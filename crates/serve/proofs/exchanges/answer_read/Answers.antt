@@ -1,5 +1,7 @@
 use Rattle.std.proofs.Common.{◌≡◌, Bool, true, Some, Result, Ok, Err, IfOk, IfErr, sym, ap, subst, rules}
 use Rattle.wire.specs.Replies.{IsReplyText, unavailable_answer}
+use Rattle.wire.specs.declared.messages.Message.{Message}
+use Rattle.wire.specs.declared.messages.WireFault.{WireFault}
 use Rattle.docs.specs.declared.logs.LogRow.{LogRow}
 use Rattle.serve.specs.Inner.Replying.{PreparesFor, LogsFor, LogsDownFor, due_reply, due_row}
 use Rattle.serve.specs.declared.messages.Prepared.{Prepared}
@@ -35,6 +37,20 @@ returns-in-Ok-Ok-clause-down g c = λ clean sound is.
     let some : c.in-Ok-Ok.field-0 ≡ Ok c.in-Ok-Ok.ready = search rules in
     let ok = subst (λ (o : Result Prepared LogRow). IfOk o (λ r. PreparesFor c.args.now (g.K.Keep.rows c.args.keep.now) c.args.read r)) some (c.in-Ok-Ok.ensures.ok before sound) in
     absurd (not_prepared c.args.now (g.K.Keep.rows c.args.keep.now) c.args.read c.in-Ok-Ok.ready ok is)
+
+pub returns-in-Ok-Ok-clause-unread : goal.returns-in-Ok-Ok-clause-unread
+returns-in-Ok-Ok-clause-unread g c = λ clean sound is. absurd (
+    let before : g.K.Keep.clean c.prepare.new.keep = c.commit_and_reply-result.ensures.lasts.so_far clean in
+    let some : c.in-Ok-Ok.field-0 ≡ Ok c.in-Ok-Ok.ready = search rules in
+    let ok = subst (λ (o : Result Prepared LogRow). IfOk o (λ r. PreparesFor c.args.now (g.K.Keep.rows c.args.keep.now) c.args.read r)) some (c.in-Ok-Ok.ensures.ok before sound) in
+    not_prepared c.args.now (g.K.Keep.rows c.args.keep.now) c.args.read c.in-Ok-Ok.ready ok is
+    )
+
+pub returns-in-Ok-Err-clause-unread : goal.returns-in-Ok-Err-clause-unread
+returns-in-Ok-Err-clause-unread g c = λ clean sound is.
+    let down : c.in-Ok-Err.field-0 ≡ Err c.in-Ok-Err.so_far = search rules in
+    let logs = subst (λ (o : Result Prepared LogRow). IfErr o (λ row. LogsDownFor c.args.now (g.K.Keep.rows c.args.keep.now) c.args.read row)) down (c.in-Ok-Err.ensures.down clean sound) in
+    ap Some (subst (λ (r : Result Message WireFault). LogsDownFor c.args.now (g.K.Keep.rows c.args.keep.now) r c.in-Ok-Err.so_far) is logs)
 
 pub returns-in-Ok-Err-clause-reported : goal.returns-in-Ok-Err-clause-reported
 returns-in-Ok-Err-clause-reported g c = λ clean sound.
