@@ -241,6 +241,8 @@ class Try:
         self.crate, self.kind, self.edit = crate, kind, edit
         self.label = f"{crate.name}/{os.path.basename(edit)}" + {"twins": " (twin)", "unchanged": " (unchanged)"}.get(kind, "")
         self.changes = pairs(edit) if kind != "unchanged" else []
+        # a function of another module's type stands in a file that its path doesn't name
+        self.files = {path for path, _, _ in pairs(edit)}
         self.functions = crate.of(edit)
         self.lemmas = crate.lemmas(edit)
         self.laws = [text.strip() for word, text in lines_of(edit) if word == "law"] if self.changes else []
@@ -255,7 +257,8 @@ class Try:
         mine, theirs = set(self.functions), set(other.functions)
         touch = any(a[0] == b[0] and (a[1] in b[1] or b[1] in a[1]) for a in self.changes for b in other.changes)
         # what has to pass may call nothing that has to be refused
-        calls = self.kind != "apart" and self.calls & theirs or other.kind != "apart" and other.calls & mine
+        kinds = {self.kind, other.kind}
+        calls = kinds == {"apart", "twins"} and (self.calls & theirs if self.kind == "twins" else other.calls & mine)
         return self.alone or other.alone or touch or bool(mine & theirs or calls or self.lemmas & other.lemmas)
 
 
@@ -359,7 +362,7 @@ def checked(tries, over):
         for path in crate.texts:
             if path.startswith("src/"):
                 text = text_of(f"{room}/{path}")
-                names = {it.split("::")[-1] for it in own if it.startswith(module(crate.name, path) + "::") or any(path == changed for one in tries for changed, _, _ in one.changes)}
+                names = {it.split("::")[-1] for it in own if it.startswith(module(crate.name, path) + "::") or any(path in one.files for one in tries)}
                 with open(f"{room}/{path}", "w", encoding="utf-8") as it:
                     it.write(emptied(crate, path, text, {path: names}))
         # what drops a value is there if a function that stays drops it
@@ -389,7 +392,7 @@ def is_passed(line):
 def lines_around(source, one, name):
     """The file and the lines of what has the name of a function, in a room's texts of the files that an edit changes or that have its module."""
     for path, text in source.items():
-        if any(path == changed for changed, _, _ in one.changes) or name.startswith(module(one.crate.name, path) + "::"):
+        if path in one.files or name.startswith(module(one.crate.name, path) + "::"):
             for item in ITEM.finditer(text):
                 if item[2] == name.split("::")[-1]:
                     after = ITEM.search(text, item.end())
