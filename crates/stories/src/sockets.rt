@@ -17,7 +17,7 @@ use std::net::{Ipv4Addr, Shutdown, TcpStream};
 use std::time::Duration;
 use std::{io, thread};
 use story_runner::failures::{Failure, compare_bytes};
-use system::{TcpSockets, TimedStream};
+use system::{Half, Sockets, SystemHalf, TcpSockets, Timed};
 use wire::{Broken, FromRead, Inlet, Outlet, ToWrite};
 
 /// What peers ask.
@@ -143,17 +143,17 @@ impl<O: Outlet> Outlet for Stuffed<O> {
 
 // The sockets of the system, with the second peer trickling, or not reading what is more than a reply.
 #[derive(Drop)]
-struct Slow<'a> {
+struct Slow<'a, H: Half + Drop> {
     rt: &'a HostRuntime,
-    network: TcpSockets<'a>,
+    network: Sockets<'a, H>,
     connection: u32,
     trickling: Option<&'a TcpStream>,
     is_deaf: bool,
 }
 
-impl<'a> Slow<'a> {
+impl<'a, H: Half + Drop> Slow<'a, H> {
     // None is slow.
-    fn new(rt: &'a HostRuntime, network: TcpSockets<'a>) -> Slow<'a> {
+    fn new(rt: &'a HostRuntime, network: Sockets<'a, H>) -> Slow<'a, H> {
         Slow {
             rt,
             network,
@@ -164,10 +164,10 @@ impl<'a> Slow<'a> {
     }
 }
 
-impl<'a> Connections for Slow<'a> {
-    type Reader = Trickle<'a, FromRead<TimedStream<'a>>>;
+impl<'a, H: Half + Drop> Connections for Slow<'a, H> {
+    type Reader = Trickle<'a, FromRead<Timed<'a, H>>>;
 
-    type Writer = Stuffed<ToWrite<TimedStream<'a>>>;
+    type Writer = Stuffed<ToWrite<Timed<'a, H>>>;
 
     ghost binds = { λ _ _ _ _ _. ⊤ };
 
@@ -236,7 +236,7 @@ impl Bout<'_> {
     fn serve(
         &self,
         alloc: Global,
-        network: &mut Slow<'_>,
+        network: &mut Slow<'_, SystemHalf>,
         service: &mut Service<PlainKeep>,
         count: u64,
         timeouts: Timeouts,
