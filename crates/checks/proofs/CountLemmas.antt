@@ -1,7 +1,10 @@
 -- One workspace more is counted.
-use Rattle.std.proofs.Common.{◌≡◌, ℕ, ◌+◌, ◌≤◌, ◌==◌, Bool, true, false, not, cond, ◌&&◌, ◌<◌, nat_lt, List, [], ◌∷◌, ◌++◌, filter, length, IsTrue, refl, sym, ap, ◌∙◌, subst, arith, length-append, true≢false, ◌⊎◌, inl, inr}
+use Rattle.std.proofs.Common.{◌≡◌, ℕ, ◌+◌, ◌≤◌, ◌==◌, Bool, true, false, not, cond, ◌<◌, nat_lt, List, [], ◌∷◌, ◌++◌, filter, length, take, IsTrue, refl, sym, ap, ◌∙◌, subst, arith, length-append, true≢false, ◌⊎◌, inl, inr}
 use Rattle.std.specs.Str.{bytes_eq}
-use Rattle.std.proofs.lemmas.Bool.{eqb-true, eq-eqb, ltb-true, ltb-false}
+use Rattle.std.proofs.lemmas.Bool.{eqb-true, eq-eqb, ne_eqb, ltb-true, ltb-false, not-false, false_from_ne_true}
+use Rattle.std.proofs.lemmas.List.{length-take-le}
+use Rattle.std.proofs.lemmas.List.Elements.{filter-append}
+use Rattle.std.proofs.lemmas.List.Filters.{length-filter_both}
 use Rattle.basis.proofs.NameLemmas.{equal_bytes}
 use Rattle.statements.specs.Rows.{Kept, WsRow}
 use Rattle.statements.specs.Changes.{is_ws_of}
@@ -12,41 +15,35 @@ use Rattle.checks.specs.Judging.{Breaks, Judges}
 use Rattle.checks.specs.Faults.{org_fault, TooMany}
 use Rattle.checks.specs.Workspaces.{count_in}
 use Rattle.checks.specs.Inner.Counts.{AreFew}
-use Rattle.checks.proofs.JudgingLemmas.{judges_both, judges_as, judges_says}
+use Rattle.checks.proofs.JudgingLemmas.{judges_both, judges_as, judges_says, judges_none}
 
 counted_on : (xs : List (Kept WsRow)) (x : Kept WsRow) (org : List ℕ) → count_in (xs ++ x ∷ []) org ≡ cond (is_ws_of org x) (count_in xs org + 1) (count_in xs org)
-counted_on [] x org = go (is_ws_of org x)
+counted_on xs x org = ap length (filter-append (is_ws_of org) xs (x ∷ [])) ∙ length-append (filter (is_ws_of org) xs) (filter (is_ws_of org) (x ∷ [])) ∙ go (is_ws_of org x)
   where
-    go : (b : Bool) → length (cond b (x ∷ []) []) ≡ cond b (0 + 1) 0
+    go : (b : Bool) → count_in xs org + length (cond b (x ∷ []) []) ≡ cond b (count_in xs org + 1) (count_in xs org)
     go true = refl
-    go false = refl
-counted_on (y ∷ xs) x org = go (is_ws_of org y) (is_ws_of org x) (counted_on xs x org)
-  where
-    go : (a b : Bool) → count_in (xs ++ x ∷ []) org ≡ cond b (count_in xs org + 1) (count_in xs org)
-        → length (cond a (y ∷ filter (is_ws_of org) (xs ++ x ∷ [])) (filter (is_ws_of org) (xs ++ x ∷ [])))
-        ≡ cond b (length (cond a (y ∷ filter (is_ws_of org) xs) (filter (is_ws_of org) xs)) + 1) (length (cond a (y ∷ filter (is_ws_of org) xs) (filter (is_ws_of org) xs)))
-    go true true more = omega (arith, more)
-    go true false more = omega (arith, more)
-    go false b more = more
+    go false = omega arith
 
--- the groups have one place more
-pub one_counted : (xs : List (Kept WsRow)) (x : Kept WsRow) (old now : List ℕ → List ℕ) (row_index : ℕ) → ((org : List ℕ) → now org ≡ cond (bytes_eq x.1.org org && true) (old org ++ row_index ∷ []) (old org))
-    → ((org : List ℕ) → length (old org) ≡ count_in xs org) → (org : List ℕ) → length (now org) ≡ count_in (xs ++ x ∷ []) org
-one_counted xs x old now row_index is before org = ap length (is org) ∙ go (bytes_eq x.1.org org) (before org) ∙ sym (counted_on xs x org)
+-- one workspace more is counted
+pub one_counted : (xs : List (Kept WsRow)) (x : Kept WsRow) (org : List ℕ) (old new : ℕ) → old ≡ count_in xs org → new ≡ old + cond (is_ws_of org x) 1 0 → new ≡ count_in (xs ++ x ∷ []) org
+one_counted xs x org old new before step = step ∙ ap (λ n. n + cond (is_ws_of org x) 1 0) before ∙ go (is_ws_of org x) ∙ sym (counted_on xs x org)
   where
-    go : (b : Bool) → length (old org) ≡ count_in xs org → length (cond (b && true) (old org ++ row_index ∷ []) (old org)) ≡ cond b (count_in xs org + 1) (count_in xs org)
-    go true e = length-append (old org) (row_index ∷ []) ∙ ap (λ n. n + 1) e
-    go false e = e
+    go : (b : Bool) → count_in xs org + cond b 1 0 ≡ cond b (count_in xs org + 1) (count_in xs org)
+    go true = refl
+    go false = omega arith
+
+-- no more are counted than have come
+pub counted_below : (xs : List (Kept WsRow)) (i : ℕ) (org : List ℕ) → i < length xs → count_in (take i xs) org ≤ i
+counted_below xs i org below =
+    let all : length (take i xs) ≡ i = length-take-le i xs (omega arith) in
+    let parts = length-filter_both (is_ws_of org) (λ x. not (is_ws_of org x)) (λ x. refl) (take i xs) in
+    omega (arith, parts, all)
+
+pub none_judged : (a : Found) → Judges (TooMany []) (AreFew []) a a
+none_judged a = judges_none a (λ org. omega arith) (λ f says. let more = says.1 in absurd (omega (arith, more)))
 
 not_that : (n m : ℕ) → not (n == m) ≡ true → n ≡ m → ⊥
 not_that n m e f = true≢false (sym e ∙ ap not (eq-eqb n m f))
-
-is_within : (n m : ℕ) → (n ≡ m → ⊥) → not (n == m) ≡ true
-is_within n m apart = go (n == m) refl
-  where
-    go : (b : Bool) → (n == m) ≡ b → not b ≡ true
-    go false e = refl
-    go true e = absurd (apart (eqb-true n m e))
 
 module _ (xs : List (Kept WsRow)) (x : Kept WsRow) where
   still_few : AreFew xs → not (count_in (xs ++ x ∷ []) x.1.org == 100_001) ≡ true → AreFew (xs ++ x ∷ [])
@@ -63,12 +60,12 @@ module _ (xs : List (Kept WsRow)) (x : Kept WsRow) where
           below : (n : ℕ) → n ≤ 100_001 → (n ≡ 100_001 → ⊥) → n ≤ 100_000
           below n h apart = omega (arith, h, apart)
 
-  were_few : AreFew (xs ++ x ∷ []) → AreFew xs
-  were_few few org = go (is_ws_of org x) (counted_on xs x org) (few org)
+  grown : (org : List ℕ) → count_in xs org ≤ count_in (xs ++ x ∷ []) org
+  grown org = go (is_ws_of org x) (counted_on xs x org)
     where
-      go : (b : Bool) → count_in (xs ++ x ∷ []) org ≡ cond b (count_in xs org + 1) (count_in xs org) → count_in (xs ++ x ∷ []) org ≤ 100_000 → count_in xs org ≤ 100_000
-      go true e h = omega (arith, e, h)
-      go false e h = omega (arith, e, h)
+      go : (b : Bool) → count_in (xs ++ x ∷ []) org ≡ cond b (count_in xs org + 1) (count_in xs org) → count_in xs org ≤ count_in (xs ++ x ∷ []) org
+      go true e = omega (arith, e)
+      go false e = omega (arith, e)
 
   -- one workspace more was looked at
   pub one_judged : (count : ℕ) (within : Bool) (a b c : Found) → count ≡ count_in (xs ++ x ∷ []) x.1.org → within ≡ not (count == 100_001) → Judges (TooMany xs) (AreFew xs) a b → Judges (Breaks (IsTrue within) (org_fault kind.TooMany x.1.org)) (IsTrue within) b c
@@ -77,33 +74,21 @@ module _ (xs : List (Kept WsRow)) (x : Kept WsRow) where
       let is : within ≡ not (count_in (xs ++ x ∷ []) x.1.org == 100_001) = within_is ∙ ap (λ n. not (n == 100_001)) count_is in
       judges_says a c (to is) (from is)
       (judges_as a c (λ both. still_few both.0 (sym is ∙ both.1))
-      (λ few. (were_few few, is ∙ is_within (count_in (xs ++ x ∷ []) x.1.org) 100_001 (λ e. too_many (count_in (xs ++ x ∷ []) x.1.org) e (few x.1.org))))
+      (λ few. (λ org. fewer (grown org) (few org), is ∙ ap not (ne_eqb (count_in (xs ++ x ∷ []) x.1.org) 100_001 (λ e. too_many (count_in (xs ++ x ∷ []) x.1.org) e (few x.1.org)))))
       (judges_both a b c before here))
     where
       Both : Fault → Type 0
       Both f = TooMany xs f ⊎ Breaks (IsTrue within) (org_fault kind.TooMany x.1.org) f
 
-      grown : (org : List ℕ) → count_in xs org ≤ count_in (xs ++ x ∷ []) org
-      grown org = go (is_ws_of org x) (counted_on xs x org)
-        where
-          go : (b : Bool) → count_in (xs ++ x ∷ []) org ≡ cond b (count_in xs org + 1) (count_in xs org) → count_in xs org ≤ count_in (xs ++ x ∷ []) org
-          go true e = omega (arith, e)
-          go false e = omega (arith, e)
+      fewer : {m n : ℕ} → m ≤ n → n ≤ 100_000 → m ≤ 100_000
+      fewer less few = omega (arith, less, few)
 
       over : (n : ℕ) → not (n == 100_001) ≡ false → 100_000 < n
-      over n e = go (n == 100_001) refl e
-        where
-          go : (b : Bool) → (n == 100_001) ≡ b → not b ≡ false → 100_000 < n
-          go true same e = let is : n ≡ 100_001 = eqb-true n 100_001 same in omega (arith, is)
-          go false same e = absurd (true≢false e)
-
-      broken : (b : Bool) → ¬ (b ≡ true) → b ≡ false
-      broken true n = absurd (n refl)
-      broken false n = refl
+      over n e = let same = eqb-true n 100_001 (not-false (n == 100_001) e) in omega (arith, same)
 
       to : within ≡ not (count_in (xs ++ x ∷ []) x.1.org == 100_001) → (f : Fault) → Both f → TooMany (xs ++ x ∷ []) f
       to is f (inl s) = let more = grown s.0 in let many = s.1 in (s.0, omega (arith, more, many), s.2)
-      to is f (inr s) = (x.1.org, over (count_in (xs ++ x ∷ []) x.1.org) (sym is ∙ broken within s.0), s.1)
+      to is f (inr s) = (x.1.org, over (count_in (xs ++ x ∷ []) x.1.org) (sym is ∙ false_from_ne_true within s.0), s.1)
 
       from : within ≡ not (count_in (xs ++ x ∷ []) x.1.org == 100_001) → (f : Fault) → TooMany (xs ++ x ∷ []) f → Both f
       from is f s = go (bytes_eq x.1.org s.0) refl

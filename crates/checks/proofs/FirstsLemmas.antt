@@ -28,7 +28,7 @@ is_at_parts f s n p k =
 
 module _ {V : Type 0} where
   -- where a key has these parts, the map has at them what it has at the key
-  same_place : (f s : List ℕ) (n p : ℕ) (k : RowKey) (m : BTreeMap RowKey V) → is_key f s n p k ≡ true → value_at f s n p m ≡ get key_cmp m k
+  pub same_place : (f s : List ℕ) (n p : ℕ) (k : RowKey) (m : BTreeMap RowKey V) → is_key f s n p k ≡ true → value_at f s n p m ≡ get key_cmp m k
   same_place f s n p k m has =
       let one = and_parts (k.place == p) _ has in
       let two = and_parts (k.number == n) _ one.1 in

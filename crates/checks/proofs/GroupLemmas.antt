@@ -1,65 +1,63 @@
--- Rows by their places.
-use Rattle.std.proofs.Common.{◌≡◌, ℕ, ◌+◌, ◌<◌, Bool, true, false, cond, ◌&&◌, List, [], ◌∷◌, ◌++◌, filter, length, take, get_or, refl, ap, ◌∙◌, sym, Option, Some, None, slice_get, append-nil}
+-- Rows by their workspaces.
+use Rattle.std.proofs.Common.{◌≡◌, ℕ, ◌+◌, ◌<◌, Bool, true, false, cond, ◌&&◌, ◌==◌, List, [], ◌∷◌, ◌++◌, map, filter, length, take, get_or, append-nil, refl, ap, ◌∙◌, sym, Some, None, is_eq, Vec, Bor}
 use Rattle.std.specs.Option.{option_map_or}
 use Rattle.std.specs.Str.{bytes_eq}
-use Rattle.std.proofs.lemmas.Option.{slice_get-get_or}
-use Rattle.basis.proofs.NameLemmas.{equal_bytes}
-use Rattle.checks.specs.Inner.Groups.{with_some, picked}
+use Rattle.std.specs.BTreeMap.{BTreeMap, get}
+use Rattle.std.proofs.Math.Bool.{and-true}
+use Rattle.std.proofs.lemmas.List.{map-append}
+use Rattle.std.proofs.lemmas.List.Elements.{filter_more}
+use Rattle.statements.specs.Rows.{Kept, Owned}
+use Rattle.statements.specs.Changes.{is_of}
+use Rattle.checks.specs.declared.keys.RowKey.{RowKey}
+use Rattle.checks.specs.Workspaces.{its_of}
+use Rattle.checks.specs.Inner.Keys.{is_key}
+use Rattle.checks.specs.Inner.Firsts.{key_cmp, key_of_parts, IsKeyOf}
+use Rattle.checks.specs.Inner.Groups.{held, group_in}
+use Rattle.checks.proofs.FirstsLemmas.{is_at_parts, same_place, at_key, empty_at}
 
-module _ {X : Type 0} (rows : List X) where
-  pub picked_first : (row_index : ℕ) (row_indices : List ℕ) → picked rows (row_index ∷ row_indices) ≡ picked rows (row_index ∷ []) ++ picked rows row_indices
-  picked_first row_index row_indices = go (slice_get rows row_index)
+-- the key of a workspace
+pub ws_parts : (k : RowKey) (org name f s a b : List ℕ) → IsKeyOf k a b 0 0 → a ≡ org → b ≡ name → is_key f s 0 0 k ≡ (bytes_eq org f && bytes_eq name s)
+ws_parts k org name f s a b h p q = λ i. h.its_place i == 0 && (h.its_number i == 0 && (bytes_eq ((h.its_first ∙ p) i) f && bytes_eq ((h.its_second ∙ q) i) s))
+
+-- the key of an organization
+pub org_parts : (k : RowKey) (org f a : List ℕ) → IsKeyOf k a [] 0 0 → a ≡ org → is_key f [] 0 0 k ≡ bytes_eq org f
+org_parts k org f a h p = ws_parts k org [] f [] a [] h p refl ∙ and-true (bytes_eq org f)
+
+module _ {T Z : Type 0} where
+  pub empty_group : (org ws : List ℕ) (m : BTreeMap RowKey (Vec (Bor T) Z)) → m.entries ≡ [] → group_in org ws m ≡ []
+  empty_group org ws m empty = ap (λ o. option_map_or held o []) (empty_at org ws 0 0 m empty)
+
+  -- what was taken is put back with one more
+  pub put_back : (key : RowKey) (it : T) (group : Vec (Bor T) Z) (old mid new : BTreeMap RowKey (Vec (Bor T) Z)) → held group ≡ option_map_or held (get key_cmp old key) [] ++ it ∷ []
+      → ((q : RowKey) → get key_cmp mid q ≡ cond (is_eq (key_cmp key q)) None (get key_cmp old q)) → ((q : RowKey) → get key_cmp new q ≡ cond (is_eq (key_cmp key q)) (Some group) (get key_cmp mid q))
+      → (org ws : List ℕ) → group_in org ws new ≡ cond (is_key org ws 0 0 key) (group_in org ws old ++ it ∷ []) (group_in org ws old)
+  put_back key it group old mid new is taken put org ws = go (is_key org ws 0 0 key) refl
     where
-      go : (o : Option X) → with_some o (picked rows row_indices) ≡ with_some o [] ++ picked rows row_indices
-      go None = refl
-      go (Some x) = refl
+      there : RowKey
+      there = key_of_parts org ws 0 0
 
-  pub picked_both : (row_indices others : List ℕ) → picked rows (row_indices ++ others) ≡ picked rows row_indices ++ picked rows others
-  picked_both [] others = refl
-  picked_both (p ∷ row_indices) others = go (slice_get rows p) (picked_both row_indices others)
-    where
-      go : (o : Option X) → picked rows (row_indices ++ others) ≡ picked rows row_indices ++ picked rows others → with_some o (picked rows (row_indices ++ others)) ≡ with_some o (picked rows row_indices) ++ picked rows others
-      go None more = more
-      go (Some x) more = ap (λ l. x ∷ l) more
-
-  -- one row more was put into its group, if it is of it
-  pub one_grouped : (test : X → Bool) (i : ℕ) (x : X) → slice_get rows i ≡ Some x → take (i + 1) rows ≡ take i rows ++ x ∷ [] → (old now : List ℕ) → now ≡ cond (test x) (old ++ i ∷ []) old → picked rows old ≡ filter test (take i rows)
-      → picked rows now ≡ filter test (take (i + 1) rows)
-  one_grouped test i x there longer old now is done = go (test x) refl
-    where
-      both : (xs ys : List X) → filter test (xs ++ ys) ≡ filter test xs ++ filter test ys
-      both [] ys = refl
-      both (y ∷ xs) ys = kept (test y) (both xs ys)
-        where
-          kept : (b : Bool) → filter test (xs ++ ys) ≡ filter test xs ++ filter test ys → cond b (y ∷ filter test (xs ++ ys)) (filter test (xs ++ ys)) ≡ cond b (y ∷ filter test xs) (filter test xs) ++ filter test ys
-          kept true more = ap (λ l. y ∷ l) more
-          kept false more = more
-
-      go : (b : Bool) → test x ≡ b → picked rows now ≡ filter test (take (i + 1) rows)
+      go : (b : Bool) → is_key org ws 0 0 key ≡ b → group_in org ws new ≡ cond b (group_in org ws old ++ it ∷ []) (group_in org ws old)
       go true e =
-          ap (picked rows) (is ∙ ap (λ b. cond b (old ++ i ∷ []) old) e) ∙ picked_both old (i ∷ []) ∙ (λ j. done j ++ with_some (there j) [])
-          ∙ sym (ap (filter test) longer ∙ both (take i rows) (x ∷ []) ∙ ap (λ b. filter test (take i rows) ++ cond b (x ∷ []) []) e)
+          ap (λ o. option_map_or held o []) (put there ∙ ap (λ b. cond b (Some group) (get key_cmp mid there)) (is_at_parts org ws 0 0 key ∙ e)) ∙ is
+          ∙ ap (λ o. option_map_or held o [] ++ it ∷ []) (sym (same_place org ws 0 0 key old e))
       go false e =
-          ap (picked rows) (is ∙ ap (λ b. cond b (old ++ i ∷ []) old) e) ∙ done
-          ∙ sym (ap (filter test) longer ∙ both (take i rows) (x ∷ []) ∙ ap (λ b. filter test (take i rows) ++ cond b (x ∷ []) []) e ∙ append-nil (filter test (take i rows)))
+          let other = is_at_parts org ws 0 0 key ∙ e in
+          ap (λ o. option_map_or held o []) (put there ∙ ap (λ b. cond b (Some group) (get key_cmp mid there)) other ∙ taken there ∙ ap (λ b. cond b None (get key_cmp old there)) other)
 
--- what is put in at a key is found there, in place of what was taken
-pub put_in : {V A : Type 0} (show : V → A) (none : A) (change : A → A) (old mid now : List ℕ → Option V) (key : List ℕ) (v : V) → ((q : List ℕ) → now q ≡ cond (bytes_eq key q) (Some v) (mid q))
-    → ((q : List ℕ) → bytes_eq key q ≡ false → mid q ≡ old q) → show v ≡ change (option_map_or show (old key) none)
-    → (q : List ℕ) → option_map_or show (now q) none ≡ cond (bytes_eq key q) (change (option_map_or show (old q) none)) (option_map_or show (old q) none)
-put_in show none change old mid now key v is others changed q = go (bytes_eq key q) refl
+-- the rows at the key of a workspace are its group
+pub found_group : {T Z : Type 0} (k : RowKey) (org ws a b : List ℕ) (m : BTreeMap RowKey (Vec (Bor T) Z)) → IsKeyOf k a b 0 0 → a ≡ org → b ≡ ws → option_map_or held (get key_cmp m k) [] ≡ group_in org ws m
+found_group k org ws a b m h p q = ap (λ o. option_map_or held o []) (sym (at_key a b 0 0 k m h)) ∙ (λ i. group_in (p i) (q i) m)
+
+-- one row more was put into its group
+pub one_grouped : {T : Type 0} (org ws : List ℕ) (rows : List (Kept (Owned T))) (i : ℕ) (x : Kept (Owned T)) (old new : List T) → i < length rows → x ≡ get_or rows i x → old ≡ its_of org ws (take i rows)
+    → new ≡ cond (is_of org ws x) (old ++ x.1.it ∷ []) old → new ≡ its_of org ws (take (i + 1) rows)
+one_grouped {T} org ws rows i x old new within is so_far step =
+    step ∙ ap (λ l. cond (is_of org ws x) (l ++ x.1.it ∷ []) l) so_far
+    ∙ sym (ap (map it) (filter_more (is_of org ws) rows i x within ∙ ap (λ y. filter (is_of org ws) (take i rows) ++ cond (is_of org ws y) (y ∷ []) []) (sym is)) ∙ map-append it (filter (is_of org ws) (take i rows)) (cond (is_of org ws x) (x ∷ []) []) ∙ go (is_of org ws x))
   where
-    go : (b : Bool) → bytes_eq key q ≡ b → option_map_or show (now q) none ≡ cond (bytes_eq key q) (change (option_map_or show (old q) none)) (option_map_or show (old q) none)
-    go true e =
-        ap (λ o. option_map_or show o none) (is q ∙ ap (λ b. cond b (Some v) (mid q)) e) ∙ changed ∙ ap (λ k. change (option_map_or show (old k) none)) (equal_bytes key q e)
-        ∙ sym (ap (λ b. cond b (change (option_map_or show (old q) none)) (option_map_or show (old q) none)) e)
-    go false e =
-        ap (λ o. option_map_or show o none) (is q ∙ ap (λ b. cond b (Some v) (mid q)) e ∙ others q e)
-        ∙ sym (ap (λ b. cond b (change (option_map_or show (old q) none)) (option_map_or show (old q) none)) e)
+    it : Kept (Owned T) → T
+    it y = y.1.it
 
-pub both_tests : {A : Type 0} (a b : Bool) (x y : A) → cond a (cond b x y) y ≡ cond (a && b) x y
-both_tests true b x y = refl
-both_tests false b x y = refl
-
-pub there_is : {X : Type 0} (xs : List X) (i : ℕ) (x : X) → i < length xs → x ≡ get_or xs i x → slice_get xs i ≡ Some x
-there_is xs i x within is = slice_get-get_or xs i x within ∙ ap Some (sym is)
+    go : (b : Bool) → its_of org ws (take i rows) ++ map it (cond b (x ∷ []) []) ≡ cond b (its_of org ws (take i rows) ++ x.1.it ∷ []) (its_of org ws (take i rows))
+    go true = refl
+    go false = append-nil (its_of org ws (take i rows))

@@ -5,6 +5,7 @@ use Rattle.std.specs.List.{AllByRecursion}
 use Rattle.std.specs.Str.{bytes_eq}
 use Rattle.std.proofs.lemmas.Cmp.{nat_list_eq_equiv}
 use Rattle.std.proofs.lemmas.Slice.Eq.{bytes_eq-Decides}
+use Rattle.std.proofs.lemmas.Option.{none-some, same_Some}
 use Rattle.std.proofs.lemmas.Bool.{and_parts, and_from, false_from_ne_true}
 use Rattle.sqlite_keyed.specs.Rules.{AreApart}
 use Rattle.sqlite_keyed.proofs.SliceLemmas.{is_some-map}
@@ -24,6 +25,7 @@ use Rattle.checks.specs.Inner.Heads.{IsSoundHead}
 use Rattle.checks.proofs.JudgingLemmas.{judges_both, judges_as}
 use Rattle.checks.proofs.PageKeys.{heads_apart}
 use Rattle.checks.proofs.KeyLemmas.{bytes_turned}
+use Rattle.checks.proofs.Lent.{find_mapped}
 use Rattle.checks.specs.Pages.{is_head, page_size_in, NamesPage, count_in, IsCountedIn, named_size_in, HasTextIn}
 use Rattle.checks.specs.Inner.Places.{AreRowsSound, AreTextsSound}
 
@@ -58,15 +60,6 @@ module _ {X : Type 0} where
 
   all_parts : (P Q : X → Type 0) (xs : List X) → AllByRecursion P xs → AllByRecursion Q xs → AllByRecursion (λ x. P x × Q x) xs
   all_parts P Q xs p q = all_both P Q (λ x. P x × Q x) (λ x here also. (here, also)) xs p q
-
-module _ {X Y : Type 0} (f : X → Y) where
-  find_mapped : (p : Y → Bool) (xs : List X) → find p (map f xs) ≡ option_map f (find (λ x. p (f x)) xs)
-  find_mapped p [] = refl
-  find_mapped p (x ∷ xs) = by (p (f x)) (find_mapped p xs)
-    where
-      by : (b : Bool) → find p (map f xs) ≡ option_map f (find (λ y. p (f y)) xs) → cond b (Some (f x)) (find p (map f xs)) ≡ option_map f (cond b (Some x) (find (λ y. p (f y)) xs))
-      by true rest = refl
-      by false rest = rest
 
 -- ---- pages that are apart
 
@@ -194,40 +187,19 @@ module _ (key_of : List ℕ → List ℕ) (t : Tables) where
   HasPiece x place = (bytes : List ℕ) × (piece_of x.org x.name x.it.number place t ≡ Some bytes) × (length bytes ≡ piece_size x.it.size place)
 
   sized_to : (o : Option (Kept PageRow)) (n : ℕ) → option_map (λ x. length x.1.bytes) o ≡ Some n → (bytes : List ℕ) × (option_map (λ x. x.1.bytes) o ≡ Some bytes) × (length bytes ≡ n)
-  sized_to None n is = absurd (no_size n is)
-    where
-      no_size : (m : ℕ) → None ≡ Some m → ⊥
-      no_size m h = cc
-  sized_to (Some x) n is = (x.1.bytes, refl, some_same _ n is)
-    where
-      some_same : (a b : ℕ) → Some a ≡ Some b → a ≡ b
-      some_same a b h = cc
+  sized_to None n is = absurd (none-some n is)
+  sized_to (Some x) n is = (x.1.bytes, refl, same_Some _ n is)
 
   sized_from : (o : Option (Kept PageRow)) (n : ℕ) (bytes : List ℕ) → option_map (λ x. x.1.bytes) o ≡ Some bytes → length bytes ≡ n → option_map (λ x. length x.1.bytes) o ≡ Some n
-  sized_from None n bytes is size = absurd (no_bytes bytes is)
-    where
-      no_bytes : (b : List ℕ) → None ≡ Some b → ⊥
-      no_bytes b h = cc
-  sized_from (Some x) n bytes is size = ap Some (ap length (some_same x.1.bytes bytes is) ∙ size)
-    where
-      some_same : (a b : List ℕ) → Some a ≡ Some b → a ≡ b
-      some_same a b h = cc
+  sized_from None n bytes is size = absurd (none-some bytes is)
+  sized_from (Some x) n bytes is size = ap Some (ap length (same_Some x.1.bytes bytes is) ∙ size)
 
   piece_to : (o : Option (Kept VpageRow)) (n : ℕ) → option_map (named_size_in heads) o ≡ Some (Some n) → (bytes : List ℕ) × (bytes_named (option_map page_name o) t ≡ Some bytes) × (length bytes ≡ n)
-  piece_to None n is = absurd (no_piece n is)
-    where
-      no_piece : (m : ℕ) → None ≡ Some (Some m) → ⊥
-      no_piece m h = cc
-  piece_to (Some y) n is = sized_to (find (is_page y.1.key y.1.twin) t.pages) n (sym (page_size_at y.1.key y.1.twin) ∙ some_same _ (Some n) is)
-    where
-      some_same : (a b : Option ℕ) → Some a ≡ Some b → a ≡ b
-      some_same a b h = cc
+  piece_to None n is = absurd (none-some (Some n) is)
+  piece_to (Some y) n is = sized_to (find (is_page y.1.key y.1.twin) t.pages) n (sym (page_size_at y.1.key y.1.twin) ∙ same_Some _ (Some n) is)
 
   piece_from : (o : Option (Kept VpageRow)) (n : ℕ) (bytes : List ℕ) → bytes_named (option_map page_name o) t ≡ Some bytes → length bytes ≡ n → option_map (named_size_in heads) o ≡ Some (Some n)
-  piece_from None n bytes is size = absurd (no_bytes bytes is)
-    where
-      no_bytes : (b : List ℕ) → None ≡ Some b → ⊥
-      no_bytes b h = cc
+  piece_from None n bytes is size = absurd (none-some bytes is)
   piece_from (Some y) n bytes is size = ap Some (page_size_at y.1.key y.1.twin ∙ sized_from (find (is_page y.1.key y.1.twin) t.pages) n bytes is size)
 
   text_to : (x : Kept VersionRow) → HasTextIn heads t.vpages x.1 → HasText t x

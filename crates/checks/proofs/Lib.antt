@@ -5,6 +5,7 @@ pub mod HeadLemmas
 pub mod InTables
 pub mod JudgingLemmas
 pub mod KeyLemmas
+pub mod Lent
 pub mod NumberLemmas
 pub mod PageKeys
 pub mod PlacesLemmas

@@ -4,6 +4,7 @@ use Rattle.std.specs.Prelude.{◌⊎◌, ◌&&◌, ◌==◌, ◌↔◌, Option, 
 use Rattle.std.specs.Option.{option_or, option_eq}
 use Rattle.std.specs.List.{AllByRecursion}
 use Rattle.std.specs.Str.{bytes_eq}
+use Rattle.std.proofs.lemmas.Option.{none-some}
 use Rattle.std.proofs.lemmas.Bool.{cases_lt}
 use Rattle.std.specs.BTreeMap.{BTreeMap, get}
 use Rattle.std.proofs.lemmas.List.{take_more, take_all, length-take-le}
@@ -69,10 +70,7 @@ both_some : (a b : ℕ) → Some (Some a) ≡ Some (Some b) → a ≡ b
 both_some a b h = cc
 
 nothing_there : {A : Type 0} (p : Option ℕ) → None ≡ Some p → A
-nothing_there p h = absurd (none_some p h)
-  where
-    none_some : (q : Option ℕ) → None ≡ Some q → ⊥
-    none_some q h = cc
+nothing_there p h = absurd (none-some p h)
 
 -- the map has a row at the place, and whether its page has so many bytes
 pub size_there : (found : Option (Option ℕ)) (piece : Option ℕ) (size : ℕ) (same : Bool) → found ≡ Some piece → same ≡ option_eq nat_eq piece (Some size) → IsTrue same ↔ (found ≡ Some (Some size))

@@ -1,7 +1,9 @@
 -- The looks at one workspace.
 use Rattle.std.proofs.Common.{◌≡◌, ℕ, ◌≤◌, Bool, List, sym, ap, ◌∙◌, subst, IsTrue}
 use Rattle.basis.specs.declared.numbers.TheConstants.{MAX_KEPT}
-use Rattle.statements.specs.Rows.{Kept, WsRow, VersionRow, RunRow, RetentionRow}
+use Rattle.basis.specs.declared.rows.RunRow.{RunRow as Run}
+use Rattle.basis.specs.declared.rows.VersionRow.{VersionRow as Version}
+use Rattle.statements.specs.Rows.{WsRow}
 use Rattle.checks.specs.declared.found.Found.{Found}
 use Rattle.checks.specs.declared.found.FaultKind.TheVariants as kind
 use Rattle.checks.specs.Judging.{fault_of, Breaks, Judges}
@@ -13,7 +15,7 @@ use Rattle.checks.specs.Inner.Workspaces.{IsLawfulRow}
 use Rattle.checks.proofs.JudgingLemmas.{judges_both, judges_as, judges_law}
 
 -- three looks judge a workspace
-pub row_judged : (ks : List (Kept RetentionRow)) (vs : List (Kept VersionRow)) (rs : List (Kept RunRow)) (x : WsRow) (own versions runs : Bool) (retention : ℕ) (a b c d : Found)
+pub row_judged : (ks : List ℕ) (vs : List Version) (rs : List Run) (x : WsRow) (own versions runs : Bool) (retention : ℕ) (a b c d : Found)
     → own ≡ is_own x → retention ≡ retention_among ks → 1 ≤ retention → retention ≤ MAX_KEPT → versions ≡ are_versions retention x.it.next_version vs → runs ≡ are_runs x.it.holder x.it.next_run rs
     → Judges (Breaks (IsTrue own) (name_fault kind.Unlawful x.org x.name)) (IsTrue own) a b → Judges (Breaks (IsTrue versions) (fault_of kind.Versions x.org x.name (unfit_version vs))) (IsTrue versions) b c
     → Judges (Breaks (IsTrue runs) (fault_of kind.Runs x.org x.name (unfit_run x.it.holder rs))) (IsTrue runs) c d → Judges (OfWorkspace ks vs rs x) (IsLawfulRow ks vs rs x) a d

@@ -1,36 +1,34 @@
 -- The laws of versions by the tests of their rows.
-use Rattle.std.proofs.Common.{◌≡◌, ℕ, ◌+◌, ◌-◌, ◌≤◌, ◌==◌, true, ◌&&◌, nat_le, nat_lt, List, [], ◌∷◌, map, filter, length, refl, sym, ap, ◌∙◌, subst, arith, nat_cmp}
-use Rattle.std.specs.List.{list_all}
-use Rattle.std.proofs.lemmas.Bool.{and_from, ltb-true, lt-ltb, leb-true, le-leb, eqb-true, eq-eqb}
+use Rattle.std.proofs.Common.{◌≡◌, ℕ, ◌+◌, ◌-◌, ◌≤◌, ◌==◌, true, nat_le, List, [], ◌∷◌, map, filter, length, IsTrue, refl, sym, ap, ◌∙◌, subst, arith, nat_cmp}
+use Rattle.std.specs.Prelude.{◌↔◌}
+use Rattle.std.specs.List.{AllByRecursion, list_all}
+use Rattle.std.proofs.lemmas.Bool.{and_from, leb-true, le-leb, eqb-true, eq-eqb}
 use Rattle.std.proofs.lemmas.List.{length-map}
 use Rattle.sqlite_keyed.specs.Lists.{sort_by}
-use Rattle.sqlite_keyed.proofs.ListLemmas.{map-map}
+use Rattle.sqlite_keyed.proofs.ListLemmas.{map-map, all_map, all_unmap}
 use Rattle.sqlite_keyed.proofs.SortLemmas.{sort_by-map}
 use Rattle.sqlite_keyed.proofs.RuleLemmas.{first_of_both, second_of_both}
+use Rattle.basis.specs.declared.rows.VersionRow.{VersionRow as Cells}
 use Rattle.machine.specs.Laws.{Rises, IsVersion, AreVersions, IsNext}
 use Rattle.machine.specs.Ranges.{IsRetention}
 use Rattle.machine.specs.declared.records.Version.{Version}
 use Rattle.statements.specs.Rows.{Kept, VersionRow}
 use Rattle.statements.specs.Tables.{Tables}
 use Rattle.statements.specs.Changes.{is_version_of}
-use Rattle.statements.specs.Finds.{version_cmp}
+use Rattle.statements.proofs.Sorting.{all_sorted}
 use Rattle.tables.specs.Records.{version_at, versions_at}
 use Rattle.tables.specs.Sound.{HasNoGap}
-use Rattle.checks.specs.Versions.{is_version_row, version_number, rises, reaches, sorted, are_versions}
-use Rattle.checks.proofs.TestLemmas.{all_from_tests, tests_from_all, all_in_order, all_as_they_stand}
+use Rattle.tables.proofs.Ordered.{by_version, versions_sorted}
+use Rattle.tables.proofs.Sorted.{all_unsorted}
+use Rattle.checks.specs.Versions.{is_version, version_number, rises, reaches, sorted, are_versions}
+use Rattle.checks.specs.Workspaces.{its_of}
+use Rattle.checks.proofs.TestLemmas.{at_most, below, both, all_tests}
 
 -- ---- numbers
 
-pub rises_by_test : (low next : ℕ) (ns : List ℕ) → rises low ns next ≡ true → Rises low ns next
-rises_by_test low next [] h = tt
-rises_by_test low next (n ∷ ns) h =
-    let front = first_of_both (nat_lt low n && nat_lt n next) (rises n ns next) h in
-    (ltb-true low n (first_of_both (nat_lt low n) (nat_lt n next) front), ltb-true n next (second_of_both (nat_lt low n) (nat_lt n next) front), rises_by_test n next ns (second_of_both (nat_lt low n && nat_lt n next) (rises n ns next) h))
-
-pub test_of_rises : (low next : ℕ) (ns : List ℕ) → Rises low ns next → rises low ns next ≡ true
-test_of_rises low next [] rise = refl
-test_of_rises low next (n ∷ ns) rise =
-    and_from (nat_lt low n && nat_lt n next) (rises n ns next) (and_from (nat_lt low n) (nat_lt n next) (lt-ltb low n rise.0) (lt-ltb n next rise.1)) (test_of_rises n next ns rise.2)
+pub rises_tests : (low next : ℕ) (ns : List ℕ) → IsTrue (rises low ns next) ↔ Rises low ns next
+rises_tests low next [] = (λ e. tt, λ rise. refl)
+rises_tests low next (n ∷ ns) = let tests = both (both (below low n) (below n next)) (rises_tests n next ns) in (λ e. let rise = tests.0 e in (rise.0.0, rise.0.1, rise.1), λ rise. tests.1 ((rise.0, rise.1), rise.2))
 
 -- numbers that rise are no more than there are up to the next one
 spans : (low next n : ℕ) (ns : List ℕ) → Rises low (n ∷ ns) next → n + length (n ∷ ns) ≤ next
@@ -60,66 +58,55 @@ test_of_gapless next (n ∷ ns) gapless =
     let full : n + length (n ∷ ns) ≡ next = fills next n ns gapless in
     and_from (nat_le n next) (next - n == length (n ∷ ns)) (le-leb n next (omega (arith, full))) (eq-eqb (next - n) (length (n ∷ ns)) (omega (arith, full)))
 
--- ---- rows
+-- ---- versions
 
 module _ (t : Tables) (org ws : List ℕ) where
-  abbrev rows : List (Kept VersionRow)
-  rows = filter (is_version_of org ws) t.versions
+  abbrev vs : List Cells
+  vs = its_of org ws t.versions
 
-  abbrev value : Kept VersionRow → Version
-  value x = version_at t org ws x.1.it
+  abbrev ns : List ℕ
+  ns = sorted (map version_number vs)
 
-  numbers_are : map (λ (v : Version). v.number) (versions_at t org ws) ≡ sorted (map version_number rows)
-  numbers_are = map-map (λ (v : Version). v.number) value (sort_by version_cmp rows) ∙ sym (sort_by-map nat_cmp version_number rows)
+  abbrev value : Cells → Version
+  value v = version_at t org ws v
 
-  count_is : length (versions_at t org ws) ≡ length (sorted (map version_number rows))
+  values_are : versions_at t org ws ≡ sort_by by_version (map value vs)
+  values_are = versions_sorted t org ws ∙ ap (sort_by by_version) (sym (map-map value (λ (x : Kept VersionRow). x.1.it) (filter (is_version_of org ws) t.versions)))
+
+  numbers_are : map (λ (v : Version). v.number) (versions_at t org ws) ≡ ns
+  numbers_are = ap (map (λ (v : Version). v.number)) values_are ∙ sym (sort_by-map nat_cmp (λ (v : Version). v.number) (map value vs)) ∙ ap sorted (map-map (λ (v : Version). v.number) value vs)
+
+  count_is : length (versions_at t org ws) ≡ length ns
   count_is = sym (length-map (versions_at t org ws) (λ (v : Version). v.number)) ∙ ap length numbers_are
 
-  row_by_test : (x : Kept VersionRow) → is_version_row x ≡ true → IsVersion (value x)
-  row_by_test x h =
-      let front = first_of_both (nat_le x.1.it.serial 9_223_372_036_854_775_807 && nat_le (length x.1.it.lineage) 256) (nat_le x.1.it.created 253_402_300_799) h in
-      let low : x.1.it.serial ≤ 9_223_372_036_854_775_807 = leb-true x.1.it.serial 9_223_372_036_854_775_807 (first_of_both (nat_le x.1.it.serial 9_223_372_036_854_775_807) (nat_le (length x.1.it.lineage) 256) front) in
-      record {
-        serial = omega (arith, low);
-        lineage = leb-true (length x.1.it.lineage) 256 (second_of_both (nat_le x.1.it.serial 9_223_372_036_854_775_807) (nat_le (length x.1.it.lineage) 256) front);
-        created = leb-true x.1.it.created 253_402_300_799 (second_of_both (nat_le x.1.it.serial 9_223_372_036_854_775_807 && nat_le (length x.1.it.lineage) 256) (nat_le x.1.it.created 253_402_300_799) h);
-      }
+  version_tests : (v : Cells) → IsTrue (is_version v) ↔ IsVersion (value v)
+  version_tests v =
+      let tests = both (both (at_most v.serial 9_223_372_036_854_775_807) (at_most (length v.lineage) 256)) (at_most v.created 253_402_300_799) in (
+        λ e. let law = tests.0 e in let low = law.0.0 in record { serial = omega (arith, low); lineage = law.0.1; created = law.1 },
+        λ law. let low = law.serial in tests.1 ((omega (arith, low), law.lineage), law.created),
+      )
 
-  test_of_row : (x : Kept VersionRow) → IsVersion (value x) → is_version_row x ≡ true
-  test_of_row x v =
-      and_from (nat_le x.1.it.serial 9_223_372_036_854_775_807 && nat_le (length x.1.it.lineage) 256) (nat_le x.1.it.created 253_402_300_799)
-      (and_from (nat_le x.1.it.serial 9_223_372_036_854_775_807) (nat_le (length x.1.it.lineage) 256) (le-leb x.1.it.serial 9_223_372_036_854_775_807 (omega (arith, v.serial))) (le-leb (length x.1.it.lineage) 256 v.lineage))
-      (le-leb x.1.it.created 253_402_300_799 v.created)
+  each_tests : IsTrue (list_all is_version vs) ↔ AllByRecursion IsVersion (versions_at t org ws)
+  each_tests =
+      let tests = all_tests is_version (λ v. IsVersion (value v)) version_tests vs in
+      subst (λ us. IsTrue (list_all is_version vs) ↔ AllByRecursion IsVersion us) (sym values_are)
+      (λ e. all_sorted by_version IsVersion (map value vs) (all_map IsVersion value vs (tests.0 e)), λ all. tests.1 (all_unmap IsVersion value vs (all_unsorted by_version IsVersion (map value vs) all)))
+
+  abbrev Laws : ℕ → ℕ → Type 0
+  Laws retention next = (((length (versions_at t org ws) ≤ retention) × Rises 0 ns next) × IsTrue (reaches ns next)) × AllByRecursion IsVersion (versions_at t org ws)
+
+  versions_tests : (retention next : ℕ) → IsTrue (are_versions retention next vs) ↔ Laws retention next
+  versions_tests retention next = both (both (both (subst (λ n. IsTrue (nat_le (length ns) retention) ↔ (n ≤ retention)) (sym count_is) (at_most (length ns) retention)) (rises_tests 0 next ns)) (λ e. e, λ e. e)) each_tests
 
   -- the rows that pass denote lawful versions
-  pub versions_by_test : (retention next : ℕ) → IsRetention retention → IsNext next → are_versions retention next rows ≡ true → AreVersions retention next (versions_at t org ws)
-  versions_by_test retention next kept nexts h =
-      let ns = sorted (map version_number rows) in
-      let three = first_of_both (nat_le (length ns) retention && rises 0 ns next && reaches ns next) (list_all is_version_row rows) h in
-      let two = first_of_both (nat_le (length ns) retention && rises 0 ns next) (reaches ns next) three in
-      let rise : Rises 0 ns next = rises_by_test 0 next ns (second_of_both (nat_le (length ns) retention) (rises 0 ns next) two) in
-      record {
-        retention = kept;
-        next = nexts;
-        rise = subst (λ ms. Rises 0 ms next) (sym numbers_are) rise;
-        each = all_in_order version_cmp IsVersion value rows (all_from_tests is_version_row (λ x. IsVersion (value x)) row_by_test rows (second_of_both (nat_le (length ns) retention && rises 0 ns next && reaches ns next) (list_all is_version_row rows) h));
-        kept = subst (λ n. n ≤ retention) (sym count_is) (leb-true (length ns) retention (first_of_both (nat_le (length ns) retention) (rises 0 ns next) two));
-      }
+  pub versions_by_test : (retention next : ℕ) → IsRetention retention → IsNext next → are_versions retention next vs ≡ true → AreVersions retention next (versions_at t org ws)
+  versions_by_test retention next kept nexts e =
+      let law = (versions_tests retention next).0 e in record { retention = kept; next = nexts; rise = subst (λ ms. Rises 0 ms next) (sym numbers_are) law.0.0.1; each = law.1; kept = law.0.0.0 }
 
   -- and none between them is missing
-  pub no_gap_by_test : (retention next : ℕ) → are_versions retention next rows ≡ true → HasNoGap (map (λ (v : Version). v.number) (versions_at t org ws)) next
-  no_gap_by_test retention next h =
-      let ns = sorted (map version_number rows) in
-      let three = first_of_both (nat_le (length ns) retention && rises 0 ns next && reaches ns next) (list_all is_version_row rows) h in
-      let two = first_of_both (nat_le (length ns) retention && rises 0 ns next) (reaches ns next) three in
-      let rise : Rises 0 ns next = rises_by_test 0 next ns (second_of_both (nat_le (length ns) retention) (rises 0 ns next) two) in
-      subst (λ ms. HasNoGap ms next) (sym numbers_are) (gapless_by_test 0 next ns rise (second_of_both (nat_le (length ns) retention && rises 0 ns next) (reaches ns next) three))
+  pub no_gap_by_test : (retention next : ℕ) → are_versions retention next vs ≡ true → HasNoGap (map (λ (v : Version). v.number) (versions_at t org ws)) next
+  no_gap_by_test retention next e = let law = (versions_tests retention next).0 e in subst (λ ms. HasNoGap ms next) (sym numbers_are) (gapless_by_test 0 next ns law.0.0.1 law.0.1)
 
-  pub test_of_versions : (retention next : ℕ) → AreVersions retention next (versions_at t org ws) → HasNoGap (map (λ (v : Version). v.number) (versions_at t org ws)) next → are_versions retention next rows ≡ true
+  pub test_of_versions : (retention next : ℕ) → AreVersions retention next (versions_at t org ws) → HasNoGap (map (λ (v : Version). v.number) (versions_at t org ws)) next → are_versions retention next vs ≡ true
   test_of_versions retention next are gapless =
-      let ns = sorted (map version_number rows) in
-      and_from (nat_le (length ns) retention && rises 0 ns next && reaches ns next) (list_all is_version_row rows)
-      (and_from (nat_le (length ns) retention && rises 0 ns next) (reaches ns next)
-      (and_from (nat_le (length ns) retention) (rises 0 ns next) (le-leb (length ns) retention (subst (λ n. n ≤ retention) count_is are.kept)) (test_of_rises 0 next ns (subst (λ ms. Rises 0 ms next) numbers_are are.rise)))
-      (test_of_gapless next ns (subst (λ ms. HasNoGap ms next) numbers_are gapless)))
-      (tests_from_all is_version_row (λ x. IsVersion (value x)) test_of_row rows (all_as_they_stand version_cmp IsVersion value rows are.each))
+      (versions_tests retention next).1 (((are.kept, subst (λ ms. Rises 0 ms next) numbers_are are.rise), test_of_gapless next ns (subst (λ ms. HasNoGap ms next) numbers_are gapless)), are.each)

@@ -5,7 +5,7 @@ use Rattle.std.specs.List.{AllByRecursion, list_any}
 use Rattle.std.specs.Str.{bytes_eq}
 use Rattle.std.specs.FinMap.{entries, len-entries}
 use Rattle.sqlite_keyed.specs.Rules.{AreApart}
-use Rattle.sqlite_keyed.proofs.ListLemmas.{all_weaker, filter_none}
+use Rattle.sqlite_keyed.proofs.ListLemmas.{all_weaker, all_both, filter_none}
 use Rattle.sqlite_keyed.proofs.SliceLemmas.{any_is_found}
 use Rattle.basis.specs.declared.numbers.TheConstants.{MAX_LIMIT}
 use Rattle.basis.proofs.NameLemmas.{equal_bytes}
@@ -56,14 +56,9 @@ module _ (t : Tables) where
   found_itself [] apart = tt
   found_itself (x ∷ xs) apart = (
     ap (λ b. cond b (Some x) (find (is_ws x.1.org x.1.name) xs)) (pair_is x.1.org x.1.name),
-    all_weaker (λ z. (is_ws x.1.org x.1.name z ≡ false) × (find (is_ws z.1.org z.1.name) xs ≡ Some z)) (λ z. find (is_ws z.1.org z.1.name) (x ∷ xs) ≡ Some z)
-        (λ z h. ap (λ b. cond b (Some x) (find (is_ws z.1.org z.1.name) xs)) (apart_back x z h.0) ∙ h.1) xs
-        (together xs (λ z. is_ws x.1.org x.1.name z ≡ false) (λ z. find (is_ws z.1.org z.1.name) xs ≡ Some z) apart.0 (found_itself xs apart.1)),
+    all_both (λ z. is_ws x.1.org x.1.name z ≡ false) (λ z. find (is_ws z.1.org z.1.name) xs ≡ Some z) (λ z. find (is_ws z.1.org z.1.name) (x ∷ xs) ≡ Some z)
+        (λ z apart found. ap (λ b. cond b (Some x) (find (is_ws z.1.org z.1.name) xs)) (apart_back x z apart) ∙ found) xs apart.0 (found_itself xs apart.1),
   )
-    where
-      together : (ys : List (Kept WsRow)) (P Q : Kept WsRow → Type 0) → AllByRecursion P ys → AllByRecursion Q ys → AllByRecursion (λ z. P z × Q z) ys
-      together [] P Q one two = tt
-      together (y ∷ ys) P Q one two = ((one.0, two.0), together ys P Q one.1 two.1)
 
   pub rows_by_name : AreSingle → AreNamed → AreLawfulWss t
   rows_by_name apart named =

@@ -1,13 +1,13 @@
 -- The faults of rows: which there are, and what each one reports.
-use Rattle.std.specs.Prelude.{◌≡◌, ◌≤◌, ◌<◌, ◌⊎◌, ℕ, true, false, ◌&&◌, ◌==◌, pos, List, [], ◌∷◌, filter, find, map, Option, Some, None, IsTrue}
+use Rattle.std.specs.Prelude.{◌≡◌, ◌≤◌, ◌<◌, ◌⊎◌, ℕ, true, false, ◌&&◌, ◌==◌, pos, List, [], ◌∷◌, find, map, Option, Some, None, IsTrue}
 use Rattle.std.specs.Str.{bytes_eq}
 use Rattle.std.specs.List.{list_any}
 use Rattle.basis.specs.declared.numbers.TheConstants.{MAX_LIMIT}
 use Rattle.basis.specs.declared.rows.VersionRow.{VersionRow as Version}
 use Rattle.basis.specs.declared.rows.RunRow.{RunRow as Run}
-use Rattle.statements.specs.Rows.{Kept, Owned, OrgRow, TokenRow, BoundRow, WsRow, RetentionRow, VersionRow, RunRow, VpageRow}
+use Rattle.statements.specs.Rows.{Kept, Owned, OrgRow, TokenRow, BoundRow, WsRow, VersionRow, VpageRow}
 use Rattle.statements.specs.Tables.{Tables}
-use Rattle.statements.specs.Changes.{is_of, is_org, is_digest_of, is_retention, is_version_of, is_run_of}
+use Rattle.statements.specs.Changes.{is_of, is_org, is_digest_of}
 use Rattle.statements.specs.declared.rows.PageHead.{PageHead}
 use Rattle.statements.specs.declared.rows.Rows.{Rows}
 use Rattle.statements.specs.declared.making.TheConstants.{SCHEMA_VERSION}
@@ -22,7 +22,7 @@ use Rattle.checks.specs.Workspaces.{count_in}
 use Rattle.checks.specs.Pages.{IsPlacedIn, NamesPage, IsCountedIn, HasTextIn}
 use Rattle.checks.specs.Versions.{are_versions, unfit_version}
 use Rattle.checks.specs.Runs.{are_runs, unfit_run}
-use Rattle.checks.specs.Workspaces.{is_own, retention_among}
+use Rattle.checks.specs.Workspaces.{its_of, is_own, retention_among}
 
 -- ---- what a fault names
 
@@ -132,15 +132,15 @@ OfPages heads versions vpages f = OfHeads vpages heads f ⊎ PagesMiscounted vpa
 abbrev pub TooMany : List (Kept WsRow) → Fault → Type 0
 TooMany wss f = (org : List ℕ) × (MAX_LIMIT < count_in wss org) × (f ≡ org_fault kind.TooMany org)
 
--- what is wrong with the row of a workspace, with its rows of keeping, versions and runs; it names the first version or run that is out of
+-- what is wrong with the row of a workspace, with what its rows of keeping, versions and runs hold; it names the first version or run that is out of
 -- range, if there is one
-abbrev pub OfWorkspace : List (Kept RetentionRow) → List (Kept VersionRow) → List (Kept RunRow) → WsRow → Fault → Type 0
+abbrev pub OfWorkspace : List ℕ → List Version → List Run → WsRow → Fault → Type 0
 OfWorkspace ks vs rs x f =
     Breaks (IsTrue (is_own x)) (name_fault kind.Unlawful x.org x.name) f ⊎ Breaks (IsTrue (are_versions (retention_among ks) x.it.next_version vs)) (fault_of kind.Versions x.org x.name (unfit_version vs)) f
     ⊎ Breaks (IsTrue (are_runs x.it.holder x.it.next_run rs)) (fault_of kind.Runs x.org x.name (unfit_run x.it.holder rs)) f
 
 abbrev pub OfWorkspaces : Rows → Fault → Type 0
-OfWorkspaces r = OfSome (λ x. OfWorkspace (filter (is_retention x.1.org x.1.name) r.retentions) (filter (is_version_of x.1.org x.1.name) r.versions) (filter (is_run_of x.1.org x.1.name) r.runs) x.1) r.wss
+OfWorkspaces r = OfSome (λ x. OfWorkspace (its_of x.1.org x.1.name r.retentions) (its_of x.1.org x.1.name r.versions) (its_of x.1.org x.1.name r.runs) x.1) r.wss
 
 -- ---- all of them
 

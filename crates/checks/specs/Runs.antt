@@ -1,5 +1,5 @@
--- When the rows of a workspace's runs are lawful, in whatever order they stand, as tests.
-use Rattle.std.specs.Prelude.{ℕ, Bool, true, false, not, ◌&&◌, ◌||◌, ◌==◌, cond, nat_le, List, [], ◌∷◌, length, map, filter, Option, Some, None}
+-- When the runs of a workspace are lawful, in whatever order their rows stand, as tests.
+use Rattle.std.specs.Prelude.{ℕ, Bool, true, false, not, ◌&&◌, ◌||◌, ◌==◌, cond, nat_le, List, [], ◌∷◌, length, map, filter, find, option_map, Option, Some, None}
 use Rattle.std.specs.List.{list_all}
 use Rattle.std.specs.Option.{unwrap_or}
 use Rattle.std.specs.Str.{bytes_eq}
@@ -14,11 +14,10 @@ use Rattle.basis.specs.declared.rows.Holder.TheVariants.{Nobody, Lock, Run as Ho
 use Rattle.basis.specs.declared.rows.RunRow.{RunRow as Run}
 use Rattle.machine.specs.RunSteps.{plan_only_steps, auto_apply_steps, confirmed_steps}
 use Rattle.machine.specs.Laws.{is_active, is_pending, ends_in, holds, is_nobody}
-use Rattle.statements.specs.Rows.{Kept, RunRow}
 use Rattle.checks.specs.Versions.{first_unfit, rises, sorted}
 
-abbrev pub run_number : Kept RunRow → ℕ
-run_number x = x.1.it.number
+abbrev pub run_number : Run → ℕ
+run_number r = r.number
 
 -- a key has 1 to 64 bytes
 abbrev pub is_key : Option (List ℕ) → Bool
@@ -60,19 +59,13 @@ is_run holder r =
     is_key r.key && nat_le (length r.message) 1_000 && nat_le r.created MAX_MOMENT && is_where_action_ends r.plan_only r.action r.status
     && is_active_rightly r.plan_only (is_active r.status) (holds holder r.number) && waits_rightly r.plan_only (is_pending r.status) (is_nobody holder)
 
-abbrev pub is_run_row : Holder → Kept RunRow → Bool
-is_run_row holder x = is_run holder x.1.it
-
 -- the number of the first run that isn't as it is to be, if there is one
-abbrev pub unfit_run : Holder → List (Kept RunRow) → Option ℕ
-unfit_run holder = first_unfit (is_run_row holder) run_number
-
-abbrev pub is_open_row : Kept RunRow → Bool
-is_open_row x = is_open x.1.it.status
+abbrev pub unfit_run : Holder → List Run → Option ℕ
+unfit_run holder = first_unfit (is_run holder) run_number
 
 -- how many haven't ended
-abbrev pub count_open : List (Kept RunRow) → ℕ
-count_open xs = length (filter is_open_row xs)
+abbrev pub count_open : List Run → ℕ
+count_open rs = length (filter (λ (r : Run). is_open r.status) rs)
 
 -- another key than this, or none
 abbrev pub is_other : List ℕ → Option (List ℕ) → Bool
@@ -80,45 +73,37 @@ is_other key None = true
 is_other key (Some other) = not (bytes_eq key other)
 
 -- none of them has this key, if it is one
-abbrev pub have_others : Option (List ℕ) → List (Kept RunRow) → Bool
-have_others None xs = true
-have_others (Some key) xs = list_all (λ x. is_other key x.1.it.key) xs
+abbrev pub have_others : Option (List ℕ) → List Run → Bool
+have_others None rs = true
+have_others (Some key) rs = list_all (λ (r : Run). is_other key r.key) rs
 
 -- no two have one key
-abbrev pub keys_differ : List (Kept RunRow) → Bool
+abbrev pub keys_differ : List Run → Bool
 keys_differ [] = true
-keys_differ (x ∷ xs) = have_others x.1.it.key xs && keys_differ xs
+keys_differ (r ∷ rs) = have_others r.key rs && keys_differ rs
 
 -- the key isn't one of those, or there is none
 abbrev pub is_new : (List ℕ → Bool) → Option (List ℕ) → Bool
 is_new seen None = true
 is_new seen (Some key) = not (seen key)
 
-abbrev pub is_unseen : (List ℕ → Bool) → Kept RunRow → Bool
-is_unseen seen x = is_new seen x.1.it.key
-
 abbrev pub is_that : List ℕ → Option (List ℕ) → Bool
 is_that key None = false
 is_that key (Some other) = bytes_eq other key
 
-abbrev pub has_key : List ℕ → Kept RunRow → Bool
-has_key key x = is_that key x.1.it.key
-
 -- whether the run of this number is a queued one, if there is such a run
-abbrev pub queued_in : ℕ → List (Kept RunRow) → Option Bool
-queued_in n [] = None
-queued_in n (x ∷ xs) = cond (x.1.it.number == n) (Some (not x.1.it.plan_only)) (queued_in n xs)
+abbrev pub queued_in : ℕ → List Run → Option Bool
+queued_in n rs = option_map (λ (r : Run). not r.plan_only) (find (λ (r : Run). r.number == n) rs)
 
-abbrev pub is_queued : ℕ → List (Kept RunRow) → Bool
-is_queued n xs = unwrap_or (queued_in n xs) false
+abbrev pub is_queued : ℕ → List Run → Bool
+is_queued n rs = unwrap_or (queued_in n rs) false
 
 -- a lock's ID is one that names no run, and a holding run is a queued run of the list
-abbrev pub is_held : Holder → List (Kept RunRow) → Bool
-is_held Nobody xs = true
-is_held (Lock id text) xs = is_free_id id
-is_held (HoldingRun n) xs = is_queued n xs
+abbrev pub is_held : Holder → List Run → Bool
+is_held Nobody rs = true
+is_held (Lock id text) rs = is_free_id id
+is_held (HoldingRun n) rs = is_queued n rs
 
 -- the numbers rise up to the next one, each run is in its ranges, no more than 100 are open, no two have one key, and the holder is one of them
-abbrev pub are_runs : Holder → ℕ → List (Kept RunRow) → Bool
-are_runs holder next xs =
-    rises 0 (sorted (map run_number xs)) next && list_all (is_run_row holder) xs && nat_le (count_open xs) 100 && is_held holder xs && keys_differ xs
+abbrev pub are_runs : Holder → ℕ → List Run → Bool
+are_runs holder next rs = rises 0 (sorted (map run_number rs)) next && list_all (is_run holder) rs && nat_le (count_open rs) 100 && is_held holder rs && keys_differ rs

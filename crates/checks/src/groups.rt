@@ -1,109 +1,89 @@
 //! Rows by the workspace that they belong to.
-ghost use Rattle.std.specs.Prelude.{◌≡◌, ◌++◌, ◌∷◌, [], ◌&&◌, ℕ, List, cond, false, IfOk, OnOk};
-ghost use Rattle.std.specs.Str.{bytes_eq};
+ghost use Rattle.std.specs.Prelude.{◌≡◌, ◌++◌, ◌∷◌, [], ℕ, List, None, cond, IfOk, OnOk};
+ghost use Rattle.std.specs.Ordering.{is_eq};
 ghost use Rattle.std.specs.Option.{option_map_or};
-ghost use Rattle.std.specs.BTreeMap.{get_by_text};
-ghost use Rattle.checks.specs.Inner.Groups.{indices_at, indices_in, AreGrouped};
+ghost use Rattle.std.specs.BTreeMap.{get};
+ghost use Rattle.checks.specs.declared.keys.RowKey.{RowKey};
+ghost use Rattle.checks.specs.Inner.Firsts.{key_cmp, IsKeyOf};
+ghost use Rattle.checks.specs.Inner.Keys.{is_key};
+ghost use Rattle.checks.specs.Inner.Groups.{lent, held, group_in, AreGrouped};
 
+use crate::keys::RowKey;
 use basis::Down;
 use statements::rows::Owned;
 use std::alloc::Global;
 use std::collections::BTreeMap;
 
-/// The places of rows in their list, by the organization and the workspace that they name.
-#[derive(Drop)]
-pub struct Groups {
-    orgs: BTreeMap<String, BTreeMap<String, Vec<usize>>>,
-}
+/// What the rows of each workspace hold, in the order of the rows.
+pub type Groups<'a, T> = BTreeMap<RowKey<'a>, Vec<&'a T>>;
 
-impl Groups {
-    pub fn new(alloc: Global) -> Groups
-        ensures { (org ws : List ℕ) → indices_in result org ws ≡ [] }
-    {
-        Groups {
-            orgs: BTreeMap::new(alloc),
-        }
-    }
-
-    /// Adds a place to those of a workspace, behind them.
-    pub fn add(&mut self, alloc: Global, org: &str, ws: &str, row_index: usize) -> Result<(), Down>
-        ensures { OnOk result ((o w : List ℕ) → indices_in self.new o w ≡ cond (bytes_eq org.now o && bytes_eq ws.now w) (indices_in self.old o w ++ row_index ∷ []) (indices_in self.old o w)) }
-    {
-        let mut wss = take_org(alloc, &mut self.orgs, org);
-        add_index(alloc, &mut wss, ws, row_index)?;
-        let org = String::from_str(alloc, org)?;
-        self.orgs.insert(org, wss)?;
-        Ok(())
-    }
-
-    /// The places of a workspace's rows, as they rise.
-    pub fn row_indices(&self, org: &str, ws: &str) -> &[usize]
-        ensures { result.now ≡ indices_in self.now org.now ws.now }
-    {
-        match self.orgs.get(org) {
-            Some(wss) => indices_at(wss, ws),
-            None => &[],
-        }
-    }
-}
-
-fn indices_at<'a>(wss: &'a BTreeMap<String, Vec<usize>>, ws: &str) -> &'a [usize]
-    ensures { result.now ≡ indices_at wss.now ws.now }
+/// The key of a workspace.
+pub(crate) fn ws_key<'a>(org: &'a str, ws: &'a str) -> RowKey<'a>
+    ensures { IsKeyOf result org.now ws.now 0 0 }
 {
-    match wss.get(ws) {
-        Some(row_indices) => row_indices.as_slice(),
-        None => &[],
+    RowKey {
+        place: 0,
+        number: 0,
+        first: org.as_bytes(),
+        second: ws.as_bytes(),
     }
 }
 
-// Takes what the map has at an organization.
-fn take_org(
-    alloc: Global,
-    orgs: &mut BTreeMap<String, BTreeMap<String, Vec<usize>>>,
-    org: &str,
-) -> BTreeMap<String, Vec<usize>>
-    ensures taken { (w : List ℕ) → indices_at result w ≡ option_map_or (λ wss. indices_at wss w) (get_by_text orgs.old org.now) [] }
-    ensures others { (o : List ℕ) → bytes_eq org.now o ≡ false → get_by_text orgs.new o ≡ get_by_text orgs.old o }
+fn none<'g, 'a: 'g, T>() -> &'g [&'a T]
+    ensures { result.now ≡ [] }
 {
-    match orgs.remove(org) {
-        Some(wss) => wss,
-        None => BTreeMap::new(alloc),
+    &[]
+}
+
+/// What the rows of the workspace of a key hold.
+pub(crate) fn rows_at<'g, 'a: 'g, T>(groups: &'g Groups<'a, T>, key: &RowKey<'a>) -> &'g [&'a T]
+    ensures { lent result.now ≡ option_map_or held (get key_cmp groups.now key.now) [] }
+{
+    if let Some(group) = groups.get(key) {
+        return group.as_slice();
     }
+    none()
 }
 
-fn add_index(
-    alloc: Global,
-    wss: &mut BTreeMap<String, Vec<usize>>,
-    ws: &str,
-    row_index: usize,
-) -> Result<(), Down>
-    ensures { OnOk result ((w : List ℕ) → indices_at wss.new w ≡ cond (bytes_eq ws.now w) (indices_at wss.old w ++ row_index ∷ []) (indices_at wss.old w)) }
+/// Takes what the map has at a key.
+fn take<'a, T>(alloc: Global, groups: &mut Groups<'a, T>, key: &RowKey<'a>) -> Vec<&'a T>
+    ensures taken { lent result.items ≡ option_map_or held (get key_cmp groups.old key.now) [] }
+    ensures others { (q : RowKey) → get key_cmp groups.new q ≡ cond (is_eq (key_cmp key.now q)) None (get key_cmp groups.old q) }
 {
-    let mut row_indices = take_indices(alloc, wss, ws);
-    row_indices.push(row_index)?;
-    let ws = String::from_str(alloc, ws)?;
-    wss.insert(ws, row_indices)?;
-    Ok(())
-}
-
-// Takes the places that the map has at a workspace.
-fn take_indices(alloc: Global, wss: &mut BTreeMap<String, Vec<usize>>, ws: &str) -> Vec<usize>
-    ensures taken { result.items ≡ indices_at wss.old ws.now }
-    ensures others { (w : List ℕ) → bytes_eq ws.now w ≡ false → get_by_text wss.new w ≡ get_by_text wss.old w }
-{
-    match wss.remove(ws) {
-        Some(row_indices) => row_indices,
+    match groups.remove(key) {
+        Some(group) => group,
         None => Vec::new(alloc),
     }
 }
 
-/// The places of rows by the organization and the name that they have.
-pub(crate) fn group<T>(alloc: Global, rows: &[(i64, Owned<T>)]) -> Result<Groups, Down>
+/// Adds what a row holds behind what the map has at its key.
+fn add<'a, T>(
+    alloc: Global,
+    groups: &mut Groups<'a, T>,
+    key: RowKey<'a>,
+    it: &'a T,
+) -> Result<(), Down>
+    ensures { OnOk result ((org ws : List ℕ) → group_in org ws groups.new ≡ cond (is_key org ws 0 0 key.entry) (group_in org ws groups.old ++ it.now ∷ []) (group_in org ws groups.old)) }
+{
+    let mut group = take(alloc, groups, &key);
+    group.push(it)?;
+    let Ok(_) = groups.insert(key, group) else {
+        return Err(Down);
+    };
+    Ok(())
+}
+
+/// What rows hold, by the organization and the name that they have.
+pub(crate) fn group<'a, T>(
+    alloc: Global,
+    rows: &'a [(i64, Owned<T>)],
+) -> Result<Groups<'a, T>, Down>
     ensures { IfOk result (AreGrouped rows.now) }
 {
-    let mut groups = Groups::new(alloc);
-    for (row_index, row) in rows.iter().enumerate() {
-        groups.add(alloc, row.1.org.as_str(), row.1.name.as_str(), row_index)?;
+    let mut groups = BTreeMap::new(alloc);
+    for (_, row) in rows {
+        let key = ws_key(row.org.as_str(), row.name.as_str());
+        add(alloc, &mut groups, key, &row.it)?;
     }
     Ok(groups)
 }

@@ -1,5 +1,5 @@
 //! Looks at the head of each page.
-ghost use Rattle.std.specs.Prelude.{◌≡◌, OnOk};
+ghost use Rattle.std.specs.Prelude.{◌≡◌, find, option_copied, OnOk};
 ghost use Rattle.std.specs.List.{AllByRecursion};
 ghost use Rattle.texts.specs.Texts.{names_page};
 ghost use Rattle.checks.specs.Judging.{noted, Judges};
@@ -18,6 +18,13 @@ fn names(row: &(i64, VpageRow), head: &PageHead) -> bool
     row.1.key.as_slice() == head.key.as_slice() && row.1.twin == head.twin
 }
 
+/// The first row that names the page.
+fn first_naming<'a>(head: &PageHead, vpages: &'a [(i64, VpageRow)]) -> Option<&'a (i64, VpageRow)>
+    ensures { option_copied result ≡ find (names_page head.now.key head.now.twin) vpages.now }
+{
+    vpages.iter().find(|row| names(row, head))
+}
+
 /// Notes a fault of a page, with the version of the first row that names the page, if there is one. Once the list of faults is
 /// full, the version is not searched for.
 pub(crate) fn note_page(
@@ -32,14 +39,14 @@ pub(crate) fn note_page(
     if found.is_full() {
         return found.note(alloc, kind, "", "", None);
     }
-    for row in vpages {
-        if names(row, head) {
-            let org = row.1.org.as_str();
-            let ws = row.1.ws.as_str();
-            return found.note(alloc, kind, org, ws, Some(row.1.number));
+    match first_naming(head, vpages) {
+        Some((_, row)) => {
+            let org = row.org.as_str();
+            let ws = row.ws.as_str();
+            found.note(alloc, kind, org, ws, Some(row.number))
         }
+        None => found.note(alloc, kind, "", "", None),
     }
-    found.note(alloc, kind, "", "", None)
 }
 
 /// Notes a page that is not in use, has a key that is not that of its bytes, or has the same bytes as another page of its key.

@@ -1,109 +1,65 @@
 //! The runs of a workspace.
-ghost use Rattle.std.specs.Prelude.{◌≡◌, ◌++◌, ◌∷◌, [], ◌||◌, ℕ, List, not, IfOk, OnOk, map, true, false};
-ghost use Rattle.std.specs.List.{list_all, list_any};
+ghost use Rattle.std.specs.Prelude.{◌≡◌, ◌||◌, ◌==◌, ℕ, List, not, find, option_map, unwrap_or, IfOk, OnOk, map, true, false};
+ghost use Rattle.std.specs.List.{list_all};
 ghost use Rattle.std.specs.Str.{bytes_eq};
 ghost use Rattle.std.specs.BTreeSet.{contains_text};
 ghost use Rattle.machine.specs.RunSteps.{is_status};
 ghost use Rattle.machine.specs.Laws.{is_active, is_pending, holds, is_nobody};
-ghost use Rattle.checks.specs.Inner.Groups.{picked};
-ghost use Rattle.checks.specs.Runs.{run_number, is_key, action_ends, is_unreached, is_where_action_ends, is_active_rightly, waits_rightly, is_run, is_run_row, unfit_run, is_open_row, count_open, is_unseen, has_key, keys_differ, queued_in, is_queued, is_held, are_runs};
+ghost use Rattle.checks.specs.Inner.Groups.{lent};
+ghost use Rattle.checks.specs.Runs.{run_number, is_key, action_ends, is_unreached, is_where_action_ends, is_active_rightly, waits_rightly, is_run, count_open, is_new, is_that, keys_differ, is_held, are_runs};
 
 use crate::versions::{rise, sort};
 use basis::numbers::MAX_MOMENT;
 use basis::rows::{MAX_KEY, MAX_MESSAGE};
-use basis::{Down, Holder, Number, RunAction, RunStatus, Text, is_free_id};
+use basis::{Down, Holder, Number, RunAction, RunRow, RunStatus, Text, is_free_id};
 use machine::MAX_OPEN_RUNS;
-use statements::rows::RunRow;
 use std::alloc::Global;
 use std::collections::BTreeSet;
 
-/// Whether the runs at these places are lawful under this holder, where the next one has this number:
-/// their numbers rise up to that, each is in its ranges and where its last action ends, no more than 100
-/// are open, no two have one key, and a run that holds is a queued one of them.
-pub fn are_runs(
-    alloc: Global,
-    rows: &[(i64, RunRow)],
-    row_indices: &[usize],
-    holder: &Holder,
-    next: u64,
-) -> Result<bool, Down>
-    ensures { IfOk result (λ lawful. lawful ≡ are_runs holder.now next (picked rows.now row_indices.now)) }
+/// Whether these runs are lawful under this holder, where the next one has this number: their numbers rise
+/// up to that, each is in its ranges and where its last action ends, no more than 100 are open, no two have
+/// one key, and a run that holds is a queued one of them.
+#[tactic(auto, using(crate::proofs::Lent::all_lent))]
+pub fn are_runs(alloc: Global, runs: &[&RunRow], holder: &Holder, next: u64) -> Result<bool, Down>
+    ensures { IfOk result (λ lawful. lawful ≡ are_runs holder.now next (lent runs.now)) }
 {
-    let mut numbers = run_numbers(alloc, rows, row_indices)?;
+    let mut numbers = run_numbers(alloc, runs)?;
     sort(&mut numbers);
-    let numbered = rise(&numbers, next) && are_run_rows(rows, row_indices, holder);
-    let held = numbered
-        && count_open(rows, row_indices) <= MAX_OPEN_RUNS
-        && is_held(rows, row_indices, holder);
-    let apart = keys_differ(alloc, rows, row_indices)?;
+    let numbered = rise(&numbers, next) && are_fit(runs, holder);
+    let held = numbered && count_open(runs) <= MAX_OPEN_RUNS && is_held(runs, holder);
+    let apart = keys_differ(alloc, runs)?;
     Ok(held && apart)
 }
 
-// The numbers of the runs at these places.
-fn run_numbers(
-    alloc: Global,
-    rows: &[(i64, RunRow)],
-    row_indices: &[usize],
-) -> Result<Vec<u64>, Down>
-    ensures { IfOk result (λ ns. ns.items ≡ map run_number (picked rows.now row_indices.now)) }
+#[tactic(auto, using(crate::proofs::Lent::each_lent))]
+fn run_numbers(alloc: Global, runs: &[&RunRow]) -> Result<Vec<u64>, Down>
+    ensures { IfOk result (λ ns. ns.items ≡ map run_number (lent runs.now)) }
 {
-    let mut numbers = Vec::new(alloc);
-    for row_index in row_indices {
-        push_number(&mut numbers, rows, *row_index)?;
-    }
-    Ok(numbers)
+    Ok(
+        runs.iter()
+            .map(|run| u64::from(run.number.get()))
+            .collect(alloc)?,
+    )
 }
 
-fn push_number(numbers: &mut Vec<u64>, rows: &[(i64, RunRow)], row_index: usize) -> Result<(), Down>
-    ensures { OnOk result (numbers.new.items ≡ numbers.old.items ++ map run_number (picked rows.now (row_index ∷ []))) }
+fn are_fit(runs: &[&RunRow], holder: &Holder) -> bool
+    ensures { result ≡ list_all (λ r. is_run holder.now r.now) runs.now }
 {
-    let Some(row) = rows.get(row_index) else {
-        return Ok(());
-    };
-    numbers.push(u64::from(row.1.it.number.get()))?;
-    Ok(())
+    runs.iter().all(|run| is_run(run, holder))
 }
 
-fn are_run_rows(rows: &[(i64, RunRow)], row_indices: &[usize], holder: &Holder) -> bool
-    ensures { result ≡ list_all (is_run_row holder.now) (picked rows.now row_indices.now) }
+/// The number of the first run that isn't in its ranges, where its last action ends, and active or waiting
+/// as the holder lets it.
+pub fn unfit_run(runs: &[&RunRow], holder: &Holder) -> Option<u64>
+    ensures { result ≡ option_map (λ r. r.now.number) (find (λ r. not (is_run holder.now r.now)) runs.now) }
 {
-    unfit_run(rows, row_indices, holder).is_none()
-}
-
-/// The number of the first run at these places that isn't in its ranges, where its last action ends, and
-/// active or waiting as the holder lets it.
-pub fn unfit_run(rows: &[(i64, RunRow)], row_indices: &[usize], holder: &Holder) -> Option<u64>
-    ensures { result ≡ unfit_run holder.now (picked rows.now row_indices.now) }
-{
-    for row_index in row_indices {
-        if let Some(number) = unfit_at(rows, *row_index, holder) {
-            return Some(number);
-        }
-    }
-    None
-}
-
-fn unfit_at(rows: &[(i64, RunRow)], row_index: usize, holder: &Holder) -> Option<u64>
-    ensures { result ≡ unfit_run holder.now (picked rows.now (row_index ∷ [])) }
-{
-    match rows.get(row_index) {
-        Some(row) => unfit_as(row, holder),
-        None => None,
-    }
-}
-
-fn unfit_as(row: &(i64, RunRow), holder: &Holder) -> Option<u64>
-    ensures { result ≡ unfit_run holder.now (row.now ∷ []) }
-{
-    if is_run(&row.1.it, holder) {
-        None
-    } else {
-        Some(u64::from(row.1.it.number.get()))
-    }
+    runs.iter()
+        .find(|run| !is_run(run, holder))
+        .map(|run| u64::from(run.number.get()))
 }
 
 // Whether a run is in its ranges, where its last action ends, and active or waiting as the holder lets it.
-fn is_run(run: &basis::RunRow, holder: &Holder) -> bool
+fn is_run(run: &RunRow, holder: &Holder) -> bool
     ensures { result ≡ is_run holder.now run.now }
 {
     is_key(&run.key)
@@ -249,85 +205,42 @@ fn waits_rightly(plan_only: bool, pending: bool, free: bool) -> bool
 }
 
 // How many of the runs haven't ended.
-fn count_open(rows: &[(i64, RunRow)], row_indices: &[usize]) -> usize
-    ensures { result ≡ count_open (picked rows.now row_indices.now) }
+#[tactic(auto, using(crate::proofs::Lent::count_lent))]
+fn count_open(runs: &[&RunRow]) -> usize
+    ensures { result ≡ count_open (lent runs.now) }
 {
-    let mut count = 0;
-    for row_index in row_indices {
-        if is_open_at(rows, *row_index) {
-            count += 1;
-        }
-    }
-    count
-}
-
-fn is_open_at(rows: &[(i64, RunRow)], row_index: usize) -> bool
-    ensures { result ≡ list_any is_open_row (picked rows.now (row_index ∷ [])) }
-{
-    match rows.get(row_index) {
-        Some(row) => row.1.it.status.is_open(),
-        None => false,
-    }
+    runs.iter().filter(|run| run.status.is_open()).count()
 }
 
 // Whether a lock's ID names no run, and a run that holds is a queued one of these.
-fn is_held(rows: &[(i64, RunRow)], row_indices: &[usize], holder: &Holder) -> bool
-    ensures { result ≡ is_held holder.now (picked rows.now row_indices.now) }
+#[tactic(auto, using(crate::proofs::Lent::found_lent))]
+fn is_held(runs: &[&RunRow], holder: &Holder) -> bool
+    ensures { result ≡ is_held holder.now (lent runs.now) }
 {
     match holder {
         Holder::Nobody => true,
         Holder::Lock { id, text: _ } => is_free_id(id.as_str().as_bytes()),
-        Holder::Run(number) => is_queued(rows, row_indices, number.get()),
+        Holder::Run(number) => is_queued(runs, *number),
     }
 }
 
 // Whether the run of this number is a queued one.
-fn is_queued(rows: &[(i64, RunRow)], row_indices: &[usize], number: u32) -> bool
-    ensures { result ≡ is_queued number (picked rows.now row_indices.now) }
+fn is_queued(runs: &[&RunRow], number: Number) -> bool
+    ensures { result ≡ unwrap_or (option_map (λ r. not r.now.plan_only) (find (λ r. r.now.number == number) runs.now)) false }
 {
-    match queued_in(rows, row_indices, number) {
-        Some(queued) => queued,
+    match runs.iter().find(|run| run.number == number) {
+        Some(run) => !run.plan_only,
         None => false,
     }
 }
 
-fn queued_in(rows: &[(i64, RunRow)], row_indices: &[usize], number: u32) -> Option<bool>
-    ensures { result ≡ queued_in number (picked rows.now row_indices.now) }
-{
-    for row_index in row_indices {
-        if let Some(queued) = queued_at(rows, *row_index, number) {
-            return Some(queued);
-        }
-    }
-    None
-}
-
-fn queued_at(rows: &[(i64, RunRow)], row_index: usize, number: u32) -> Option<bool>
-    ensures { result ≡ queued_in number (picked rows.now (row_index ∷ [])) }
-{
-    match rows.get(row_index) {
-        Some(row) => queued_as(row, number),
-        None => None,
-    }
-}
-
-fn queued_as(row: &(i64, RunRow), number: u32) -> Option<bool>
-    ensures { result ≡ queued_in number (row.now ∷ []) }
-{
-    if row.1.it.number.get() == number {
-        Some(!row.1.it.plan_only)
-    } else {
-        None
-    }
-}
-
 // Whether no two have one key.
-fn keys_differ(alloc: Global, rows: &[(i64, RunRow)], row_indices: &[usize]) -> Result<bool, Down>
-    ensures { IfOk result (λ differ. differ ≡ keys_differ (picked rows.now row_indices.now)) }
+fn keys_differ(alloc: Global, runs: &[&RunRow]) -> Result<bool, Down>
+    ensures { IfOk result (λ differ. differ ≡ keys_differ (lent runs.now)) }
 {
     let mut seen = BTreeSet::new(alloc);
-    for row_index in row_indices {
-        let fresh = add_at(alloc, &mut seen, rows, *row_index)?;
+    for run in runs {
+        let fresh = add_of(alloc, &mut seen, run)?;
         if !fresh {
             return Ok(false);
         }
@@ -335,20 +248,12 @@ fn keys_differ(alloc: Global, rows: &[(i64, RunRow)], row_indices: &[usize]) -> 
     Ok(true)
 }
 
-// Adds the key of the run at a place, and says whether it is new.
-fn add_at(
-    alloc: Global,
-    seen: &mut BTreeSet<String>,
-    rows: &[(i64, RunRow)],
-    row_index: usize,
-) -> Result<bool, Down>
-    ensures fresh { IfOk result (λ fresh. fresh ≡ list_all (is_unseen (contains_text seen.old)) (picked rows.now (row_index ∷ []))) }
-    ensures added { OnOk result ((q : List ℕ) → contains_text seen.new q ≡ (list_any (has_key q) (picked rows.now (row_index ∷ [])) || contains_text seen.old q)) }
+// Adds the key of a run, if it has one, and says whether it is new.
+fn add_of(alloc: Global, seen: &mut BTreeSet<String>, run: &RunRow) -> Result<bool, Down>
+    ensures fresh { IfOk result (λ fresh. fresh ≡ is_new (contains_text seen.old) run.now.key) }
+    ensures added { OnOk result ((q : List ℕ) → contains_text seen.new q ≡ (is_that q run.now.key || contains_text seen.old q)) }
 {
-    let Some(row) = rows.get(row_index) else {
-        return Ok(true);
-    };
-    match &row.1.it.key {
+    match &run.key {
         Some(key) => add(alloc, seen, key.as_str()),
         None => Ok(true),
     }

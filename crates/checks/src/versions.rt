@@ -1,107 +1,67 @@
 //! The versions of a workspace.
-ghost use Rattle.std.specs.Prelude.{◌≡◌, ◌++◌, ◌∷◌, [], IfOk, OnOk, map};
+ghost use Rattle.std.specs.Prelude.{◌≡◌, not, find, option_map, IfOk, map};
 ghost use Rattle.std.specs.List.{list_all};
-ghost use Rattle.checks.specs.Inner.Groups.{picked};
-ghost use Rattle.checks.specs.Versions.{is_version_row, unfit_version, version_number, rises, reaches, sorted, are_versions};
+ghost use Rattle.checks.specs.Inner.Groups.{lent};
+ghost use Rattle.checks.specs.Versions.{is_version, version_number, rises, reaches, sorted, are_versions};
 
-use basis::Down;
 use basis::numbers::{MAX_MOMENT, MAX_SERIAL};
 use basis::rows::MAX_LINEAGE;
-use statements::rows::VersionRow;
+use basis::{Down, VersionRow};
 use std::alloc::Global;
 
-/// Whether the versions at these places are lawful where so many are kept, and the next one has this
-/// number: their numbers rise without a gap up to that, and each is in range.
+/// Whether these versions are lawful where so many are kept, and the next one has this number: their numbers
+/// rise without a gap up to that, and each is in range.
 pub fn are_versions(
     alloc: Global,
-    rows: &[(i64, VersionRow)],
-    row_indices: &[usize],
+    versions: &[&VersionRow],
     retention: u32,
     next: u64,
 ) -> Result<bool, Down>
-    ensures { IfOk result (λ lawful. lawful ≡ are_versions retention next (picked rows.now row_indices.now)) }
+    ensures { IfOk result (λ lawful. lawful ≡ are_versions retention next (lent versions.now)) }
 {
-    let mut numbers = version_numbers(alloc, rows, row_indices)?;
+    let mut numbers = version_numbers(alloc, versions)?;
     sort(&mut numbers);
     let numbered = numbers.len() as u64 <= u64::from(retention)
         && rise(&numbers, next)
         && reach(&numbers, next);
-    Ok(numbered && are_version_rows(rows, row_indices))
+    Ok(numbered && are_in_range(versions))
 }
 
-// The numbers of the versions at these places.
-fn version_numbers(
-    alloc: Global,
-    rows: &[(i64, VersionRow)],
-    row_indices: &[usize],
-) -> Result<Vec<u64>, Down>
-    ensures { IfOk result (λ ns. ns.items ≡ map version_number (picked rows.now row_indices.now)) }
+#[tactic(auto, using(crate::proofs::Lent::each_lent))]
+fn version_numbers(alloc: Global, versions: &[&VersionRow]) -> Result<Vec<u64>, Down>
+    ensures { IfOk result (λ ns. ns.items ≡ map version_number (lent versions.now)) }
 {
-    let mut numbers = Vec::new(alloc);
-    for row_index in row_indices {
-        push_number(&mut numbers, rows, *row_index)?;
-    }
-    Ok(numbers)
+    Ok(
+        versions
+            .iter()
+            .map(|version| u64::from(version.number.get()))
+            .collect(alloc)?,
+    )
 }
 
-fn push_number(
-    numbers: &mut Vec<u64>,
-    rows: &[(i64, VersionRow)],
-    row_index: usize,
-) -> Result<(), Down>
-    ensures { OnOk result (numbers.new.items ≡ numbers.old.items ++ map version_number (picked rows.now (row_index ∷ []))) }
+fn are_in_range(versions: &[&VersionRow]) -> bool
+    ensures { result ≡ list_all (λ v. is_version v.now) versions.now }
 {
-    let Some(row) = rows.get(row_index) else {
-        return Ok(());
-    };
-    numbers.push(u64::from(row.1.it.number.get()))?;
-    Ok(())
+    versions.iter().all(|version| is_version(version))
 }
 
-fn are_version_rows(rows: &[(i64, VersionRow)], row_indices: &[usize]) -> bool
-    ensures { result ≡ list_all is_version_row (picked rows.now row_indices.now) }
+/// The number of the first version whose serial, lineage or moment is out of range.
+pub fn unfit_version(versions: &[&VersionRow]) -> Option<u64>
+    ensures { result ≡ option_map (λ v. v.now.number) (find (λ v. not (is_version v.now)) versions.now) }
 {
-    unfit_version(rows, row_indices).is_none()
-}
-
-/// The number of the first version at these places whose serial, lineage or moment is out of range.
-pub fn unfit_version(rows: &[(i64, VersionRow)], row_indices: &[usize]) -> Option<u64>
-    ensures { result ≡ unfit_version (picked rows.now row_indices.now) }
-{
-    for row_index in row_indices {
-        if let Some(number) = unfit_at(rows, *row_index) {
-            return Some(number);
-        }
-    }
-    None
-}
-
-fn unfit_at(rows: &[(i64, VersionRow)], row_index: usize) -> Option<u64>
-    ensures { result ≡ unfit_version (picked rows.now (row_index ∷ [])) }
-{
-    match rows.get(row_index) {
-        Some(row) => unfit_as(row),
-        None => None,
-    }
-}
-
-fn unfit_as(row: &(i64, VersionRow)) -> Option<u64>
-    ensures { result ≡ unfit_version (row.now ∷ []) }
-{
-    if is_version_row(row) {
-        None
-    } else {
-        Some(u64::from(row.1.it.number.get()))
-    }
+    versions
+        .iter()
+        .find(|version| !is_version(version))
+        .map(|version| u64::from(version.number.get()))
 }
 
 // Whether serial, lineage and moment are in range.
-fn is_version_row(row: &(i64, VersionRow)) -> bool
-    ensures { result ≡ is_version_row row.now }
+fn is_version(version: &VersionRow) -> bool
+    ensures { result ≡ is_version version.now }
 {
-    row.1.it.serial.get() <= MAX_SERIAL
-        && row.1.it.lineage.as_str().len() <= MAX_LINEAGE
-        && row.1.it.created.seconds() <= MAX_MOMENT
+    version.serial.get() <= MAX_SERIAL
+        && version.lineage.as_str().len() <= MAX_LINEAGE
+        && version.created.seconds() <= MAX_MOMENT
 }
 
 /// Sorts numbers.

@@ -1,29 +1,29 @@
 //! Whether each workspace is lawful, with its versions and runs.
-ghost use Rattle.std.specs.Prelude.{◌≡◌, ◌∷◌, [], IfOk, OnOk};
+ghost use Rattle.std.specs.Prelude.{◌≡◌, IfOk, OnOk};
 ghost use Rattle.std.specs.List.{AllByRecursion};
 ghost use Rattle.basis.specs.Names.{is_ws_name};
 ghost use Rattle.statements.specs.Tables.{Tables};
 ghost use Rattle.checks.specs.Judging.{OfSome, Adds, Judges};
 ghost use Rattle.checks.specs.Faults.{OfWorkspaces};
-ghost use Rattle.checks.specs.Inner.Groups.{picked};
-ghost use Rattle.checks.specs.Workspaces.{is_next, is_free_if, is_own, kept_in, retention_among};
+ghost use Rattle.checks.specs.Inner.Groups.{lent};
+ghost use Rattle.checks.specs.Workspaces.{is_next, is_free_if, is_own, retention_among};
 ghost use Rattle.checks.specs.Inner.Workspaces.{IsLawfulAt, OfGroups, AreAllGrouped, HasWsRows, AreLawfulWss};
 
 use crate::found::{FaultKind, Found};
-use crate::groups::{Groups, group};
+use crate::groups::{Groups, group, rows_at, ws_key};
 use crate::runs::{are_runs, unfit_run};
 use crate::versions::{are_versions, unfit_version};
 use basis::numbers::MAX_NUMBER;
-use basis::{Down, KeepCount, LockId, Unfit, WsName, is_free_id};
-use statements::rows::{RetentionRow, Rows, WsRow};
+use basis::{Down, KeepCount, LockId, RunRow, Unfit, VersionRow, WsName, is_free_id};
+use statements::rows::{Rows, WsRow};
 use std::alloc::Global;
 
-/// The places of the rows of versions, runs and keeping, by their workspaces.
+/// What the rows of versions, runs and keeping hold, by their workspaces.
 #[derive(Drop)]
-pub struct Grouped {
-    pub versions: Groups,
-    pub runs: Groups,
-    pub retentions: Groups,
+pub struct Grouped<'a> {
+    pub versions: Groups<'a, VersionRow>,
+    pub runs: Groups<'a, RunRow>,
+    pub retentions: Groups<'a, KeepCount>,
 }
 
 /// Looks whether each workspace is lawful: its name, next numbers, holder and the lock released last, its
@@ -37,7 +37,7 @@ pub fn judge_workspaces(alloc: Global, rows: &Rows, found: &mut Found) -> Result
     Ok(())
 }
 
-fn group_all(alloc: Global, rows: &Rows) -> Result<Grouped, Down>
+fn group_all<'a>(alloc: Global, rows: &'a Rows) -> Result<Grouped<'a>, Down>
     ensures { IfOk result (AreAllGrouped rows.now) }
 {
     let versions = group(alloc, rows.versions.as_slice())?;
@@ -50,81 +50,53 @@ fn group_all(alloc: Global, rows: &Rows) -> Result<Grouped, Down>
     })
 }
 
-fn judge_rows(alloc: Global, rows: &Rows, groups: &Grouped, found: &mut Found) -> Result<(), Down>
-    ensures { OnOk result (Judges (OfSome (OfGroups rows.now groups.now) rows.now.wss) (AllByRecursion (IsLawfulAt rows.now groups.now) rows.now.wss) found.old found.new) }
+fn judge_rows<'a>(
+    alloc: Global,
+    rows: &'a Rows,
+    groups: &Grouped<'a>,
+    found: &mut Found,
+) -> Result<(), Down>
+    ensures { OnOk result (Judges (OfSome (λ x. OfGroups groups.now x.1) rows.now.wss) (AllByRecursion (λ x. IsLawfulAt groups.now x.1) rows.now.wss) found.old found.new) }
 {
     let wss = rows.wss.as_slice();
     for row in wss {
-        judge_row(alloc, rows, groups, row, found)?;
+        judge_row(alloc, groups, &row.1, found)?;
     }
     Ok(())
 }
 
-fn judge_row(
+fn judge_row<'a>(
     alloc: Global,
-    rows: &Rows,
-    groups: &Grouped,
-    row: &(i64, WsRow),
+    groups: &Grouped<'a>,
+    row: &'a WsRow,
     found: &mut Found,
 ) -> Result<(), Down>
-    ensures { OnOk result (Judges (OfGroups rows.now groups.now row.now) (IsLawfulAt rows.now groups.now row.now) found.old found.new) }
+    ensures { OnOk result (Judges (OfGroups groups.now row.now) (IsLawfulAt groups.now row.now) found.old found.new) }
 {
-    let org = row.1.org.as_str();
-    let ws = row.1.name.as_str();
-    let own = is_own(alloc, &row.1)?;
+    let org = row.org.as_str();
+    let ws = row.name.as_str();
+    let own = is_own(alloc, row)?;
     found.judge(alloc, own, FaultKind::Unlawful, org, ws, None)?;
-    let row_indices = groups.retentions.row_indices(org, ws);
-    let retention = retention_among(rows.retentions.as_slice(), row_indices).get();
-    let row_indices = groups.versions.row_indices(org, ws);
-    let versions = are_versions(
-        alloc,
-        rows.versions.as_slice(),
-        row_indices,
-        retention,
-        row.1.it.next_version,
-    )?;
-    let number = unfit_version(rows.versions.as_slice(), row_indices);
-    found.judge(alloc, versions, FaultKind::Versions, org, ws, number)?;
-    let row_indices = groups.runs.row_indices(org, ws);
-    let runs = are_runs(
-        alloc,
-        rows.runs.as_slice(),
-        row_indices,
-        &row.1.it.holder,
-        row.1.it.next_run,
-    )?;
-    let number = unfit_run(rows.runs.as_slice(), row_indices, &row.1.it.holder);
-    found.judge(alloc, runs, FaultKind::Runs, org, ws, number)?;
+    let key = ws_key(org, ws);
+    let retention = retention_among(rows_at(&groups.retentions, &key)).get();
+    let versions = rows_at(&groups.versions, &key);
+    let lawful = are_versions(alloc, versions, retention, row.it.next_version)?;
+    let number = unfit_version(versions);
+    found.judge(alloc, lawful, FaultKind::Versions, org, ws, number)?;
+    let runs = rows_at(&groups.runs, &key);
+    let lawful = are_runs(alloc, runs, &row.it.holder, row.it.next_run)?;
+    let number = unfit_run(runs, &row.it.holder);
+    found.judge(alloc, lawful, FaultKind::Runs, org, ws, number)?;
     Ok(())
 }
 
-// How many versions are kept, by the first of these rows.
-fn retention_among(rows: &[(i64, RetentionRow)], row_indices: &[usize]) -> KeepCount
-    ensures { result ≡ retention_among (picked rows.now row_indices.now) }
+// How many versions are kept, by the first row that says so.
+fn retention_among(retentions: &[&KeepCount]) -> KeepCount
+    ensures { result ≡ retention_among (lent retentions.now) }
 {
-    match kept_in(rows, row_indices) {
-        Some(retention) => retention,
+    match retentions.first() {
+        Some(retention) => **retention,
         None => KeepCount::first(),
-    }
-}
-
-fn kept_in(rows: &[(i64, RetentionRow)], row_indices: &[usize]) -> Option<KeepCount>
-    ensures { result ≡ kept_in (picked rows.now row_indices.now) }
-{
-    for row_index in row_indices {
-        if let Some(retention) = kept_at(rows, *row_index) {
-            return Some(retention);
-        }
-    }
-    None
-}
-
-fn kept_at(rows: &[(i64, RetentionRow)], row_index: usize) -> Option<KeepCount>
-    ensures { result ≡ kept_in (picked rows.now (row_index ∷ [])) }
-{
-    match rows.get(row_index) {
-        Some(row) => Some(row.1.it),
-        None => None,
     }
 }
 

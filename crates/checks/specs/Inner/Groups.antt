@@ -1,28 +1,24 @@
--- Rows by the places where they stand in their list.
-use Rattle.std.specs.Prelude.{◌≡◌, ℕ, List, [], ◌∷◌, filter, Option, Some, None, slice_get, String, Vec}
+-- Rows by the workspace that they belong to.
+use Rattle.std.specs.Prelude.{◌≡◌, ℕ, List, [], map, Vec}
+use Rattle.std.specs.Borrow.{Bor}
 use Rattle.std.specs.Option.{option_map_or}
-use Rattle.std.specs.BTreeMap.{BTreeMap, get_by_text}
+use Rattle.std.specs.BTreeMap.{BTreeMap}
 use Rattle.statements.specs.Rows.{Kept, Owned}
-use Rattle.statements.specs.Changes.{is_of}
-use Rattle.checks.specs.declared.groups.Groups.{Groups}
+use Rattle.checks.specs.declared.keys.RowKey.{RowKey}
+use Rattle.checks.specs.Workspaces.{its_of}
+use Rattle.checks.specs.Inner.Firsts.{value_at}
 
-abbrev pub with_some : {X : Type 0} → Option X → List X → List X
-with_some None xs = xs
-with_some (Some x) xs = x ∷ xs
+-- what references refer to
+abbrev pub lent : {T : Type 0} → List (Bor T) → List T
+lent refs = map (λ r. r.now) refs
 
--- the rows at these places; a place behind the last row has none
-abbrev pub picked : {X : Type 0} → List X → List ℕ → List X
-picked rows [] = []
-picked rows (i ∷ row_indices) = with_some (slice_get rows i) (picked rows row_indices)
+abbrev pub held : {T Z : Type 0} → Vec (Bor T) Z → List T
+held refs = lent refs.items
 
--- the places that a map has at a workspace, by its name
-abbrev pub indices_at : {Y Z : Type 0} → BTreeMap (String Y) (Vec ℕ Z) → List ℕ → List ℕ
-indices_at wss ws = option_map_or (λ row_indices. row_indices.items) (get_by_text wss ws) []
+-- what the map has at a workspace
+abbrev pub group_in : {T Z : Type 0} → List ℕ → List ℕ → BTreeMap RowKey (Vec (Bor T) Z) → List T
+group_in org ws m = option_map_or held (value_at org ws 0 0 m) []
 
--- the places of the rows of an organization's workspace
-abbrev pub indices_in : Groups → List ℕ → List ℕ → List ℕ
-indices_in groups org ws = option_map_or (λ wss. indices_at wss ws) (get_by_text groups.orgs org) []
-
--- each group has the places of the rows of its workspace
-abbrev pub AreGrouped : {T : Type 0} → List (Kept (Owned T)) → Groups → Type 0
-AreGrouped rows groups = (org ws : List ℕ) → picked rows (indices_in groups org ws) ≡ filter (is_of org ws) rows
+-- the map has at each workspace what its rows hold
+abbrev pub AreGrouped : {T Z : Type 0} → List (Kept (Owned T)) → BTreeMap RowKey (Vec (Bor T) Z) → Type 0
+AreGrouped rows m = (org ws : List ℕ) → group_in org ws m ≡ its_of org ws rows

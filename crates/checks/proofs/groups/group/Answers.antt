@@ -1,18 +1,14 @@
-use Rattle.std.proofs.Common.{◌≡◌, ◌∙◌, ◌++◌, ◌∷◌, [], ◌&&◌, ◌+◌, ap, sym, cond, take}
-use Rattle.std.specs.Str.{bytes_eq}
-use Rattle.std.proofs.lemmas.List.{take_more}
-use Rattle.statements.specs.Changes.{is_of}
-use Rattle.checks.specs.Inner.Groups.{indices_in}
-use Rattle.checks.proofs.GroupLemmas.{one_grouped, there_is}
+use Rattle.std.proofs.Common.{◌∙◌, ◌++◌, ◌∷◌, [], ap, cond}
+use Rattle.checks.specs.Inner.Groups.{group_in}
+use Rattle.checks.proofs.GroupLemmas.{empty_group, one_grouped, ws_parts}
 use Rattle.checks.proofs.groups.group.Goals as goal
 
--- the row at this place was put into its group
-pub loop-row_index-preserved : goal.loop-row_index-preserved
-loop-row_index-preserved g c = λ org ws.
-    let x = c.index-rows-row_index.result in
-    let i = c.loop-row_index.row_index in
-    let old = indices_in c.loop-row_index.groups org ws in
-    let longer : take (i + 1) c.args.rows.now ≡ take i c.args.rows.now ++ x ∷ [] =
-    take_more c.args.rows.now i x c.loop-row_index-test.true ∙ ap (λ y. take i c.args.rows.now ++ y ∷ []) (sym c.index-rows-row_index.is) in
-    one_grouped c.args.rows.now (is_of org ws) i x (there_is c.args.rows.now i x c.loop-row_index-test.true c.index-rows-row_index.is) longer old (indices_in c.add.new.self org ws)
-    (c.in_ok-add.ensures org ws ∙ (λ j. cond (bytes_eq (c.as_str.ensures j) org && bytes_eq (c.as_str-in-loop-row_index.ensures j) ws) (old ++ i ∷ []) old)) (c.loop-row_index.invariant org ws)
+pub loop-row-init : goal.loop-row-init
+loop-row-init g c org ws = empty_group org ws c.new-groups.result c.new-groups.ensures.empty
+
+-- what this row holds was put into its group
+pub loop-row-preserved : goal.loop-row-preserved
+loop-row-preserved g c org ws =
+    let x = c.loop-row-item.result in
+    one_grouped org ws c.args.rows.now c.loop-row.row-index x _ _ c.loop-row-test.true c.loop-row-item.is (c.loop-row.invariant org ws)
+    (c.in_ok-add.ensures org ws ∙ ap (λ b. cond b (group_in org ws c.loop-row.groups ++ x.1.it ∷ []) (group_in org ws c.loop-row.groups)) (ws_parts c.ws_key-key.result x.1.org x.1.name org ws c.as_str.result.now c.as_str-in-loop-row.result.now c.ws_key-key.ensures c.as_str.ensures c.as_str-in-loop-row.ensures))

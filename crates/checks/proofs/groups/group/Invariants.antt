@@ -1,7 +1,6 @@
-use Rattle.std.proofs.Common.{◌≡◌, ℕ, List, filter, take}
-use Rattle.statements.specs.Changes.{is_of}
-use Rattle.checks.specs.Inner.Groups.{picked, indices_in}
+use Rattle.std.proofs.Common.{take}
+use Rattle.checks.specs.Inner.Groups.{AreGrouped}
 use Rattle.checks.proofs.groups.group.Given as goal
 
-abbrev pub invariant-loop-row_index : goal.invariant-loop-row_index
-invariant-loop-row_index g l = (org ws : List ℕ) → picked l.rows (indices_in l.groups org ws) ≡ filter (is_of org ws) (take l.row_index l.rows)
+abbrev pub invariant-loop-row : goal.invariant-loop-row
+invariant-loop-row g l = AreGrouped (take l.row-index l.rows) l.groups
