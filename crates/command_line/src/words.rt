@@ -60,6 +60,22 @@ fn flag<'a>(alloc: Global, id: &'a str, help: &'a str) -> Arg<'a>
 /// The help of `--db` for a command that creates no file.
 const OLD_FILE: &str = "The database file. It must exist";
 
+/// The usage of `serve`: one of `--count` and `--unlimited` is required.
+const SERVE_USAGE: &str =
+    "custody serve [OPTIONS] --db <PATH> --port <P> <--count <N>|--unlimited>";
+
+/// The end of the help of `admin`: the lines that it reads.
+const ADMIN_LINES: &str = "Lines, with one space between words:
+  org-add ORG [LIMIT]
+  org-limit ORG N
+  org-remove ORG [force]
+  org-list
+  token-add ORG NAME ROLE SECRET [until=SECONDS] [prefix=TEXT]
+  token-list ORG
+  token-revoke ORG NAME
+
+Example: custody admin --db custody.db < lines";
+
 fn database<'a>(alloc: Global, help: &'a str) -> Arg<'a>
     ensures { IsArg result database }
 {
@@ -87,10 +103,16 @@ fn token_name<'a>(alloc: Global) -> Arg<'a>
     value(alloc, "name", "NAME", help)
 }
 
-fn command<'a>(alloc: Global, name: &'a str, about: &'a str) -> Result<Command<'a>, AllocError>
+// A command, with an example of its words at the end of its help.
+fn command<'a>(
+    alloc: Global,
+    name: &'a str,
+    about: &'a str,
+    example: &'a str,
+) -> Result<Command<'a>, AllocError>
     ensures { IfOk result (λ made. IsCommand made (new_app name.entry.now)) }
 {
-    Ok(Command::new(alloc, name).about(about))
+    Ok(Command::new(alloc, name).about(about).after_help(example))
 }
 
 // Commands are handed on as results: where there was no memory for one it stays so, and only the next two functions let go of anything.
@@ -101,6 +123,16 @@ fn with_arg<'a>(
     ensures { (app : App) (rule : Rule) → IfOk command.entry (λ it. IsCommand it app) → IsArg arg.entry rule → IfOk result (λ whole. IsCommand whole (with_rule app rule)) }
 {
     command?.arg(arg)
+}
+
+// Replaces the usage line, which cannot say that one of two options is required.
+fn with_usage<'a>(
+    command: Result<Command<'a>, AllocError>,
+    usage: &'a str,
+) -> Result<Command<'a>, AllocError>
+    ensures { (app : App) → IfOk command.entry (λ it. IsCommand it app) → IfOk result (λ whole. IsCommand whole app) }
+{
+    Ok(command?.override_usage(usage))
 }
 
 fn with_command<'a>(
@@ -117,7 +149,8 @@ fn org_add<'a>(alloc: Global) -> Result<Command<'a>, AllocError>
 {
     let file_help = "The database file. Created if it does not exist";
     let help = "How many workspaces it may have: 0 to 100000 [default: 200]";
-    let bare = command(alloc, "org-add", "Adds an organization");
+    let example = "Example: custody org-add --db custody.db --limit 500 acme";
+    let bare = command(alloc, "org-add", "Adds an organization", example);
     let on_file = with_arg(bare, database(alloc, file_help));
     let limited = with_arg(on_file, option(alloc, "limit", false, "N", help));
     with_arg(limited, organization(alloc))
@@ -128,7 +161,8 @@ fn org_limit<'a>(alloc: Global) -> Result<Command<'a>, AllocError>
 {
     let about = "Sets how many workspaces an organization may have";
     let help = "How many workspaces it may have: 0 to 100000. Existing ones stay";
-    let bare = command(alloc, "org-limit", about);
+    let example = "Example: custody org-limit --db custody.db acme 500";
+    let bare = command(alloc, "org-limit", about, example);
     let on_file = with_arg(bare, database(alloc, OLD_FILE));
     let of_one = with_arg(on_file, organization(alloc));
     with_arg(of_one, value(alloc, "limit", "N", help))
@@ -139,7 +173,8 @@ fn org_copy<'a>(alloc: Global) -> Result<Command<'a>, AllocError>
 {
     let about =
         "Checks the file's tables, then copies an organization and everything in it to another file";
-    let bare = command(alloc, "org-copy", about);
+    let example = "Example: custody org-copy --db custody.db --to acme.db acme";
+    let bare = command(alloc, "org-copy", about, example);
     let on_file = with_arg(bare, database(alloc, OLD_FILE));
     let to_another = with_arg(on_file, target(alloc));
     with_arg(to_another, organization(alloc))
@@ -150,7 +185,8 @@ fn org_remove<'a>(alloc: Global) -> Result<Command<'a>, AllocError>
 {
     let about = "Removes an organization and everything in it";
     let help = "Remove it even if a workspace is locked or a run is open";
-    let bare = command(alloc, "org-remove", about);
+    let example = "Example: custody org-remove --db custody.db acme";
+    let bare = command(alloc, "org-remove", about, example);
     let on_file = with_arg(bare, database(alloc, OLD_FILE));
     let forcing = with_arg(on_file, flag(alloc, "force", help));
     with_arg(forcing, organization(alloc))
@@ -160,7 +196,8 @@ fn org_list<'a>(alloc: Global) -> Result<Command<'a>, AllocError>
     ensures { IfOk result (λ command. IsCommand command org_list) }
 {
     let about = "Lists all organizations, one line each: ORG WORKSPACES LIMIT";
-    let bare = command(alloc, "org-list", about);
+    let example = "Example: custody org-list --db custody.db";
+    let bare = command(alloc, "org-list", about, example);
     with_arg(bare, database(alloc, OLD_FILE))
 }
 
@@ -170,7 +207,8 @@ fn token_add<'a>(alloc: Global) -> Result<Command<'a>, AllocError>
     let about =
         "Adds a token. Its secret is read from standard input: one line of 16 to 64 ASCII letters or digits";
     let help = "What the token may do: read, write or admin";
-    let bare = command(alloc, "token-add", about);
+    let example = "Example: custody token-add --db custody.db --prefix net- acme ci write < secret";
+    let bare = command(alloc, "token-add", about, example);
     let on_file = with_arg(bare, database(alloc, OLD_FILE));
     let bounded = with_bounds(alloc, on_file);
     let of_one = with_arg(bounded, organization(alloc));
@@ -197,7 +235,8 @@ fn token_list<'a>(alloc: Global) -> Result<Command<'a>, AllocError>
 {
     let about =
         "Lists an organization's tokens, one line each: NAME ROLE UNTIL PREFIX. '-' stands for never, and for all workspaces";
-    let bare = command(alloc, "token-list", about);
+    let example = "Example: custody token-list --db custody.db acme";
+    let bare = command(alloc, "token-list", about, example);
     let on_file = with_arg(bare, database(alloc, OLD_FILE));
     with_arg(on_file, organization(alloc))
 }
@@ -205,7 +244,8 @@ fn token_list<'a>(alloc: Global) -> Result<Command<'a>, AllocError>
 fn token_revoke<'a>(alloc: Global) -> Result<Command<'a>, AllocError>
     ensures { IfOk result (λ command. IsCommand command token_revoke) }
 {
-    let bare = command(alloc, "token-revoke", "Revokes a token");
+    let example = "Example: custody token-revoke --db custody.db acme ci";
+    let bare = command(alloc, "token-revoke", "Revokes a token", example);
     let on_file = with_arg(bare, database(alloc, OLD_FILE));
     let of_one = with_arg(on_file, organization(alloc));
     with_arg(of_one, token_name(alloc))
@@ -217,8 +257,10 @@ fn serve<'a>(alloc: Global) -> Result<Command<'a>, AllocError>
     let about = "Serves Terraform and runners on 127.0.0.1";
     let file_help = "The database file. Created if it does not exist; with --check it must exist";
     let port_help = "The TCP port of 127.0.0.1: 1 to 65535";
-    let bare = command(alloc, "serve", about);
-    let on_file = with_arg(bare, database(alloc, file_help));
+    let example = "Example: custody serve --db custody.db --port 8090 --unlimited --log";
+    let bare = command(alloc, "serve", about, example);
+    let used = with_usage(bare, SERVE_USAGE);
+    let on_file = with_arg(used, database(alloc, file_help));
     let at_port = with_arg(on_file, option(alloc, "port", true, "P", port_help));
     let counted = with_counts(alloc, at_port);
     let timed = with_timeouts(alloc, counted);
@@ -271,7 +313,8 @@ fn check<'a>(alloc: Global) -> Result<Command<'a>, AllocError>
 {
     let about =
         "Checks the file's tables. Prints one line per fault, at most 50, or `ok` and the numbers of organizations, workspaces, versions and runs";
-    let bare = command(alloc, "check", about);
+    let example = "Example: custody check --db custody.db";
+    let bare = command(alloc, "check", about, example);
     with_arg(bare, database(alloc, OLD_FILE))
 }
 
@@ -280,7 +323,8 @@ fn compact<'a>(alloc: Global) -> Result<Command<'a>, AllocError>
 {
     let about =
         "Checks the file's tables, then copies every organization to a new file. Refuses a target that has organizations";
-    let bare = command(alloc, "compact", about);
+    let example = "Example: custody compact --db custody.db --to smaller.db";
+    let bare = command(alloc, "compact", about, example);
     let on_file = with_arg(bare, database(alloc, OLD_FILE));
     with_arg(on_file, target(alloc))
 }
@@ -292,7 +336,7 @@ fn admin<'a>(alloc: Global) -> Result<Command<'a>, AllocError>
         "Carries out the operator's commands on standard input, one per line. Stops at the first that fails";
     let file_help =
         "The database file. Created if it does not exist and the first command is org-add";
-    let bare = command(alloc, "admin", about);
+    let bare = command(alloc, "admin", about, ADMIN_LINES);
     with_arg(bare, database(alloc, file_help))
 }
 
@@ -300,7 +344,8 @@ fn replay<'a>(alloc: Global) -> Result<Command<'a>, AllocError>
     ensures { IfOk result (λ command. IsCommand command replay) }
 {
     let about = "Answers the frames on standard input over a database in memory";
-    command(alloc, "replay", about)
+    let example = "Example: custody replay < frames";
+    command(alloc, "replay", about, example)
 }
 
 fn bare<'a>(alloc: Global) -> Result<Command<'a>, AllocError>

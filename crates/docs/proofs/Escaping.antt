@@ -1,18 +1,159 @@
 -- Escapes of what acts on a terminal: each step of the text, and that nothing acts in what is left.
 use lib.Utf8.{encode}
-use Rattle.std.proofs.Common.{◌≡◌, ◌≢◌, refl, sym, ap, ◌∙◌, subst, arith, ℕ, zero, suc, ◌+◌, ◌-◌, ◌<◌, ◌≤◌, ◌==◌, ◌%◌, ◌/◌, ◌||◌, ◌⊎◌, inl, inr, List, [], ◌∷◌, ◌++◌, append_assoc, append-nil, get_or, Bool, true, false, cond, nat_lt, nat_le, eqb-true, ne_eqb, leb-true, le-ltb, lt-ltb, le-leb}
-use Rattle.std.proofs.lemmas.Bool.{eqb-false, and_parts, lt-leb}
+use Rattle.std.proofs.Common.{◌≡◌, refl, sym, ap, ◌∙◌, subst, arith, ℕ, zero, suc, ◌+◌, ◌-◌, ◌*◌, ◌<◌, ◌≤◌, ◌==◌, ◌%◌, ◌/◌, ◌||◌, ◌⊎◌, inl, inr, List, [], ◌∷◌, ◌++◌, append_assoc, append-nil, get_or, take, drop, take-append-drop, length, Bool, true, false, cond, nat_lt, nat_le, eqb-true, ne_eqb, leb-true, le-ltb, lt-ltb, ltb-true, ◌&&◌}
+use Rattle.std.proofs.lemmas.Bool.{eqb-false, and_parts, lt-leb, cases_eq, false≢true, agree_below, agree_below_at}
 use Rattle.std.specs.Prelude.{⊤}
 use Rattle.std.specs.List.{AllByRecursion}
 use Rattle.std.specs.Char.{digit_char, encode_utf8}
 use Rattle.std.specs.Int.{is_in_range}
-use Rattle.docs.specs.Escapes.{acts, NothingActs, acting, acting_behind, behind_first, unicode_escape, escaped_from, escaped}
+use Rattle.docs.specs.Escapes.{acts, NothingActs, is_tail, code_of, acting, behind_first, unicode_escape, escaped_from, escaped}
 
--- ---- each step of the text
+-- ---- what bytes begin
 
 pub none_acts : (a b c : ℕ) → a < 127 → acting a b c ≡ 0
+unfolding acting code_of
+none_acts a b c low =
+    let none : code_of a b c ≡ 0 = rw (ne_eqb a 0x7f (λ e. omega arith), lt-leb 0xc2 a (omega arith), ne_eqb a 0xe2 (λ e. omega arith)) in
+    ap (λ n. cond (acts n) n 0) none
+
+-- ASCII is no part of a character of more bytes
+second_low : (a b c b' c' : ℕ) → b < 128 → b' < 128 → acting a b c ≡ acting a b' c'
+unfolding acting code_of
+second_low a b c b' c' low low' =
+    let same : code_of a b c ≡ code_of a b' c' = rw (lt-leb 0x80 b low, lt-leb 0x80 b' low') in
+    ap (λ n. cond (acts n) n 0) same
+
+third_low : (a b c c' : ℕ) → c < 128 → c' < 128 → acting a b c ≡ acting a b c'
+unfolding acting code_of
+third_low a b c c' low low' =
+    let same : code_of a b c ≡ code_of a b c' = rw (lt-leb 0x80 c low, lt-leb 0x80 c' low') in
+    ap (λ n. cond (acts n) n 0) same
+
+within : (low high c : ℕ) → is_in_range low high c ≡ true → (low ≤ c) × (c ≤ high)
+within low high c is = let parts = and_parts (nat_le low c) (nat_le c high) is in (leb-true low c parts.0, leb-true c high parts.1)
+
+two_bytes : (a b : ℕ) → 0xc2 ≤ a → a ≤ 0xdf → 0x80 ≤ b → b ≤ 0xbf → encode_utf8 (a % 32 * 64 + b % 64) ≡ a ∷ b ∷ []
+unfolding encode
+two_bytes a b low high low' high' =
+    let n = a % 32 * 64 + b % 64 in
+    let first : 192 + n / 64 ≡ a = omega arith in
+    let second : 128 + n % 64 ≡ b = omega arith in
+    rw (le-ltb n 128 (omega arith), lt-ltb n 2048 (omega arith), first, second)
+
+three_bytes : (b c : ℕ) → 0x80 ≤ b → b ≤ 0xbf → 0x80 ≤ c → c ≤ 0xbf → encode_utf8 (0x2000 + b % 64 * 64 + c % 64) ≡ 0xe2 ∷ b ∷ c ∷ []
+unfolding encode
+three_bytes b c low high low' high' =
+    let n = 0x2000 + b % 64 * 64 + c % 64 in
+    let first : 224 + n / 4096 ≡ 0xe2 = omega arith in
+    let second : 128 + n / 64 % 64 ≡ b = omega arith in
+    let third : 128 + n % 64 ≡ c = omega arith in
+    rw (le-ltb n 128 (omega arith), le-ltb n 2048 (omega arith), lt-ltb n 65536 (omega arith), first, second, third)
+
+-- so many first bytes aren't ASCII
+abbrev pub AreHigh : ℕ → List ℕ → Type 0
+AreHigh zero s = ⊤
+AreHigh (suc k) [] = ⊥
+AreHigh (suc k) (x ∷ s) = (128 ≤ x) × AreHigh k s
+
+high_length : (k : ℕ) (s : List ℕ) → AreHigh k s → k ≤ length s
+high_length zero s high = omega arith
+high_length (suc k) [] high = absurd high
+high_length (suc k) (x ∷ s) high = let more = high_length k s high.1 in omega (arith, more)
+
+high_one : (s : List ℕ) → 128 ≤ get_or s 0 0 → AreHigh 1 s × (take 1 s ≡ get_or s 0 0 ∷ [])
+high_one [] first = absurd (omega (arith, first))
+high_one (x ∷ s) first = ((first, tt), refl)
+
+high_two : (s : List ℕ) → 128 ≤ get_or s 0 0 → 128 ≤ get_or s 1 0 → AreHigh 2 s × (take 2 s ≡ get_or s 0 0 ∷ get_or s 1 0 ∷ [])
+high_two [] first second = absurd (omega (arith, first))
+high_two (x ∷ s) first second = let more = high_one s second in ((first, more.0), ap (λ (xs : List ℕ). x ∷ xs) more.1)
+
+-- a character of which the first byte is a, and the others are in front of these
+abbrev IsSpelt : ℕ → ℕ → List ℕ → Type 0
+IsSpelt n a rest = AreHigh (behind_first a) rest × (encode_utf8 n ≡ a ∷ take (behind_first a) rest)
+
+coded : (a : ℕ) (rest : List ℕ) → (code_of a (get_or rest 0 0) (get_or rest 1 0) ≡ 0 → ⊥) → IsSpelt (code_of a (get_or rest 0 0) (get_or rest 1 0)) a rest
+unfolding code_of encode
+coded a rest some = by _ _ _ _ _ refl refl refl refl refl some
+  where
+    b : ℕ
+    b = get_or rest 0 0
+
+    c : ℕ
+    c = get_or rest 1 0
+
+    value : Bool → Bool → Bool → Bool → Bool → ℕ
+    value del lead three second third = cond del 0x7f (cond lead (cond second (a % 32 * 64 + b % 64) 0) (cond three (cond second (cond third (0x2000 + b % 64 * 64 + c % 64) 0) 0) 0))
+
+    by : (del lead three second third : Bool) → (a == 0x7f) ≡ del → is_in_range 0xc2 0xdf a ≡ lead → (a == 0xe2) ≡ three → is_tail b ≡ second → is_tail c ≡ third → (value del lead three second third ≡ 0 → ⊥) → IsSpelt (value del lead three second third) a rest
+    by true lead three second third d l t s u some = subst (λ x. IsSpelt 0x7f x rest) (sym (eqb-true a 0x7f d)) (tt, refl)
+    by false true three true third d l t s u some =
+        let first = within 0xc2 0xdf a l in
+        let tail = within 0x80 0xbf b s in
+        let high = high_one rest tail.0 in
+        let behind : behind_first a ≡ 1 = rw (d, ne_eqb a 0xe2 (λ e. omega (arith, first.1))) in
+        rw behind (high.0, two_bytes a b first.0 first.1 tail.0 tail.1 ∙ ap (λ (xs : List ℕ). a ∷ xs) (sym high.1))
+    by false false true true true d l t s u some =
+        let second = within 0x80 0xbf b s in
+        let third = within 0x80 0xbf c u in
+        let high = high_two rest second.0 third.0 in
+        subst (λ x. IsSpelt (0x2000 + b % 64 * 64 + c % 64) x rest) (sym (eqb-true a 0xe2 t)) (high.0, three_bytes b c second.0 second.1 third.0 third.1 ∙ ap (λ (xs : List ℕ). 0xe2 ∷ xs) (sym high.1))
+    by false lead three second third d l t s u some = absurd (some refl)
+
+-- the same of a character that acts: it begins with the byte a, in front of these bytes
+pub record Begun (n a : ℕ) (rest : List ℕ) : Type 0 where
+  pub high : AreHigh (behind_first a) rest
+  pub bytes : encode_utf8 n ≡ a ∷ take (behind_first a) rest
+  pub is_acting : acts n ≡ true
+
+pub begun : (a : ℕ) (rest : List ℕ) → (acting a (get_or rest 0 0) (get_or rest 1 0) ≡ 0 → ⊥) → Begun (acting a (get_or rest 0 0) (get_or rest 1 0)) a rest
 unfolding acting
-none_acts a b c low = rw (ne_eqb a 0x7f (λ e. omega arith), ne_eqb a 0xc2 (λ e. omega arith), ne_eqb a 0xd8 (λ e. omega arith), ne_eqb a 0xe2 (λ e. omega arith))
+begun a rest some = by _ refl some
+  where
+    n : ℕ
+    n = code_of a (get_or rest 0 0) (get_or rest 1 0)
+
+    by : (is : Bool) → acts n ≡ is → (cond is n 0 ≡ 0 → ⊥) → Begun (cond is n 0) a rest
+    by true is some = let spelt = coded a rest some in record { high = spelt.0; bytes = spelt.1; is_acting = is }
+    by false is some = absurd (some refl)
+
+-- whether a test passes at each number from one up to another
+abbrev each : (ℕ → Bool) → ℕ → ℕ → Bool
+each f low high = agree_below (λ d. f (low + d)) (λ d. true) (suc high - low)
+
+each_at : (f : ℕ → Bool) (low high c : ℕ) → each f low high ≡ true → is_in_range low high c ≡ true → f c ≡ true
+each_at f low high c all is =
+    let bounds = within low high c is in
+    let same : low + (c - low) ≡ c = omega (arith, bounds.0) in
+    subst (λ n. f n ≡ true) same (agree_below_at (λ d. f (low + d)) (λ d. true) (suc high - low) (c - low) all (omega (arith, bounds.0, bounds.1)))
+
+-- a test that passes at each character that acts
+acts_each : (f : ℕ → Bool) → each f 0x7f 0x9f ≡ true → f 0x61c ≡ true → each f 0x200e 0x200f ≡ true → each f 0x2028 0x202e ≡ true → each f 0x2066 0x2069 ≡ true → (c : ℕ) → acts c ≡ true → f c ≡ true
+acts_each f controls arabic marks separators isolates c is = by _ _ _ _ _ refl refl refl refl refl is
+  where
+    by : (one two three four five : Bool) → is_in_range 0x7f 0x9f c ≡ one → (c == 0x61c) ≡ two → is_in_range 0x200e 0x200f c ≡ three → is_in_range 0x2028 0x202e c ≡ four → is_in_range 0x2066 0x2069 c ≡ five → (one || two || three || four || five) ≡ true → f c ≡ true
+    by true two three four five e e2 e3 e4 e5 is = each_at f 0x7f 0x9f c controls e
+    by false true three four five e e2 e3 e4 e5 is = subst (λ n. f n ≡ true) (sym (eqb-true c 0x61c e2)) arabic
+    by false false true four five e e2 e3 e4 e5 is = each_at f 0x200e 0x200f c marks e3
+    by false false false true five e e2 e3 e4 e5 is = each_at f 0x2028 0x202e c separators e4
+    by false false false false true e e2 e3 e4 e5 is = each_at f 0x2066 0x2069 c isolates e5
+    by false false false false false e e2 e3 e4 e5 is = absurd (cc)
+
+-- what the first bytes of a text begin
+abbrev first_acting : List ℕ → ℕ
+first_acting [] = 0
+first_acting (a ∷ rest) = acting a (get_or rest 0 0) (get_or rest 1 0)
+
+-- the UTF-8 of a character that acts, as it is found
+acts_found : (c : ℕ) → acts c ≡ true → (after : List ℕ) → first_acting (encode_utf8 c ++ after) ≡ c
+unfolding acting encode code_of
+acts_found c is after = eqb-true _ c (acts_each (λ n. first_acting (encode_utf8 n ++ after) == n) refl refl refl refl refl c is)
+
+-- below the surrogates
+pub acts_small : (c : ℕ) → acts c ≡ true → c < 0xd800
+acts_small c is = ltb-true c 0xd800 (acts_each (λ n. nat_lt n 0xd800) refl refl refl refl refl c is)
+
+-- ---- each step of the text
 
 pub step_skipped : (skip a : ℕ) (rest : List ℕ) → 0 < skip → escaped_from (skip - 1) rest ≡ escaped_from skip (a ∷ rest)
 unfolding escaped_from
@@ -37,6 +178,27 @@ unfolding escaped_from
 plain_stays [] plain = refl
 plain_stays (a ∷ rest) plain = rw (none_acts a (get_or rest 0 0) (get_or rest 1 0) plain.0) (ap (λ xs. a ∷ xs) (plain_stays rest plain.1))
 
+-- ASCII that stands behind a text is in no character of it
+pub joined : (k : ℕ) (t : List ℕ) (y : ℕ) (ys : List ℕ) → y < 128 → k ≤ length t → escaped_from k (t ++ y ∷ ys) ≡ escaped_from k t ++ escaped (y ∷ ys)
+unfolding escaped_from
+joined zero [] y ys low h = refl
+joined (suc k) [] y ys low h = absurd (omega (arith, h))
+joined (suc k) (x ∷ t) y ys low h = joined k t y ys low (omega (arith, h))
+joined zero (x ∷ t) y ys low h = by _ refl (joined 0 t y ys low (omega arith)) (λ k within. joined k t y ys low within)
+  where
+    last : (t : List ℕ) → acting x (get_or (t ++ y ∷ ys) 0 0) (get_or (t ++ y ∷ ys) 1 0) ≡ acting x (get_or t 0 0) (get_or t 1 0)
+    last [] = second_low x y (get_or ys 0 0) 0 0 low (omega arith)
+    last (z ∷ []) = third_low x z y 0 low (omega arith)
+    last (z ∷ z' ∷ t) = refl
+
+    by : (none : Bool) → (acting x (get_or t 0 0) (get_or t 1 0) == 0) ≡ none → escaped_from 0 (t ++ y ∷ ys) ≡ escaped_from 0 t ++ escaped (y ∷ ys) → ((k : ℕ) → k ≤ length t → escaped_from k (t ++ y ∷ ys) ≡ escaped_from k t ++ escaped (y ∷ ys)) → escaped_from 0 (x ∷ (t ++ y ∷ ys)) ≡ escaped_from 0 (x ∷ t) ++ escaped (y ∷ ys)
+    by true is next behind = rw (last t, is) (ap (λ (xs : List ℕ). x ∷ xs) next)
+    by false is next behind =
+        let n = acting x (get_or t 0 0) (get_or t 1 0) in
+        rw (last t, is)
+        (ap (λ (xs : List ℕ). unicode_escape n ++ xs) (behind (behind_first x) (high_length _ t (begun x t (eqb-false n 0 is)).high))
+        ∙ sym (append_assoc (unicode_escape n) (escaped_from (behind_first x) t) (escaped (y ∷ ys))))
+
 -- ---- nothing acts
 
 -- no byte begins a character that acts
@@ -44,77 +206,57 @@ abbrev NoneBegins : List ℕ → Type 0
 NoneBegins [] = ⊤
 NoneBegins (a ∷ rest) = (acting a (get_or rest 0 0) (get_or rest 1 0) ≡ 0) × NoneBegins rest
 
-del_acts : (a x y : ℕ) → (a == 0x7f) ≡ true → acting a x y ≡ 0x7f
-unfolding acting
-del_acts a x y is = rw is
-
-some : (n : ℕ) → n ≡ 0x7f → n ≡ 0 → ⊥
-some n is none = cc
-
--- a byte begins no character, but for DEL, where ASCII is behind it
-apart : (a x y low z : ℕ) (del c1 arabic e2 : Bool) → low < 128 → (a == 0x7f) ≡ del → (a == 0xc2) ≡ c1 → (a == 0xd8) ≡ arabic → (a == 0xe2) ≡ e2 → acting a x y ≡ 0 → acting a low z ≡ 0
-unfolding acting acting_behind
-apart a x y low z true c1 arabic e2 h is is1 is2 is3 none = absurd (some _ (del_acts a x y is) none)
-apart a x y low z false true arabic e2 h is is1 is2 is3 none = rw (is, is1, lt-leb 0x80 low h)
-apart a x y low z false false true e2 h is is1 is2 is3 none = rw (is, is1, is2, ne_eqb low 0x9c (λ e. omega arith))
-apart a x y low z false false false true h is is1 is2 is3 none = rw (is, is1, is2, is3, ne_eqb low 0x80 (λ e. omega arith), ne_eqb low 0x81 (λ e. omega arith))
-apart a x y low z false false false false h is is1 is2 is3 none = rw (is, is1, is2, is3)
-
-behind_apart : (b low : ℕ) (x y : Bool) → low < 128 → (b == 0x80) ≡ x → (b == 0x81) ≡ y → acting_behind b low ≡ 0
-unfolding acting_behind
-behind_apart b low true y h is is1 = rw (is, lt-leb 0x8e low (omega arith), lt-leb 0xa8 low (omega arith))
-behind_apart b low false true h is is1 = rw (is, is1, lt-leb 0xa6 low (omega arith))
-behind_apart b low false false h is is1 = rw (is, is1)
-
--- the same of two bytes
-two_apart : (a b y low : ℕ) (del c1 arabic e2 : Bool) → low < 128 → (a == 0x7f) ≡ del → (a == 0xc2) ≡ c1 → (a == 0xd8) ≡ arabic → (a == 0xe2) ≡ e2 → acting a b y ≡ 0 → acting a b low ≡ 0
-unfolding acting
-two_apart a b y low true c1 arabic e2 h is is1 is2 is3 none = absurd (some _ (del_acts a b y is) none)
-two_apart a b y low false true arabic e2 h is is1 is2 is3 none = let same : acting a b low ≡ acting a b y = rw (is, is1) in same ∙ none
-two_apart a b y low false false true e2 h is is1 is2 is3 none = let same : acting a b low ≡ acting a b y = rw (is, is1, is2) in same ∙ none
-two_apart a b y low false false false true h is is1 is2 is3 none = rw (is, is1, is2, is3) (behind_apart b low _ _ h refl refl)
-two_apart a b y low false false false false h is is1 is2 is3 none = rw (is, is1, is2, is3)
-
-one_stays : (a x y low z : ℕ) → low < 128 → acting a x y ≡ 0 → acting a low z ≡ 0
-one_stays a x y low z h none = apart a x y low z _ _ _ _ h refl refl refl refl none
-
-two_stay : (a b y low : ℕ) → low < 128 → acting a b y ≡ 0 → acting a b low ≡ 0
-two_stay a b y low h none = two_apart a b y low _ _ _ _ h refl refl refl refl none
-
--- what stands first in the escaped text: what stood first, or a backslash
-head_of : (rest : List ℕ) → (get_or (escaped rest) 0 0 ≡ get_or rest 0 0) ⊎ (get_or (escaped rest) 0 0 ≡ 92)
+-- what is in front of the escaped text and isn't ASCII stood there before
+high_stood : (k : ℕ) (rest : List ℕ) → AreHigh k (escaped rest) → take k (escaped rest) ≡ take k rest
 unfolding escaped_from unicode_escape
-head_of [] = inl refl
-head_of (b ∷ rest) = by (acting b (get_or rest 0 0) (get_or rest 1 0) == 0) refl
+high_stood zero rest high = refl
+high_stood (suc k) [] high = refl
+high_stood (suc k) (b ∷ rest) high = by _ refl high (high_stood k rest)
   where
-    by : (is : Bool) → (acting b (get_or rest 0 0) (get_or rest 1 0) == 0) ≡ is → (get_or (escaped (b ∷ rest)) 0 0 ≡ b) ⊎ (get_or (escaped (b ∷ rest)) 0 0 ≡ 92)
-    by true is = inl (rw is)
-    by false is = inr (rw is)
+    n : ℕ
+    n = acting b (get_or rest 0 0) (get_or rest 1 0)
+
+    by : (is : Bool) → (n == 0) ≡ is → AreHigh (suc k) (cond is (b ∷ escaped rest) (unicode_escape n ++ escaped_from (behind_first b) rest)) → (AreHigh k (escaped rest) → take k (escaped rest) ≡ take k rest) → take (suc k) (cond is (b ∷ escaped rest) (unicode_escape n ++ escaped_from (behind_first b) rest)) ≡ b ∷ take k rest
+    by true is high next = ap (λ (xs : List ℕ). b ∷ xs) (next high.1)
+    by false is high next = absurd (omega (arith, high.0))
 
 -- a byte that begins no character begins none either before the escaped text
 stays_none : (a : ℕ) (rest : List ℕ) → acting a (get_or rest 0 0) (get_or rest 1 0) ≡ 0 → acting a (get_or (escaped rest) 0 0) (get_or (escaped rest) 1 0) ≡ 0
-unfolding escaped_from unicode_escape
-stays_none a [] none = none
-stays_none a (b ∷ rest) none = by (acting b (get_or rest 0 0) (get_or rest 1 0) == 0) refl
+stays_none a rest none = by (cases_eq _ 0)
   where
-    behind : (third : ℕ) → (third ≡ get_or rest 0 0) ⊎ (third ≡ 92) → acting a b third ≡ 0
-    behind third (inl same) = rw same none
-    behind third (inr slash) = rw slash (two_stay a b (get_or rest 0 0) 92 (omega arith) none)
+    n : ℕ
+    n = acting a (get_or (escaped rest) 0 0) (get_or (escaped rest) 1 0)
 
-    by : (is : Bool) → (acting b (get_or rest 0 0) (get_or rest 1 0) == 0) ≡ is → acting a (get_or (escaped (b ∷ rest)) 0 0) (get_or (escaped (b ∷ rest)) 1 0) ≡ 0
-    by true is = rw is (behind (get_or (escaped rest) 0 0) (head_of rest))
-    by false is = rw is (one_stays a b (get_or rest 0 0) 92 117 (omega arith) none)
+    by : (n ≡ 0) ⊎ (n ≡ 0 → ⊥) → n ≡ 0
+    by (inl is) = is
+    by (inr some) =
+        let is = begun a (escaped rest) some in
+        let k = behind_first a in
+        let text : encode_utf8 n ++ drop k rest ≡ a ∷ rest = ap (λ (xs : List ℕ). xs ++ drop k rest) (is.bytes ∙ ap (λ (xs : List ℕ). a ∷ xs) (high_stood k rest is.high)) ∙ ap (λ (xs : List ℕ). a ∷ xs) (take-append-drop k rest) in
+        absurd (some (sym (acts_found n is.is_acting (drop k rest)) ∙ ap first_acting text ∙ none))
 
-low_digit : (d : ℕ) → digit_char (d % 16) < 127
-low_digit d = by (nat_lt (d % 16) 10)
-  where
-    by : (is : Bool) → cond is (48 + d % 16) (87 + d % 16) < 127
-    by true = omega arith
-    by false = omega arith
+-- each byte is a character of ASCII, but no control
+abbrev pub Shown : List ℕ → Type 0
+Shown = AllByRecursion (λ b. (32 ≤ b) × (b < 127))
+
+abbrev pub are_shown : List ℕ → Bool
+are_shown [] = true
+are_shown (x ∷ xs) = (nat_le 32 x && nat_lt x 127) && are_shown xs
+
+pub shown_from : (xs : List ℕ) → are_shown xs ≡ true → Shown xs
+shown_from [] is = tt
+shown_from (x ∷ xs) is =
+    let parts = and_parts _ _ is in
+    let bounds = and_parts _ _ parts.0 in
+    ((leb-true 32 x bounds.0, ltb-true x 127 bounds.1), shown_from xs parts.1)
+
+-- a digit of 16
+pub shown_digit : (d : ℕ) → d < 16 → (32 ≤ digit_char d) × (digit_char d < 127)
+shown_digit d low = let shown = shown_from (digit_char d ∷ []) (agree_below_at (λ e. are_shown (digit_char e ∷ [])) (λ e. true) 16 d refl low) in shown.0
 
 escape_none : (c : ℕ) (text : List ℕ) → NoneBegins text → NoneBegins (unicode_escape c ++ text)
 unfolding unicode_escape
-escape_none c text none = (none_acts _ _ _ (omega arith), (none_acts _ _ _ (omega arith), (none_acts _ _ _ (low_digit (c / 4096)), (none_acts _ _ _ (low_digit (c / 256)), (none_acts _ _ _ (low_digit (c / 16)), (none_acts _ _ _ (low_digit c), none))))))
+escape_none c text none = (none_acts _ _ _ (omega arith), (none_acts _ _ _ (omega arith), (none_acts _ _ _ (shown_digit (c / 4096 % 16) (omega arith)).1, (none_acts _ _ _ (shown_digit (c / 256 % 16) (omega arith)).1, (none_acts _ _ _ (shown_digit (c / 16 % 16) (omega arith)).1, (none_acts _ _ _ (shown_digit (c % 16) (omega arith)).1, none))))))
 
 none_begins : (skip : ℕ) (text : List ℕ) → NoneBegins (escaped_from skip text)
 unfolding escaped_from
@@ -126,137 +268,27 @@ none_begins zero (a ∷ rest) = by (acting a (get_or rest 0 0) (get_or rest 1 0)
     by true is next behind = (stays_none a rest (eqb-true (acting a (get_or rest 0 0) (get_or rest 1 0)) 0 is), next)
     by false is next behind = escape_none (acting a (get_or rest 0 0) (get_or rest 1 0)) (escaped_from (behind_first a) rest) behind
 
--- what the first bytes of a text begin
-abbrev first_acting : List ℕ → ℕ
-first_acting [] = 0
-first_acting (a ∷ rest) = acting a (get_or rest 0 0) (get_or rest 1 0)
-
-none_first : (text : List ℕ) → NoneBegins text → first_acting text ≡ 0
-none_first [] none = refl
-none_first (a ∷ rest) none = none.0
-
-none_behind : (before text : List ℕ) → NoneBegins (before ++ text) → NoneBegins text
-none_behind [] text none = none
-none_behind (a ∷ before) text none = none_behind before text none.1
-
--- the UTF-8 of a character that acts, as it is found
-abbrev IsFound : ℕ → Type 0
-IsFound c = (after : List ℕ) → first_acting (encode_utf8 c ++ after) ≡ c
-
--- the same of so many characters from one on
-abbrev AreFound : ℕ → ℕ → Type 0
-AreFound c zero = ⊤
-AreFound c (suc n) = IsFound (c + n) × AreFound c n
-
-found_within : (least n c : ℕ) → AreFound least n → least ≤ c → c < least + n → IsFound c
-found_within least zero c found low high = absurd (omega arith)
-found_within least (suc n) c found low high = by (c == least + n) refl (λ below. found_within least n c found.1 low below)
-  where
-    by : (is : Bool) → (c == least + n) ≡ is → (c < least + n → IsFound c) → IsFound c
-    by true is below = subst IsFound (sym (eqb-true c (least + n) is)) found.0
-    by false is below = let apart : c ≢ least + n = eqb-false c (least + n) is in below (omega arith)
-
-bidi_mark : IsFound 0x61c
-unfolding encode acting
-bidi_mark after = refl
-
-marks : AreFound 0x200e 2
-unfolding encode acting acting_behind
-marks = (λ after. refl, (λ after. refl, tt))
-
-separators : AreFound 0x2028 7
-unfolding encode acting acting_behind
-separators = (λ after. refl, (λ after. refl, (λ after. refl, (λ after. refl, (λ after. refl, (λ after. refl, (λ after. refl, tt)))))))
-
-isolates : AreFound 0x2066 4
-unfolding encode acting acting_behind
-isolates = (λ after. refl, (λ after. refl, (λ after. refl, (λ after. refl, tt))))
-
--- ---- the UTF-8 of those that act
-
-pub c1_bytes : (c : ℕ) → 0x80 ≤ c → c ≤ 0x9f → encode_utf8 c ≡ 0xc2 ∷ c ∷ []
-unfolding encode
-c1_bytes c low high =
-    let first : 192 + c / 64 ≡ 0xc2 = omega arith in
-    let second : 128 + c % 64 ≡ c = omega arith in
-    rw (le-ltb c 128 low, lt-ltb c 2048 (omega arith), first, second)
-
-pub mark_bytes : (third : ℕ) → 0x80 ≤ third → third < 0xc0 → encode_utf8 (0x1f80 + third) ≡ 0xe2 ∷ 0x80 ∷ third ∷ []
-unfolding encode
-mark_bytes third low high =
-    let a : 224 + (0x1f80 + third) / 4096 ≡ 0xe2 = omega arith in
-    let b : 128 + (0x1f80 + third) / 64 % 64 ≡ 0x80 = omega arith in
-    let c : 128 + (0x1f80 + third) % 64 ≡ third = omega arith in
-    rw (le-ltb (0x1f80 + third) 128 (omega arith), le-ltb (0x1f80 + third) 2048 (omega arith), lt-ltb (0x1f80 + third) 65536 (omega arith), a, b, c)
-
-pub isolate_bytes : (third : ℕ) → 0x80 ≤ third → third < 0xc0 → encode_utf8 (0x1fc0 + third) ≡ 0xe2 ∷ 0x81 ∷ third ∷ []
-unfolding encode
-isolate_bytes third low high =
-    let a : 224 + (0x1fc0 + third) / 4096 ≡ 0xe2 = omega arith in
-    let b : 128 + (0x1fc0 + third) / 64 % 64 ≡ 0x81 = omega arith in
-    let c : 128 + (0x1fc0 + third) % 64 ≡ third = omega arith in
-    rw (le-ltb (0x1fc0 + third) 128 (omega arith), le-ltb (0x1fc0 + third) 2048 (omega arith), lt-ltb (0x1fc0 + third) 65536 (omega arith), a, b, c)
-
-pub within : (low high c : ℕ) → is_in_range low high c ≡ true → (low ≤ c) × (c ≤ high)
-within low high c is = let parts = and_parts (nat_le low c) (nat_le c high) is in (leb-true low c parts.0, leb-true c high parts.1)
-
-control : (c : ℕ) → is_in_range 0x7f 0x9f c ≡ true → IsFound c
-unfolding acting encode
-control c is = by (c == 0x7f) refl
-  where
-    by : (del : Bool) → (c == 0x7f) ≡ del → IsFound c
-    by true del = subst IsFound (sym (eqb-true c 0x7f del)) (λ after. refl)
-    by false del = λ after.
-        let some = eqb-false c 0x7f del in
-        let bounds = within 0x7f 0x9f c is in
-        let low : 0x80 ≤ c = omega arith in
-        rw (c1_bytes c low bounds.1, le-leb 0x80 c low, le-leb c 0x9f bounds.1)
-
-acts_found : (c : ℕ) → acts c ≡ true → IsFound c
-acts_found c is = by _ _ _ _ _ refl refl refl refl refl is
-  where
-    by : (controls one two seven four : Bool) → is_in_range 0x7f 0x9f c ≡ controls → (c == 0x61c) ≡ one → is_in_range 0x200e 0x200f c ≡ two → is_in_range 0x2028 0x202e c ≡ seven → is_in_range 0x2066 0x2069 c ≡ four → (controls || one || two || seven || four) ≡ true → IsFound c
-    by true one two seven four e e1 e2 e3 e4 is = control c e
-    by false true two seven four e e1 e2 e3 e4 is = subst IsFound (sym (eqb-true c 0x61c e1)) bidi_mark
-    by false false true seven four e e1 e2 e3 e4 is = let bounds = within 0x200e 0x200f c e2 in found_within 0x200e 2 c marks bounds.0 (omega arith)
-    by false false false true four e e1 e2 e3 e4 is = let bounds = within 0x2028 0x202e c e3 in found_within 0x2028 7 c separators bounds.0 (omega arith)
-    by false false false false true e e1 e2 e3 e4 is = let bounds = within 0x2066 0x2069 c e4 in found_within 0x2066 4 c isolates bounds.0 (omega arith)
-    by false false false false false e e1 e2 e3 e4 is = absurd (cc)
-
--- 0 doesn't act
-some_acts : (c : ℕ) → acts c ≡ true → c ≡ 0 → ⊥
-some_acts zero is none = cc
-some_acts (suc c) is none = cc
-
-none_stands : (text : List ℕ) → NoneBegins text → NothingActs text
-none_stands text none c before after is e =
-    some_acts c is (sym (acts_found c is after) ∙ none_first (encode_utf8 c ++ after) (none_behind before (encode_utf8 c ++ after) (subst NoneBegins e none)))
-
-end_none : (text : List ℕ) → NoneBegins text → NoneBegins (text ++ 10 ∷ [])
-end_none [] none = (none_acts 10 0 0 (omega arith), tt)
-end_none (a ∷ []) none = (one_stays a 0 0 10 0 (omega arith) none.0, end_none [] tt)
-end_none (a ∷ b ∷ []) none = (two_stay a b 0 10 (omega arith) none.0, end_none (b ∷ []) none.1)
-end_none (a ∷ b ∷ c ∷ rest) none = (none.0, end_none (b ∷ c ∷ rest) none.1)
+none_first : (before text : List ℕ) → NoneBegins (before ++ text) → first_acting text ≡ 0
+none_first [] [] none = refl
+none_first [] (a ∷ text) none = none.0
+none_first (a ∷ before) text none = none_first before text none.1
 
 -- nothing acts in an escaped text with a line feed behind it
 pub escaped_safe : (text : List ℕ) → NothingActs (escaped text ++ 10 ∷ [])
-escaped_safe text = none_stands (escaped text ++ 10 ∷ []) (end_none (escaped text) (none_begins 0 text))
+unfolding escaped_from
+escaped_safe text c before after is e =
+    let feed : escaped (10 ∷ []) ≡ 10 ∷ [] = sym (plain_stays (10 ∷ []) (omega arith, tt)) in
+    let whole = joined 0 text 10 [] (omega arith) (omega arith) ∙ ap (λ (xs : List ℕ). escaped text ++ xs) feed ∙ e in
+    false≢true (subst (λ n. acts n ≡ true) (sym (acts_found c is after) ∙ none_first before (encode_utf8 c ++ after) (subst NoneBegins whole (none_begins 0 (text ++ 10 ∷ [])))) is)
 
 -- ---- no control character of ASCII
 
-abbrev Printed : List ℕ → Type 0
+abbrev pub Printed : List ℕ → Type 0
 Printed = AllByRecursion (λ b. 32 ≤ b)
-
-high_digit : (d : ℕ) → 32 ≤ digit_char (d % 16)
-high_digit d = by (nat_lt (d % 16) 10)
-  where
-    by : (is : Bool) → 32 ≤ cond is (48 + d % 16) (87 + d % 16)
-    by true = omega arith
-    by false = omega arith
 
 escape_printed : (c : ℕ) (text : List ℕ) → Printed text → Printed (unicode_escape c ++ text)
 unfolding unicode_escape
-escape_printed c text is = (omega arith, (omega arith, (high_digit (c / 4096), (high_digit (c / 256), (high_digit (c / 16), (high_digit c, is))))))
+escape_printed c text is = (omega arith, (omega arith, ((shown_digit (c / 4096 % 16) (omega arith)).0, ((shown_digit (c / 256 % 16) (omega arith)).0, ((shown_digit (c / 16 % 16) (omega arith)).0, ((shown_digit (c % 16) (omega arith)).0, is))))))
 
 pub escaped_printed : (skip : ℕ) (text : List ℕ) → Printed text → Printed (escaped_from skip text)
 unfolding escaped_from

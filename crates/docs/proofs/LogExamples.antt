@@ -6,11 +6,11 @@ use Rattle.serde_json.proofs.OnLiterals.{serde_json_on_literals}
 use Rattle.basis.specs.declared.acts.WsAct.TheVariants.{UpdateState}
 use Rattle.docs.specs.declared.logs.LogAct.TheVariants.{OfWorkspace, OfOperator}
 use Rattle.docs.specs.declared.logs.OperatorAct.TheVariants.{AddToken}
-use Rattle.docs.specs.Escapes.{acting, acting_behind, unicode_escape, escaped_from}
+use Rattle.docs.specs.Escapes.{acting, code_of, unicode_escape, escaped_from}
 use Rattle.docs.specs.Logs.{log_line}
 
 unfoldable escapes : ⊤
-unfolding acting acting_behind unicode_escape escaped_from
+unfolding acting code_of unicode_escape escaped_from
 escapes = tt
 
 -- a new state of `net`, posted by the token `ci` of `acme`

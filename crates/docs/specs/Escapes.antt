@@ -1,5 +1,5 @@
 -- Text that is safe on a terminal: characters that act there are escaped, as JSON permits in a string (RFC 8259, section 7).
-use Rattle.std.specs.Prelude.{◌≡◌, ◌≢◌, ℕ, zero, suc, ◌+◌, ◌/◌, ◌%◌, List, [], ◌∷◌, ◌++◌, get_or, Bool, true, cond, ◌||◌, ◌==◌}
+use Rattle.std.specs.Prelude.{◌≡◌, ◌≢◌, ℕ, zero, suc, ◌+◌, ◌*◌, ◌/◌, ◌%◌, List, [], ◌∷◌, ◌++◌, get_or, Bool, true, cond, ◌||◌, ◌==◌}
 use Rattle.std.specs.Char.{digit_char, encode_utf8}
 use Rattle.std.specs.Int.{is_in_range}
 
@@ -13,19 +13,21 @@ acts c = is_in_range 0x7f 0x9f c || (c == 0x61c) || is_in_range 0x200e 0x200f c 
 abbrev pub NothingActs : List ℕ → Type 0
 NothingActs text = (c : ℕ) (before after : List ℕ) → acts c ≡ true → text ≢ before ++ (encode_utf8 c ++ after)
 
--- of the characters that act, the one whose UTF-8 is the byte 0xe2 and these two; 0 where there is none
-unfoldable pub acting_behind : ℕ → ℕ → ℕ
-acting_behind b c =
-    cond (b == 0x80) (cond (is_in_range 0x8e 0x8f c || is_in_range 0xa8 0xae c) (0x1f80 + c) 0) (
-    cond (b == 0x81) (cond (is_in_range 0xa6 0xa9 c) (0x1fc0 + c) 0) 0)
+-- a byte that stands in a character of more bytes, behind the first one
+abbrev pub is_tail : ℕ → Bool
+is_tail b = is_in_range 0x80 0xbf b
+
+-- the character whose UTF-8 these three bytes begin with, if it is DEL, has two bytes, or has three of which the first one is 0xe2; 0 where
+-- there is none. All that act are among these
+unfoldable pub code_of : ℕ → ℕ → ℕ → ℕ
+code_of a b c =
+    cond (a == 0x7f) 0x7f (
+    cond (is_in_range 0xc2 0xdf a) (cond (is_tail b) (a % 32 * 64 + b % 64) 0) (
+    cond (a == 0xe2) (cond (is_tail b) (cond (is_tail c) (0x2000 + b % 64 * 64 + c % 64) 0) 0) 0))
 
 -- of the characters that act, the one whose UTF-8 these three bytes begin with; 0 where there is none
 unfoldable pub acting : ℕ → ℕ → ℕ → ℕ
-acting a b c =
-    cond (a == 0x7f) 0x7f (
-    cond (a == 0xc2) (cond (is_in_range 0x80 0x9f b) b 0) (
-    cond (a == 0xd8) (cond (b == 0x9c) 0x61c 0) (
-    cond (a == 0xe2) (acting_behind b c) 0)))
+acting a b c = let n = code_of a b c in cond (acts n) n 0
 
 -- how many bytes of a character stand behind its first one
 abbrev pub behind_first : ℕ → ℕ

@@ -4,7 +4,7 @@ ghost use Rattle.std.specs.Bool.{OnTrue};
 ghost use Rattle.std.specs.List.{AllByRecursion};
 ghost use Rattle.std.specs.Char.{digit_char};
 ghost use Rattle.std.specs.Int.{is_in_range};
-ghost use Rattle.docs.specs.Escapes.{acting, acting_behind, behind_first, unicode_escape, escaped_from, escaped};
+ghost use Rattle.docs.specs.Escapes.{acts, is_tail, code_of, acting, behind_first, unicode_escape, escaped_from, escaped};
 
 use std::alloc::{AllocError, Global};
 
@@ -84,33 +84,48 @@ fn put_byte(
 fn acting(first: u8, second: u8, third: u8) -> u16
     ensures { result ≡ acting first second third }
 {
-    match first {
-        0x7f => 0x7f,
-        0xc2 if is_within(0x80, 0x9f, second) => u16::from(second),
-        0xd8 if second == 0x9c => 0x61c,
-        0xe2 => acting_behind(second, third),
-        _ => 0,
+    let code = code_of(first, second, third);
+    if acts(code) { code } else { 0 }
+}
+
+fn acts(code: u16) -> bool
+    ensures { result ≡ acts code }
+{
+    is_within(0x7f, 0x9f, code)
+        || code == 0x61c
+        || is_within(0x200e, 0x200f, code)
+        || is_within(0x2028, 0x202e, code)
+        || is_within(0x2066, 0x2069, code)
+}
+
+// The character whose UTF-8 these bytes begin with, if it is DEL, has two bytes, or has three of which the first
+// one is 0xe2; 0 where there is none.
+#[tactic(auto, unfolding(crate::specs::Escapes::code_of))]
+fn code_of(first: u8, second: u8, third: u8) -> u16
+    ensures { result ≡ code_of first second third }
+{
+    if first == 0x7f {
+        0x7f
+    } else if is_within(0xc2, 0xdf, u16::from(first)) && is_tail(second) {
+        u16::from(first % 32) * 64 + u16::from(second % 64)
+    } else if first == 0xe2 && is_tail(second) && is_tail(third) {
+        0x2000 + u16::from(second % 64) * 64 + u16::from(third % 64)
+    } else {
+        0
     }
 }
 
-// The same of those whose UTF-8 is the byte 0xe2 and these two.
-#[tactic(auto, unfolding(crate::specs::Escapes::acting_behind))]
-fn acting_behind(second: u8, third: u8) -> u16
-    ensures { result ≡ acting_behind second third }
+// Whether the byte stands in a character of more bytes, behind the first one.
+fn is_tail(byte: u8) -> bool
+    ensures { result ≡ is_tail byte }
 {
-    match second {
-        0x80 if is_within(0x8e, 0x8f, third) || is_within(0xa8, 0xae, third) => {
-            0x1f80 + u16::from(third)
-        }
-        0x81 if is_within(0xa6, 0xa9, third) => 0x1fc0 + u16::from(third),
-        _ => 0,
-    }
+    is_within(0x80, 0xbf, u16::from(byte))
 }
 
-fn is_within(least: u8, most: u8, byte: u8) -> bool
-    ensures { result ≡ is_in_range least most byte }
+fn is_within(least: u16, most: u16, code: u16) -> bool
+    ensures { result ≡ is_in_range least most code }
 {
-    least <= byte && byte <= most
+    least <= code && code <= most
 }
 
 // How many bytes of a character stand behind its first one.

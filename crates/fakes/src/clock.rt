@@ -1,10 +1,10 @@
-//! A clock that stands.
+//! A clock that stands still.
 ghost use Rattle.std.specs.Prelude.{◌≡◌};
 
 use basis::Moment;
 use program::environment::Clock;
 
-/// A clock that tells one moment, or none, whenever it is asked.
+/// A clock that gives one moment, or none, whenever it is asked.
 #[derive(Drop)]
 pub struct StandingClock {
     pub moment: Option<Moment>,

@@ -87,10 +87,10 @@ impl Files<PlainKeep> for MemoryFile<'_> {
     // A store in memory is never shut.
     ghost shuts = { λ store said after. (said ≡ Ok false) × (after ≡ store) };
 
-    // It has no log.
+    // It has no WAL.
     ghost checkpoints = { λ store after. after ≡ store };
 
-    // It has no tables: which faults are found is told to it.
+    // It has no tables: it is given the faults that a check finds.
     ghost finds = { λ store _ after. after ≡ store };
 
     ghost newest = { SCHEMA_VERSION };

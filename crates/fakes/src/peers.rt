@@ -47,7 +47,7 @@ pub struct MemoryPeers<'a> {
     pub timeouts: Option<Timeouts>,
     /// What each peer got, in turn.
     pub got: Vec<Bytes>,
-    /// Whether what a peer got wasn't kept, since memory was refused.
+    /// Whether what a peer got was not kept, because an allocation failed.
     pub is_lost: bool,
 }
 

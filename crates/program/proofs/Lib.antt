@@ -11,3 +11,4 @@ mod ServedLemmas
 mod MoveLemmas
 mod CopyLemmas
 mod BatchLemmas
+pub mod InputLemmas

@@ -4,6 +4,7 @@ pub mod Errors
 pub mod Frames
 pub mod FrameHeaders
 pub mod Inner
+pub mod Inputs
 pub mod Logs
 pub mod Moves
 pub mod Outcomes

@@ -1,4 +1,4 @@
-//! What the program stands on besides its streams: files of databases, connections and a clock.
+//! The program's environment besides its streams: files of databases, connections and a clock.
 ghost use Rattle.std.specs.Prelude.{◌≡◌, ◌≢◌, ℕ, Bool, List, [], Option, Result, true, false, IfOk, IfErr, OnOk, OnErr};
 ghost use Rattle.std.specs.Net.Addr.{ipv4_octets};
 ghost use Rattle.basis.specs.declared.memory.Down.{Down as AnyDown};
@@ -36,41 +36,41 @@ pub enum Opening {
 
 /// The databases, each by its path. An open database is a `K`.
 pub trait Files<K: Keep> {
-    // What a store has is what lies at a path: in its file, and in the log beside it.
+    // A store has the contents of a path: of the file there, and of the WAL beside it.
     ghost holds: { Self → List ℕ → K → Type 0 };
 
-    // And all of it lies in the file alone, the log copied into it.
+    // The same, and all of it is in the file alone, because the WAL was copied into it.
     ghost copied: { Self → List ℕ → K → Type 0 };
 
-    // What refuses to open what lies at a path, and why: so it is told what of another schema lies there.
+    // An open refuses the contents of a path, for this reason, which names the schema version if it is another one.
     ghost refuses: { Self → List ℕ → AnyFault → Type 0 };
 
-    // No file lies at a path, or an empty one.
+    // There is no file at a path, or an empty one.
     ghost vacant: { Self → List ℕ → Type 0 };
 
-    // No database with our tables lies at a path.
+    // There is no database with our tables at a path.
     ghost bare: { Self → List ℕ → Type 0 };
 
-    // What finds out whether nothing lies at a path.
+    // Finds out whether there is nothing at a path.
     ghost lacks: { Self → List ℕ → Bool → Type 0 };
 
-    // What finds out whether others than its owner may read what lies at a path.
+    // Finds out whether others than the owner may read the files at a path.
     ghost reads: { Self → List ℕ → Bool → Type 0 };
 
-    // What finds out whether a fault of the disk has shut a store: the store before and after.
+    // Finds out whether a disk error has closed a store: the store before and after.
     ghost shuts: { K → Result Bool AnyDown → K → Type 0 };
 
-    // What copies the log of a store into its file where it is long: the store before and after.
+    // Copies a long WAL of a store into its file: the store before and after.
     ghost checkpoints: { K → K → Type 0 };
 
-    // What a check over the tables of a store finds: the store before, a line for each fault and how many rows there are, the
+    // The findings of a check of a store's tables: the store before, a line for each fault and the numbers of rows, the
     // store after.
     ghost finds: { K → Result AnyFindings AnyDown → K → Type 0 };
 
-    // The newest version of the schema, which a database is made of.
+    // The newest schema version, in which a database is created.
     ghost newest: { ℕ };
 
-    // What is assumed of a store as it was opened, so that one without faults is sound: its tables have rows of our columns.
+    // What is assumed of a store when it was opened, so that one without faults is sound: its tables have rows of our columns.
     ghost is_ours: { K → Type 0 };
 
     /// Whether there is nothing at a path.
@@ -81,13 +81,13 @@ pub trait Files<K: Keep> {
     fn others_may_read(&self, path: &str) -> bool
         ensures { reads self.now path.now result };
 
-    /// The newest version of the schema.
+    /// The newest schema version.
     fn newest_schema(&self) -> u64
         ensures { result ≡ newest };
 
     /// Opens the store at a path. If the database must exist, a missing one, or one without our tables, is refused, and nothing
     /// is created. Otherwise a database without organizations is created if there is no file or an empty one. A file of another
-    /// schema is not changed.
+    /// schema version is not changed.
     fn open(&mut self, path: &str, opening: Opening) -> Result<K, OpenFault>
         ensures opened { IfOk result (λ store. holds self.old path.now store) }
         ensures existing { makes opening ≡ false → IfOk result (λ store. K.clean store → ¬ bare self.old path.now) }
@@ -148,15 +148,15 @@ pub trait Connections {
 
     type Writer: Outlet + Drop;
 
-    // What binds the octets of an address, and a port: the network before, the result, the network after.
+    // Binds the octets of an address, and a port: the network before, the result, the network after.
     ghost binds: { Self → List ℕ → ℕ → Result ℕ AnyCause → Self → Type 0 };
 
-    // What accepts a connection that is waited for no longer than these timeouts: the network before, its two sides or
+    // Accepts a connection that is waited for no longer than these timeouts: the network before, its two sides or
     // none, the network after.
     ghost accepts: { Self → AnyTimeouts → Result (Self.Reader × Self.Writer) AnyDown → Self → Type 0 };
 
-    // What ends a connection: the network before, its two sides as they are left, whether its message is known to have
-    // been read whole, the network after.
+    // Ends a connection: the network before, its two sides as they are left, whether its message is known to have
+    // been read completely, the network after.
     ghost ends: { Self → Self.Reader → Self.Writer → Bool → Self → Type 0 };
 
     /// Listens on an address and a port. Returns the port in use, or why it cannot listen.
@@ -176,7 +176,7 @@ pub trait Connections {
 
 /// The clock.
 pub trait Clock {
-    // What tells a moment, or none: the clock before and after.
+    // Gives a moment, or none: the clock before and after.
     ghost reports: { Self → Option ℕ → Self → Type 0 };
 
     /// The current time, in seconds since 1970, unless it cannot be read or is out of range.

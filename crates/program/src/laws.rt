@@ -1,7 +1,7 @@
 //! Laws of what is copied, each the contract of a call that does nothing.
 ghost use Rattle.program.specs.Moves.{CopiedOrganizationsGoOn, DoneCopiesAreEqual, CopiesToNoneAreTheSame, StoppedCopiesGoOn};
 
-/// An organization that is copied goes on where it stood: a run where it was copied from, the copy, and a
+/// A copied organization continues where it was: a run where it was copied from, the copy, and a
 /// run where it was copied to are one run of its own machine.
 pub fn copied_organizations_go_on()
     ensures { CopiedOrganizationsGoOn }

@@ -1,4 +1,4 @@
-//! The log: a line on standard output for each exchange, where it is asked for.
+//! The log: a line on standard output for each exchange, if it is on.
 ghost use Rattle.std.specs.Prelude.{◌≡◌, OnOk};
 ghost use Rattle.std.specs.Io.KnownBytes.{Appends};
 ghost use Rattle.docs.specs.Logs.{log_line};
@@ -85,7 +85,7 @@ fn write_line<O: Write>(
 }
 
 /// Writes the line of an exchange, if it has one, and flushes it. Fails if an allocation fails or the stream does not take the
-/// whole line.
+/// complete line.
 fn write_row<O: Write>(
     alloc: Global,
     output: &mut O,

@@ -1,4 +1,4 @@
-//! Files that are opened and closed, and what is told of them.
+//! Files that are opened and closed, and the lines that report on them.
 ghost use Rattle.std.specs.Prelude.{◌≡◌, IfOk, IfErr};
 ghost use Rattle.program.specs.Errors.{other_line, memory_line};
 ghost use Rattle.program.specs.Streams.{Reports};

@@ -21,7 +21,7 @@ use std::alloc::Global;
 use std::io;
 use std::io::{Read, Write};
 
-// The replies, and the place of the frame behind them that doesn't parse.
+// The replies, and the number of the bad frame after them, if there is one.
 #[derive(Drop)]
 struct Replay {
     replies: Vec<Bytes>,

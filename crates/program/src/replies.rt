@@ -14,6 +14,7 @@ use crate::reasons::Cause;
 use crate::streams::ErrorStream;
 use crate::totals::{Totals, print_totals};
 use basis::{Bytes, Text};
+use command_line::VERSION;
 use machine::{AdminAnswer, OrgRow, TokenRow};
 use serve::{write_org_lines, write_token_lines};
 use std::io;
@@ -82,7 +83,7 @@ pub fn print_sound<O: Write>(output: &mut O, totals: &Totals) -> io::Result<()>
 pub fn print_version<O: Write>(output: &mut O, schema: u64) -> io::Result<()>
     ensures { OnOk result (Appends (O.contents output.old) (O.contents output.new) (version_text schema)) }
 {
-    writeln!(output, "custody 1.0.0 (schema {schema})")?;
+    writeln!(output, "custody {VERSION} (schema {schema})")?;
     output.flush()
 }
 

@@ -3,6 +3,7 @@ ghost use Rattle.std.specs.Prelude.{◌≡◌, ◌<◌, ℕ, List, length, Optio
 ghost use Rattle.program.specs.Exits.{status_of};
 ghost use Rattle.command_line.specs.Orders.{said_by};
 ghost use Rattle.command_line.specs.Words.{words_bytes, IsWhy, AskForHelp, AreNoCommand};
+ghost use Rattle.program.specs.Inputs.{LeavesInput, LeavesInputFor};
 ghost use Rattle.program.specs.Outcomes.{stream, error_stream, Does, ReportsVersion, RefusesWords, environment, Leaves, Runs, RunsOver, ReportsEnd};
 ghost use Rattle.program.specs.declared.exits.Exit.{Exit};
 
@@ -48,6 +49,7 @@ fn run_order<K: Keep, F: Files<K>, N: Connections, C: Clock, I: Read, O: Write, 
 ) -> Exit
     ensures does { Does F.newest (said_by order.entry) (I.remaining input.old) result (stream (O.contents output.old) (O.contents output.new)) (error_stream (E.reported errors.old) (E.reported errors.new)) }
     ensures leaves { Leaves K.Keep F.Files N.Connections C.Clock N.Reader.Inlet N.Writer.Outlet (said_by order.entry) (I.remaining input.old) (environment files.old network.old clock.old) (environment files.new network.new clock.new) result (stream (O.contents output.old) (O.contents output.new)) (error_stream (E.reported errors.old) (E.reported errors.new)) }
+    ensures input { LeavesInput (said_by order.entry) (I.remaining input.old) (I.remaining input.new) }
 {
     match order {
         Order::Carry { db, command } => carry_out(alloc, files, db, &command, output, errors),
@@ -111,7 +113,8 @@ fn run<K: Keep, F: Files<K>, N: Connections, C: Clock, I: Read, O: Write, E: Err
     output: &mut O,
     errors: &mut E,
 ) -> Exit
-    ensures { RunsOver K.Keep F.Files N.Connections C.Clock N.Reader.Inlet N.Writer.Outlet (words_bytes words.now) (I.remaining input.old) (environment files.old network.old clock.old) (environment files.new network.new clock.new) result (stream (O.contents output.old) (O.contents output.new)) (error_stream (E.reported errors.old) (E.reported errors.new)) }
+    ensures runs { RunsOver K.Keep F.Files N.Connections C.Clock N.Reader.Inlet N.Writer.Outlet (words_bytes words.now) (I.remaining input.old) (environment files.old network.old clock.old) (environment files.new network.new clock.new) result (stream (O.contents output.old) (O.contents output.new)) (error_stream (E.reported errors.old) (E.reported errors.new)) }
+    ensures input { LeavesInputFor (words_bytes words.now) (I.remaining input.old) (I.remaining input.new) }
 {
     match read_words(alloc, words) {
         Ok(order) => run_order(alloc, files, network, clock, order, input, output, errors),
@@ -119,7 +122,7 @@ fn run<K: Keep, F: Files<K>, N: Connections, C: Clock, I: Read, O: Write, E: Err
     }
 }
 
-// Where a stream took not all, the error stream is told so.
+// If a stream did not take everything, reports that on the error stream.
 fn report_end<E: ErrorStream>(errors: &mut E, exit: Exit)
     ensures { ReportsEnd exit (error_stream (E.reported errors.old) (E.reported errors.new)) }
 {
@@ -139,7 +142,8 @@ pub fn run_words<K: Keep, F: Files<K>, N: Connections, C: Clock, I: Read, O: Wri
     output: &mut O,
     errors: &mut E,
 ) -> u8
-    ensures { (exit : Exit) × (result ≡ status_of exit) × Runs K.Keep F.Files N.Connections C.Clock N.Reader.Inlet N.Writer.Outlet (words_bytes words.now) (I.remaining input.old) (environment files.old network.old clock.old) (environment files.new network.new clock.new) exit (stream (O.contents output.old) (O.contents output.new)) (error_stream (E.reported errors.old) (E.reported errors.new)) }
+    ensures runs { (exit : Exit) × (result ≡ status_of exit) × Runs K.Keep F.Files N.Connections C.Clock N.Reader.Inlet N.Writer.Outlet (words_bytes words.now) (I.remaining input.old) (environment files.old network.old clock.old) (environment files.new network.new clock.new) exit (stream (O.contents output.old) (O.contents output.new)) (error_stream (E.reported errors.old) (E.reported errors.new)) }
+    ensures input { LeavesInputFor (words_bytes words.now) (I.remaining input.old) (I.remaining input.new) }
 {
     let exit = run(alloc, files, network, clock, words, input, output, errors);
     report_end(errors, exit);

@@ -85,7 +85,7 @@ fn write_lines<E: ErrorStream>(
     report_fault(errors, connection, ended)
 }
 
-// What is told of a connection on the error stream, where there is something to tell.
+// Reports what happened to a connection on the error stream, if there is anything to report.
 fn report<E: ErrorStream>(
     errors: &mut E,
     connection: u64,
@@ -118,7 +118,7 @@ fn exchange_one<K: Keep, I: Inlet, O: Outlet>(
     service.exchange_with(alloc, door, now, inlet, outlet)
 }
 
-// A connection is answered, told of and ended; the result is whether the log's line was taken.
+// Answers a connection, reports on it and ends it. Returns whether the log line was taken.
 fn serve_one<K: Keep, N: Connections, O: Write, E: ErrorStream>(
     alloc: Global,
     service: &mut Service<K>,
@@ -172,7 +172,7 @@ fn accept<N: Connections, C: Clock>(
     }
 }
 
-// The next connection is accepted, answered and ended; the result is whether the log's line was taken.
+// Accepts the next connection, answers it and ends it. Returns whether the log line was taken.
 fn answer_next<K: Keep, N: Connections, C: Clock, O: Write, E: ErrorStream>(
     alloc: Global,
     network: &mut N,
@@ -193,8 +193,8 @@ fn answer_next<K: Keep, N: Connections, C: Clock, O: Write, E: ErrorStream>(
     ))
 }
 
-// After the 503 the files are asked whether a fault of the disk has shut the store. After another reply they copy the log
-// where it is long, while nobody waits for an answer; what they refuse then, the next request meets.
+// After a 503 the files are asked whether a disk error has closed the store. After any other reply they checkpoint
+// a long WAL, while nobody waits for an answer; if that fails, the next request gets the error.
 fn after_reply<K: Keep, F: Files<K>>(files: &F, service: &mut Service<K>) -> bool
     ensures { AfterReply K.Keep F.Files service.old.was_down service.old.keep result service.new.keep }
 {
@@ -208,7 +208,7 @@ fn after_reply<K: Keep, F: Files<K>>(files: &F, service: &mut Service<K>) -> boo
     }
 }
 
-// The next connection is answered; or no further one is to be accepted, and this is why.
+// Answers the next connection, or returns why no further one is to be accepted.
 fn serve_next<K: Keep, F: Files<K>, N: Connections, C: Clock, O: Write, E: ErrorStream>(
     alloc: Global,
     files: &F,

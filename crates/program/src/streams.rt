@@ -9,7 +9,7 @@ use std::io::{ErrorKind, Write};
 
 /// The stream for errors and for what an operator has to know.
 pub trait ErrorStream {
-    // What it has, where that is known, and how many calls on it have failed.
+    // What it has, if that is known, and how many calls on it have failed.
     ghost reported: { Self → Reported };
 
     /// Takes at least one byte of a text that is not empty, or fails.

@@ -1,6 +1,6 @@
 -- An exchange with an open door.
 use Rattle.std.proofs.Common.{◌≡◌, ◌≢◌, ◌⊎◌, inl, inr, ℕ, Bool, true, false, List, ◌++◌, Option, Some, None, IsSome, IfSome, Result, Ok, Err, IfOk, IfErr, IsErrOf, refl, sym, ap, ap₂, subst, ◌∙◌}
-use Rattle.std.specs.Prelude.{OnOk, is_none, codes}
+use Rattle.std.specs.Prelude.{OnOk, is_none, codes, if◌then◌else◌}
 use Rattle.std.specs.Str.{bytes_eq}
 use Rattle.std.proofs.lemmas.Slice.Eq.{bytes_eq-Decides}
 use Rattle.std.proofs.lemmas.Bool.{both_ways}
@@ -11,6 +11,8 @@ use Rattle.basis.specs.Checks.{and_then}
 use Rattle.basis.specs.declared.refusals.Allow.TheVariants.{Actions}
 use Rattle.basis.specs.declared.refusals.Refusal.{Refusal}
 use Rattle.basis.specs.declared.refusals.Refusal.TheVariants.{NoMethod, BadQuery, BadSecret, Unavailable}
+use Rattle.docs.specs.Bodies.{error_text}
+use Rattle.serde_json.proofs.OnLiterals.{serde_json_on_literals}
 use Rattle.docs.specs.declared.logs.LogRow.{LogRow}
 use Rattle.machine.specs.Custody.{KeepsVersions}
 use Rattle.machine.specs.Laws.{AreLawful}
@@ -23,13 +25,14 @@ use Rattle.machine.specs.declared.records.Workspace.{Workspace}
 use Rattle.route.specs.Doors.{is_at_door, operator_of, has_digest, brings_secret, may_enter, passes as passes_if}
 use Rattle.wire.specs.Links.{ReportsReceived, continue_if, Writes}
 use Rattle.wire.specs.Messages.{unfinished, refused, whole}
-use Rattle.wire.specs.Replies.{Answer, IsReplyText, text_answer}
+use Rattle.wire.specs.Replies.{Answer, IsReplyText, text_answer, refused_answer, secret_text, bad_secret_answer}
 use Rattle.wire.specs.declared.messages.Message.{Message}
 use Rattle.wire.specs.declared.messages.WireFault.{WireFault}
 use Rattle.wire.specs.declared.messages.WireFault.TheVariants.{Refused, Down, Ended, Read, Continue}
 use Rattle.wire.proofs.ReadingLemmas.{reads_one}
+use Rattle.wire.proofs.ReplyLemmas.{one_reply}
 use Rattle.serve.specs.Asks.{commands, organization}
-use Rattle.serve.specs.Doors.{commanded, act_commanded, org_commanded, token_commanded, reported_row, unserved_row, IsReportedAtDoor, ComeNotToDoor, PassesDoor, ExchangesOpen, ExchangesWith, BringsSecret, OnlyTheSecretOpens}
+use Rattle.serve.specs.Doors.{command_asked, commanded, act_commanded, org_commanded, token_commanded, reported_row, turned_row, unserved_row, IsReportedAtDoor, ComeNotToDoor, PassesDoor, ExchangesOpen, ExchangesWith, BringsSecret, OnlyTheSecretOpens, refusal_without, IsToldNothing, WithoutTheSecret, WrongSecretsAreAlike, AddedSecretsAreNotLogged}
 use Rattle.serve.specs.Exchanges.{Exchanges, ChangesAtMostOne, OfNamed, Makes, ComesAsLogged, ChangesAsLogged}
 use Rattle.serve.specs.Logs.{operator_row, unavailable_row}
 use Rattle.serve.specs.Service.{is_head, is_own, after_ask, Carries, Stays, IsAdminAnswer, reported_refusal}
@@ -131,6 +134,25 @@ at_door {T = T} digest now message old new b c is_down row text (Err e) comes is
     ))
 
 -- ---- what is told
+
+-- a message that may not enter is refused for that
+pub not_let_in : (digest : List ℕ) (message : Message) (refusal : Refusal) → may_enter digest message ≡ Err refusal → commanded digest message ≡ Err refusal
+not_let_in digest message refusal e = ap (λ (entry : Result (Unit {0}) Refusal). and_then entry (λ _. command_asked message)) e
+
+-- one that may enter asks for what it asks
+pub let_in : (digest : List ℕ) (message : Message) (u : Unit {0}) (asks : Result Admin Refusal) → may_enter digest message ≡ Ok u → command_asked message ≡ asks → commanded digest message ≡ asks
+let_in digest message u asks e is = ap (λ (entry : Result (Unit {0}) Refusal). and_then entry (λ _. command_asked message)) e ∙ is
+
+pub known_if_let_in : (digest : List ℕ) (message : Message) (u : Unit {0}) → may_enter digest message ≡ Ok u → may_enter digest message ≢ Err BadSecret
+known_if_let_in digest message u e not = let no : ⊥ = cc (sym e ∙ not) in no
+
+secret_is : secret_text ≡ error_text BadSecret
+unfolding serde_json_on_literals error_text
+secret_is = refl
+
+-- the fixed text is that of the refusal
+pub secret_answered : (head : Bool) → bad_secret_answer head ≡ refused_answer BadSecret (error_text BadSecret) head
+secret_answered head = ap (λ (text : List ℕ). refused_answer BadSecret text head) secret_is
 
 -- a command that is carried out has its reply and its row
 pub carried_out : (at : ℕ) (command : Admin) (old new : List ℕ → Option Organization) (reported : CommandReport) (done : Operated) → IsCarriedOut command old new reported
@@ -338,3 +360,64 @@ pub only_the_secret_opens : OnlyTheSecretOpens
 only_the_secret_opens digest now message old new text row false (inl done) = inl (brings digest message done.command done.asks)
 only_the_secret_opens digest now message old new text row false (inr away) = inr away.stays
 only_the_secret_opens digest now message old new text row true down = inr down.stays
+
+-- ---- what nobody without the secret learns
+
+entry_of : (by_method by_query by_secret : Bool) → by_secret ≡ false
+    → and_then (passes_if by_method (NoMethod Actions)) (λ _. and_then (passes_if by_query BadQuery) (λ _. passes_if by_secret BadSecret)) ≡ Err (if by_method then (if by_query then BadSecret else BadQuery) else NoMethod Actions)
+entry_of false by_query by_secret e = refl
+entry_of true false by_secret e = refl
+entry_of true true by_secret e = ap (λ (b : Bool). passes_if b BadSecret) e
+
+not_brought : (digest : List ℕ) (message : Message) (b : Bool) → brings_secret digest message.authorization ≡ b → (BringsSecret digest message → ⊥) → b ≡ false
+not_brought digest message true e none = absurd (none (field_brings digest message message.authorization refl e))
+not_brought digest message false e none = refl
+
+-- it asks for nothing but its refusal
+without : (digest : List ℕ) (message : Message) → (BringsSecret digest message → ⊥) → may_enter digest message ≡ Err (refusal_without message)
+without digest message none =
+    entry_of (bytes_eq message.method (codes "POST")) (is_none message.query) (brings_secret digest message.authorization)
+    (not_brought digest message (brings_secret digest message.authorization) refl none)
+
+same_refusal : (asked : Result Admin Refusal) (a b : Refusal) → asked ≡ Err a → asked ≡ Err b → a ≡ b
+same_refusal asked a b e f = cc
+
+unread : (now : ℕ) (asked : Result Admin Refusal) (refusal : Refusal) (command : Option Admin) → asked ≡ Err refusal → IfSome command (λ c. asked ≡ Ok c) → unserved_row now command ≡ unserved_row now None
+unread now asked refusal None e asks = refl
+unread now asked refusal (Some command) e asks = absurd (let no : ⊥ = cc (sym e ∙ asks) in no)
+
+pub without_the_secret : WithoutTheSecret
+without_the_secret digest now message old new text row false none (inl done) = absurd (none (brings digest message done.command done.asks))
+without_the_secret digest now message old new text row false none (inr away) =
+    let same = same_refusal (commanded digest message) away.refusal (refusal_without message) away.refused (not_let_in digest message (refusal_without message) (without digest message none)) in
+    let answer : Refusal → Answer = λ refusal. refused_answer refusal (error_text refusal) (is_head message) in
+    (away.stays, (subst (λ (refusal : Refusal). IsReplyText (answer refusal) now text) same away.is, away.logged ∙ ap (λ (refusal : Refusal). Some (turned_row now (answer refusal))) same))
+without_the_secret digest now message old new text row true none down =
+    let entry = without digest message none in
+    let refuses = not_let_in digest message (refusal_without message) entry in
+    (down.stays, (λ is. down.known (entry ∙ ap Err is), down.is, down.logged ∙ ap Some (unread now (commanded digest message) (refusal_without message) down.command refuses down.asks)))
+
+same_without : (m n : Message) → m.method ≡ n.method → m.query ≡ n.query → refusal_without m ≡ refusal_without n
+same_without m n by_method by_query =
+    ap₂ (λ (method : List ℕ) (query : Option (List ℕ)). if bytes_eq method (codes "POST") then (if is_none query then BadSecret else BadQuery) else NoMethod Actions) by_method by_query
+
+alike : (now : ℕ) (m n : Message) (text text' : List ℕ) (row row' : Option LogRow) (is_down is_down' : Bool) → m.method ≡ n.method → m.query ≡ n.query → refusal_without m ≡ BadSecret
+    → IsToldNothing m now text row is_down → IsToldNothing n now text' row' is_down' → (text ≡ text') × (row ≡ row')
+alike now m n text text' row row' false false by_method by_query is first second =
+    let same = same_without m n by_method by_query in
+    let heads : is_head m ≡ is_head n = ap (λ (method : List ℕ). bytes_eq method (codes "HEAD")) by_method in
+    let answer : Refusal → Bool → Answer = λ refusal head. refused_answer refusal (error_text refusal) head in
+    let answers : answer (refusal_without m) (is_head m) ≡ answer (refusal_without n) (is_head n) = ap₂ answer same heads in (
+      one_reply (answer (refusal_without n) (is_head n)) now text text' (subst (λ (a : Answer). IsReplyText a now text) answers first.0) second.0,
+      first.1 ∙ ap (λ (a : Answer). Some (turned_row now a)) answers ∙ sym second.1,
+    )
+alike now m n text text' row row' true is_down' by_method by_query is first second = absurd (first.0 is)
+alike now m n text text' row row' false true by_method by_query is first second = absurd (second.0 (sym (same_without m n by_method by_query) ∙ is))
+
+pub wrong_secrets_are_alike : WrongSecretsAreAlike
+wrong_secrets_are_alike digest other now m n old new old' new' text text' row row' is_down is_down' by_method by_query none none' is first second =
+    alike now m n text text' row row' is_down is_down' by_method by_query is
+    (without_the_secret digest now m old new text row is_down none first).1 (without_the_secret other now n old' new' text' row' is_down' none' second).1
+
+pub added_secrets_are_not_logged : AddedSecretsAreNotLogged
+added_secrets_are_not_logged now org name role secret other bounds answer = (refl, refl)

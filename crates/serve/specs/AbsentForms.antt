@@ -1,4 +1,4 @@
--- Absent forms of a request that is out of its caller's reach, or on a workspace that the caller's prefix doesn't admit: the same request on a
+-- Absent forms of a request that is out of its caller's reach, or on a workspace outside the caller's prefix: the same request on a
 -- workspace that the caller's own organization lacks.
 use Rattle.std.specs.Prelude.{◌≡◌, ℕ, Bool, true, false, List, ◌∷◌, ◌++◌, take, slice_get, Option, Some, None, Ok}
 use Rattle.basis.specs.Names.{is_org_name, is_ws_name}
@@ -23,7 +23,7 @@ use Rattle.serve.specs.Steps.{replies, step, own_record}
 use Rattle.serve.specs.Served.{Exchange, IsTold, AreServed, asked_in}
 use Rattle.serve.specs.declared.doors.Door.{Door}
 
--- one target names what another does, but for the workspace, and for the organization or not: the parts of the path are else the same, and so is the query
+-- one target names what another does, except for the workspace, and perhaps the organization: the other parts of the path are equal, and so is the query
 pub record NamesInstead (target aim org ws : List ℕ) : Type 0 where
   pub from : List ℕ
   pub to : List ℕ
@@ -48,7 +48,7 @@ pub record IsFormOf (bytes other org ws : List ℕ) : Type 0 where
   pub same : SameButTarget bytes other target aim
   pub names : NamesInstead target aim org ws
 
--- at a place of a run: the request that came, what it asks, what was asked before it, and its reply
+-- at a position of a run: the request that arrived, what it asks, what was asked before it, and its reply
 pub record AnsweredRequest (steps : List Step) (texts : List (List ℕ)) : Type 0 where
   pub index : ℕ
   pub at : ℕ
@@ -64,24 +64,24 @@ pub record AnsweredRequest (steps : List Step) (texts : List (List ℕ)) : Type 
   pub text : List ℕ
   pub replied : slice_get texts index ≡ Some text
 
--- the record of an organization before a place: what its own machine left of the record at the start, by its own steps before it
+-- the record of an organization before a position: what its own machine left of the record at the start, by its own earlier steps
 abbrev pub record_before : (List ℕ → Option Organization) → List ℕ → List Ask → Option Organization
 record_before rows org earlier = own_record (rows org) (own_asks (organization org) earlier)
 
--- the reply to a request whose path isn't its caller's organization's, and which needs a workspace, is the text of the machine's answer to
+-- if a request's path names another organization than its caller's, and it needs a workspace, the reply is the text of the machine's answer to
 -- each of its absent forms, from the record of the caller's organization before it
 abbrev pub RepliesAreThoseOfAbsentForms : List Step → (List ℕ → Option Organization) → List (List ℕ) → Type 0
 RepliesAreThoseOfAbsentForms steps rows texts = (a : AnsweredRequest steps texts) (other org ws : List ℕ) (ask : Ask) → is_in_reach a.asked ≡ false → NeedsWorkspace a.asked.act
     → workspace_in (record_before rows a.asked.caller a.earlier) ws ≡ None → IsFormOf a.bytes other org ws → Asks a.at other ask
     → IsSaidText (step (record_before rows a.asked.caller a.earlier) ask).answer a.text
 
--- and whatever it asks, PUT of a workspace and the list of workspaces too: where its caller is known and has the role, the reply is the text of not-found
+-- and whatever it asks, PUT of a workspace and the list of workspaces too: if its caller is known and has the role, the reply is the text of not-found
 abbrev pub OutOfReachRepliesNotFound : List Step → (List ℕ → Option Organization) → List (List ℕ) → Type 0
 OutOfReachRepliesNotFound steps rows texts = (a : AnsweredRequest steps texts) (token : Token) → is_in_reach a.asked ≡ false
     → known_caller (record_before rows a.asked.caller a.earlier) a.at a.asked ≡ Ok token → may_do token a.asked ≡ Ok tt
     → IsSaidText (replies a.awaited a.at (refused_answer NotFound (error_text NotFound) false)) a.text
 
--- the reply to a request on a workspace that its caller's prefix doesn't admit, other than PUT of a workspace, is the text of the machine's answer
+-- the reply to a request on a workspace outside its caller's prefix, other than PUT of a workspace, is the text of the machine's answer
 -- to each of its absent forms, from the record of the caller's organization before it
 abbrev pub RepliesOutsideThePrefixAreThoseOfAbsentForms : List Step → (List ℕ → Option Organization) → List (List ℕ) → Type 0
 RepliesOutsideThePrefixAreThoseOfAbsentForms steps rows texts = (a : AnsweredRequest steps texts) (token : Token) (other org ws : List ℕ) (ask : Ask)
@@ -89,7 +89,7 @@ RepliesOutsideThePrefixAreThoseOfAbsentForms steps rows texts = (a : AnsweredReq
     → workspace_in (record_before rows a.asked.caller a.earlier) ws ≡ None → IsFormOf a.bytes other org ws → Asks a.at other ask
     → IsSaidText (step (record_before rows a.asked.caller a.earlier) ask).answer a.text
 
--- and whatever it asks, PUT of a workspace too: where its caller has the role, the reply is the text of not-found
+-- and whatever it asks, PUT of a workspace too: if its caller has the role, the reply is the text of not-found
 abbrev pub RepliesOutsideThePrefixAreNotFound : List Step → (List ℕ → Option Organization) → List (List ℕ) → Type 0
 RepliesOutsideThePrefixAreNotFound steps rows texts = (a : AnsweredRequest steps texts) (token : Token)
     → known_caller (record_before rows a.asked.caller a.earlier) a.at a.asked ≡ Ok token → is_admitted token.caller.prefix a.asked.act ≡ false → may_do token a.asked ≡ Ok tt
@@ -97,7 +97,7 @@ RepliesOutsideThePrefixAreNotFound steps rows texts = (a : AnsweredRequest steps
 
 -- ---- the same of exchanges in a row
 
--- at a place of exchanges: one that carried out a request, and those before it
+-- at a position of exchanges: one that carried out a request, and those before it
 pub record ServedRequest (es : List Exchange) : Type 0 where
   pub earlier : List Exchange
   pub one : Exchange

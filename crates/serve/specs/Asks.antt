@@ -6,13 +6,13 @@ use Rattle.route.specs.declared.routes.Asked.{Asked}
 use Rattle.serve.specs.declared.steps.Admin.{Admin}
 use Rattle.serve.specs.declared.steps.Admin.TheVariants.{OrgAdd, OrgLimit, OrgRemove, OrgList, TokenAdd, TokenList, TokenRevoke}
 
--- what a step asks, at a moment; the flag `awaited` says that `100 Continue` goes before the reply
+-- what a step asks, at a moment; the flag `awaited` says that `100 Continue` comes before the reply
 pub data Ask : Type 0 where
-  -- nothing, since its message is unfinished
+  -- nothing, because its message is unfinished
   silent : Ask
-  -- nothing of any organization: it is refused by what its bytes say; the last flag says that the method is HEAD
+  -- nothing of any organization: its bytes are refused; the last flag says that the method is HEAD
   refused : ℕ → Bool → Refusal → Bool → Ask
-  -- an act, in the name of the organization of a token, with the field Content-MD5, where it is sent, and the body
+  -- an act, in the name of the organization of a token, with the field Content-MD5, if it is sent, and the body
   requests : ℕ → Bool → Asked → Option (List ℕ) → List ℕ → Ask
   -- an operator's command
   commands : ℕ → Admin → Ask
@@ -26,7 +26,7 @@ pub data Owner : Type 0 where
   -- the operator's, who lists all organizations, or the tokens of one
   operator : Owner
 
--- whose an operator's command is: the organization's that it names, or, where it only lists organizations or tokens, the operator's
+-- the owner of an operator's command: the organization that it names, or the operator, if it only lists organizations or tokens
 abbrev pub commanded_of : Admin → Owner
 commanded_of (OrgAdd org limit) = organization org
 commanded_of (OrgLimit org limit) = organization org

@@ -1,5 +1,5 @@
 -- The book of a workspace: each step of its organization's own machine, with the workspace before and after it; its periods; and
--- what custody says of it.
+-- the laws of custody over it.
 use Rattle.std.specs.Prelude.{◌≡◌, ◌<◌, ◌≤◌, ◌⊎◌, ℕ, Bool, true, false, not, ◌&&◌, List, [], ◌∷◌, length, map, filter, Option, Some, None, IfSome, IsSome, is_some, ⊤}
 use Rattle.std.specs.List.{AllByRecursion, Contains, flat_map}
 use Rattle.std.specs.Str.{bytes_eq}
@@ -51,32 +51,32 @@ BooksAreOfTheRun = (ws : List ℕ) (r : Option Organization) (asks : List Ask)
 
 -- ---- periods
 
--- a list, where it is taken
+-- a list, if it is taken
 abbrev pub if_so : {A : Type 0} → Bool → List A → List A
 if_so true es = es
 if_so false es = []
 
--- one more at the front, where it is taken
+-- one more at the front, if it is taken
 abbrev pub put_if : {A : Type 0} → Bool → A → List A → List A
 put_if true x xs = x ∷ xs
 put_if false x xs = xs
 
--- the steps up to the first after which something isn't so any more
+-- the steps up to the first after which a condition no longer holds
 abbrev pub as_long_as : (Option Workspace → Bool) → List Entry → List Entry
 as_long_as is [] = []
 as_long_as is (e ∷ es) = e ∷ if_so (is e.after) (as_long_as is es)
 
--- the periods that begin with a step, after which something is so and before which it isn't: the steps behind that one
+-- the periods that begin with a step after which a condition holds, and before which it does not: the steps after that one
 abbrev pub begun_periods : (Option Workspace → Bool) → List Entry → List (List Entry)
 begun_periods is [] = []
 begun_periods is (e ∷ es) = put_if (not (is e.before) && is e.after) (as_long_as is es) (begun_periods is es)
 
--- the periods of a book in which something is so: those, and, where it is so at the start, one that begins there
+-- the periods of a book in which a condition holds: those; and, if it holds at the start, one that begins there
 abbrev pub periods : (Option Workspace → Bool) → List Entry → List (List Entry)
 periods is [] = []
 periods is (e ∷ es) = put_if (is e.before) (as_long_as is (e ∷ es)) (begun_periods is (e ∷ es))
 
--- the periods, one after the other, are the steps before which it is so
+-- the periods, one after the other, are the steps before which the condition holds
 abbrev pub PeriodsAreTheStepsBetween : Type 0
 PeriodsAreTheStepsBetween = (is : Option Workspace → Bool) (ws : List ℕ) (r : Option Organization) (asks : List Ask)
     → flat_map (λ (period : List Entry). period) (periods is (book ws r asks)) ≡ filter (λ (e : Entry). is e.before) (book ws r asks)
@@ -91,7 +91,7 @@ is_lock id Nobody = false
 is_lock id (Lock own text) = bytes_eq own id
 is_lock id (HoldingRun n) = false
 
--- the workspace is there, and its holder is such a one
+-- the workspace exists, and its holder is such a one
 abbrev pub is_held : (Holder → Bool) → Option Workspace → Bool
 is_held is None = false
 is_held is (Some w) = is w.holder
@@ -100,7 +100,7 @@ is_held is (Some w) = is w.holder
 abbrev pub is_run : ℕ → Holder → Bool
 is_run n holder = holds holder n
 
--- the steps of a workspace's life behind a step: those up to the one that deletes it; one of its name that is made later begins anew
+-- the steps of a workspace's life after a step: those up to the one that deletes it; one of its name that is created later begins anew
 abbrev pub life : Entry → List Entry → List Entry
 life e es = if_so (is_some e.after) (as_long_as is_some es)
 
@@ -134,7 +134,7 @@ IsAcceptedUpdate ws e = AsksOf ws UpdateState e.ask × IsAccepted e.said
 abbrev pub IsAcceptedPurge : List ℕ → Entry → Type 0
 IsAcceptedPurge ws e = AsksOf ws PurgeState e.ask × IsAccepted e.said
 
--- the number that the next version gets: 1 where there is no workspace
+-- the number that the next version gets: 1 if there is no workspace
 abbrev pub next_version : Option Workspace → ℕ
 next_version None = 1
 next_version (Some w) = w.next_version
@@ -143,16 +143,16 @@ next_version (Some w) = w.next_version
 abbrev pub MakesVersion : Entry → Type 0
 MakesVersion e = next_version e.before < next_version e.after
 
--- the versions that are kept: none where there is no workspace
+-- the versions that are kept: none if there is no workspace
 abbrev pub kept_versions : Option Workspace → List Version
 kept_versions None = []
 kept_versions (Some w) = w.versions
 
--- a version that was kept before it is gone after it: it is one of those before, and none of those after
+-- a version that was kept before the step is not kept after it
 abbrev pub LosesVersion : Entry → Type 0
 LosesVersion e = (v : Version) × Contains (kept_versions e.before) v × (Contains (kept_versions e.after) v → ⊥)
 
--- it makes a version, or is an accepted purge, or a version that was kept before it is gone after it
+-- it makes a version, or is an accepted purge, or removes a version that was kept before it
 abbrev pub WritesState : List ℕ → Entry → Type 0
 WritesState ws e = MakesVersion e ⊎ IsAcceptedPurge ws e ⊎ LosesVersion e
 
@@ -161,7 +161,7 @@ abbrev pub IsApplying : ℕ → Option Workspace → Type 0
 IsApplying n None = ⊥
 IsApplying n (Some w) = (r : Run) × (run_of n w.runs ≡ Some r) × (r.status ≡ Applying)
 
--- a run starts: it doesn't hold before the step, and holds after it
+-- a run starts: it does not hold before the step, and holds after it
 abbrev pub starts : ℕ → Entry → Bool
 starts n e = not (is_held (is_run n) e.before) && is_held (is_run n) e.after
 
@@ -181,12 +181,12 @@ IsDoneOnce act = ⊥
 abbrev pub IsRemovedByForce : Entry → Type 0
 IsRemovedByForce e = ForcesRemoval e.ask × IsAccepted e.said × (e.after ≡ None)
 
--- in the period of a lock, a step that makes a version, or is an accepted purge, or after which a version is gone that was kept before it, carried
--- its ID, or took all by force
+-- in the period of a lock, a step that makes a version, or is an accepted purge, or removes a version that was kept before it, carried
+-- the lock's ID, or removed the organization by force
 abbrev pub LocksKeepOthersOut : List ℕ → List Entry → Type 0
 LocksKeepOthersOut ws es = (id : List ℕ) → InEachPeriod (is_held (is_lock id)) (λ e. WritesState ws e → (Names e.ask ws × CarriesId e.ask id) ⊎ IsRemovedByForce e) es
 
--- in the period of a run, such a step carried `run-` and its number, and the run was applying, or it took all by force
+-- in the period of a run, such a step carried `run-` and its number, and the run was applying; or it removed the organization by force
 abbrev pub RunsKeepOthersOut : List ℕ → List Entry → Type 0
 RunsKeepOthersOut ws es = (n : ℕ) → InEachPeriod (is_held (is_run n)) (λ e. WritesState ws e → (Names e.ask ws × CarriesId e.ask (run_id n) × IsApplying n e.before) ⊎ IsRemovedByForce e) es
 
@@ -208,13 +208,13 @@ StartsRise ws [] = ⊤
 StartsRise ws (e ∷ es) =
     ((n m : ℕ) → starts n e ≡ true → AllByRecursion (λ (f : Entry). starts m f ≡ true → n < m) (life e es)) × StartsRise ws es
 
--- what was accepted and comes again, while the workspace is as the first left it, leaves it so: all but the creation of a run without a key
+-- an accepted request, sent again while the workspace is as the first left it, leaves it so: all but the creation of a run without a key
 abbrev pub RepeatsLeaveIt : List ℕ → List Entry → Type 0
 RepeatsLeaveIt ws [] = ⊤
 RepeatsLeaveIt ws (e ∷ es) =
     (Names e.ask ws → MayRepeat e.ask → IsAccepted e.said → AllByRecursion (λ (f : Entry). Repeats e f → f.before ≡ e.after → f.after ≡ f.before) es) × RepeatsLeaveIt ws es
 
--- the creation of a run with a key, and an action on a run, that was accepted and comes again at any later point of the workspace's life, leaves it equal
+-- an accepted creation of a run with a key, or an accepted action on a run, sent again later in the workspace's life, leaves it equal
 abbrev pub DoneOnceIsDone : List ℕ → List Entry → Type 0
 DoneOnceIsDone ws [] = ⊤
 DoneOnceIsDone ws (e ∷ es) =

@@ -9,7 +9,7 @@ use Rattle.basis.specs.declared.roles.Bounds.{Bounds}
 abbrev pub moment_of : List ℕ → Option ℕ
 moment_of word = option_and_then (within 0 253_402_300_799) (whole_of word)
 
--- reads a prefix: the word itself; the empty one stands for every workspace
+-- reads a prefix: the word itself; the empty one admits every workspace
 abbrev pub prefix_of : List ℕ → Option (List ℕ)
 prefix_of word = cond (is_prefix word) (Some word) None
 

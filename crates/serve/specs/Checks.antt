@@ -29,12 +29,12 @@ use Rattle.basis.specs.declared.acts.WsAct.TheVariants.{Query, Put, Delete, Upda
 use Rattle.serve.specs.declared.checks.Task.{Task}
 use Rattle.serve.specs.declared.checks.Task.TheVariants.{ListAll, Carry}
 
--- a condition, and the refusal where it doesn't hold
+-- a condition, and the refusal if it does not hold
 abbrev pub require : Refusal → Bool → Result (Unit {0}) Refusal
 require refusal true = Ok tt
 require refusal false = Err refusal
 
--- a token that doesn't count at a moment, since it has ended, is as if it weren't there
+-- a token that has ended at a moment counts as absent
 abbrev pub while_it_counts : ℕ → Option Token → Option Token
 while_it_counts now None = None
 while_it_counts now (Some token) = if is_valid_at now token.caller then Some token else None
@@ -43,26 +43,26 @@ while_it_counts now (Some token) = if is_valid_at now token.caller then Some tok
 abbrev pub known_caller : Option Organization → ℕ → Asked → Result Token Refusal
 known_caller r now asked = or_refused BadToken (while_it_counts now (caller_of r (sha256 asked.secret)))
 
--- the policy: why a token's role doesn't do for what is asked, or none
+-- the policy: why a token's role does not suffice for what is asked, or none
 abbrev pub policy : Token → Asked → Option Refusal
 policy token asked = role_refused token.caller.role asked.act
 
 abbrev pub may_do : Token → Asked → Result (Unit {0}) Refusal
 may_do token asked = allowed_by (policy token asked)
 
--- the token is for the workspace that is asked of: its prefix admits the name; another is told as what isn't there
+-- the token's prefix admits the workspace that is asked for; a workspace outside it is reported as absent
 abbrev pub admitted : Token → Asked → Result (Unit {0}) Refusal
 admitted token asked = require NotFound (is_admitted token.caller.prefix asked.act)
 
--- what a caller reaches is under the path of its own organization
+-- a caller reaches only what is under the path of its own organization
 abbrev pub is_in_reach : Asked → Bool
 is_in_reach asked = bytes_eq asked.org asked.caller
 
--- what is out of reach is told as what isn't there
+-- what is out of reach is reported as absent
 abbrev pub in_reach : Asked → Result (Unit {0}) Refusal
 in_reach asked = require NotFound (is_in_reach asked)
 
--- an act on a workspace that needn't be there: it is made
+-- an act on a workspace that need not exist: the act creates it
 abbrev pub makes : WsAct → Bool
 makes (Query what) = false
 makes Put = true
@@ -75,12 +75,12 @@ makes ForceUnlock = false
 makes MakeRun = false
 makes (ReportRun number action) = false
 
--- what is told of is there: the workspace, and the version or the run that is named
+-- what is reported exists: the workspace, and the version or the run that is named
 abbrev pub has_queried : AnyQuery → Option Workspace → Bool
 has_queried what None = false
 has_queried what (Some w) = has_named (needs_of_query what) w
 
--- what an act asks of, as what would be told of it: the workspace, or a version or a run that it names
+-- the query that reports what an act names: the workspace, or a version or a run
 abbrev pub named_by : WsAct → AnyQuery
 named_by (Query what) = what
 named_by Put = query.Workspace
@@ -93,20 +93,20 @@ named_by ForceUnlock = query.Workspace
 named_by MakeRun = query.Workspace
 named_by (ReportRun number action) = query.Run number
 
--- what an act asks of is there
+-- what an act names exists
 abbrev pub is_there : WsAct → Option Workspace → Bool
 is_there act w = has_queried (named_by act) w
 
--- names: what is asked of is there, or is to be made
+-- names: what is named exists, or is to be created
 abbrev pub is_found : Option Organization → List ℕ → WsAct → Bool
 is_found r ws act = makes act || is_there act (workspace_in r ws)
 
--- the list of the workspaces is always there
+-- the list of the workspaces always exists
 abbrev pub found : Option Organization → AskedAct → Result (Unit {0}) Refusal
 found r (ListWorkspaces after) = Ok tt
 found r (OfWorkspace ws act) = require NotFound (is_found r ws act)
 
--- Content-MD5, where it is sent, is the MD5 of the body (RFC 1864)
+-- Content-MD5, if it is sent, is the MD5 of the body (RFC 1864)
 abbrev pub fits : Option (List ℕ) → List ℕ → Bool
 fits None body = true
 fits (Some field) body = digest_fits field body
@@ -114,7 +114,7 @@ fits (Some field) body = digest_fits field body
 abbrev pub digest_checked : Option (List ℕ) → List ℕ → Result (Unit {0}) Refusal
 digest_checked content_md5 body = require BadDigest (fits content_md5 body)
 
--- the act that the body's document spells, or why it spells none
+-- the act that the body's document asks for, or why it asks for none
 abbrev pub spelt : {A : Type 0} → Refusal → (A → Act) → Option A → Result Act Refusal
 spelt refusal f None = Err refusal
 spelt refusal f (Some a) = Ok (f a)
@@ -144,7 +144,7 @@ id_of_act ForceUnlockAct = None
 id_of_act (MakeRunAct run) = None
 id_of_act (ReportRunAct n action) = None
 
--- what is to be done: a list is of the workspaces that the caller's prefix admits; it has no document, and its body isn't looked at
+-- what is to be done: a list is of the workspaces that the caller's prefix admits; it has no document, and its body is not read
 abbrev pub task_of : List ℕ → AskedAct → Option (List ℕ) → List ℕ → Result Task Refusal
 task_of prefix (ListWorkspaces after) id body = Ok (ListAll after prefix)
 task_of prefix (OfWorkspace ws what) id body = and_then (act_of what id body) (λ act. Ok (Carry ws act))

@@ -85,14 +85,14 @@ pub record IsInCustody (what : Ask) (ws held text : List ℕ) (w v : Workspace) 
   pub versions : (v.versions ≡ w.versions) ⊎ (Names what ws × CarriesId what held)
   pub holder : (v.holder ≡ Lock held text) ⊎ (Names what ws × ReleasesLock what held)
 
--- a workspace that a lock holds is there after every step, and in custody, or its organization was removed by force: of every record, every
+-- after every step, a workspace that a lock holds exists and is in custody, or its organization was removed by force: for every record, every
 -- step and every workspace
 abbrev pub LocksAreKept : Type 0
 LocksAreKept = (r : Option Organization) (what : Ask) (ws : List ℕ) (w : Workspace) (held text : List ℕ)
     → workspace_in r ws ≡ Some w → w.holder ≡ Lock held text
     → ((v : Workspace) × (workspace_in (step r what).left ws ≡ Some v) × IsInCustody what ws held text w v) ⊎ ForcesRemoval what
 
--- An organization goes by its removal alone: by force, or where none of its workspaces is in use. Added again, it begins anew, with no token
+-- Only its removal ends an organization: by force, or if none of its workspaces is in use. Added again, it begins anew, with no token
 -- and no workspace.
 abbrev pub IsInUseIn : Option Organization → Type 0
 IsInUseIn r = (ws : List ℕ) × (w : Workspace) × (workspace_in r ws ≡ Some w) × (is_in_use w ≡ true)
@@ -115,26 +115,26 @@ asked_again later (ask.refused at awaited refusal is_head) = ask.refused later a
 asked_again later (requests at awaited asked content_md5 body) = requests later awaited asked content_md5 body
 asked_again later (commands at command) = commands later command
 
--- what may come again
+-- what may be sent again
 abbrev pub MayRepeat : Ask → Type 0
 MayRepeat silent = ⊤
 MayRepeat (ask.refused at awaited refusal is_head) = ⊤
 MayRepeat (requests at awaited asked content_md5 body) = (act : Act) → IsActOn asked.act asked.lock_id body act → IsRepeatable act
 MayRepeat (commands at command) = ⊤
 
--- a moment isn't before that of a step
+-- a moment is not before that of a step
 abbrev pub IsNotBefore : Ask → ℕ → Type 0
 IsNotBefore silent later = ⊤
 IsNotBefore (ask.refused at awaited refusal is_head) later = at ≤ later
 IsNotBefore (requests at awaited asked content_md5 body) later = at ≤ later
 IsNotBefore (commands at command) later = at ≤ later
 
--- what comes again, not before, while the record is as the first left it, changes nothing more
+-- what is sent again, not before, while the record is as the first left it, changes nothing more
 abbrev pub StepsAreRepeatable : Type 0
 StepsAreRepeatable = (r : Option Organization) (what : Ask) (later : ℕ) → MayRepeat what → IsNotBefore what later
     → (step (step r what).left (asked_again later what)).left ≡ (step r what).left
 
--- what is said doesn't refuse
+-- what is said is not a refusal
 abbrev pub IsAccepted : Said → Type 0
 IsAccepted nothing = ⊥
 IsAccepted (replies awaited at answer) = answer.refusal ≡ None
@@ -142,7 +142,7 @@ IsAccepted (reports answer) = answer ≡ Done
 IsAccepted lists = ⊤
 IsAccepted lists_tokens = ⊤
 
--- what was accepted and comes again, while the workspace is as the first left it, whatever became of the rest, changes nothing more
+-- what was accepted and is sent again, while the workspace is as the first left it, whatever happened to the rest, changes nothing more
 abbrev pub RepeatsLeaveTheWorkspace : Type 0
 RepeatsLeaveTheWorkspace = (r q : Option Organization) (what : Ask) (later : ℕ) (ws : List ℕ) → MayRepeat what → Names what ws → IsAccepted (step r what).answer
     → workspace_in q ws ≡ workspace_in (step r what).left ws → workspace_in (step q (asked_again later what)).left ws ≡ workspace_in q ws

@@ -1,9 +1,12 @@
 -- The operator's door: what a request that comes to it asks for and is answered, and what an exchange with a door is.
-use Rattle.std.specs.Prelude.{◌≡◌, ◌⊎◌, ℕ, ◌<◌, ◌++◌, ⊤, Bool, true, false, nat_le, cond, List, length, Option, Some, None, IfSome, option_and_then, Result, Ok, Err, IsTrue}
+use Rattle.std.specs.Prelude.{◌≡◌, ◌≢◌, ◌⊎◌, ℕ, ◌<◌, ◌++◌, ⊤, Bool, true, false, nat_le, cond, if◌then◌else◌, is_none, bytes_eq, codes, List, length, Option, Some, None, IfSome, option_and_then, Result, Ok, Err, IsTrue}
 use Rattle.std.specs.Io.KnownBytes.{Appends}
 use Rattle.sha2.specs.Sha256.{sha256}
 use Rattle.basis.specs.declared.refusals.Refusal.{Refusal}
-use Rattle.basis.specs.declared.refusals.Refusal.TheVariants.{BadBody}
+use Rattle.basis.specs.declared.refusals.Refusal.TheVariants.{BadBody, BadSecret, BadQuery, NoMethod}
+use Rattle.basis.specs.declared.refusals.Allow.TheVariants.{Actions}
+use Rattle.basis.specs.declared.roles.Bounds.{Bounds}
+use Rattle.basis.specs.declared.roles.Role.{Role}
 use Rattle.basis.specs.Checks.{or_refused, and_then}
 use Rattle.docs.specs.Bodies.{error_text}
 use Rattle.docs.specs.declared.logs.LogAct.{LogAct}
@@ -39,11 +42,14 @@ opened_by secret = Open (sha256 secret)
 abbrev pub command_in : List ℕ → Result Admin Refusal
 command_in body = or_refused BadBody (cond (nat_le (length body) 4096) (option_and_then command_in_line (only_line body)) None)
 
+-- the command that a message asks for once it may enter, or the refusal of the first check that fails: Content-MD5, the body
+abbrev pub command_asked : Message → Result Admin Refusal
+command_asked message = and_then (digest_checked message.content_md5 message.body) (λ _. command_in message.body)
+
 -- the command that a message at the open door asks for, or the refusal of the first check that fails: the method, the query, the secret
 -- of this digest, Content-MD5, the body
 abbrev pub commanded : List ℕ → Message → Result Admin Refusal
-commanded digest message =
-    and_then (may_enter digest message) (λ _. and_then (digest_checked message.content_md5 message.body) (λ _. command_in message.body))
+commanded digest message = and_then (may_enter digest message) (λ _. command_asked message)
 
 -- what a command asks, as the log names it
 abbrev pub act_commanded : Admin → LogAct
@@ -109,9 +115,11 @@ pub record IsTurnedAway (digest : List ℕ) (now : ℕ) (message : Message) (old
   pub is : IsReplyText (refused_answer refusal (error_text refusal) (is_head message)) now text
   pub logged : row ≡ Some (turned_row now (refused_answer refusal (error_text refusal) (is_head message)))
 
--- an allocation or the store failed: nothing changes. The row has the command if it had been read
+-- an allocation or the store failed: nothing changes. The secret is not why the message is refused: that reply needs no memory. The row
+-- has the command if it had been read
 pub record IsUnserved (digest : List ℕ) (now : ℕ) (message : Message) (old new : List ℕ → Option Organization) (text : List ℕ) (row : Option LogRow) : Type 0 where
   pub stays : Stays old new
+  pub known : may_enter digest message ≢ Err BadSecret
   pub is : IsReplyText (unavailable_answer (is_head message)) now text
   pub command : Option Admin
   pub asks : IfSome command (λ c. commanded digest message ≡ Ok c)
@@ -172,3 +180,33 @@ BringsSecret digest message = (field : List ℕ) × (secret : List ℕ) × (mess
 abbrev pub OnlyTheSecretOpens : Type 0
 OnlyTheSecretOpens = (digest : List ℕ) (now : ℕ) (message : Message) (old new : List ℕ → Option Organization) (text : List ℕ) (row : Option LogRow) (is_down : Bool)
     → IsReportedAtDoor digest now message old new text row is_down → BringsSecret digest message ⊎ Stays old new
+
+-- what a message without the secret is refused for: the method or the query, which are judged first, or the secret
+abbrev pub refusal_without : Message → Refusal
+refusal_without message = if bytes_eq message.method (codes "POST") then (if is_none message.query then BadSecret else BadQuery) else NoMethod Actions
+
+-- all that a message without the secret is told: that refusal, and the row of the log says no more. A 503 answers it only if the refusal is
+-- for the method or the query
+abbrev pub IsToldNothing : Message → ℕ → List ℕ → Option LogRow → Bool → Type 0
+IsToldNothing message now text row false =
+    IsReplyText (refused_answer (refusal_without message) (error_text (refusal_without message)) (is_head message)) now text
+    × (row ≡ Some (turned_row now (refused_answer (refusal_without message) (error_text (refusal_without message)) (is_head message))))
+IsToldNothing message now text row true = (refusal_without message ≢ BadSecret) × IsReplyText (unavailable_answer (is_head message)) now text × (row ≡ Some (unserved_row now None))
+
+-- whatever secret a message brings that does not open the door, whatever the records are, and whether or not memory is short
+abbrev pub WithoutTheSecret : Type 0
+WithoutTheSecret = (digest : List ℕ) (now : ℕ) (message : Message) (old new : List ℕ → Option Organization) (text : List ℕ) (row : Option LogRow) (is_down : Bool)
+    → (BringsSecret digest message → ⊥) → IsReportedAtDoor digest now message old new text row is_down → Stays old new × IsToldNothing message now text row is_down
+
+-- two messages that are refused for their secrets get equal replies and equal rows at a moment, whatever the secrets, the doors' digests,
+-- the bodies and the records are
+abbrev pub WrongSecretsAreAlike : Type 0
+WrongSecretsAreAlike = (digest other : List ℕ) (now : ℕ) (m n : Message) (old new old' new' : List ℕ → Option Organization) (text text' : List ℕ) (row row' : Option LogRow) (is_down is_down' : Bool)
+    → m.method ≡ n.method → m.query ≡ n.query → (BringsSecret digest m → ⊥) → (BringsSecret other n → ⊥) → refusal_without m ≡ BadSecret
+    → IsReportedAtDoor digest now m old new text row is_down → IsReportedAtDoor other now n old' new' text' row' is_down' → (text ≡ text') × (row ≡ row')
+
+-- the secret of a token that is added is in no row, whether the command is carried out or not
+abbrev pub AddedSecretsAreNotLogged : Type 0
+AddedSecretsAreNotLogged = (now : ℕ) (org name : List ℕ) (role : Role) (secret other : List ℕ) (bounds : Bounds) (answer : AdminAnswer)
+    → (reported_row now (TokenAdd org name role secret bounds) answer ≡ reported_row now (TokenAdd org name role other bounds) answer)
+    × (unserved_row now (Some (TokenAdd org name role secret bounds)) ≡ unserved_row now (Some (TokenAdd org name role other bounds)))

@@ -18,7 +18,7 @@ use Rattle.serve.specs.Service.{Asks, Carries, Stays, ask_of, record_for, said_t
 use Rattle.serve.specs.declared.exchanges.LinkFault.{LinkFault}
 use Rattle.serve.specs.declared.exchanges.LinkFault.TheVariants.{Ended, Read, Continue, Write}
 
--- what the bytes ask is carried out, and this is the reply's text, after `100 Continue` where it is awaited
+-- what the bytes ask is carried out, and this is the reply's text, after `100 Continue` if it is awaited
 pub record IsServed (now : ℕ) (received : List ℕ) (old new : List ℕ → Option Organization) (awaited : Bool) (text : List ℕ) (row : Option LogRow) : Type 0 where
   pub ask : Ask
   pub asks : Asks now received ask
@@ -28,21 +28,21 @@ pub record IsServed (now : ℕ) (received : List ℕ) (old new : List ℕ → Op
   pub is : IsReplyText answer now text
   pub logged : row ≡ row_of_ask (record_for old (owner_of ask)) ask
 
--- whether `100 Continue` goes before a reply that says so where memory or the store refused, and whether its body is left out, by what
--- was read: neither where memory was refused inside the reading; past it the line goes before it where it is awaited, and the
--- body is left out where the method is HEAD
+-- whether `100 Continue` comes before the 503 of a failed allocation or store, and whether its body is left out, by what
+-- had been read: neither, if an allocation failed while reading; after that, `100 Continue` comes first if it is awaited, and
+-- the body is left out if the method is HEAD
 abbrev pub IsShapedBy : Option Reading → Bool → Bool → Type 0
 IsShapedBy None awaited without_body = (awaited ≡ false) × (without_body ≡ false)
 IsShapedBy (Some unfinished) awaited without_body = ⊥
 IsShapedBy (Some (refused refusal head)) awaited without_body = (awaited ≡ false) × (without_body ≡ head)
 IsShapedBy (Some (whole message due)) awaited without_body = (awaited ≡ due) × (without_body ≡ is_head message)
 
--- the row of a 503, by what was read: where memory was refused inside the reading (none), only the moment
+-- the row of a 503, by what had been read: only the moment, if an allocation failed while reading (none)
 abbrev pub IsUnavailableFor : ℕ → (List ℕ → Option Organization) → Option Reading → LogRow → Type 0
 IsUnavailableFor now old None row = row ≡ unavailable_row now
 IsUnavailableFor now old (Some reading) row = IsUnavailableRow (record_for old (owner_of (ask_of now reading))) (ask_of now reading) row
 
--- memory or the store refused, inside the reading (none) or past it: nothing changes, and the reply's text says so
+-- an allocation or the store failed, while reading (none) or after it: nothing changes, and the reply's text says so
 pub record IsUnavailable (now : ℕ) (received : List ℕ) (old new : List ℕ → Option Organization) (reading : Option Reading) (awaited : Bool) (text : List ℕ) (row : Option LogRow) : Type 0 where
   pub stays : Stays old new
   pub reads : IfSome reading (Reads received)
@@ -53,14 +53,14 @@ pub record IsUnavailable (now : ℕ) (received : List ℕ) (old new : List ℕ �
   pub reports : row ≡ Some reported
   pub logged : IsUnavailableFor now old reading reported
 
--- what was received is answered: it is served (`false`), or memory or the store refused (`true`)
+-- what was received is answered: it is served (`false`), or an allocation or the store failed (`true`)
 abbrev pub IsAnswered : ℕ → List ℕ → (List ℕ → Option Organization) → (List ℕ → Option Organization) → Bool → List ℕ → Option LogRow → Bool → Type 0
 IsAnswered now received old new awaited text row false = IsServed now received old new awaited text row
 IsAnswered now received old new awaited text row true = (reading : Option Reading) × IsUnavailable now received old new reading awaited text row
 
 -- what an exchange answers, by the bytes that were received from the reader, and those that it has left: the records before and after,
--- what was written before and after, and whether the reply is that of memory or a store that refused, which no exchange without a
--- reply has; and the row of the log. After `Write` `100 Continue` is whole where it is awaited, and the reply's text isn't
+-- what was written before and after, and whether the reply is the 503 of a failed allocation or store, which no exchange without a
+-- reply has; and the row of the log. After `Write`, `100 Continue` was written completely if it is awaited, and the reply was not
 abbrev pub Exchanges : ℕ → List ℕ → Option (List ℕ) → (List ℕ → Option Organization) → (List ℕ → Option Organization) → Option (List ℕ) → Option (List ℕ) → Bool → Option LogRow → {T : Type 0} → Result T LinkFault → Type 0
 Exchanges now received left old new before after is_down row (Ok done) =
     (awaited : Bool) × (text : List ℕ) × IsAnswered now received old new awaited text row is_down × Appends before after (continue_if awaited ++ text)
@@ -74,7 +74,7 @@ Exchanges now received left old new before after is_down row (Err Write) =
 abbrev pub ChangesAtMostOne : (List ℕ → Option Organization) → (List ℕ → Option Organization) → Type 0
 ChangesAtMostOne old new = (org : List ℕ) × ((other : List ℕ) → other ≢ org → new other ≡ old other)
 
--- of the workspace of this name, in an organization's record before and after: it stood and stands, and this is so of it
+-- the workspace of this name exists in an organization's record before and after, and this relation holds between the two
 pub record OfNamed (named : Option (List ℕ)) (old new : Option Organization) (IsSo : Workspace → Workspace → Type 0) : Type 0 where
   pub ws : List ℕ
   pub is : named ≡ Some ws
@@ -84,14 +84,14 @@ pub record OfNamed (named : Option (List ℕ)) (old new : Option Organization) (
   pub stands : workspace_in new ws ≡ Some after
   pub so : IsSo before after
 
--- the version of a number is made, and none had it
+-- the version of a number is made, and none had this number
 pub record Makes (n : ℕ) (w v : Workspace) : Type 0 where
   pub gains : GainsVersion w v
   pub number : gains.made.number ≡ n
   pub absent : version_of n w.versions ≡ None
 
--- what comes of an organization's record is what the row tells. In the workspace that it names the version that it tells is made, and
--- the run that it tells starts; in no workspace is another version made, and no other run starts; and a workspace that wasn't there
+-- an organization's record changes as the row says. In the workspace that the row names, its version is made, and its run starts; in no
+-- workspace is another version made, and no other run starts; and a workspace that did not exist
 -- begins anew
 pub record ComesAsLogged (row : LogRow) (old new : Option Organization) : Type 0 where
   pub version : IfSome row.version (λ n. OfNamed row.workspace old new (Makes n))
@@ -100,8 +100,8 @@ pub record ComesAsLogged (row : LogRow) (old new : Option Organization) : Type 0
   pub runs : (ws : List ℕ) (w v : Workspace) (n : ℕ) → workspace_in old ws ≡ Some w → workspace_in new ws ≡ Some v → Starts n w v → (row.workspace ≡ Some ws) × (row.run ≡ Some n)
   pub anew : (ws : List ℕ) (v : Workspace) → workspace_in old ws ≡ None → workspace_in new ws ≡ Some v → IsAnew v
 
--- what changed is what the row of the log tells: the record of its organization alone, as told, and none where it has a refusal. A row
--- of no organization tells of no version and of no run
+-- the records change as the row of the log says: only that of its organization, and none if it has a refusal. A row
+-- of no organization has no version and no run
 pub record ChangesAsLogged (row : LogRow) (old new : List ℕ → Option Organization) : Type 0 where
   pub others : (org : List ℕ) → row.organization ≢ Some org → new org ≡ old org
   pub refused : IsSome row.refusal → Stays old new

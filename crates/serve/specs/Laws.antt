@@ -76,20 +76,20 @@ OutOfReachIsAsAbsent = (r : Option Organization) (now : ℕ) (asked : Asked) (co
     → is_in_reach asked ≡ false → NeedsWorkspace asked.act → workspace_in r ws ≡ None
     → request_step r now asked content_md5 body ≡ request_step r now (record asked { org = org; act = renamed asked.act ws }) content_md5 body
 
--- a request whose caller and role pass, and whose workspace the caller's prefix doesn't admit, is answered not-found, whatever it asks
+-- a request whose caller and role pass, and whose workspace is outside the caller's prefix, is answered not-found, whatever it asks
 abbrev pub OutsideThePrefixIsNotFound : Type 0
 OutsideThePrefixIsNotFound = (r : Option Organization) (now : ℕ) (asked : Asked) (content_md5 : Option (List ℕ)) (body : List ℕ) (token : Token)
     → known_caller r now asked ≡ Ok token → is_admitted token.caller.prefix asked.act ≡ false → may_do token asked ≡ Ok tt
     → request_step r now asked content_md5 body ≡ refusing NotFound r
 
--- a request whose workspace the caller's prefix doesn't admit has the answer of the same request on a workspace that the caller's own
+-- a request whose workspace is outside the caller's prefix has the answer of the same request on a workspace that the caller's own
 -- organization lacks, under whatever organization's path, and changes nothing either
 abbrev pub OutsideThePrefixIsAsAbsent : Type 0
 OutsideThePrefixIsAsAbsent = (r : Option Organization) (now : ℕ) (asked : Asked) (content_md5 : Option (List ℕ)) (body org ws : List ℕ) (token : Token)
     → known_caller r now asked ≡ Ok token → is_admitted token.caller.prefix asked.act ≡ false → NeedsWorkspace asked.act → workspace_in r ws ≡ None
     → request_step r now asked content_md5 body ≡ request_step r now (record asked { org = org; act = renamed asked.act ws }) content_md5 body
 
--- what a token is called decides nothing: records that differ in the names of their tokens alone answer each request alike
+-- the names of tokens decide nothing: records that differ only in them answer each request alike
 abbrev pub values_of : FinMap name_cmp Token → List Token
 values_of tokens = map (λ (e : List ℕ × Token). e.1) (entries tokens)
 
@@ -97,7 +97,7 @@ abbrev pub NamesDecideNothing : Type 0
 NamesDecideNothing = (o : Organization) (tokens : FinMap name_cmp Token) (now : ℕ) (asked : Asked) (content_md5 : Option (List ℕ)) (body : List ℕ) → values_of tokens ≡ values_of o.tokens
     → (request_step (Some (record o { tokens = tokens })) now asked content_md5 body).answer ≡ (request_step (Some o) now asked content_md5 body).answer
 
--- no secret is told: requests that differ in their secrets alone have equal rows of the log where the tokens with them have one name and one caller
+-- the log shows no secret: requests that differ only in their secrets have equal rows if the tokens with them have one name and one caller
 abbrev pub SecretsAreNotLogged : Type 0
 SecretsAreNotLogged = (r : Option Organization) (at : ℕ) (asked : Asked) (secret : List ℕ) (content_md5 : Option (List ℕ)) (body : List ℕ) → asker_of r (sha256 secret) ≡ asker_of r (sha256 asked.secret)
     → request_row r at (record asked { secret = secret }) content_md5 body ≡ request_row r at asked content_md5 body

@@ -1,4 +1,4 @@
--- What the log tells of an exchange: by what was asked, the record before it, and what it was answered.
+-- The log row of an exchange: by what was asked, the record before it, and the answer.
 use Rattle.std.specs.Prelude.{◌≡◌, ◌⊎◌, ℕ, zero, suc, true, false, ◌==◌, if◌then◌else◌, List, Option, Some, None, Result, Ok, Err}
 use Rattle.std.specs.Option.{option_or}
 use Rattle.basis.specs.Acts.{act_number}
@@ -46,7 +46,7 @@ abbrev pub number_named : AskedAct → Option ℕ
 number_named (ListWorkspaces after) = None
 number_named (OfWorkspace ws what) = act_number what
 
--- the name of the token that asks, where it counts at the moment
+-- the name of the token that asks, if it counts at the moment
 abbrev pub valid_token_name : ℕ → Option TokenRow → Option (List ℕ)
 valid_token_name now None = None
 valid_token_name now (Some row) = if is_valid_at now row.caller then Some row.name else None
@@ -54,7 +54,7 @@ valid_token_name now (Some row) = if is_valid_at now row.caller then Some row.na
 abbrev pub token_named : Option Organization → ℕ → Asked → Option (List ℕ)
 token_named r now asked = valid_token_name now (asker_of r (sha256 asked.secret))
 
--- the document, read where the caller may ask and the digest fits, be what it asks of there or not
+-- the document, read if the caller may ask and the digest fits, whether or not what it names exists
 abbrev pub task_read : Option Organization → ℕ → Asked → Option (List ℕ) → List ℕ → Result Task Refusal
 task_read r now asked content_md5 body =
     and_then (known_caller r now asked) (λ token.
@@ -73,7 +73,7 @@ abbrev pub id_spelt : Result Task Refusal → Option (List ℕ)
 id_spelt (Ok task) = id_of_task task
 id_spelt (Err refusal) = None
 
--- the run that is told
+-- the run that the answer shows
 abbrev pub run_shown : Outcome → Option ℕ
 run_shown (refused refusal) = None
 run_shown (held holder) = None
@@ -91,7 +91,7 @@ number_before zero = None
 number_before (suc zero) = None
 number_before (suc (suc n)) = Some (suc n)
 
--- the number that was given, where the next one is another than before
+-- the number that was given, if the next one has changed
 abbrev pub number_given : ℕ → ℕ → Option ℕ
 number_given before after = if after == before then None else number_before after
 
@@ -101,7 +101,7 @@ version_made None after = None
 version_made (Some w) None = None
 version_made (Some w) (Some v) = number_given w.next_version v.next_version
 
--- the run that holds, where it didn't before
+-- the run that holds, if it did not before
 abbrev pub run_holding : Holder → Holder → Option ℕ
 run_holding before Nobody = None
 run_holding before (HeldLock id text) = None
@@ -124,7 +124,7 @@ traced now r (Err refusal) = no_trace
 traced now r (Ok (ListAll after prefix)) = no_trace
 traced now r (Ok (Carry ws act)) = trace_of (workspace_in r ws) (rules act now (seen_at r ws))
 
--- a row of which nothing is known but the moment: no message was read whole, and there is no reply
+-- a row of which nothing is known but the moment: no message was read completely, and there is no reply
 abbrev pub silent_row : ℕ → LogRow
 silent_row at = record { act = None; at = at; id = None; number = None; operator = false; organization = None; refusal = None; run = None; status = None; subject = None; token = None; version = None; workspace = None }
 
@@ -160,14 +160,14 @@ abbrev pub request_row : Option Organization → ℕ → Asked → Option (List 
 request_row r at asked content_md5 body =
     row_of_request at asked (request_step r at asked content_md5 body).answer (token_named r at asked) (id_spelt (task_read r at asked content_md5 body)) (traced at r (checked r at asked content_md5 body))
 
--- the row of what is asked, over the record that it reads: what is unfinished has none, and an operator's command has no exchange
+-- the row of what is asked, over the record that it reads: none for what is unfinished, or for an operator's command, which has no exchange
 abbrev pub row_of_ask : Option Organization → Ask → Option LogRow
 row_of_ask r silent = None
 row_of_ask r (ask.refused at awaited refusal is_head) = Some (with_answer (refusing refusal r).answer (silent_row at))
 row_of_ask r (requests at awaited asked content_md5 body) = Some (request_row r at asked content_md5 body)
 row_of_ask r (commands at command) = None
 
--- the row of the 503 of memory or a store that refused, where nothing was read of what is asked
+-- the row of the 503 of a failed allocation or store, if nothing was read of what is asked
 abbrev pub unavailable_row : ℕ → LogRow
 unavailable_row at = with_answer (refusing Unavailable None).answer (silent_row at)
 
@@ -194,7 +194,7 @@ pub record IsUnavailableRequest (r : Option Organization) (at : ℕ) (asked : As
   pub read : IsReadSoFar r at asked content_md5 body token id
   pub is : row ≡ row_of_unavailable at asked token id
 
--- the row of a 503 to what is asked, over the record that it reads: a request's is told, unless memory was refused before its head was read
+-- the row of a 503 to what is asked, over the record that it reads: a request's, unless an allocation failed before its head was read
 abbrev pub IsUnavailableRow : Option Organization → Ask → LogRow → Type 0
 IsUnavailableRow r silent row = ⊥
 IsUnavailableRow r (ask.refused at awaited refusal is_head) row = row ≡ unavailable_row at

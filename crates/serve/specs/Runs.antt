@@ -9,11 +9,11 @@ use Rattle.serve.specs.Service.{AreTexts, own_asks, replies_at, record_for, reco
 abbrev pub IsOwnRecord : List Ask → (List ℕ → Option Organization) → (List ℕ → Option Organization) → List ℕ → Type 0
 IsOwnRecord asked before after org = after org ≡ own_record (before org) (own_asks (organization org) asked)
 
--- the replies at the places of one's own steps are the texts of what one's own machine says
+-- the replies at the positions of one's own steps are the texts of what one's own machine says
 abbrev pub AreOwnReplies : List Ask → (List ℕ → Option Organization) → List (List ℕ) → Owner → Type 0
 AreOwnReplies asked before replies owner = AreTexts (own_said (record_for before owner) (own_asks owner asked)) (replies_at owner asked replies)
 
--- of an organization, the run is that of its own machine, fed only its own steps: its replies, and its record afterwards
+-- for an organization, the run is that of its own machine, which gets only its own steps: its replies, and its record afterwards
 pub record IsOwnMachine (org : List ℕ) (asked : List Ask) (before after : List ℕ → Option Organization) (replies : List (List ℕ)) : Type 0 where
   pub own_replies : AreOwnReplies asked before replies (organization org)
   pub own_record : IsOwnRecord asked before after org

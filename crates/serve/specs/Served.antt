@@ -28,7 +28,7 @@ use Rattle.serve.specs.Steps.{Said, nothing, replies, reports, lists, lists_toke
 
 -- ---- one exchange
 
--- an exchange: its moment, the bytes that it received, whether `100 Continue` goes before its reply, the bytes that it wrote, whether
+-- an exchange: its moment, the bytes that it received, whether `100 Continue` comes before its reply, the bytes that it wrote, whether
 -- those are all of the reply, and what it carried out, if it did
 pub record Exchange : Type 0 where
   pub at : ℕ
@@ -171,7 +171,7 @@ AreTold (s ∷ said) (e ∷ es) = IsTold s e × AreTold said es
 abbrev pub AreOwnTold : List Exchange → (List ℕ → Option Organization) → Owner → Type 0
 AreOwnTold es before owner = AreTold (own_said (record_for before owner) (own_asks owner (asked_in es))) (replies_at owner (asked_in es) (carried_in es))
 
--- of an organization, the exchanges are those of its own machine, fed only its own: what its connections got, and its record afterwards
+-- for an organization, the exchanges are those of its own machine, which gets only its own: what its connections got, and its record afterwards
 pub record IsServedAlone (org : List ℕ) (es : List Exchange) (before after : List ℕ → Option Organization) : Type 0 where
   pub own_replies : AreOwnTold es before (organization org)
   pub own_record : IsOwnRecord (asked_in es) before after org

@@ -70,7 +70,7 @@ abbrev pub until_text : Option ℕ → List ℕ
 until_text None = codes "-"
 until_text (Some until) = decimal until
 
--- the prefix of a token's workspaces, or a hyphen where it is for all of them
+-- the prefix of a token's workspaces, or a hyphen if it is for all of them
 abbrev pub prefix_text : List ℕ → List ℕ
 prefix_text [] = codes "-"
 prefix_text (b ∷ bytes) = b ∷ bytes
@@ -91,7 +91,7 @@ admin_word InUse = codes "refused in-use\n"
 admin_word (Organizations rows) = []
 admin_word (Tokens rows) = []
 
--- the list of an organization's tokens, or the word that it isn't there
+-- the list of an organization's tokens, or the word for an absent organization
 abbrev pub token_list_text : AdminAnswer → List ℕ
 token_list_text Done = admin_word Done
 token_list_text Exists = admin_word Exists
@@ -147,7 +147,7 @@ same_owner operator operator = true
 abbrev pub is_own : Owner → Ask → Bool
 is_own owner ask = same_owner owner (owner_of ask)
 
--- one more at the front, where it is one's own
+-- one more at the front, if it is one's own
 abbrev pub with_own : {A : Type 0} → Bool → A → List A → List A
 with_own true a rest = a ∷ rest
 with_own false a rest = rest
@@ -157,13 +157,13 @@ abbrev pub own_asks : Owner → List Ask → List Ask
 own_asks owner [] = []
 own_asks owner (a ∷ asked) = with_own (is_own owner a) a (own_asks owner asked)
 
--- the replies at the places of its own steps
+-- the replies at the positions of its own steps
 abbrev pub replies_at : {A : Type 0} → Owner → List Ask → List A → List A
 replies_at owner [] ts = []
 replies_at owner (a ∷ asked) [] = []
 replies_at owner (a ∷ asked) (t ∷ ts) = with_own (is_own owner a) t (replies_at owner asked ts)
 
--- the record that a step reads: that of its organization, and none where it is of no organization
+-- the record that a step reads: that of its organization; none if it belongs to no organization
 abbrev pub record_for : (List ℕ → Option Organization) → Owner → Option Organization
 record_for rows (organization org) = rows org
 record_for rows unattributed = None
@@ -186,8 +186,8 @@ Carries ask old new = (org : List ℕ) → new org ≡ records_after ask old org
 abbrev pub said_to : (List ℕ → Option Organization) → Ask → Said
 said_to rows ask = (step (record_for rows (owner_of ask)) ask).answer
 
--- what an operator's command is answered: the word of the machine of the organization that it names; or, of the list of all
--- organizations, exactly those whose records are there; or the tokens of an organization, by its record
+-- the answer to an operator's command: the word of the machine of the organization that it names; or, for the list of all
+-- organizations, exactly those that have records; or the tokens of an organization, by its record
 abbrev pub IsAdminAnswer : (List ℕ → Option Organization) → Admin → AdminAnswer → Type 0
 IsAdminAnswer rows (OrgAdd org limit) answer = answer ≡ (command_step (rows org) (OrgAdd org limit)).answer
 IsAdminAnswer rows (OrgLimit org limit) answer = answer ≡ (command_step (rows org) (OrgLimit org limit)).answer
@@ -197,11 +197,11 @@ IsAdminAnswer rows (TokenAdd org name role secret bounds) answer = answer ≡ (c
 IsAdminAnswer rows (TokenList org) answer = answer ≡ token_list_answer (rows org)
 IsAdminAnswer rows (TokenRevoke org name) answer = answer ≡ (command_step (rows org) (TokenRevoke org name)).answer
 
--- the text that lists all organizations: exactly those whose records are there
+-- the text that lists all organizations: exactly those that have records
 abbrev pub ListsAll : (List ℕ → Option Organization) → List ℕ → Type 0
 ListsAll records text = (rows : List OrgRow) × AreOrganizations records rows × (text ≡ org_lines rows)
 
--- where a command asks for the list of all organizations, or for that of an organization's tokens, the text is it
+-- if a command asks for the list of all organizations, or of an organization's tokens, the text is that list
 abbrev pub IsListedBy : (List ℕ → Option Organization) → Admin → List ℕ → Type 0
 IsListedBy records (OrgAdd org limit) text = ⊤
 IsListedBy records (OrgLimit org limit) text = ⊤

@@ -29,13 +29,13 @@ use Rattle.serve.specs.declared.checks.Task.TheVariants.{ListAll, Carry}
 pub data Said : Type 0 where
   -- nothing
   nothing : Said
-  -- a reply: an answer at a moment, after `100 Continue` where it is awaited
+  -- a reply: an answer at a moment, after `100 Continue` if it is awaited
   replies : Bool → ℕ → Answer → Said
   -- the word that answers an operator's command
   reports : AdminAnswer → Said
   -- the list of all organizations, which no organization's machine knows
   lists : Said
-  -- the list of an organization's tokens, which is told to the operator alone
+  -- the list of an organization's tokens, which only the operator gets
   lists_tokens : Said
 
 -- an answer, and the record afterwards
@@ -46,7 +46,7 @@ Answered = Effect Answer (Option Organization)
 abbrev pub refusing : Refusal → Option Organization → Answered
 refusing refusal r = effect (refused_answer refusal (error_text refusal) false) r
 
--- the body that tells who holds: the text that took the lock, byte for byte, or that of the run
+-- the body that shows who holds: the text that took the lock, byte for byte, or that of the run
 abbrev pub holder_text : List ℕ → List ℕ → Holder → List ℕ
 holder_text org ws Nobody = []
 holder_text org ws (HeldLock id text) = text
@@ -64,12 +64,12 @@ answer_to org ws (the_run r) = document_answer (run_text r)
 answer_to org ws (versions list) = document_answer (version_list_text list)
 answer_to org ws (runs list) = document_answer (run_list_text list)
 
--- the workspace that the rules are asked of
+-- the workspace that the rules get
 abbrev pub seen_at : Option Organization → List ℕ → Seen
 seen_at None ws = missing false
 seen_at (Some o) ws = seen_in o ws
 
--- the rules, on the workspace as it stands
+-- the rules, on the workspace as it is
 abbrev pub ruled_in : List ℕ → List ℕ → Option Organization → Ruling → Answered
 ruled_in org ws r ruling = effect (answer_to org ws ruling.answer) (option_map (λ (o : Organization). placed o ws ruling.left) r)
 
@@ -79,11 +79,11 @@ carried org now r (Err refusal) = refusing refusal r
 carried org now r (Ok (ListAll after prefix)) = effect (document_answer (ws_list_text (workspaces_after after prefix r))) r
 carried org now r (Ok (Carry ws act)) = ruled_in org ws r (rules act now (seen_at r ws))
 
--- what a request of an organization is answered at a moment
+-- the answer to a request of an organization at a moment
 abbrev pub request_step : Option Organization → ℕ → Asked → Option (List ℕ) → List ℕ → Answered
 request_step r now asked content_md5 body = carried asked.caller now r (checked r now asked content_md5 body)
 
--- what an operator's command on an organization is answered; the lists of organizations and of tokens change none
+-- the answer to an operator's command on an organization; the lists of organizations and of tokens change none
 abbrev pub command_step : Option Organization → Admin → Managed
 command_step r (OrgAdd org limit) = org_added limit r
 command_step r (OrgLimit org limit) = org_limited limit r

@@ -69,7 +69,7 @@ pub fn known_caller<K: Keep>(
     }
 }
 
-/// Whether what is asked is in the caller's reach. What isn't is told as what isn't there.
+/// Whether what is asked is in the caller's reach. If not, it is reported as absent.
 pub fn in_reach(asked: &Asked) -> Result<(), Refusal>
     ensures { result ≡ in_reach asked.now }
 {
@@ -95,7 +95,7 @@ fn makes(act: WsAct) -> bool
     }
 }
 
-// What an act asks of, as what would be told of it.
+// The query that reports what an act names.
 fn named_by(act: WsAct) -> Query
     ensures { result ≡ named_by act }
 {
@@ -108,7 +108,7 @@ fn named_by(act: WsAct) -> Query
     }
 }
 
-// Whether what is named is there, where a number is named.
+// Whether the named number exists, if a number is named.
 fn if_named(named: Option<Number>, is_there: bool) -> bool
     ensures { result ≡ if_named named is_there }
 {
@@ -118,7 +118,7 @@ fn if_named(named: Option<Number>, is_there: bool) -> bool
     }
 }
 
-// Whether what is named was seen, once the workspace is there.
+// Whether what is named was seen, given that the workspace exists.
 fn sees_named(needs: &Needs<'_>, unit: &WorkspaceUnit) -> bool
     ensures { result ≡ sees_named (needed_of needs.now) unit.now }
 {
@@ -137,7 +137,7 @@ fn is_present(unit: &Unit, act: &WsAct) -> bool
     }
 }
 
-// An act that tells it.
+// The query that reports what an act names, as an act.
 fn named_query(act: WsAct) -> Act
     ensures { result ≡ QueryAct (named_by act) }
 {
@@ -161,7 +161,7 @@ fn query<K: Keep>(
     keep.unit(alloc, org, ws, &query)
 }
 
-// Whether what is asked of is there.
+// Whether what an act names exists.
 fn is_there<K: Keep>(
     alloc: Global,
     keep: &mut K,
@@ -177,7 +177,7 @@ fn is_there<K: Keep>(
     Ok(is_present(&unit, &act))
 }
 
-// Whether what is asked of is there, or is to be made.
+// Whether what an act names exists, or is to be created.
 fn is_found<K: Keep>(
     alloc: Global,
     keep: &mut K,
@@ -193,15 +193,15 @@ fn is_found<K: Keep>(
     Ok(makes(act) || there)
 }
 
-// What is missed before anything is judged: what is asked of, where it isn't there, or else what was refused.
+// The first refusal: `not-found` if what is asked for is absent, otherwise the given one.
 fn missed_by(is_found: bool, refusal: Refusal) -> Refusal
     ensures { result ≡ cond is_found refusal NotFound }
 {
     if is_found { refusal } else { Refusal::NotFound }
 }
 
-/// What a request is refused for, whose digest or document was refused: that what it asks of isn't
-/// there comes first. `Unavailable` is want of memory.
+/// The refusal of a request whose digest or document was refused: if what it names is absent, that comes
+/// first. `Unavailable` if an allocation fails.
 pub fn missed<K: Keep>(
     alloc: Global,
     keep: &mut K,
@@ -227,7 +227,7 @@ pub fn missed<K: Keep>(
     }
 }
 
-/// Whether Content-MD5, where it is sent, is the MD5 of the body (RFC 1864).
+/// Whether Content-MD5, if it is sent, is the MD5 of the body (RFC 1864).
 pub fn digest_checked(content_md5: &Option<Bytes>, body: &Bytes) -> Result<(), Refusal>
     ensures { result ≡ digest_checked content_md5.now body.now }
 {
@@ -250,7 +250,7 @@ fn read_put(alloc: Global, body: &Bytes) -> Result<Act, Refusal>
     }
 }
 
-// The update that has this state, whose head is read. Its text isn't copied.
+// The update with this state, whose head was read. Its text is not copied.
 fn update_of(
     alloc: Global,
     head: StateHead,
@@ -392,7 +392,7 @@ fn task_at(
     }
 }
 
-/// What is to be done where what is asked of is there: the digest, then the document. A list is of the
+/// What is to be done if what is named exists: checks the digest, then the document. A list is of the
 /// workspaces that the prefix admits.
 pub fn judged(
     alloc: Global,

@@ -2,8 +2,9 @@
 ghost use Rattle.std.specs.Prelude.{◌≡◌, ◌≢◌, Some, None, IfOk, IfErr, OnOk, OnErr};
 ghost use Rattle.basis.specs.Inner.Checks.{Follows};
 ghost use Rattle.machine.specs.StoreCalls.{Lasts};
-ghost use Rattle.wire.specs.Replies.{text_answer};
-ghost use Rattle.serve.specs.Doors.{opened_by, command_in, commanded, act_commanded, org_commanded, token_commanded, unserved_row};
+ghost use Rattle.docs.specs.Bodies.{error_text};
+ghost use Rattle.wire.specs.Replies.{text_answer, refused_answer};
+ghost use Rattle.serve.specs.Doors.{opened_by, command_in, command_asked, act_commanded, org_commanded, token_commanded, unserved_row};
 ghost use Rattle.serve.specs.Logs.{operator_row};
 ghost use Rattle.serve.specs.Service.{Stays};
 ghost use Rattle.serve.specs.Inner.Doors.{Operates, TurnsAway, OperatesOrNot, IsRowSoFar};
@@ -58,12 +59,11 @@ fn command_in(alloc: Global, body: &[u8]) -> Result<Admin, Refusal>
     }
 }
 
-// The command that a message at the door asks for, or the refusal of the first check that fails: the method, the query, the
-// secret, Content-MD5, the body. `Unavailable` if an allocation fails.
-fn commanded(alloc: Global, digest: &[u8; 32], message: &Message) -> Result<Admin, Refusal>
-    ensures { Follows result (commanded digest.now message.now) }
+// The command that a message asks for once it may enter, or the refusal of the first check that fails: Content-MD5, the
+// body. `Unavailable` if an allocation fails.
+fn command_asked(alloc: Global, message: &Message) -> Result<Admin, Refusal>
+    ensures { Follows result (command_asked message.now) }
 {
-    may_enter(digest, message)?;
     digest_checked(&message.content_md5, &message.body)?;
     command_in(alloc, message.body.as_slice())
 }
@@ -184,12 +184,26 @@ fn carry_out<K: Keep>(
     }
 }
 
+// The reply to a message that is turned away. For a secret that does not open the door it needs no memory.
+fn refusal_reply(alloc: Global, refusal: Refusal, is_head: bool) -> Result<Reply, Down>
+    ensures known { OnOk result (refusal ≢ Refusal.Unavailable) }
+    ensures ok { IfOk result (λ reply. reply ≡ refused_answer refusal (error_text refusal) is_head) }
+    ensures secret { OnErr result (refusal ≢ Refusal.BadSecret) }
+{
+    match refusal {
+        Refusal::BadSecret => return Ok(Reply::bad_secret(is_head)),
+        _ => {}
+    }
+    refuse(alloc, refusal, is_head)
+}
+
 fn turn_away(alloc: Global, at: Moment, refusal: Refusal, is_head: bool) -> Result<Operated, LogRow>
     ensures known { OnOk result (refusal ≢ Refusal.Unavailable) }
     ensures ok { IfOk result (TurnsAway at refusal is_head) }
+    ensures secret { OnErr result (refusal ≢ Refusal.BadSecret) }
     ensures row { IfErr result (λ row. row ≡ unserved_row at None) }
 {
-    match refuse(alloc, refusal, is_head) {
+    match refusal_reply(alloc, refusal, is_head) {
         Ok(reply) => {
             let row = operator_row(at, None, None, None, &reply);
             Ok(Operated { reply, row })
@@ -211,7 +225,10 @@ pub fn operate<K: Keep>(
     ensures err { K.clean keep.new → OnErr result (Stays (K.rows keep.old) (K.rows keep.new)) }
     ensures row { IfErr result (IsRowSoFar digest.now at message.now) }
 {
-    match commanded(alloc, digest, message) {
+    if let Err(why) = may_enter(digest, message) {
+        return turn_away(alloc, at, why, is_head(message));
+    }
+    match command_asked(alloc, message) {
         Ok(asked) => carry_out(alloc, keep, at, asked),
         Err(refusal) => turn_away(alloc, at, refusal, is_head(message)),
     }

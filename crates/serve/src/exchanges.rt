@@ -63,8 +63,8 @@ pub fn refuse_exchange<O: Outlet>(
     write_due(&reply, now, outlet)
 }
 
-/// The change that was prepared is made, and then its reply is written; where it isn't made (`down`), the
-/// 503 is.
+/// Makes the change that was prepared, and then writes its reply. If the change fails (`down`), writes the
+/// 503.
 fn commit_and_reply<K: Keep, O: Outlet>(
     alloc: Global,
     keep: &mut K,
@@ -94,7 +94,7 @@ fn commit_and_reply<K: Keep, O: Outlet>(
     }
 }
 
-// What was prepared has its row once its change is made; where it isn't (`is_down`), the 503 has that of what is asked.
+// The log row: the prepared one if the change was made, otherwise (`is_down`) the 503's.
 fn row_after(ready: Prepared, is_down: bool) -> LogRow
     ensures { result ≡ due_row is_down ready.row }
 {

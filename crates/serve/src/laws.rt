@@ -1,7 +1,7 @@
 //! Laws of steps and runs, each the contract of a call that does nothing.
 ghost use Rattle.serve.specs.Laws.{OneAsking, TwoWorlds, SameStepsAskTheSame, RefusedStepsChangeNothing, OutOfReachIsNotFound, OutOfReachIsAsAbsent, OutsideThePrefixIsNotFound, OutsideThePrefixIsAsAbsent, NamesDecideNothing, SecretsAreNotLogged};
 ghost use Rattle.serve.specs.Custody.{StepsChangeWhatTheyName, LocksAreKept, OrganizationsGoByRemoval, RemovalsAreCarriedOut, OrganizationsBeginAnew, StepsAreRepeatable, RepeatsLeaveTheWorkspace, LockedNamesTheHolder, SameBytesAskAgain, RequestsChangeTheirWorkspaceAlone};
-ghost use Rattle.serve.specs.Doors.{OnlyTheSecretOpens};
+ghost use Rattle.serve.specs.Doors.{OnlyTheSecretOpens, WithoutTheSecret, WrongSecretsAreAlike, AddedSecretsAreNotLogged};
 ghost use Rattle.serve.specs.Book.{BooksAreOfTheRun, PeriodsAreTheStepsBetween, CustodyIsKept};
 ghost use Rattle.serve.specs.AbsentForms.{ServedTellAbsentForms};
 ghost use Rattle.serve.specs.Served.{ExchangesAreServed, EachIsServedAlone, OwnersAreTold, ServedKeepCustody, AsksInTurn, ServedInTurn, TwoServedWorlds};
@@ -12,8 +12,8 @@ pub fn one_asking()
     ensures { OneAsking }
 {}
 
-/// Two worlds: whoever's runs are, of an organization, those of its own machine (as `replay`'s are, by
-/// its clause `isolation`) gives it equal replies and equal records afterwards where they begin with
+/// Two worlds: take two runs that are, for an organization, those of its own machine (as `replay`'s are, by
+/// its clause `isolation`). It gets equal replies and equal records afterwards if both begin with
 /// equal records of it and ask the same in its own steps, whatever else differs.
 pub fn two_worlds()
     ensures { TwoWorlds }
@@ -41,13 +41,13 @@ pub fn out_of_reach_is_as_absent()
     ensures { OutOfReachIsAsAbsent }
 {}
 
-/// A request whose caller and role pass, and whose workspace the caller's prefix doesn't admit, is
+/// A request whose caller and role pass, and whose workspace is outside the caller's prefix, is
 /// answered `not-found`, whatever it asks: PUT of a workspace, too.
 pub fn outside_the_prefix_is_not_found()
     ensures { OutsideThePrefixIsNotFound }
 {}
 
-/// A request whose workspace the caller's prefix doesn't admit has the answer of the same request on a
+/// A request whose workspace is outside the caller's prefix has the answer of the same request on a
 /// workspace that the caller's own organization lacks, and changes nothing either.
 pub fn outside_the_prefix_is_as_absent()
     ensures { OutsideThePrefixIsAsAbsent }
@@ -65,8 +65,8 @@ pub fn locks_are_kept()
     ensures { LocksAreKept }
 {}
 
-/// An organization goes by the operator's removal alone, which asks whether it is in use unless it is forced; added
-/// again, it begins anew.
+/// Only the operator's removal ends an organization, and it refuses one in use unless it is forced. An organization
+/// that is added again begins anew.
 pub fn organizations_go_by_removal()
     ensures alone { OrganizationsGoByRemoval }
     ensures carried_out { RemovalsAreCarriedOut }
@@ -116,15 +116,31 @@ pub fn names_decide_nothing()
     ensures { NamesDecideNothing }
 {}
 
-/// No secret is told: the log's row of a request follows from what else is asked, and from the token's
+/// The log shows no secret: the row of a request follows from what else is asked, and from the token's
 /// name and caller.
 pub fn secrets_are_not_logged()
     ensures { SecretsAreNotLogged }
 {}
 
+/// No secret of an added token is told: the log's row of the command has none.
+pub fn added_secrets_are_not_logged()
+    ensures { AddedSecretsAreNotLogged }
+{}
+
 /// Nobody without the operator's secret changes anything at the operator's door.
 pub fn only_the_secret_opens()
     ensures { OnlyTheSecretOpens }
+{}
+
+/// Without the operator's secret a message at the door is told the refusal of its method, of its query or of the secret, in
+/// this order. The last is told whether or not memory is short.
+pub fn without_the_secret()
+    ensures { WithoutTheSecret }
+{}
+
+/// Messages at the door that are refused for their secrets get the same reply and the same row, whatever the secrets are.
+pub fn wrong_secrets_are_alike()
+    ensures { WrongSecretsAreAlike }
 {}
 
 /// Custody: its eight laws hold of the book of each workspace, over whatever is asked, as steps of `replay` or as

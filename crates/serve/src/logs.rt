@@ -1,4 +1,4 @@
-//! What the log tells of an exchange.
+//! The log row of an exchange.
 ghost use Rattle.std.specs.Prelude.{◌≡◌, ◌+◌, Some, None};
 ghost use Rattle.serve.specs.Logs.{act_logged, workspace_named, number_named, number_given, no_trace, silent_row, with_answer, operator_row, row_of_request, unavailable_row};
 ghost use Rattle.machine.specs.Laws.{holds};
@@ -11,18 +11,18 @@ use route::{Asked, AskedAct};
 use std::alloc::AllocError;
 use wire::Reply;
 
-/// What the rules did, as far as the log tells it.
+/// What the rules did, as far as the log shows it.
 #[derive(Clone, Copy)]
 pub struct Trace {
     /// The run that is shown.
     pub shown_run: Option<Number>,
     /// The version that was made.
     pub version: Option<Number>,
-    /// The run that holds the workspace afterwards, and didn't before.
+    /// The run that holds the workspace afterwards, and did not before.
     pub run: Option<Number>,
 }
 
-/// What the log tells of a request besides what its head asks and what it was answered.
+/// What the log shows of a request besides its head and its answer.
 #[derive(Drop)]
 pub struct RowFacts {
     /// The name of the token.
@@ -33,7 +33,7 @@ pub struct RowFacts {
 }
 
 impl RowFacts {
-    /// What had been read where memory or the store refused.
+    /// What had been read when an allocation or the store failed.
     pub fn read_so_far(token: Option<Text>, id: Option<LockId>) -> RowFacts
         ensures { result ≡ read_so_far token id }
     {
@@ -95,7 +95,7 @@ fn run_shown_by(answer: &Answer) -> Option<Number>
     }
 }
 
-// The number of a version, where the next one isn't this already.
+// The number of a version, unless the next number already follows it.
 fn number_given(next: u64, version: &Version) -> Option<Number>
     ensures { result ≡ number_given next (version.now.number + 1) }
 {
@@ -127,7 +127,7 @@ fn is_held_by(holder: &Holder, number: Number) -> bool
     }
 }
 
-// The run that starts where the workspace stays, and didn't hold before.
+// The run that starts, if the workspace stays and the run did not hold it before.
 fn edit_start(holder: &Holder, change: &Change) -> Option<Number>
     ensures { result ≡ edit_start holder.now change.now }
 {

@@ -1,4 +1,4 @@
-//! What was read is answered in full, and then its change is made.
+//! What was read is answered completely, and then its change is made.
 ghost use Rattle.std.specs.Prelude.{◌≡◌, ◌↔◌, Bool, None, Err, ◌≢◌, IfOk, IfErr, IsErrOf, OnOk, OnErr};
 ghost use Rattle.wire.specs.declared.messages.WireFault.TheVariants.{Ended, Read, Continue};
 ghost use Rattle.route.specs.Asks.{asked_of};
@@ -21,8 +21,8 @@ use route::{Asked, Routes, asked};
 use std::alloc::Global;
 use wire::{FromRead, Message, Reply, ToWrite, WireFault, read_message, write_reply};
 
-/// An answer that is made in full before anything changes: the reply, the change that is to follow, and what the log tells
-/// once it is done.
+/// An answer that is complete before anything changes: the reply, the change to make, and the log row
+/// for when it is made.
 #[derive(Drop)]
 pub struct Prepared {
     pub reply: Reply,
@@ -139,8 +139,8 @@ fn answer<K: Keep>(
     }
 }
 
-/// What is answered to what was read, and the change that is to follow: the row of the 503 where memory or the
-/// store refused, or why nothing is answered. Nothing changes yet.
+/// The answer to what was read, and the change to make; or the row of the 503 if an allocation or the store
+/// failed; or why nothing is answered. Nothing changes yet.
 pub fn prepare<K: Keep>(
     alloc: Global,
     keep: &mut K,
@@ -181,8 +181,8 @@ pub fn commit<K: Keep>(alloc: Global, keep: &mut K, prepared: &Prepared) -> Resu
     }
 }
 
-/// What the bytes of a connection are answered, and what they change: the text is made in full before
-/// the change is.
+/// The answer to the bytes of a connection, and the change that they make: the text is complete before
+/// the change is made.
 pub fn take_request<K: Keep>(
     alloc: Global,
     keep: &mut K,

@@ -40,8 +40,8 @@ pub struct WsChange {
     pub change: Change,
 }
 
-/// What a request is answered at a moment, and the change that is to follow; or what had been read of it
-/// where memory or the store refused.
+/// The answer to a request at a moment, and the change to make; or, if an allocation or the store failed,
+/// what had been read of the request.
 pub fn request<K: Keep>(
     alloc: Global,
     keep: &mut K,
@@ -105,9 +105,9 @@ fn refuse_request(
     }
 }
 
-/// What is to be done, or the refusal of the first check that fails; `Unavailable` is want of memory.
-/// Where digest and document pass, whether what is asked of is there is left to the rules, which
-/// refuse what isn't there just so: a good request looks at its workspace once.
+/// What is to be done, or the refusal of the first check that fails; `Unavailable` if an allocation fails.
+/// If digest and document pass, the rules decide whether what is named exists, and refuse with the same
+/// answer if it does not: so a good request queries its workspace once.
 fn checked<K: Keep>(
     alloc: Global,
     keep: &mut K,
@@ -168,7 +168,7 @@ pub fn refuse(alloc: Global, refusal: Refusal, is_head: bool) -> Result<Reply, D
     Ok(Reply::refused(refusal, Bytes::new(body), is_head))
 }
 
-/// The body that tells who holds.
+/// The body that shows who holds.
 fn holder_body(alloc: Global, org: &OrgName, ws: &WsName, unit: &Unit) -> Result<Bytes, Down>
     ensures { IfOk result (λ body. body ≡ holder_text org.now ws.now (holder_in unit.now)) }
 {

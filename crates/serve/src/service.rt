@@ -91,13 +91,13 @@ pub struct Service<K: Keep> {
     // The router, once a first message has needed it.
     routes: Option<Routes>,
     taken: u64,
-    // Whether the last exchange was answered by the 503 of memory or a store that refused.
+    // Whether the last exchange was answered by the 503 of a failed allocation or store.
     was_down: bool,
-    // What the log tells of the last exchange.
+    // The log row of the last exchange.
     row: Option<LogRow>,
 }
 
-// The routes that are there, or new ones: memory is refused only where there are none.
+// The existing routes, or new ones: an allocation can fail only if there are none yet.
 fn take_routes(alloc: Global, routes: &mut Option<Routes>) -> Result<Routes, Down>
     ensures { IfSome routes.old (λ there. result ≡ Ok there) }
 {
@@ -141,22 +141,22 @@ impl<K: Keep> Service<K> {
         keep
     }
 
-    /// How many steps the last call of `replay` took, also where it answered `Down`; 0 before any.
+    /// How many steps the last call of `replay` took, also if it answered `Down`; 0 before any.
     pub fn taken(&self) -> u64
         ensures { result ≡ self.now.taken }
     {
         self.taken
     }
 
-    /// Whether the last call of `exchange` was answered by the 503, since memory or the store refused; false
-    /// where it had no reply, and before any.
+    /// Whether the last call of `exchange` was answered by the 503 of a failed allocation or store; false if it
+    /// had no reply, and before any.
     pub fn was_down(&self) -> bool
         ensures { result ≡ self.now.was_down }
     {
         self.was_down
     }
 
-    /// What the log tells of the last call of `exchange`; none before any.
+    /// The log row of the last call of `exchange`; none before any.
     pub fn row(&self) -> &Option<LogRow>
         ensures { result.now ≡ self.now.row }
     {
@@ -178,14 +178,14 @@ impl<K: Keep> Service<K> {
         ensures reported { K.clean self.new.keep → K.sound self.old.keep → (received : List ℕ) × Consumes (I.left inlet.old) (I.left inlet.new) received
             × Exchanges now received (I.left inlet.new) (K.rows self.old.keep) (K.rows self.new.keep) (O.written outlet.old) (O.written outlet.new) self.new.was_down self.new.row result }
 
-        // What needs no bytes: where no whole message received no record changes, and never more than one does.
+        // This needs no bytes: if no complete message was received, no record changes; and never more than one does.
         ensures stays { K.clean self.new.keep → (IsErrOf result LinkFault.Ended ⊎ (IsErrOf result LinkFault.Read ⊎ IsErrOf result LinkFault.Continue))
             → Stays (K.rows self.old.keep) (K.rows self.new.keep) }
         ensures others { K.clean self.new.keep → K.sound self.old.keep → ChangesAtMostOne (K.rows self.old.keep) (K.rows self.new.keep) }
         ensures changes { K.clean self.new.keep → K.sound self.old.keep → IfSome self.new.row (λ row. ChangesAsLogged row (K.rows self.old.keep) (K.rows self.new.keep)) }
         ensures read { (I.broken inlet.new ≡ true) ↔ IsErrOf result LinkFault.Read }
 
-        // Where a read has told the input's end, it ended inside the message: an unfinished message is never answered.
+        // If a read reported the end of input, it was inside the message: an unfinished message is never answered.
         ensures end { I.ended inlet.old ≡ false → ((I.ended inlet.new ≡ true) ↔ IsErrOf result LinkFault.Ended) }
         ensures written { (O.broken outlet.new ≡ true) ↔ (IsErrOf result LinkFault.Continue ⊎ IsErrOf result LinkFault.Write) }
         ensures taken { self.new.taken ≡ self.old.taken }
@@ -209,14 +209,14 @@ impl<K: Keep> Service<K> {
         ensures reported { K.clean self.new.keep → K.sound self.old.keep → (received : List ℕ) × Consumes (I.left inlet.old) (I.left inlet.new) received
             × ExchangesWith door.now now received (I.left inlet.new) (K.rows self.old.keep) (K.rows self.new.keep) (O.written outlet.old) (O.written outlet.new) self.new.was_down self.new.row result }
 
-        // What needs no bytes: where no whole message received no record changes, and never more than one does.
+        // This needs no bytes: if no complete message was received, no record changes; and never more than one does.
         ensures stays { K.clean self.new.keep → (IsErrOf result LinkFault.Ended ⊎ (IsErrOf result LinkFault.Read ⊎ IsErrOf result LinkFault.Continue))
             → Stays (K.rows self.old.keep) (K.rows self.new.keep) }
         ensures others { K.clean self.new.keep → K.sound self.old.keep → ChangesAtMostOne (K.rows self.old.keep) (K.rows self.new.keep) }
         ensures changes { K.clean self.new.keep → K.sound self.old.keep → IfSome self.new.row (λ row. ChangesAsLogged row (K.rows self.old.keep) (K.rows self.new.keep)) }
         ensures read { (I.broken inlet.new ≡ true) ↔ IsErrOf result LinkFault.Read }
 
-        // Where a read has told the input's end, it ended inside the message: an unfinished message is never answered.
+        // If a read reported the end of input, it was inside the message: an unfinished message is never answered.
         ensures end { I.ended inlet.old ≡ false → ((I.ended inlet.new ≡ true) ↔ IsErrOf result LinkFault.Ended) }
         ensures written { (O.broken outlet.new ≡ true) ↔ (IsErrOf result LinkFault.Continue ⊎ IsErrOf result LinkFault.Write) }
         ensures taken { self.new.taken ≡ self.old.taken }
@@ -281,16 +281,16 @@ impl<K: Keep> Service<K> {
         result
     }
 
-    /// Takes steps in turn, each answered in full before it changes anything, and gives one reply for
-    /// each: empty for an unfinished message. The step that memory or the store refuses ends it with
-    /// `Down`: it isn't taken, nor is any after it.
+    /// Carries out steps in turn, each answered completely before it changes anything, and gives one reply for
+    /// each: empty for an unfinished message. If an allocation or the store fails in a step, it ends with
+    /// `Down`: neither this step nor any after it is taken.
     pub fn replay(&mut self, alloc: Global, steps: &[Step]) -> Result<Vec<Bytes>, Down>
         ensures lasts { Lasts K.clean K.sound K.keyed K.shielded self.old.keep self.new.keep }
 
         // The steps taken ask something, each one thing (`one_asking`).
         ensures readings { K.clean self.new.keep → K.sound self.old.keep → (asked : List Ask) × AreAsked (take self.new.taken steps.now) asked }
 
-        // Isolation: of every organization, the replies at the places of its own steps and its record afterwards are
+        // Isolation: for every organization, the replies at the positions of its own steps and its record afterwards are
         // those of its own machine, fed only its own steps.
         ensures isolation { K.clean self.new.keep → K.sound self.old.keep → IfOk result (λ replies. (asked : List Ask) → AreAsked steps.now asked
             → (org : List ℕ) → IsOwnMachine org asked (K.rows self.old.keep) (K.rows self.new.keep) replies.items) }
@@ -301,10 +301,10 @@ impl<K: Keep> Service<K> {
         // And whatever is asked of another organization, by a caller that is known and has the role, is answered not-found.
         ensures out_of_reach { K.clean self.new.keep → K.sound self.old.keep → IfOk result (λ replies. OutOfReachRepliesNotFound steps.now (K.rows self.old.keep) replies.items) }
 
-        // A workspace that the caller's prefix doesn't admit answers as an absent one, too: the caller's own organization's.
+        // A workspace outside the caller's prefix looks absent, too, also one of the caller's own organization.
         ensures outside_the_prefix { K.clean self.new.keep → K.sound self.old.keep → IfOk result (λ replies. RepliesOutsideThePrefixAreThoseOfAbsentForms steps.now (K.rows self.old.keep) replies.items) }
 
-        // And whatever is asked of such a workspace, its making too, by a caller that is known and has the role, is answered not-found.
+        // And whatever is asked of such a workspace, also its creation, by a caller that is known and has the role, is answered not-found.
         ensures not_admitted { K.clean self.new.keep → K.sound self.old.keep → IfOk result (λ replies. RepliesOutsideThePrefixAreNotFound steps.now (K.rows self.old.keep) replies.items) }
 
         // The replies to unattributed steps follow from their bytes and moments alone.
@@ -319,30 +319,30 @@ impl<K: Keep> Service<K> {
         ensures lists_reported { K.clean self.new.keep → K.sound self.old.keep → IfOk result (λ replies. (asked : List Ask) → AreAsked steps.now asked
             → ListsAreReported (K.rows self.old.keep) asked replies.items) }
 
-        // Also after `Down`, each organization's record is that of its own machine, run over its own steps of those taken.
+        // Also after `Down`, each organization's record is that of its own machine, run over its own steps among those taken.
         ensures rows { K.clean self.new.keep → K.sound self.old.keep → (asked : List Ask) → AreAsked (take self.new.taken steps.now) asked
             → (org : List ℕ) → IsOwnRecord asked (K.rows self.old.keep) (K.rows self.new.keep) org }
         ensures one_each { IfOk result (λ replies. length replies.items ≡ length steps.now) }
         ensures taken_most { self.new.taken ≤ length steps.now }
         ensures taken_all { OnOk result (self.new.taken ≡ length steps.now) }
 
-        // After `Down` a step is left that wasn't taken.
+        // After `Down`, at least one step was not taken.
         ensures taken_fewer { OnErr result (self.new.taken < length steps.now) }
         ensures down { self.new.was_down ≡ self.old.was_down }
         ensures row { self.new.row ≡ self.old.row }
 
         // Custody, over the book of each workspace (`Book`): its steps with the workspace before and after each, in the own machine's run over the steps taken.
-        // In the period of a lock, a step that makes a version, or is an accepted purge, or after which a version kept before it is gone, carried its ID,
-        // or took the organization away by force.
+        // In the period of a lock, a step that makes a version, or is an accepted purge, or removes a version kept before it, carried the lock's ID,
+        // or removed the organization by force.
         ensures lock_periods { K.clean self.new.keep → K.sound self.old.keep → OfEachBook LocksKeepOthersOut (take self.new.taken steps.now) (K.rows self.old.keep) }
 
-        // In the period of a run, such a step carried the run's ID, and the run was applying, or it took the organization away by force.
+        // In the period of a run, such a step carried the run's ID, and the run was applying, or it removed the organization by force.
         ensures run_periods { K.clean self.new.keep → K.sound self.old.keep → OfEachBook RunsKeepOthersOut (take self.new.taken steps.now) (K.rows self.old.keep) }
 
         // While nobody holds, an accepted update or purge carried no ID.
         ensures unheld { K.clean self.new.keep → K.sound self.old.keep → OfEachBook NoIdWhereNobodyHolds (take self.new.taken steps.now) (K.rows self.old.keep) }
 
-        // A lock's period ends by an UNLOCK of its ID or a forced one, or by a forced removal of the organization, and by nothing else.
+        // A lock's period ends only by an UNLOCK of its ID, a forced one, or a forced removal of the organization.
         ensures lock_ends { K.clean self.new.keep → K.sound self.old.keep → OfEachBook LocksEndByUnlock (take self.new.taken steps.now) (K.rows self.old.keep) }
 
         // After each step at most one queued run is active.
@@ -351,10 +351,10 @@ impl<K: Keep> Service<K> {
         // In a workspace's life queued runs start in rising number.
         ensures starts_rise { K.clean self.new.keep → K.sound self.old.keep → OfEachBook StartsRise (take self.new.taken steps.now) (K.rows self.old.keep) }
 
-        // What was accepted and comes again, while the workspace is as it left it, leaves it so; but for a run made without a key.
+        // What was accepted and is sent again, while the workspace is as it left it, leaves it so; except the creation of a run without a key.
         ensures repeats { K.clean self.new.keep → K.sound self.old.keep → OfEachBook RepeatsLeaveIt (take self.new.taken steps.now) (K.rows self.old.keep) }
 
-        // A run's creation with a key and a run's action, accepted, come again at any later point of the workspace's life and leave it equal.
+        // A run's creation with a key and a run's action, accepted, and sent again at any later point of the workspace's life, leave it equal.
         ensures done_once { K.clean self.new.keep → K.sound self.old.keep → OfEachBook DoneOnceIsDone (take self.new.taken steps.now) (K.rows self.old.keep) }
     {
         self.keep.records_are_lawful();

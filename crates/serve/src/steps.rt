@@ -14,7 +14,7 @@ pub enum Admin {
         org: OrgName,
         limit: Limit,
     },
-    /// Removes an organization, with all that it has: also one in which a lock holds or a run is open, where it is forced.
+    /// Removes an organization with everything in it; if forced, also while a lock holds or a run is open.
     OrgRemove {
         org: OrgName,
         is_forced: bool,

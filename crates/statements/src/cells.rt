@@ -1,8 +1,11 @@
 //! Reads the cells of a row as values, and those of a version or a run as one value.
-ghost use Rattle.std.specs.Prelude.{◌≡◌, string_bytes, IfOk};
+ghost use Rattle.std.specs.Prelude.{◌≡◌, ◌<◌, false, None, string_bytes, IfOk, IfErr};
+ghost use Rattle.basis.specs.Names.{is_lock_id, is_prefix, is_ws_name};
+ghost use Rattle.basis.specs.Numbers.{within};
+ghost use Rattle.basis.specs.declared.numbers.TheConstants.{MAX_KEPT, MAX_LIMIT, MAX_MOMENT, MAX_NUMBER, MAX_SERIAL};
 ghost use Rattle.sqlite_value.specs.Order.{column};
 ghost use Rattle.sqlite_value.specs.declared.value.Value.TheVariants.{Text as TextCell, Blob as BlobCell};
-ghost use Rattle.statements.specs.Rows.{number, role_code, status_code, number_at, flag, flag_at, bytes_at, some_bytes_at, status_at, some_action_at, version_in_row, run_in_row};
+ghost use Rattle.statements.specs.Rows.{number, role_code, status_code, number_at, flag, flag_at, bytes_at, some_bytes_at, status_at, action_code, action_at, some_action_at, version_in_row, run_in_row};
 ghost use Rattle.statements.specs.Calls.{IsVersionIn, IsRunIn, IsFlagCell, IsTextOrNull, IsNumberOrNull, IsActionOrNull};
 
 use basis::{
@@ -51,7 +54,15 @@ pub(crate) fn serial_in(row: &Row, at: usize) -> Result<Serial, Error>
     ensures is { IfOk result (λ x. x ≡ number_at row.now at) }
     ensures cell { IfOk result (λ x. column row.now at ≡ number x) }
 {
-    match Serial::new(row.get(at)?) {
+    serial_of(row.get(at)?, at)
+}
+
+/// The serial of a state. Fails with `IntegralValueOutOfRange` if it is out of range.
+fn serial_of(serial: u64, at: usize) -> Result<Serial, Error>
+    ensures is { IfOk result (λ x. x ≡ serial) }
+    ensures exact { IfErr result (λ _. within 0 MAX_SERIAL serial ≡ None) }
+{
+    match Serial::new(serial) {
         Some(serial) => Ok(serial),
         None => Err(Error::IntegralValueOutOfRange(at)),
     }
@@ -69,7 +80,8 @@ pub(crate) fn optional_text(row: &Row, at: usize) -> Result<Option<Text>, Error>
 
 /// The number of a version or of a run. Fails with `IntegralValueOutOfRange` if it is out of range.
 pub(crate) fn number_of(number: u64, at: usize) -> Result<Number, Error>
-    ensures { IfOk result (λ x. x ≡ number) }
+    ensures is { IfOk result (λ x. x ≡ number) }
+    ensures exact { IfErr result (λ _. within 1 MAX_NUMBER number ≡ None) }
 {
     match Number::new(number) {
         Some(number) => Ok(number),
@@ -79,7 +91,8 @@ pub(crate) fn number_of(number: u64, at: usize) -> Result<Number, Error>
 
 /// A time, from the seconds since 1970 (UTC). Fails with `IntegralValueOutOfRange` if it is out of range.
 pub(crate) fn moment_of(seconds: u64, at: usize) -> Result<Moment, Error>
-    ensures { IfOk result (λ x. x ≡ seconds) }
+    ensures is { IfOk result (λ x. x ≡ seconds) }
+    ensures exact { IfErr result (λ _. within 0 MAX_MOMENT seconds ≡ None) }
 {
     match Moment::new(seconds) {
         Some(moment) => Ok(moment),
@@ -89,7 +102,8 @@ pub(crate) fn moment_of(seconds: u64, at: usize) -> Result<Moment, Error>
 
 /// The number of versions that a workspace keeps. Fails with `IntegralValueOutOfRange` if it is out of range.
 pub(crate) fn retention_of(count: u64, at: usize) -> Result<KeepCount, Error>
-    ensures { IfOk result (λ x. x ≡ count) }
+    ensures is { IfOk result (λ x. x ≡ count) }
+    ensures exact { IfErr result (λ _. within 1 MAX_KEPT count ≡ None) }
 {
     match KeepCount::new(count) {
         Some(count) => Ok(count),
@@ -100,7 +114,8 @@ pub(crate) fn retention_of(count: u64, at: usize) -> Result<KeepCount, Error>
 /// The greatest number of workspaces of an organization. Fails with `IntegralValueOutOfRange` if it is out of
 /// range.
 pub(crate) fn limit_of(cap: u32, at: usize) -> Result<Limit, Error>
-    ensures { IfOk result (λ x. x ≡ cap) }
+    ensures is { IfOk result (λ x. x ≡ cap) }
+    ensures exact { IfErr result (λ _. MAX_LIMIT < cap) }
 {
     match Limit::new(cap) {
         Some(limit) => Ok(limit),
@@ -110,7 +125,8 @@ pub(crate) fn limit_of(cap: u32, at: usize) -> Result<Limit, Error>
 
 /// The ID of a lock. Fails with `InvalidColumnType` if the text is not a valid ID.
 pub(crate) fn lock_id_of(id: String, at: usize) -> Result<LockId, Error>
-    ensures { IfOk result (λ x. x ≡ string_bytes id) }
+    ensures is { IfOk result (λ x. x ≡ string_bytes id) }
+    ensures exact { IfErr result (λ _. is_lock_id (string_bytes id) ≡ false) }
 {
     match LockId::from_string(id) {
         Some(id) => Ok(id),
@@ -120,7 +136,8 @@ pub(crate) fn lock_id_of(id: String, at: usize) -> Result<LockId, Error>
 
 /// The prefix of a token's workspaces. Fails with `InvalidColumnType` if the text is not a valid prefix.
 pub(crate) fn prefix_of(prefix: String, at: usize) -> Result<WsPrefix, Error>
-    ensures { IfOk result (λ x. x ≡ string_bytes prefix) }
+    ensures is { IfOk result (λ x. x ≡ string_bytes prefix) }
+    ensures exact { IfErr result (λ _. is_prefix (string_bytes prefix) ≡ false) }
 {
     match WsPrefix::from_string(prefix) {
         Some(prefix) => Ok(prefix),
@@ -130,7 +147,8 @@ pub(crate) fn prefix_of(prefix: String, at: usize) -> Result<WsPrefix, Error>
 
 /// A workspace's name. Fails with `InvalidColumnType` if the text is not a valid name.
 pub(crate) fn name_of(name: String, at: usize) -> Result<WsName, Error>
-    ensures { IfOk result (λ x. x ≡ string_bytes name) }
+    ensures is { IfOk result (λ x. x ≡ string_bytes name) }
+    ensures exact { IfErr result (λ _. is_ws_name (string_bytes name) ≡ false) }
 {
     match WsName::from_string(name) {
         Some(name) => Ok(name),
@@ -179,7 +197,14 @@ pub(crate) fn optional_lock_id(row: &Row, at: usize) -> Result<Option<LockId>, E
 pub(crate) fn role_in(row: &Row, at: usize) -> Result<Role, Error>
     ensures { IfOk result (λ role. column row.now at ≡ number (role_code role)) }
 {
-    match row.get::<u64>(at)? {
+    role_of(row.get(at)?, at)
+}
+
+fn role_of(code: u64, at: usize) -> Result<Role, Error>
+    ensures is { IfOk result (λ role. code ≡ role_code role) }
+    ensures exact { IfErr result (λ _. 2 < code) }
+{
+    match code {
         0 => Ok(Role::Read),
         1 => Ok(Role::Write),
         2 => Ok(Role::Admin),
@@ -204,7 +229,14 @@ pub(crate) fn flag_in(row: &Row, at: usize) -> Result<bool, Error>
 pub(crate) fn status_in(row: &Row, at: usize) -> Result<RunStatus, Error>
     ensures { IfOk result (λ status. column row.now at ≡ number (status_code status)) }
 {
-    match row.get::<u64>(at)? {
+    status_of(row.get(at)?, at)
+}
+
+fn status_of(code: u64, at: usize) -> Result<RunStatus, Error>
+    ensures is { IfOk result (λ status. code ≡ status_code status) }
+    ensures exact { IfErr result (λ _. 8 < code) }
+{
+    match code {
         0 => Ok(RunStatus::Pending),
         1 => Ok(RunStatus::Planning),
         2 => Ok(RunStatus::Planned),
@@ -223,15 +255,25 @@ pub(crate) fn action_in(row: &Row, at: usize) -> Result<Option<RunAction>, Error
     ensures cell { IfOk result (IsActionOrNull (column row.now at)) }
 {
     match row.get::<Option<u64>>(at)? {
+        Some(code) => Ok(Some(action_of(code, at)?)),
         None => Ok(None),
-        Some(0) => Ok(Some(RunAction::ReportPlanned)),
-        Some(1) => Ok(Some(RunAction::ReportUnchanged)),
-        Some(2) => Ok(Some(RunAction::Fail)),
-        Some(3) => Ok(Some(RunAction::Confirm)),
-        Some(4) => Ok(Some(RunAction::ReportApplied)),
-        Some(5) => Ok(Some(RunAction::Discard)),
-        Some(6) => Ok(Some(RunAction::Cancel)),
-        Some(_) => Err(Error::IntegralValueOutOfRange(at)),
+    }
+}
+
+fn action_of(code: u64, at: usize) -> Result<RunAction, Error>
+    ensures is { IfOk result (λ action. action ≡ action_at code) }
+    ensures coded { IfOk result (λ action. code ≡ action_code action) }
+    ensures exact { IfErr result (λ _. 6 < code) }
+{
+    match code {
+        0 => Ok(RunAction::ReportPlanned),
+        1 => Ok(RunAction::ReportUnchanged),
+        2 => Ok(RunAction::Fail),
+        3 => Ok(RunAction::Confirm),
+        4 => Ok(RunAction::ReportApplied),
+        5 => Ok(RunAction::Discard),
+        6 => Ok(RunAction::Cancel),
+        _ => Err(Error::IntegralValueOutOfRange(at)),
     }
 }
 

@@ -67,7 +67,7 @@ impl Write for CountedErrors {
     }
 }
 
-// What has to be told of this answer to so many bytes.
+// What must be reported for this answer to so many bytes.
 fn due_of_read(answer: Answer, size: usize) -> Result<usize, Broken> {
     match answer {
         Answer::Moves(count) => Ok(count.min(size)),
@@ -105,7 +105,7 @@ fn is_asked_once(answer: Answer, bytes: &mut [u8]) -> bool {
     is_read_once(answer, bytes) && is_written_once(answer, bytes)
 }
 
-/// Whether a reader and a writer are asked once for each answer, at each size, and what they answer is told.
+/// Whether a reader and a writer are asked once for each answer, at each size, and their answers are reported.
 pub fn are_asked_once() -> bool {
     let mut bytes = [0u8; MOST];
     for size in SIZES {

@@ -15,7 +15,7 @@ const PATH: &str = "stories.db";
 /// Where copies of them lie.
 const COPY: &str = "copies.db";
 
-/// The words that copy every organization there, then one of them once more, where it was taken away, and look for faults.
+/// The words that copy every organization there, then copy one again that was removed, and check for faults.
 const COPYING: &[&str] = &[
     "compact --db stories.db --to copies.db",
     "org-remove --db copies.db --force acme",

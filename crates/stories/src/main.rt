@@ -1,4 +1,4 @@
-//! The program `stories`: examples as text, each told to the service and compared with what the text says.
+//! The program `stories`: examples as text, each sent to the service and compared with what the text says.
 #![tactic(auto)]
 
 mod begun;
@@ -30,7 +30,7 @@ const PASSED: u8 = 0;
 /// A story failed.
 const FAILED: u8 = 1;
 
-/// The text doesn't read, or memory or a stream refused.
+/// The text cannot be read, or an allocation or a stream failed.
 const UNREAD: u8 = 2;
 
 /// What came of a story.
@@ -38,7 +38,7 @@ const UNREAD: u8 = 2;
 enum Came {
     Passed,
     Failed,
-    /// The text doesn't read.
+    /// The text cannot be read.
     Unread,
 }
 

@@ -27,12 +27,12 @@ fn does(plot: &Plot<'_>) -> Option<Does> {
 pub enum Place {
     /// A peer connects, or a clock, a log or an output breaks.
     Memory,
-    /// A file is made or looked at.
+    /// A file is made or inspected.
     Files,
     Both,
 }
 
-/// Where a story is run: behind earlier ones over files alone.
+/// Where a story is run: after earlier ones only over files.
 pub fn place_of(story: &Story<'_>) -> Place {
     let mut place = Place::Both;
     if !story.before.is_empty() {
@@ -59,15 +59,15 @@ struct Due<'s> {
 #[derive(Drop)]
 pub struct Memory<'s> {
     file: MemoryFile<'s>,
-    // The next command can't read the clock.
+    // The next command cannot read the clock.
     has_no_clock: bool,
-    // The next command can't flush its output.
+    // The next command cannot flush its output.
     is_unflushed: bool,
     sent: Vec<&'s [u8]>,
     due: Vec<Due<'s>>,
 }
 
-// What each peer got, compared with what is due. One that isn't answered got nothing.
+// What each peer got, compared with what is due. One that is not answered got nothing.
 fn compare_got(alloc: Global, due: &[Due<'_>], peers: &MemoryPeers<'_>) -> Result<(), Failure> {
     for (place, one) in due.iter().enumerate() {
         let got = match peers.got.get(place) {

@@ -1,4 +1,4 @@
-//! What no line of bytes tells: checks that are run by their names.
+//! Checks that no story can spell in bytes: they are run by their names.
 use crate::devices::are_asked_once;
 use crate::programs::answer_of;
 use crate::sockets::{Bout, answer_idle, answer_one, answer_rude, answer_trickling};

@@ -25,7 +25,7 @@ pub enum Does {
     Connects,
     /// The clock, the log of the database or the output fails the next command, or its tables have a fault.
     Breaks,
-    /// A file that can't be read.
+    /// A file that cannot be read.
     Hides,
     /// Who may read and write a file, by its mode.
     HasMode,
@@ -51,7 +51,7 @@ const WORDS: &[(&str, Does)] = &[
     ("$", Does::Runs),
 ];
 
-/// What a step does, and the words behind that.
+/// What a step does, and the words that follow.
 pub fn words_of<'a>(head: &Part<'a>) -> Option<(Does, &'a str)> {
     let (first, rest) = match head.text.split_once(' ') {
         Some(words) => words,
@@ -130,7 +130,7 @@ pub fn is_done(rt: &HostRuntime, words: &str) -> Result<bool, AllocError> {
     Ok(ran(rt, words.as_slice(), b"").status == 0)
 }
 
-// Whether a text stands in bytes.
+// Whether a text occurs in bytes.
 fn contains(bytes: &[u8], text: &str) -> bool {
     match str::from_utf8(bytes) {
         Ok(all) => all.contains(text),
@@ -181,7 +181,7 @@ pub fn compare_left(
     compare_errors(alloc, answer, parts, left.errors.as_slice())
 }
 
-/// The line `=` of a step, and what stands behind it.
+/// The line `=` of a step, and what follows it.
 pub fn answer_of<'s, 'a>(
     head: &Part<'_>,
     parts: &'s [Part<'a>],
@@ -332,7 +332,7 @@ fn hide(rt: &HostRuntime, head: &Part<'_>, path: &str) -> Result<(), Failure> {
     set_mode(rt, head, path, 0)
 }
 
-// A path, and a mode behind it.
+// A path, followed by a mode.
 fn mode_in<'a>(head: &Part<'_>, words: &'a str) -> Result<(&'a str, u32), Failure> {
     let Some((path, digits)) = words.split_once(' ') else {
         return Err(Failure::from(head.unread("a mode stands behind a path")));

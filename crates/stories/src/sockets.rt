@@ -1,4 +1,4 @@
-//! Peers over sockets that read their reply, leave, send more than is taken, say nothing, trickle, or don't read.
+//! Peers over sockets that read their reply, leave, send more than is taken, say nothing, trickle, or do not read.
 ghost use Rattle.std.specs.Prelude.{⊤, None};
 
 use basis::{Down, Moment};
@@ -104,7 +104,7 @@ impl<I: Inlet> Inlet for Trickle<'_, I> {
     }
 }
 
-// A writer that begins with more than anybody takes who doesn't read.
+// A writer that first writes more than a peer that does not read can take.
 #[derive(Drop)]
 struct Stuffed<O: Outlet> {
     outlet: O,
@@ -232,7 +232,7 @@ impl Bout<'_> {
         }
     }
 
-    // So many connections are answered, and this is told of them.
+    // Serves so many connections, which have these lines on the error stream.
     fn serve(
         &self,
         alloc: Global,
@@ -313,7 +313,7 @@ fn rude(rt: &HostRuntime, port: u16) -> io::Result<(TcpStream, TcpStream)> {
     Ok((flooding, peer))
 }
 
-/// Peers that leave or send too much end nothing.
+/// Peers that leave or send too much do not end the service.
 pub fn answer_rude(
     rt: &HostRuntime,
     bout: &Bout<'_>,
@@ -346,7 +346,7 @@ fn three(
     Ok((silent, second, peer))
 }
 
-/// A peer that says nothing and one that doesn't read are waited for a second at each read or write.
+/// A peer that says nothing and one that does not read are waited for a second at each read or write.
 pub fn answer_idle(
     rt: &HostRuntime,
     bout: &Bout<'_>,

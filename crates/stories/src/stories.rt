@@ -115,7 +115,7 @@ fn run_here(rt: &HostRuntime, book: &Book<'_>, story: &Story<'_>) -> Result<(), 
     take_all(rt, &mut files, story.plots.as_slice())
 }
 
-// In memory, where earlier stories don't come first.
+// In memory, where no earlier stories run first.
 fn run_alone(alloc: Global, story: &Story<'_>, counts: &mut Counts) -> Result<(), Failure> {
     let mut memory = Memory::new(alloc);
     for plot in story.plots.as_slice() {

@@ -7,13 +7,13 @@ use story_runner::devices::{ALL, Giver, Stop, Taker};
 use story_runner::failures::Failure;
 use story_runner::modes::{Counts, Modes};
 
-/// The exit status where a stream fails.
+/// The exit status if a stream fails.
 const BROKEN: u8 = 3;
 
-/// What the error stream gets where the standard input can't be read.
+/// What the error stream gets if standard input cannot be read.
 const UNREAD: &[u8] = b"custody: the input could not be read, or out of memory\n";
 
-/// What the error stream gets last where a stream didn't take all; behind the frames of a replay nothing is told.
+/// What the error stream gets last if a stream did not take all; nothing follows the frames of a replay.
 const UNPRINTED: &[u8] =
     b"custody: not everything could be printed to standard output or standard error\n";
 
@@ -25,13 +25,13 @@ pub struct Reported<'s> {
     words: &'s [String],
     input: &'s [u8],
     output: &'s [u8],
-    // Empty where the text says only what stands there among others.
+    // Empty if the text gives only a part of it.
     errors: &'s [u8],
     reads_frames: bool,
     leaves_no_mark: bool,
 }
 
-// The error stream, where one line `?` and its pieces are all of it.
+// The error stream, if one line `?` and its pieces give all of it.
 fn errors_in<'s>(parts: &'s [Part<'_>]) -> &'s [u8] {
     match parts {
         [part] if part.text.is_empty() => part.written(),
@@ -61,7 +61,7 @@ impl<'s> Reported<'s> {
     }
 }
 
-// Whether the error stream has this, and behind it the line that a stream didn't take all.
+// Whether the error stream has this, followed by the line for a stream that did not take all.
 fn reports_end(reported: &Reported<'_>, before: &[u8], errors: &[u8]) -> bool {
     let (front, end) = errors.split_at(before.len().min(errors.len()));
     let due: &[u8] = if reported.reads_frames {
@@ -72,7 +72,7 @@ fn reports_end(reported: &Reported<'_>, before: &[u8], errors: &[u8]) -> bool {
     front == before && end == due
 }
 
-// So where the error stream takes all; of one of which the text says only a part the length isn't known.
+// The same if the error stream takes all; if the text gives only a part of it, its length is not known.
 fn reports_all(reported: &Reported<'_>, errors: &[u8]) -> bool {
     if reported.reads_frames || reported.errors.is_empty() {
         return true;
@@ -174,7 +174,7 @@ fn stop_errors(
     )
 }
 
-// The standard output takes all, and then can't be flushed.
+// Standard output takes all, and then cannot be flushed.
 fn fail_flush(
     alloc: Global,
     memory: &mut Memory<'_>,
@@ -203,7 +203,7 @@ fn fail_reads(
     reported: &Reported<'_>,
     counts: &mut Counts,
 ) -> Result<(), Failure> {
-    // The last read would tell the end.
+    // The last read would report the end.
     let reads = reported.input.len().saturating_add(1);
     for read in 1..=reads {
         fail_read(alloc, memory, reported, read)?;
@@ -245,7 +245,7 @@ fn stop_writes(
     fail_flush(alloc, memory, reported)
 }
 
-/// The same words over streams that break. What is left then is told by the status.
+/// The same words over streams that break. The status then says what was left.
 pub fn break_streams(
     alloc: Global,
     memory: &mut Memory<'_>,

@@ -58,7 +58,7 @@ const KINDS: &[(&str, Kind)] = &[
     ("kept", Kind::Kept),
 ];
 
-/// The kind of a step of values, and what stands behind its word.
+/// The kind of a step of values, and what follows its word.
 fn kind_of<'a>(head: &Part<'a>) -> Option<(Kind, &'a str)> {
     let (first, rest) = match head.text.split_once(' ') {
         Some(words) => words,
@@ -270,7 +270,7 @@ fn show_bytes(alloc: Global, kind: Kind, words: &str, bytes: &[u8]) -> Shown {
     }
 }
 
-// A text on one line: a digest's field stands before its body, a route has no body.
+// A text on one line: a digest's field comes before its body, a route has no body.
 fn show_line(alloc: Global, kind: Kind, text: &str) -> Shown {
     match kind {
         Kind::Digest => match text.split_once(' ') {
@@ -283,7 +283,7 @@ fn show_line(alloc: Global, kind: Kind, text: &str) -> Shown {
     }
 }
 
-// A field that is empty on a line isn't there.
+// A field that is empty on a line is absent.
 fn field_in(text: &str) -> Option<&[u8]> {
     if text.is_empty() {
         None
@@ -307,7 +307,7 @@ fn compare(alloc: Global, head: &Part<'_>, due: &str, came: Shown) -> Result<(),
     }
 }
 
-// Where ` -> ` stands last, what is before it and what is behind it.
+// What is before and after the last ` -> `.
 fn parted(text: &str) -> Option<(&str, &str)> {
     if let Some(result) = text.strip_prefix("-> ") {
         return Some(("", result));
@@ -332,7 +332,7 @@ fn result_lines(alloc: Global, parts: &[Part<'_>]) -> Result<String, Unread> {
     Ok(lines)
 }
 
-// The query behind the pieces of a field, where one is given, and the lines of the result.
+// The query after the pieces of a field, if there is one, and the lines of the result.
 fn query_in<'s, 'a>(kind: Kind, parts: &'s [Part<'a>]) -> (Option<&'s [u8]>, &'s [Part<'a>]) {
     match (kind, parts) {
         (Kind::Asks, [query, results @ ..]) if query.mark == Mark::Query => {
@@ -342,7 +342,7 @@ fn query_in<'s, 'a>(kind: Kind, parts: &'s [Part<'a>]) -> (Option<&'s [u8]>, &'s
     }
 }
 
-// A step whose value stands in pieces.
+// A step whose value is written in pieces.
 fn take_block(
     alloc: Global,
     head: &Part<'_>,

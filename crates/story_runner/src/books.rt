@@ -5,12 +5,12 @@ use crate::modes::{Mode, Modes, NONE};
 use crate::pieces::{write_behind, write_row};
 use std::alloc::Global;
 
-/// A line that begins a step or what is due, with the fields and pieces behind it.
+/// A line that begins a step or what is due, with the fields and pieces that follow.
 #[derive(Drop)]
 pub struct Part<'a> {
     pub line: usize,
     pub mark: Mark,
-    /// What stands behind the mark.
+    /// What follows the mark.
     pub text: &'a str,
     /// The fields, each with CR LF.
     pub fields: Vec<u8>,
@@ -40,7 +40,7 @@ impl<'a> Part<'a> {
         }
     }
 
-    /// That this line doesn't read.
+    /// An error: this line cannot be read.
     pub fn unread(&self, why: &'static str) -> Unread {
         Unread {
             line: self.line,
@@ -95,7 +95,7 @@ pub struct Story<'a> {
     pub name: &'a str,
     /// The earlier stories whose steps come first, by their places.
     pub before: Vec<usize>,
-    /// The file with whose tables it begins; none where it begins with no organization.
+    /// The file with whose tables it begins; none if it begins with no organization.
     pub begins: Option<&'a str>,
     /// The operator's secret, if the operator's door is open.
     pub operator: Option<Operator<'a>>,
@@ -108,7 +108,7 @@ pub struct Story<'a> {
 #[derive(Drop)]
 pub struct Book<'a> {
     pub definitions: Definitions<'a>,
-    /// What breaks under the steps of a story that doesn't say it.
+    /// What breaks under the steps of a story that does not say it.
     pub modes: Modes,
     pub stories: Vec<Story<'a>>,
 }

@@ -1,4 +1,4 @@
-//! A story of requests told over links that break, over tables: after each break stands there what the story says.
+//! A story of requests over links that break, over tables: after each break the tables must have what the story says.
 use crate::devices::{ALL, Stop};
 use crate::failures::Failure;
 use crate::links::{Asked, Break, WriteStop, break_link, line_in, makes_more};
@@ -21,8 +21,8 @@ const READERS: &[usize] = &[1, 7, ALL];
 enum Breaks<'s> {
     /// Each read, by a reader that gives so many bytes at a time.
     Reads(usize, Modes),
-    /// The reply, at one of its bytes; whether a request that was taken comes again; what stands in the tables before each own
-    /// step and behind the last.
+    /// The reply, at one of its bytes; whether a request that was taken is sent again; the contents of the tables before each own
+    /// step and after the last.
     Writes(WriteStop, bool, &'s [Vec<u8>]),
 }
 
@@ -32,7 +32,7 @@ fn begun<K: Keep + Drop, M: Makes<K>>(alloc: Global, makes: &M, play: &Play) -> 
     taken_to(alloc, keep, Way::Replay, play, 0, play.own)
 }
 
-// The request of a place, and what is due to it; none where an operator's command stands.
+// The request at a position, and what is due to it; none for an operator's command.
 fn asked_at(play: &Play, index: usize) -> Option<Asked<'_>> {
     let step = play.steps.get(index)?;
     let due = play.due.get(index)?;
@@ -75,9 +75,9 @@ fn read_one<K: Keep + Drop, L: Inspects<K>>(
     over_link(alloc, keep, asked, Break::Nothing(most), counts)
 }
 
-// Where the line that says to go on isn't written, no step is taken: the request comes whole then. Else the step is taken, and
-// where requests come again it leaves the tables as they are, but for one that makes something more: that doesn't come again. A
-// request whose reply has fewer bytes comes whole.
+// If `100 Continue` is not written, no step is taken, and the request is then sent completely. Otherwise the step is taken, and
+// if requests are sent again, it leaves the tables as they are; one that creates something more is not sent again. A
+// request whose reply has fewer bytes is sent completely.
 fn write_one<K: Keep + Drop, L: Inspects<K>>(
     alloc: Global,
     inspects: &L,

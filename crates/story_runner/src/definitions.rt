@@ -1,10 +1,10 @@
-//! What the text defines, and why a text doesn't read.
+//! What the text defines, and why a text cannot be read.
 use crate::lines::Defines;
 use basis::Down;
 use basis::numbers::{MAX_MOMENT, whole_number};
 use std::alloc::{AllocError, AllocFailed, Global};
 
-/// Where a text doesn't read, and why. Want of memory has no line.
+/// Where a text cannot be read, and why. An allocation failure has no line.
 #[derive(Clone, Copy)]
 pub struct Unread {
     pub line: usize,

@@ -1,4 +1,4 @@
-//! Readers and writers that give and take so many bytes at a time, and stop where they are told to.
+//! Readers and writers that give and take so many bytes at a time, and stop at a given place.
 use std::alloc::Global;
 use std::io;
 use std::io::{ErrorKind, Read, Write};
@@ -6,7 +6,7 @@ use std::io::{ErrorKind, Read, Write};
 /// More bytes than a reader gives, or a writer takes, at a time.
 pub const ALL: usize = 1_000_000_000;
 
-/// Gives at most so many bytes a read, and fails at one of its reads; at none where that is 0.
+/// Gives at most so many bytes a read, and fails at one of its reads; at none if that is 0.
 #[derive(Drop)]
 pub struct Giver<'a> {
     rest: &'a [u8],
@@ -44,14 +44,14 @@ impl Read for Giver<'_> {
     }
 }
 
-/// What a writer does at the write where it stops.
+/// What a writer does at the write at which it stops.
 #[derive(Clone, Copy)]
 pub enum Stop {
     Fails,
     TakesNone,
 }
 
-/// Takes at most so many bytes a write, and stops at one of its writes; at none where that is 0.
+/// Takes at most so many bytes a write, and stops at one of its writes; at none if that is 0.
 #[derive(Drop)]
 pub struct Taker {
     pub taken: Vec<u8>,
@@ -75,7 +75,7 @@ impl Taker {
         }
     }
 
-    /// Takes one byte a write, up to where it stops.
+    /// Takes one byte a write, until it stops.
     pub fn stopping(alloc: Global, stops_at: usize, stop: Stop) -> Taker {
         Taker {
             taken: Vec::new(alloc),

@@ -10,9 +10,9 @@ pub enum Why {
     Differs { due: Vec<u8>, came: Vec<u8> },
     /// Memory, the store or a file refused.
     Refused(&'static str),
-    /// Where a link or a stream broke at a place, something else came than what is due.
+    /// A link or a stream broke at a position, and something else came than is due.
     Broken(&'static str, usize),
-    /// The text doesn't read.
+    /// The text cannot be read.
     Unread(&'static str),
 }
 
@@ -25,7 +25,7 @@ pub struct Failure {
 }
 
 impl Failure {
-    /// Something else came than what is due.
+    /// Something else came than is due.
     pub fn differs(line: usize, due: Vec<u8>, came: Vec<u8>) -> Failure {
         Failure {
             way: "",
@@ -43,7 +43,7 @@ impl Failure {
         }
     }
 
-    /// Something else came, where a link or a stream broke at a place.
+    /// Something else came than is due, where a link or a stream broke at a position.
     pub fn broken(line: usize, what: &'static str, index: usize) -> Failure {
         Failure {
             way: "",

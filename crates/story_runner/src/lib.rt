@@ -1,4 +1,4 @@
-//! Reads the text of stories, and tells a story's steps to any store.
+//! Reads the text of stories, and takes a story's steps over any store.
 #![tactic(auto)]
 
 pub mod acts;

@@ -10,7 +10,7 @@ pub enum Mark {
     Head,
     /// `=`: what is answered.
     Answer,
-    /// `?`: what stands on the error stream.
+    /// `?`: what the error stream has.
     Errors,
     /// `->`: what a value comes to.
     Outcome,
@@ -40,7 +40,7 @@ pub enum Defines {
     Challenge,
 }
 
-/// A line, by how it begins, and the text behind that.
+/// A line, by how it begins, and the text after that.
 #[derive(Clone, Copy)]
 pub enum Line<'a> {
     /// A comment, or an empty line.
@@ -50,7 +50,7 @@ pub enum Line<'a> {
     After(&'a str),
     /// `links`: what breaks under the steps of a story.
     Links(&'a str),
-    /// What is said of a story by a word that stands alone.
+    /// A word alone on a line, which says something of a story.
     Sets(Mode),
     /// `begins`: a story begins with the tables of a file.
     FromFile(&'a str),
@@ -62,7 +62,7 @@ pub enum Line<'a> {
     Begins(Mark, &'a str),
 }
 
-// What stands behind a mark and one blank, or behind the mark at the end of the line.
+// What follows a mark and one space, or the mark at the end of the line.
 fn behind<'a>(line: &'a str, mark: &str) -> Option<&'a str> {
     match line.strip_prefix(mark) {
         Some("") => Some(""),
@@ -114,7 +114,7 @@ const MODES: &[(&str, Mode)] = &[
     ("copied", Mode::Copied),
 ];
 
-// A line of this front, by what stands behind it.
+// A line that begins in this way, by what follows.
 fn line_of(front: Front, rest: &str) -> Line<'_> {
     match front {
         Front::Piece(piece) => Line::Piece(piece, rest),
@@ -194,7 +194,7 @@ fn single(b: u8) -> Option<u8> {
     }
 }
 
-// What comes of the next byte: how far the escape is read then, and the byte that is written.
+// The effect of the next byte: how far the escape is read then, and the byte that is written.
 fn step(escape: Escape, b: u8) -> Option<(Escape, Option<u8>)> {
     match escape {
         Escape::Plain if b == b'\\' => Some((Escape::Begun, None)),
@@ -215,7 +215,7 @@ fn step(escape: Escape, b: u8) -> Option<(Escape, Option<u8>)> {
     }
 }
 
-/// Writes a text with escapes behind the bytes. The answer says whether each escape is one.
+/// Appends a text with escapes to the bytes. Returns whether each escape is one.
 pub fn write_escaped(bytes: &mut Vec<u8>, text: &str) -> Result<bool, AllocError> {
     let mut escape = Escape::Plain;
     for b in text.as_bytes() {

@@ -1,4 +1,4 @@
-//! One request over links that break: cut behind each byte, each read failing, each write failing.
+//! One request over links that break: cut after each byte, each read failing, each write failing.
 use crate::devices::{Giver, Stop, Taker};
 use crate::failures::{Failure, compare_bytes};
 use crate::messages::CONTINUE;
@@ -51,7 +51,7 @@ pub enum Break {
     Reads(usize, Modes),
     /// The reply stops at one of its bytes.
     Write(WriteStop),
-    /// It doesn't: the request comes whole, by a reader that gives so many bytes at a time.
+    /// Nothing breaks: the request arrives completely, by a reader that gives so many bytes at a time.
     Nothing(usize),
     /// The same of a request that was taken before.
     Again(usize),
@@ -113,7 +113,7 @@ fn may_end_early(due: &[u8]) -> bool {
     false
 }
 
-// How many bytes of a request are read: all of them, but where its head is refused.
+// How many bytes of a request are read: all of them, unless its head is refused.
 fn length_of<K: Keep>(alloc: Global, service: &mut Service<K>, asked: &Asked<'_>) -> usize {
     let all = asked.bytes.len();
     if !may_end_early(asked.due) {
@@ -139,7 +139,7 @@ fn is_cut<K: Keep>(
     came.ended == Err(LinkFault::Ended) && came.written.as_slice() == due_after(asked, count)
 }
 
-// Cut behind each byte but the last: the request is unfinished, and nothing is written but the line that is due.
+// Cut after each byte but the last: the request is unfinished, and only the line that is due is written.
 fn cut_each<K: Keep>(
     alloc: Global,
     service: &mut Service<K>,
@@ -179,7 +179,7 @@ fn reads_of(length: usize, most: usize) -> usize {
     if most == 0 { 0 } else { length.div_ceil(most) }
 }
 
-// Each read fails in turn, and is told.
+// Each read fails in turn, and is reported.
 fn fail_reads<K: Keep>(
     alloc: Global,
     service: &mut Service<K>,
@@ -200,7 +200,7 @@ fn fail_reads<K: Keep>(
     Ok(reads)
 }
 
-// A request cut behind each byte, and with each read failing.
+// A request cut after each byte, and with each read failing.
 fn break_reads<K: Keep>(
     alloc: Global,
     service: &mut Service<K>,
@@ -221,7 +221,7 @@ fn break_reads<K: Keep>(
     Ok(())
 }
 
-// A request that comes whole: no read is made behind its end.
+// A request that arrives completely: there is no read after its end.
 fn take_whole<K: Keep>(
     alloc: Global,
     service: &mut Service<K>,
@@ -249,7 +249,7 @@ fn take_whole<K: Keep>(
     Ok(())
 }
 
-// That a front of what is due stands, up to the write that stopped, and which part was being written.
+// Checks that a prefix of what is due was written, up to the write that stopped, and which part was being written.
 fn is_stopped(came: &Came, due: &[u8], stops_at: usize) -> bool {
     let fault = if stops_at <= line_in(due) {
         LinkFault::Continue
@@ -285,7 +285,7 @@ pub fn stop_write<K: Keep>(
     }
 }
 
-/// Whether a request that comes again makes something more: a run without a key.
+/// Whether a request that is sent again creates something more: a run without a key.
 pub fn makes_more(bytes: &[u8]) -> bool {
     let Ok(text) = str::from_utf8(bytes) else {
         return false;
@@ -299,7 +299,7 @@ pub fn makes_more(bytes: &[u8]) -> bool {
         && rest.split_once("\"key\"").is_none()
 }
 
-// A request that was taken comes again, whole.
+// A request that was taken is sent again, completely.
 fn take_again<K: Keep>(
     alloc: Global,
     service: &mut Service<K>,

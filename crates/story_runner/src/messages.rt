@@ -6,7 +6,7 @@ use basis::{Bytes, Text};
 use std::alloc::{AllocError, Global};
 use wire::{FromRead, Message, ToWrite, WireFault, read_message};
 
-// A line with a name and bytes, behind a line feed where lines stand before it.
+// A line with a name and bytes, after a line feed if lines come before it.
 fn add_line(alloc: Global, lines: &mut String, name: &str, bytes: &[u8]) -> Result<(), AllocError> {
     if !lines.is_empty() {
         lines.push('\n')?;
@@ -54,7 +54,7 @@ fn message_lines(alloc: Global, message: &Message) -> Result<String, AllocError>
     Ok(lines)
 }
 
-/// What is written before the body is read, where the client waits for it.
+/// What is written before the body is read, if the client waits for it.
 pub const CONTINUE: &[u8] = b"HTTP/1.1 100 Continue\r\n\r\n";
 
 // A line about what was written.

@@ -1,44 +1,44 @@
 //! The ways in which links and streams break under a story, and how often they did.
 use crate::keyed::Keyed;
 
-/// What breaks under the steps of a story, and whether it is told on few ways.
+/// What breaks under the steps of a story, and whether the story runs in few ways.
 #[derive(Clone, Copy)]
 pub struct Modes {
-    /// Each request is cut behind each of its bytes but the last.
+    /// Each request is cut after each of its bytes but the last.
     pub cut: bool,
     /// Each read fails in turn.
     pub reads: bool,
     /// Each write of a byte fails in turn, or takes nothing.
     pub writes: bool,
-    /// So by readers that give few bytes at a time, too, and the request that was taken comes again.
+    /// The same by readers that give few bytes at a time, and the request that was taken is sent again.
     pub again: bool,
     /// The store refuses each change.
     pub refused: bool,
-    /// The power is cut at each call of the files, whose tables have their pages by this key; it isn't where there is none.
+    /// The power is cut at each call of the files, whose tables have their pages by this key; none if it is not cut.
     pub stops: Option<Keyed>,
-    /// The story is told on few ways.
+    /// The story runs in few ways.
     pub large: bool,
-    /// The story is replayed alone. A replay may give up for want of memory, and is gone on with at the step where it stopped.
+    /// The story is only replayed. A replay may give up if an allocation fails, and is continued at the step where it stopped.
     pub resumes: bool,
     /// The organizations of the stories before it are copied to another file, and its own steps are taken over both.
     pub copied: bool,
 }
 
-/// What is said of a story that begins, by words that stand alone.
+/// What a word alone on a line says of a story that begins.
 #[derive(Clone, Copy)]
 pub enum Mode {
     /// `stops`, or `stops first-byte`: the power is cut under the steps of a story, over tables whose pages have this key.
     Stops(Keyed),
-    /// `large`: a story is told on few ways.
+    /// `large`: a story runs in few ways.
     Large,
-    /// `resumes`: a replay may give up, and is gone on with.
+    /// `resumes`: a replay may give up, and is continued.
     Resumes,
     /// `copied`: a story's own steps are taken over a copy, too.
     Copied,
 }
 
 impl Mode {
-    /// Where it may stand.
+    /// Where it may be.
     pub fn rule(self) -> &'static str {
         match self {
             Mode::Stops(_) => "`stops` stands before the first step of a story",
@@ -114,7 +114,7 @@ impl Modes {
     }
 }
 
-/// How often links and streams broke and the power was cut, and how often files were opened again behind that.
+/// How often links and streams broke and the power was cut, and how often files were opened again after that.
 #[derive(Clone, Copy)]
 pub struct Counts {
     pub cut: usize,

@@ -19,7 +19,7 @@ pub(crate) fn write_row(bytes: &mut Vec<u8>, text: &str) -> Result<(), Unread> {
     write(bytes, b"\r\n")
 }
 
-// Writes a piece, behind a line feed where it comes behind a row.
+// Writes a piece, after a line feed if it follows a row.
 pub(crate) fn write_behind(
     alloc: Global,
     bytes: &mut Vec<u8>,

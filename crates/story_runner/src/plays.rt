@@ -8,7 +8,7 @@ use basis::{Bytes, Down, Moment, Secret, Unfit};
 use serve::{Door, Step};
 use std::alloc::Global;
 
-/// What is due to a step, and the line where that step stands.
+/// What is due to a step, and the line of that step.
 #[derive(Drop)]
 pub struct Due {
     pub line: usize,
@@ -30,11 +30,11 @@ pub struct Question {
 #[derive(Drop)]
 pub struct Play {
     pub steps: Vec<Step>,
-    /// The place of the story's own first step, behind those of the stories before it.
+    /// The position of the story's own first step, after those of the stories before it.
     pub own: usize,
     pub due: Vec<Due>,
     pub questions: Vec<Question>,
-    /// By which key its tables have their pages where the power is cut.
+    /// The key of its tables' pages when the power is cut.
     pub keyed: Keyed,
     /// The operator's door.
     pub door: Door,
@@ -213,7 +213,7 @@ fn door_of(alloc: Global, operator: Operator<'_>) -> Result<Door, Unread> {
     }
 }
 
-/// The steps of a story, behind those of the stories before it.
+/// The steps of a story, after those of the stories before it.
 pub fn play_of<R: ReadsCommands>(
     alloc: Global,
     commands: &R,

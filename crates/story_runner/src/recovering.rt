@@ -1,5 +1,5 @@
 //! What is done over files whose power is cut: a story's steps up to the stop, and how the story goes on from there, over
-//! tables whose rows are looked at between the steps.
+//! tables whose rows are inspected between the steps.
 use crate::devices::ALL;
 use crate::failures::Failure;
 use crate::plays::Play;
@@ -15,29 +15,29 @@ const EACH: Way = Way::Exchange(ALL);
 /// What is done over the tables of files.
 #[derive(Clone, Copy)]
 pub enum Work<'s> {
-    /// All that stands in them is looked at, which are of an earlier version. The store isn't opened.
+    /// Inspects all contents of tables of an earlier schema version. The store is not opened.
     QueryEarlier,
-    /// The steps before the story's own are taken.
+    /// Takes the steps before the story's own.
     Begin,
-    /// The story's own steps are taken, up to one for which the store is down.
+    /// Takes the story's own steps, up to one for which the store is down.
     TakeOwn,
-    /// The same, with all that stands in the tables before each of them and behind the last.
+    /// The same, with all contents of the tables before each of them and after the last.
     Record,
-    /// The step in which the power was cut is sent again, and the story goes on to its end; what stood in the tables
-    /// before each own step and behind the last.
+    /// Sends the step again in which the power was cut, and continues the story to its end; has the contents of the tables
+    /// before each own step and after the last.
     GoOn(Cut, &'s [Vec<u8>]),
-    /// All steps are taken, and the tables are asked what the story asks.
+    /// Takes all steps, and asks the tables what the story asks.
     Report,
 }
 
 /// How work over files ended.
 #[derive(Clone, Copy, PartialEq, Eq)]
 pub enum Ended {
-    /// The store is down as it is opened.
+    /// The store is down when it is opened.
     Unopened,
-    /// The store is down for the step of this place.
+    /// The store is down for the step at this position.
     Stopped(usize),
-    /// The files can't be closed.
+    /// The files cannot be closed.
     Unclosed,
     /// All was done.
     Completed,
@@ -47,7 +47,7 @@ pub enum Ended {
 #[derive(Drop)]
 pub struct Done {
     pub ended: Ended,
-    /// What stands in the tables, where that was asked.
+    /// The contents of the tables, if asked for.
     pub records: Vec<Vec<u8>>,
 }
 
@@ -61,7 +61,7 @@ impl Done {
     }
 }
 
-// What stands there is that before the step or that behind it; the step is sent again.
+// Checks that the tables have the contents from before the step or after it, and sends the step again.
 fn taken_up<K: Keep + Drop, L: Inspects<K>>(
     alloc: Global,
     inspects: &L,
@@ -81,7 +81,7 @@ fn taken_up<K: Keep + Drop, L: Inspects<K>>(
     }
 }
 
-// The step in which the power was cut is sent again, and the story goes on to its end.
+// Sends the step again in which the power was cut, and continues the story to its end.
 fn gone_on<K: Keep + Drop, L: Inspects<K>>(
     alloc: Global,
     inspects: &L,

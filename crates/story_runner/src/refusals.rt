@@ -1,4 +1,4 @@
-//! A story of requests told to a store that refuses each change: a 503 is due then, and nothing changes.
+//! A story of requests, sent to a store that refuses each change: a 503 is due then, and nothing changes.
 use crate::devices::{ALL, Giver, Stop, Taker};
 use crate::failures::{Failure, compare_bytes};
 use crate::links::{Asked, WriteStop, ask, line_in, stop_write};
@@ -33,7 +33,7 @@ fn date_in(due: &[u8]) -> &str {
     }
 }
 
-/// What is written where the store is down, in place of what is due.
+/// What is written if the store is down, in place of what is due.
 pub fn down_for(alloc: Global, due: &[u8]) -> Result<Vec<u8>, AllocError> {
     let mut bytes = Vec::new(alloc);
     if line_in(due) > 0 {
@@ -45,7 +45,7 @@ pub fn down_for(alloc: Global, due: &[u8]) -> Result<Vec<u8>, AllocError> {
     Ok(bytes)
 }
 
-// Each byte of the 503 in turn isn't taken.
+// Each byte of the 503 in turn is not taken.
 fn stop_each<K: Keep>(
     alloc: Global,
     service: &mut Service<K>,

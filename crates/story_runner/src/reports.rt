@@ -17,8 +17,8 @@ fn show_byte(text: &mut String, b: u8, is_hex: bool) -> Result<(), AllocError> {
     }
 }
 
-/// Bytes as printable ASCII: a backslash as `\\`, all others as `\xHH`; but where `is_hex` isn't set,
-/// those that have a letter by it.
+/// Bytes as printable ASCII: a backslash as `\\`, all others as `\xHH`; but if `is_hex` is not set,
+/// those that have a letter as their escape by it.
 pub fn shown(alloc: Global, bytes: &[u8], is_hex: bool) -> Result<String, AllocError> {
     let mut text = String::new(alloc);
     for b in bytes {
@@ -77,7 +77,7 @@ fn shown_short(alloc: Global, bytes: &[u8]) -> Result<String, AllocError> {
     }
 }
 
-// From the first byte that differs on, where it isn't one of the first.
+// From the first byte that differs on, if it is not one of the first.
 fn differing<'a>(bytes: &'a [u8], other: &[u8]) -> &'a [u8] {
     let same = bytes
         .iter()
@@ -122,7 +122,7 @@ pub fn report_short<W: Write>(
     )
 }
 
-/// Tells that a story passed.
+/// Reports that a story passed.
 pub fn report_passed<W: Write>(output: &mut W, name: &str) -> io::Result<()> {
     writeln!(output, "passed {name}")?;
     output.flush()
@@ -160,13 +160,13 @@ pub fn report_counts<W: Write>(output: &mut W, name: &str, counts: &Counts) -> i
     output.flush()
 }
 
-/// Tells where the text doesn't read.
+/// Reports where the text cannot be read.
 pub fn report_unread<W: Write>(output: &mut W, line: usize, why: &str) -> io::Result<()> {
     writeln!(output, "line {line}: {why}")?;
     output.flush()
 }
 
-/// Tells how many stories passed, or failed.
+/// Reports how many stories passed, or failed.
 pub fn report_end<W: Write>(output: &mut W, all: usize, failed: usize) -> io::Result<()> {
     if failed == 0 {
         writeln!(output, "{all} stories passed")?;

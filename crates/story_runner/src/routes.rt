@@ -10,7 +10,7 @@ use wire::Message;
 /// By whom routes are asked.
 const WRITER: &[u8] = b"Bearer acme.writewritewrite1";
 
-/// The organization that isn't named in what is shown.
+/// The organization that is left out of what is shown.
 const OWN: &str = "acme";
 
 fn text_of(alloc: Global, text: Option<&str>) -> Result<Option<Text>, Failure> {
@@ -87,7 +87,7 @@ fn caller_of(alloc: Global, role: Role) -> Caller {
     }
 }
 
-// The least role that may.
+// The least role that an act needs.
 fn role_word(alloc: Global, asked: &Asked) -> &'static str {
     for (role, word) in [(Role::Read, "read"), (Role::Write, "write")] {
         if allowed(asked, &caller_of(alloc, role)).is_ok() {
@@ -110,7 +110,7 @@ fn asked_act(alloc: Global, role: &str, act: &AskedAct) -> Result<String, AllocE
     }
 }
 
-// The ID of a lock and the organization, where they are to be shown.
+// The ID of a lock and the organization, if they are to be shown.
 fn put_rest(text: &mut String, asked: &Asked) -> Result<(), AllocError> {
     if let Some(id) = &asked.lock_id {
         text.push_str(" with ID ")?;

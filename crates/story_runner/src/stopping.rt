@@ -28,7 +28,7 @@ impl Cut {
         }
     }
 
-    /// The place of the step behind it.
+    /// The position of the step after it.
     pub fn next(&self) -> usize {
         if self.is_in_step {
             self.index.saturating_add(1)
@@ -38,7 +38,7 @@ impl Cut {
     }
 }
 
-/// The line of the text where a step stands.
+/// The line of a step in the text.
 pub fn line_at(play: &Play, index: usize) -> usize {
     match play.due.get(index) {
         Some(due) => due.line,
@@ -53,7 +53,7 @@ fn is_due(due: &Due, came: &Result<Bytes, Down>) -> bool {
     }
 }
 
-// That a step which wasn't answered as is due was answered that the store is down.
+// Checks that a step which was not answered as due was answered that the store is down.
 fn check_down(
     alloc: Global,
     step: &Step,
@@ -120,8 +120,8 @@ pub fn taken_up_to<K: Keep>(
     (service.into_keep(), stopped)
 }
 
-/// Whether a step that was applied may be answered so where it is sent again: as before, or that what it made is there, or
-/// that what it took away isn't.
+/// Whether a step that was applied may be answered so when it is sent again: as before, or that what it made exists, or
+/// that what it removed is absent.
 pub fn is_repeat(due: &[u8], reply: &[u8]) -> bool {
     reply == due
         || reply == b"refused exists\n".as_slice()
@@ -166,7 +166,7 @@ pub fn sent_again<K: Keep + Drop>(
     }
 }
 
-/// What stands in the tables is that before the step or that behind it: whether the step was applied.
+/// Whether the step was applied: the tables have the contents from before it, or those from after it.
 pub fn is_applied(
     alloc: Global,
     line: usize,

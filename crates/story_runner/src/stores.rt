@@ -1,4 +1,4 @@
-//! What is asked of the stores to which stories are told, beside what the service asks of them.
+//! What the stories ask of stores, besides what the service asks of them.
 use crate::failures::{Failure, compare_bytes};
 use crate::keyed::Keyed;
 use crate::plays::{Play, Question};
@@ -14,9 +14,9 @@ pub trait Makes<K: Keep + Drop> {
     fn made(&self, alloc: Global) -> Result<K, Down>;
 }
 
-/// Looks at the tables of stores. Each call gives the store back.
+/// Inspects the tables of stores. Each call gives the store back.
 pub trait Inspects<K: Keep + Drop> {
-    /// All that stands in the tables, as bytes that are compared. Where `is_lawful` is set the tables have to obey their laws.
+    /// All contents of the tables, as bytes to compare. If `is_lawful` is set, the tables must obey their laws.
     fn recorded(
         &self,
         alloc: Global,
@@ -50,7 +50,7 @@ pub fn played_over<K: Keep + Drop, L: Inspects<K>>(
     taken_to(alloc, keep, way, play, from, play.steps.len())
 }
 
-/// That what stands in the tables is due.
+/// Checks that the tables have what is due.
 pub fn checked<K: Keep + Drop, L: Inspects<K>>(
     alloc: Global,
     inspects: &L,
@@ -66,7 +66,7 @@ pub fn checked<K: Keep + Drop, L: Inspects<K>>(
     }
 }
 
-/// What stands in the tables before each of the story's own steps, and behind the last.
+/// The contents of the tables before each of the story's own steps, and after the last.
 pub fn records_of<K: Keep + Drop, L: Inspects<K>>(
     alloc: Global,
     inspects: &L,

@@ -66,7 +66,7 @@ pub fn exchange_over<K: Keep>(
     }
 }
 
-// What an exchange writes; nothing where the input ended inside the message.
+// What an exchange writes; nothing if the input ended inside the message.
 fn exchanged<K: Keep>(
     alloc: Global,
     service: &mut Service<K>,
@@ -101,7 +101,7 @@ fn role_word(role: Role) -> &'static str {
     }
 }
 
-// A token's line: its name, its role, its end and its prefix, a hyphen where there is none.
+// A token's line: its name, its role, its end and its prefix, or a hyphen for none.
 fn token_line(alloc: Global, row: &TokenRow) -> Result<String, AllocError> {
     let (name, role) = (row.name.as_str(), role_word(row.caller.role));
     let prefix = match row.caller.prefix.as_str() {
@@ -169,7 +169,7 @@ fn answered_each<K: Keep>(
     Ok(replies)
 }
 
-// The replies of a replay, or, where it gave up behind so many steps, those to the steps that it left, which are sent again.
+// The replies of a replay; or, if it gave up after so many steps, those to the steps that it left, which are sent again.
 #[derive(Drop)]
 struct Replies {
     gave_up: Option<usize>,
@@ -232,8 +232,8 @@ fn compare_left(alloc: Global, due: &[Due], replies: &Replies) -> Result<Option<
     Ok(replies.gave_up)
 }
 
-/// Takes a story's own steps by `replay`. Where it gives up, another one takes those that it left; it is told behind how many
-/// steps it gave up. The store is given back.
+/// Takes a story's own steps by `replay`. If it gives up, another one takes the steps that it left; reports after how many
+/// steps it gave up. Gives the store back.
 pub fn resume_over<K: Keep>(
     alloc: Global,
     keep: K,
@@ -266,7 +266,7 @@ fn replay_own<K: Keep>(
     }
 }
 
-/// Takes a story's own steps by `replay`, and tells behind how many it gave up. The store is given back.
+/// Takes a story's own steps by `replay`, and reports after how many it gave up. Gives the store back.
 pub fn replay_over<K: Keep>(
     alloc: Global,
     keep: K,

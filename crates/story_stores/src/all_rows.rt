@@ -1,11 +1,11 @@
-//! A workspace read whole: all rows of it in each table, and its organization's, by one query each. Whatever is looked for in
-//! them is found by loops, which ask no further query and need no order but that of a text's pages.
+//! A workspace read completely: all its rows in each table, and its organization's, by one query each. Loops find the rest
+//! in them, without further queries, and need no order but that of a text's pages.
 use sqlite::types::ValueRef;
 use sqlite::{Alter, Connection, Error, Row, params};
 use std::alloc::{AllocError, Global};
 use story_runner::failures::Failure;
 
-/// The places of a workspace's tables among all that are read, and behind them those of its organization's.
+/// The positions of a workspace's tables among all that are read, and after them those of its organization's.
 pub const WORKSPACE: usize = 0;
 
 pub const RETENTION: usize = 1;
@@ -135,7 +135,7 @@ impl AllRows {
     }
 }
 
-// What stands in a text behind a page that it begins with.
+// What follows a page with which a text begins.
 fn behind_page<'t>(text: &'t [u8], row: &Row) -> Option<&'t [u8]> {
     match bytes_at(row, 1) {
         Some(page) if text.starts_with(page) => text.get(page.len()..),
@@ -182,7 +182,7 @@ pub fn has_flag(row: &Row, at: usize, flag: bool) -> bool {
     has_number(row, at, u64::from(flag))
 }
 
-/// Whether a row has this text, or none where there is none.
+/// Whether a row has this text, or none if there is none.
 pub fn has_optional(row: &Row, at: usize, text: Option<&str>) -> bool {
     match text {
         Some(text) => has_text(row, at, text),
@@ -190,7 +190,7 @@ pub fn has_optional(row: &Row, at: usize, text: Option<&str>) -> bool {
     }
 }
 
-/// The number that stands first in a row; 0 where none does.
+/// The first number in a row; 0 if there is none.
 pub fn number_of(row: &Row) -> u64 {
     number_at(row, 0).unwrap_or(0)
 }
@@ -215,7 +215,7 @@ pub fn row_with<'r>(rows: &'r [Row], at: usize, text: &str) -> Option<&'r Row> {
     None
 }
 
-/// The greatest number; 0 where there is no row.
+/// The greatest number; 0 if there is no row.
 pub fn greatest(rows: &[Row]) -> u64 {
     let mut found = 0;
     for row in rows {
@@ -226,7 +226,7 @@ pub fn greatest(rows: &[Row]) -> u64 {
     found
 }
 
-/// The least number above this one; 0 where there is none.
+/// The least number above this one; 0 if there is none.
 pub fn least_above(rows: &[Row], above: u64) -> u64 {
     let mut found = 0;
     for row in rows {

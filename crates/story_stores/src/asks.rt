@@ -7,7 +7,7 @@ use basis::{
 use machine::{Act, StateText};
 use std::alloc::Global;
 
-/// How many versions are to be kept, where that is asked; 0 is none.
+/// How many versions are to be kept, if that is asked; 0 for none.
 const KEPT: &[u64] = &[0, 1, 2, 5, 100];
 
 /// The actions on a run.
@@ -21,7 +21,7 @@ const ACTIONS: &[RunAction] = &[
     RunAction::Cancel,
 ];
 
-/// Numbers of versions and of runs that are asked of: the first, the last two, and one behind them.
+/// Numbers of versions and of runs that are asked for: the first, the last two, and one after them.
 pub fn numbers_about(last: u64) -> [u64; 4] {
     [1, last.saturating_sub(1), last, last.saturating_add(1)]
 }

@@ -1,5 +1,5 @@
 //! What a store over tables says by its queries of the workspace that a request names, compared with what is found in all rows:
-//! before acts of each kind, text by text and list by list, behind each of a story's own steps that may have changed it.
+//! before acts of each kind, text by text and list by list, after each of a story's own steps that may have changed it.
 use crate::all_rows::{AllRows, ORGANIZATION, RUNS, VERSIONS, greatest, read_all_rows, row_of};
 use crate::asks::{acts_on, numbers_about};
 use crate::keys::FirstByte;
@@ -44,7 +44,7 @@ fn path_in(bytes: &[u8]) -> Option<&str> {
     }
 }
 
-// The organization and the workspace that stand in a path.
+// The organization and the workspace in a path.
 fn parts_in(path: &str) -> Option<(&str, &str)> {
     let rest = path.strip_prefix("/v1/")?;
     let (org, rest) = rest.split_once('/')?;
@@ -68,7 +68,7 @@ fn may_change(sent: &[u8], due: &[u8]) -> bool {
     is_accepted && !sent.starts_with(b"GET ")
 }
 
-// The workspace that a step names which may have changed it.
+// The workspace that a step names, if the step may have changed it.
 fn changed_by(alloc: Global, play: &Play, index: usize) -> Option<Named> {
     match (play.steps.get(index)?, play.due.get(index)?) {
         (Step::Request { bytes, .. }, due) if may_change(bytes.as_slice(), due.bytes.as_slice()) =>
@@ -77,7 +77,7 @@ fn changed_by(alloc: Global, play: &Play, index: usize) -> Option<Named> {
     }
 }
 
-// In what a store says something else before an act.
+// What a store reports differently before an act.
 fn act_differs<K: Keep>(
     alloc: Global,
     keep: &mut K,
@@ -106,7 +106,7 @@ fn compare_acts<K: Keep>(
     Ok(())
 }
 
-// Whether the text of a number is that of its pages; none where no version has it.
+// Whether the text of a number is that of its pages; none if no version has the number.
 fn is_text<K: Keep>(
     alloc: Global,
     keep: &mut K,
@@ -122,7 +122,7 @@ fn is_text<K: Keep>(
     }
 }
 
-// Whether the workspaces that a prefix admits are listed, from the first on and behind the one that is named.
+// Whether the workspaces that a prefix admits are listed, from the first on and after the one that is named.
 fn lists_workspaces<K: Keep>(
     alloc: Global,
     keep: &mut K,
@@ -138,7 +138,7 @@ fn lists_workspaces<K: Keep>(
     Ok(are_workspaces(all_rows, named.ws.as_str(), prefix, &list))
 }
 
-// So with the prefix that admits all, and with the first letter of the workspace that is named.
+// The same with the prefix that admits all, and with the first letter of the workspace that is named.
 fn has_workspaces<K: Keep>(
     alloc: Global,
     keep: &mut K,
@@ -222,7 +222,7 @@ fn compare_lists<K: Keep>(
     Err(Failure::refused(named.line, why))
 }
 
-// All that a store says of a workspace, where its organization is there.
+// All that a store says of a workspace, if its organization exists.
 fn compare_all<K: Keep>(
     alloc: Global,
     keep: &mut K,
@@ -281,7 +281,7 @@ fn compare_behind_each<S: Alter + Drop, K: PageKey>(
 }
 
 /// Takes a story's steps over tables whose pages have their first byte as their key, and compares what the store says with all
-/// rows, behind each of the story's own steps that may have changed some.
+/// rows, after each of the story's own steps that may have changed some.
 pub fn run_beside(alloc: Global, play: &Play) -> Result<(), Failure> {
     let keep: TablesBy<FirstByte> = Sql.made(alloc)?;
     match compare_behind_each(alloc, keep, play) {

@@ -1,4 +1,4 @@
-//! The two files of a database in memory, and what is left of them where the power is cut at one of their calls.
+//! The two files of a database in memory, and what is left of them if the power is cut at one of their calls.
 use crate::keys::FirstByte;
 use crate::records::earlier_record_of;
 use crate::ways::Sql;
@@ -30,7 +30,7 @@ pub struct Cuts {
     pub db: u64,
 }
 
-/// The power isn't cut.
+/// The power is not cut.
 pub const NO_CUTS: Cuts = Cuts {
     log: NEVER,
     db: NEVER,
@@ -52,7 +52,7 @@ const SEED: u64 = 1;
 /// So many bytes of a file are written together, or lost together.
 const SECTOR: usize = 512;
 
-/// What stands in the two files.
+/// The contents of the two files.
 #[derive(Drop)]
 pub struct Image {
     pub log: Vec<u8>,
@@ -67,7 +67,7 @@ fn file_of(alloc: Global, bytes: &[u8], calls: u64) -> io::Result<Fused> {
     Ok(Fuse::new(file, calls))
 }
 
-// The bytes of a file where the power is cut between two syncs: every other sector that was written has neither the old
+// The bytes of a file if the power is cut between two syncs: every other sector that was written has neither the old
 // bytes nor the new ones.
 fn torn(alloc: Global, written: &[u8], synced: &[u8]) -> Result<Vec<u8>, AllocError> {
     let mut bytes = Vec::new(alloc);
@@ -79,7 +79,7 @@ fn torn(alloc: Global, written: &[u8], synced: &[u8]) -> Result<Vec<u8>, AllocEr
 }
 
 impl Image {
-    /// No file is there.
+    /// There is no file.
     pub fn new(alloc: Global) -> Image {
         Image {
             log: Vec::new(alloc),
@@ -141,8 +141,8 @@ fn push_images(alloc: Global, images: &mut Vec<Image>, files: &mut Pair) -> Resu
     push_third(alloc, images)
 }
 
-// What may stand on the disk once the power is cut: all that was written; what was synced alone; of what wasn't synced
-// every other sector. One image, where all was synced.
+// What the disk may have once the power is cut: all that was written; only what was synced; every other sector of
+// what was not synced. One image, if all was synced.
 fn images_of(alloc: Global, files: Pair) -> Result<Vec<Image>, AllocError> {
     let mut files = files;
     let mut images = Vec::new(alloc);
@@ -165,11 +165,11 @@ fn options() -> Options {
 #[derive(Drop)]
 pub struct Left {
     pub done: Done,
-    /// What may stand on the disk.
+    /// What the disk may have.
     pub images: Vec<Image>,
 }
 
-// What stands in tables of an earlier version.
+// The contents of tables of an earlier schema version.
 fn inspected_at<S: Alter>(alloc: Global, conn: &mut Connection<S>) -> Result<Done, Failure> {
     let mut done = Done::new(alloc, Ended::Completed);
     let record = earlier_record_of(alloc, conn)?;
@@ -200,7 +200,7 @@ fn left_unopened<S: Alter + Drop>(
     }
 }
 
-// The store is opened over a connection, and given back behind the work.
+// Opens the store over a connection, and gives it back after the work.
 fn worked_by<S: Alter + Drop, K: PageKey>(
     alloc: Global,
     conn: Connection<S>,
@@ -279,7 +279,7 @@ fn over<D: Disk + Drop>(
     }
 }
 
-/// Works over files with this content, the power cut behind so many calls.
+/// Works over files with these contents, with the power cut after so many calls.
 pub fn over_image(
     alloc: Global,
     image: &Image,
@@ -295,7 +295,7 @@ pub fn over_image(
     Ok(Left { done, images })
 }
 
-/// The same, where the power isn't cut.
+/// The same, with the power not cut.
 pub fn over_all_rows(
     alloc: Global,
     line: usize,

@@ -58,7 +58,7 @@ fn write_all(
     write_each(rt, path.as_str(), images, around)
 }
 
-/// Writes what a stop leaves, and what stood in the tables before its step and behind it; of every tenth stop, where the
+/// Writes what a stop leaves, and the contents of the tables before its step and after it; of every tenth stop, if the
 /// environment names a folder.
 pub fn write_images(
     rt: &HostRuntime,

@@ -16,7 +16,7 @@ const WS: &str = "net";
 
 const NUMBER: u64 = 1;
 
-/// What is told of the tables, and how it is asked.
+/// What is reported of the tables, and how it is asked.
 const COUNTS: &[(&str, &str)] = &[
     ("places", "SELECT count(*) FROM vpage"),
     ("pages", "SELECT count(*) FROM page"),
@@ -116,7 +116,7 @@ fn show_by<K: PageKey>(alloc: Global, due: &[u8]) -> Result<String, Failure> {
     }
 }
 
-/// What comes of a text in tables, with pages by the key of this name.
+/// What becomes of a text in tables, with pages by the key of this name.
 pub fn show_kept(alloc: Global, key: &str, text: &[u8]) -> Result<String, Failure> {
     match key {
         "sha" => show_by::<ShaKey>(alloc, text),

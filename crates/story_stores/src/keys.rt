@@ -3,7 +3,7 @@ ghost use Rattle.std.specs.Prelude.{◌∷◌, replicate, slice_get, unwrap_or};
 
 use pages::PageKey;
 
-/// The key is the page's first byte, and 31 zeros behind it. That of an empty page is zeros alone.
+/// The key is the page's first byte, followed by 31 zeros. That of an empty page is only zeros.
 pub struct FirstByte;
 
 impl PageKey for FirstByte {

@@ -1,5 +1,5 @@
-//! Lists of versions, runs and workspaces beside the rows that were read whole: each item is that of the next row, and what is said of
-//! the rows behind the last is true.
+//! Lists of versions, runs and workspaces beside all rows: each item is that of the next row, and what is said of
+//! the rows after the last is true.
 use crate::all_rows::{
     AllRows, NAMES, NUMBERS, RETENTIONS, RUNS, VERSIONS, has_flag, has_number, has_text,
     least_above, number_at, row_of, row_with, text_at,
@@ -24,12 +24,12 @@ fn is_version(all_rows: &AllRows, number: u64, version: &VersionRow) -> bool {
     }
 }
 
-// Whether a list of so many items says what is true of those behind it.
+// Whether a list of so many items says what is true of those after it.
 fn is_end(count: usize, more: bool, follows: bool) -> bool {
     more == follows && (count == MAX_ITEMS || !more)
 }
 
-/// Whether a list has the versions behind a number, each in turn.
+/// Whether a list has the versions after a number, each in turn.
 pub fn are_versions(all_rows: &AllRows, after: u64, list: &Listing<VersionRow>) -> bool {
     let rows = all_rows.rows(VERSIONS);
     let mut last = after;
@@ -53,7 +53,7 @@ fn is_run_of(all_rows: &AllRows, number: u64, run: &RunRow) -> bool {
     }
 }
 
-/// Whether a list has the runs behind a number, each in turn.
+/// Whether a list has the runs after a number, each in turn.
 pub fn are_runs(all_rows: &AllRows, after: u64, list: &Listing<RunRow>) -> bool {
     let rows = all_rows.rows(RUNS);
     let mut last = after;
@@ -70,7 +70,7 @@ pub fn are_runs(all_rows: &AllRows, after: u64, list: &Listing<RunRow>) -> bool 
     )
 }
 
-// The name that stands first in a row.
+// The first name in a row.
 fn name_of(row: &Row) -> &str {
     match str::from_utf8(text_at(row, 0).unwrap_or(b"")) {
         Ok(name) => name,
@@ -78,7 +78,7 @@ fn name_of(row: &Row) -> &str {
     }
 }
 
-// The first of the names above this one that a prefix admits, by their bytes; an empty one where there is none.
+// The first of the names above this one that a prefix admits, by their bytes; an empty one if there is none.
 fn name_above<'w>(rows: &'w [Row], above: &str, prefix: &WsPrefix) -> &'w str {
     let mut found = "";
     for row in rows {
@@ -108,7 +108,7 @@ fn kept_of(all_rows: &AllRows, name: &str) -> u64 {
     }
 }
 
-// The greatest number of a workspace's versions; 0 where there is none.
+// The greatest number of a workspace's versions; 0 if there is none.
 fn newest_of(all_rows: &AllRows, name: &str) -> u64 {
     let mut newest = 0;
     for row in all_rows.rows(NUMBERS) {
@@ -132,7 +132,7 @@ fn is_workspace(all_rows: &AllRows, name: &str, ws: &WsRow) -> bool {
     }
 }
 
-/// Whether a list has the workspaces that a prefix admits behind a name, each in turn.
+/// Whether a list has the workspaces that a prefix admits after a name, each in turn.
 pub fn are_workspaces(
     all_rows: &AllRows,
     after: &str,

@@ -49,7 +49,7 @@ const STATUS: usize = 5;
 
 const ACTION: usize = 6;
 
-/// The number; 0 where there is none.
+/// The number; 0 if there is none.
 pub fn value_of(number: Option<Number>) -> u64 {
     match number {
         Some(number) => u64::from(number.get()),
@@ -97,7 +97,7 @@ fn is_row(row: &Row, unit: &WorkspaceUnit) -> bool {
         && has_number(row, 7, unit.next_run)
 }
 
-// How many versions are kept; as many as at first, where that isn't needed.
+// How many versions are kept; the initial number if that is not needed.
 fn kept(all_rows: &AllRows, is_needed: bool) -> u64 {
     match all_rows.rows(RETENTION).first() {
         Some(row) if is_needed => number_of(row),
@@ -130,7 +130,7 @@ fn is_newest(all_rows: &AllRows, needs: &Needs<'_>, newest: &Option<Newest>) -> 
     }
 }
 
-// The greatest number of the versions that aren't among the last so many; 0 where there is none.
+// The greatest number of the versions that are not among the last so many; 0 if there is none.
 fn last_before(rows: &[Row], staying: usize) -> u64 {
     let mut last = 0;
     for row in rows {
@@ -230,7 +230,7 @@ fn is_waiting(row: &Row) -> bool {
     has_number(row, STATUS, PENDING) && has_flag(row, 1, false)
 }
 
-// The least number of the queued runs that are pending; 0 where there is none.
+// The least number of the queued runs that are pending; 0 if there is none.
 fn first_waiting(rows: &[Row]) -> u64 {
     let mut number = least_above(rows, 0);
     for _ in rows {
@@ -266,7 +266,7 @@ fn are_runs(all_rows: &AllRows, needs: &Needs<'_>, unit: &WorkspaceUnit) -> bool
         && is_holder_status(all_rows, needs, unit.holder_status)
 }
 
-// In what the parts of a workspace that is there differ from its rows.
+// In which parts a workspace that exists differs from its rows.
 fn differs_in(
     all_rows: &AllRows,
     needs: &Needs<'_>,
@@ -291,7 +291,7 @@ fn differs_in(
     None
 }
 
-// How many workspaces the organization has and may have; 0 and 0, where that isn't needed.
+// How many workspaces the organization has and may have; 0 and 0 if that is not needed.
 fn has_room(all_rows: &AllRows, is_needed: bool, workspaces: usize, limit: Limit) -> bool {
     let limit = u64::from(limit.get());
     match all_rows.rows(ORGANIZATION).first() {
@@ -302,7 +302,7 @@ fn has_room(all_rows: &AllRows, is_needed: bool, workspaces: usize, limit: Limit
     }
 }
 
-/// In what that which a store says before an act differs from the rows.
+/// What a store reports before an act differently from the rows.
 pub fn difference(all_rows: &AllRows, needs: &Needs<'_>, unit: &Unit) -> Option<&'static str> {
     match (all_rows.workspace(), unit) {
         (Some(row), Unit::Present(unit)) => differs_in(all_rows, needs, row, unit),

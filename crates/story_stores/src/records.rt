@@ -1,4 +1,4 @@
-//! All that stands in the tables, as bytes that are compared.
+//! All contents of the tables, as bytes to compare.
 use crate::laws::count_of;
 use sqlite::types::ValueRef;
 use sqlite::{Alter, Connection, Error, Row};
@@ -89,7 +89,7 @@ fn put_earlier<S: Alter>(all: &mut Vec<u8>, conn: &mut Connection<S>) -> Result<
     }
 }
 
-/// What stands in the tables over a connection.
+/// The contents of the tables over a connection.
 pub fn record_of<S: Alter>(
     alloc: Global,
     line: usize,
@@ -102,7 +102,7 @@ pub fn record_of<S: Alter>(
     }
 }
 
-/// What stands in tables of the first version, or of the second.
+/// The contents of tables of the first schema version, or of the second.
 pub fn earlier_record_of<S: Alter>(
     alloc: Global,
     conn: &mut Connection<S>,

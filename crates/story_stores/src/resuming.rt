@@ -1,5 +1,5 @@
-//! A story that is replayed where memory may be refused: the steps that a replay left are sent again. What stands in the
-//! tables where it gave up, and at the end, is what stands there where no memory is refused.
+//! A story that is replayed while allocations may fail: the steps that a replay left are sent again. The contents of the
+//! tables when it gave up, and at the end, are those of a replay without failures.
 use crate::keys::FirstByte;
 use crate::ways::{Sql, TablesBy};
 use machine::{Keep, PlainKeep};
@@ -14,10 +14,10 @@ use story_runner::stopping::line_at;
 use story_runner::stores::{Inspects, Makes, checked, record_at, records_of};
 use story_runner::taking::{Way, replay_over, resume_over, taken_to};
 
-/// The name of tables that are looked at where a replay gave up.
+/// The name of tables that are inspected when a replay gave up.
 const LOOKED: &str = "tables by first bytes that are looked at";
 
-// What is said on the error stream: that the story's own steps come next over this store, and then behind how many of them
+// The lines on the error stream: that the story's own steps come next over this store, and then after how many of them
 // the replay gave up, if it did.
 fn say_next(rt: &HostRuntime, name: &str) -> io::Result<()> {
     writeln!(rt.stderr(), "replay over {name}")
@@ -61,7 +61,7 @@ fn resume<K: Keep + Drop>(
     }
 }
 
-// The same, where the tables are looked at behind the step at which the replay gave up: they have what they had before the
+// The same, with the tables inspected after the step at which the replay gave up: they have what they had before the
 // step that it left.
 fn resume_inspected<K: Keep + Drop, L: Inspects<K>>(
     rt: &HostRuntime,
@@ -86,7 +86,7 @@ fn resume_inspected<K: Keep + Drop, L: Inspects<K>>(
     taken_to(rt.alloc(), keep, Way::Replay, play, index, end)
 }
 
-// At the end the tables have what they have where no memory is refused.
+// At the end the tables have what they have after a replay without failures.
 fn check_end<K: Keep + Drop, L: Inspects<K>>(
     alloc: Global,
     inspects: &L,
@@ -100,7 +100,7 @@ fn check_end<K: Keep + Drop, L: Inspects<K>>(
     Ok(())
 }
 
-// What stands in the tables before each own step and behind the last.
+// The contents of the tables before each own step and after the last.
 fn records_by<K: PageKey>(alloc: Global, play: &Play) -> Result<Vec<Vec<u8>>, Failure> {
     let keep: TablesBy<K> = Sql.made(alloc)?;
     let keep = taken_to(alloc, keep, Way::Replay, play, 0, play.own)?;

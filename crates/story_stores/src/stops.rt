@@ -1,5 +1,5 @@
-//! A story of a store over files in memory, the power cut at each of their calls: what stands there then is all before
-//! the step or all behind it, and the step is sent again.
+//! A story of a store over files in memory, with the power cut at each of their calls: the files then have everything from before
+//! the step or everything from after it, and the step is sent again.
 use crate::cuts::{Cuts, Image, Left, NO_CUTS, over_all_rows, over_image};
 use crate::images::write_images;
 use std::alloc::Global;
@@ -38,7 +38,7 @@ impl Stop {
     }
 }
 
-// The files before the story's own first step; none where it is the first of all.
+// The files before the story's own first step; none if it is the first of all.
 fn begun(alloc: Global, play: &Play) -> Result<Image, Failure> {
     let nothing = Image::new(alloc);
     if play.own == 0 {
@@ -52,13 +52,13 @@ fn begun(alloc: Global, play: &Play) -> Result<Image, Failure> {
     }
 }
 
-// What stands in the tables before each of the story's own steps, and behind the last.
+// The contents of the tables before each of the story's own steps, and after the last.
 fn records_from(alloc: Global, play: &Play, image: &Image) -> Result<Vec<Vec<u8>>, Failure> {
     let left = over_all_rows(alloc, 0, image, play, Work::Record)?;
     Ok(left.done.records)
 }
 
-// What stands in the tables of an earlier version.
+// The contents of the tables of an earlier schema version.
 fn earlier_record(alloc: Global, play: &Play, image: &Image) -> Result<Vec<u8>, Failure> {
     let mut left = over_all_rows(alloc, 0, image, play, Work::QueryEarlier)?;
     match left.done.records.pop() {
@@ -77,7 +77,7 @@ fn cut_of(play: &Play, ended: Ended) -> Option<Cut> {
     }
 }
 
-// Tells the story, the power cut behind so many calls: where it was, unless the story came to its end.
+// Runs the story, with the power cut after so many calls. Returns where that was, unless the story came to its end.
 fn reported(
     alloc: Global,
     play: &Play,
@@ -91,7 +91,7 @@ fn reported(
     }
 }
 
-// The files are opened again, and the story goes on to its end.
+// Opens the files again, and continues the story to its end.
 fn recovered(
     alloc: Global,
     play: &Play,
@@ -105,17 +105,17 @@ fn recovered(
     }
 }
 
-/// What stands in the tables.
+/// The contents of the tables.
 #[derive(Drop)]
 struct Records {
-    /// Before the first open of all: nothing, or what a file of an earlier version has.
+    /// Before the first open of all: nothing, or what a file of an earlier schema version has.
     first: Vec<u8>,
-    /// Before each of the story's own steps, and behind the last.
+    /// Before each of the story's own steps, and after the last.
     all: Vec<Vec<u8>>,
 }
 
 impl Records {
-    // What stood there before the stop, and what stands there behind the step.
+    // The contents before the stop, and after the step.
     fn around(&self, play: &Play, cut: Cut) -> (&[u8], &[u8]) {
         let is_first = cut.index == 0 && !cut.is_in_step;
         let records = self.all.as_slice();
@@ -147,7 +147,7 @@ fn recover_each(
     Ok(())
 }
 
-// Writes what a stop leaves, where the environment asks for it.
+// Writes what a stop leaves, if the environment asks for it.
 fn keep_images(
     rt: &HostRuntime,
     play: &Play,
@@ -178,7 +178,7 @@ fn cuts_after(is_log: bool, calls: u64) -> Cuts {
     }
 }
 
-// The power is cut behind each call of one of the files, until the story comes to its end.
+// Cuts the power after each call of one of the files, until the story comes to its end.
 fn cut_each(
     rt: &HostRuntime,
     play: &Play,

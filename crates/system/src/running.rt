@@ -2,6 +2,7 @@
 ghost use Rattle.std.specs.Prelude.{◌≡◌};
 ghost use Rattle.program.specs.Exits.{status_of};
 ghost use Rattle.statements.specs.declared.making.TheConstants.{SCHEMA_VERSION};
+ghost use Rattle.program.specs.Inputs.{LeavesInputFor};
 ghost use Rattle.program.specs.Outcomes.{stream, error_stream, Prints};
 ghost use Rattle.command_line.specs.Words.{words_bytes};
 ghost use Rattle.program.specs.declared.exits.Exit.{Exit};
@@ -26,7 +27,8 @@ fn run_over<K: Keep, F: Files<K>, I: Read, O: Write, E: ErrorStream>(
     output: &mut O,
     errors: &mut E,
 ) -> u8
-    ensures { (exit : Exit) × (result ≡ status_of exit) × Prints F.newest (words_bytes words.now) (I.remaining input.old) exit (stream (O.contents output.old) (O.contents output.new)) (error_stream (E.reported errors.old) (E.reported errors.new)) }
+    ensures prints { (exit : Exit) × (result ≡ status_of exit) × Prints F.newest (words_bytes words.now) (I.remaining input.old) exit (stream (O.contents output.old) (O.contents output.new)) (error_stream (E.reported errors.old) (E.reported errors.new)) }
+    ensures input { LeavesInputFor (words_bytes words.now) (I.remaining input.old) (I.remaining input.new) }
 {
     let mut network = TcpSockets::new(rt);
     let mut clock = SystemClock::new(rt);
@@ -51,7 +53,8 @@ fn run_from<S: Start, I: Read, O: Write, E: ErrorStream>(
     output: &mut O,
     errors: &mut E,
 ) -> u8
-    ensures { (exit : Exit) × (result ≡ status_of exit) × Prints SCHEMA_VERSION (words_bytes words.now) (I.remaining input.old) exit (stream (O.contents output.old) (O.contents output.new)) (error_stream (E.reported errors.old) (E.reported errors.new)) }
+    ensures prints { (exit : Exit) × (result ≡ status_of exit) × Prints SCHEMA_VERSION (words_bytes words.now) (I.remaining input.old) exit (stream (O.contents output.old) (O.contents output.new)) (error_stream (E.reported errors.old) (E.reported errors.new)) }
+    ensures input { LeavesInputFor (words_bytes words.now) (I.remaining input.old) (I.remaining input.new) }
 {
     let mut files = DiskFiles::new(rt, start, other);
     run_over(rt, &mut files, words, input, output, errors)
@@ -65,7 +68,8 @@ pub fn run_here<I: Read, O: Write, E: ErrorStream>(
     output: &mut O,
     errors: &mut E,
 ) -> u8
-    ensures { (exit : Exit) × (result ≡ status_of exit) × Prints SCHEMA_VERSION (words_bytes words.now) (I.remaining input.old) exit (stream (O.contents output.old) (O.contents output.new)) (error_stream (E.reported errors.old) (E.reported errors.new)) }
+    ensures prints { (exit : Exit) × (result ≡ status_of exit) × Prints SCHEMA_VERSION (words_bytes words.now) (I.remaining input.old) exit (stream (O.contents output.old) (O.contents output.new)) (error_stream (E.reported errors.old) (E.reported errors.new)) }
+    ensures input { LeavesInputFor (words_bytes words.now) (I.remaining input.old) (I.remaining input.new) }
 {
     run_from(rt, Unknown, Unknown, words, input, output, errors)
 }

@@ -43,6 +43,13 @@ down_text = codes "{\"error\":\"down\"}"
 abbrev pub unavailable_answer : Bool → Answer
 unavailable_answer is_head = refused_answer Unavailable down_text is_head
 
+-- the document of the refusal for want of the operator's secret
+abbrev pub secret_text : List ℕ
+secret_text = codes "{\"error\":\"bad-token\"}"
+
+abbrev pub bad_secret_answer : Bool → Answer
+bad_secret_answer is_head = refused_answer BadSecret secret_text is_head
+
 abbrev pub phrase_of : ℕ → List ℕ
 phrase_of status =
     if status == 200 then codes "OK"

@@ -3,7 +3,7 @@ ghost use Rattle.std.specs.Prelude.{◌≡◌, false, None, ◌≤◌, ◌<◌, 
 ghost use Rattle.std.specs.Option.{option_copied};
 ghost use Rattle.httpdate.specs.Date.{date_text};
 ghost use Rattle.arrayvec.specs.ArrayVec.{array_vec_len};
-ghost use Rattle.wire.specs.Replies.{empty_answer, no_content_answer, document_answer, refused_answer, unavailable_answer, status_of, text_answer, IsReplyText, head_text, phrase_of, status_line, date_line, fixed_lines, allow_line, challenge_of, challenge_field, challenge_line, type_of, type_line, length_line, sent_body};
+ghost use Rattle.wire.specs.Replies.{empty_answer, no_content_answer, document_answer, refused_answer, unavailable_answer, bad_secret_answer, status_of, text_answer, IsReplyText, head_text, phrase_of, status_line, date_line, fixed_lines, allow_line, challenge_of, challenge_field, challenge_line, type_of, type_line, length_line, sent_body};
 ghost use Rattle.wire.specs.Contents.{content_bytes};
 ghost use Rattle.wire.specs.Links.{Writes, line_end};
 
@@ -105,7 +105,20 @@ impl Reply {
         Reply {
             status: Refusal::Unavailable.status(),
             refusal: Some(Refusal::Unavailable),
-            content: Content::Fixed,
+            content: Content::Unavailable,
+            is_head,
+            is_text: false,
+        }
+    }
+
+    /// 401, with a fixed body: the operator's secret is missing, or it is another one.
+    pub fn bad_secret(is_head: bool) -> Reply
+        ensures { result ≡ bad_secret_answer is_head }
+    {
+        Reply {
+            status: Refusal::BadSecret.status(),
+            refusal: Some(Refusal::BadSecret),
+            content: Content::BadSecret,
             is_head,
             is_text: false,
         }
@@ -154,11 +167,12 @@ fn status_of(refusal: Option<Refusal>) -> u16
     }
 }
 
-/// The body of a reply: none, the fixed one, or one that was made.
+/// The body of a reply: none, a fixed one, or one that was made.
 #[derive(Drop)]
 enum Content {
     Empty,
-    Fixed,
+    Unavailable,
+    BadSecret,
     Held(Bytes),
 }
 
@@ -168,7 +182,8 @@ impl Content {
     {
         match self {
             Content::Empty => &[],
-            Content::Fixed => DOWN_TEXT,
+            Content::Unavailable => DOWN_TEXT,
+            Content::BadSecret => SECRET_TEXT,
             Content::Held(bytes) => bytes.as_slice(),
         }
     }
@@ -176,6 +191,9 @@ impl Content {
 
 // The document of the refusal for want of memory.
 const DOWN_TEXT: &[u8] = b"{\"error\":\"down\"}";
+
+// The document of the refusal for want of the operator's secret.
+const SECRET_TEXT: &[u8] = b"{\"error\":\"bad-token\"}";
 
 /// The writer failed, or took no byte: a prefix of the reply stands written, and not all of it.
 #[derive(Clone, Copy, Debug, PartialEq, Eq)]

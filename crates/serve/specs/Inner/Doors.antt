@@ -1,13 +1,14 @@
 -- Contracts between functions: what is answered at the operator's door, before it is written.
-use Rattle.std.specs.Prelude.{◌≡◌, ◌⊎◌, ⊤, ℕ, Bool, false, List, Option, IfSome, Result, Ok, Err}
+use Rattle.std.specs.Prelude.{◌≡◌, ◌≢◌, ◌⊎◌, ⊤, ℕ, Bool, false, List, Option, IfSome, Result, Ok, Err}
 use Rattle.basis.specs.declared.refusals.Refusal.{Refusal}
+use Rattle.basis.specs.declared.refusals.Refusal.TheVariants.{BadSecret}
 use Rattle.docs.specs.Bodies.{error_text}
 use Rattle.docs.specs.declared.logs.LogRow.{LogRow}
 use Rattle.machine.specs.declared.keeps.AdminAnswer.{AdminAnswer}
 use Rattle.machine.specs.declared.records.Organization.{Organization}
 use Rattle.wire.specs.declared.messages.Message.{Message}
 use Rattle.wire.specs.declared.messages.WireFault.{WireFault}
-use Rattle.route.specs.Doors.{is_at_door}
+use Rattle.route.specs.Doors.{is_at_door, may_enter}
 use Rattle.wire.specs.Links.{ReportsReceived}
 use Rattle.wire.specs.Replies.{refused_answer}
 use Rattle.serve.specs.declared.doors.Operated.{Operated}
@@ -38,6 +39,7 @@ OperatesOrNot digest at message old new done =
 
 -- the row of the 503 to a message at the door
 pub record IsRowSoFar (digest : List ℕ) (at : ℕ) (message : Message) (row : LogRow) : Type 0 where
+  pub known : may_enter digest message ≢ Err BadSecret
   pub command : Option Admin
   pub asks : IfSome command (λ c. commanded digest message ≡ Ok c)
   pub is : row ≡ unserved_row at command

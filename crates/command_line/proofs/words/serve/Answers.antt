@@ -2,7 +2,8 @@ use Rattle.command_line.proofs.words.serve.Goals as goal
 
 pub returns : goal.returns
 returns c =
-    let first = c.with_arg-on_file.ensures _ _ c.command-bare.ensures c.database.ensures in
+    let used = c.with_usage-used.ensures _ c.command-bare.ensures in
+    let first = c.with_arg-on_file.ensures _ _ used c.database.ensures in
     let second = c.with_arg-at_port.ensures _ _ first c.option.ensures in
     let third = c.with_counts-counted.ensures _ second in
     let fourth = c.with_timeouts-timed.ensures _ third in

@@ -15,6 +15,7 @@ returns-in-Err-clause-text g c = λ clean sound.
       t.0,
       record {
         stays = c.in-Err.ensures.err clean;
+        known = so_far.known;
         is = subst (λ (head : Bool). IsReplyText (unavailable_answer head) c.args.now t.0) c.is_head.ensures t.1;
         command = so_far.command;
         asks = so_far.asks;
