@@ -20,7 +20,7 @@ COLUMNS = {
     "99,800 workspaces in the organization": "99,800",
     "99,800 workspaces in another organization": "99,800 of another organization",
 }
-ROWS = {"POST 1 KB": "POST 1 KB", "GET 1 KB": "GET 1 KB", "LOCK": "LOCK", "GET, no workspace": "GET, no workspace", "page of workspaces": "a page of workspaces"}
+ROWS = {"POST 1 KB": "POST 1 KB", "GET 1 KB": "GET 1 KB", "LOCK": "LOCK", "GET, no workspace": "GET, no workspace", "page of workspaces": "a list of 50 workspaces"}
 RUNS = "3,000 runs that ended, without keys"
 
 

@@ -103,7 +103,7 @@ def scenes():
     turn = exchanges.locks("a")
     yield "LOCK, UNLOCK", [], [one for number in range(small) for _, one in turn(number)]
     yield "PUT", [], [ask("PUT", f"workspaces/new-{number}") for number in range(60)]
-    yield "a page of workspaces", [], [ask("GET", "workspaces")] * small
+    yield "a list of 50 workspaces", [], [ask("GET", "workspaces")] * small
     yield from kind("40 KB", "b", 40_000, True, small)
     yield from kind("4 MB, each page new", "c", 4_000_000, True, large)
     yield from kind("4 MB, the serial alone differs", "d", 4_000_000, False, large)

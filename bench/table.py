@@ -28,7 +28,7 @@ ROWS = {
     'GET 4 MB, serial alone differs': 'GET 4 MB of these',
     'LOCK, UNLOCK (each)': 'LOCK, UNLOCK',
     'PUT new workspace': 'PUT, a new workspace beside 1,000',
-    'GET page of workspaces': 'a page of workspaces',
+    'GET page of workspaces': 'a list of 50 workspaces',
 }
 LINE = re.compile(r'^(?P<label>.{34})\s*\d+\s+(?P<a>\d+)\s+\d+\s+\d+\s+(?P<b>\d+)\s+\d+\s+\d+\s+(?P<ratio>[\d.]+)\s+[\d.]+\s+(?P<cpu>[\d.]+|-)')
 

@@ -8,22 +8,29 @@ It prints a line for each thing that holds, and ends with status 1 at the first 
 """
 
 import base64
+import collections
+import contextlib
 import hashlib
 import json
 import os
+import random
+import shutil
+import sqlite3
 import subprocess
 import sys
 import threading
 
 from harness import MADE, NEW_FILE, SECRET_FORM, Service, Wrong, free_port, look_at, ok, reply, said, secret_file, wait_until
 from harness import OPERATOR as SECRET
+from model import AT, CONTINUE, KEYS
 
 TOKEN = b"writewritewrite1"
 ADMIN = b"Bearer acme.adminadminadmin1"
-CONTINUE = b"HTTP/1.1 100 Continue\r\n\r\n"
 # How many clients work while the operator does, and how many rounds each has to complete before and after.
 CLIENTS, ROUNDS = 40, 3
-AT, DATE = 1700000000, b"Tue, 14 Nov 2023 22:13:20 GMT"
+DATE = b"Tue, 14 Nov 2023 22:13:20 GMT"
+# Commands and requests behind each of which SQLite reads the rows of a running service.
+MEMORY_STEPS = 1_000
 
 REFUSED = {
     "no-method": reply(b"405 Method Not Allowed\r\nAllow: POST", b'{"error":"no-method"}'),
@@ -38,7 +45,6 @@ STATUSES = {b"ok\n": b"200 OK", b"refused exists\n": b"409 Conflict", b"refused 
 NO_FILE = b"custody: there is no file at the path, or it is empty; only org-add, serve without --check, and --to create one\n"
 BAD_LINE, STOPPED = b"custody: bad line %d\n", b"custody: stopped at line %d\n"
 NO_TOKEN = reply(b'401 Unauthorized\r\nWWW-Authenticate: Bearer realm="custody", error="invalid_token"', b'{"error":"bad-token"}')
-KEYS = ["act", "end", "id", "number", "organization", "refusal", "run", "status", "token", "version", "workspace"]
 
 
 def message(line, body=b"", *fields, secret=b"Operator " + SECRET):
@@ -61,7 +67,7 @@ class Exchange:
 
     def __init__(self, what, sent, due, **row):
         self.what, self.sent, self.due = what, sent, ordered(due) if due else due
-        self.row = {**dict.fromkeys(KEYS), "end": "ok", **row}
+        self.row = {**{key: None for key in KEYS if key != "at"}, "end": "ok", **row}
 
 
 def at_door(body, *fields, line=b"POST /operator HTTP/1.1", **secret):
@@ -203,6 +209,7 @@ def look_at_batches(program):
     words, before = ["admin", "--db", "b.db"], sorted(os.listdir(program.folder))
     program.is_due("no commands", words, 0, b"")
     program.is_due("a first command that creates no file", words, 3, b"refused down\n", NO_FILE, b"org-list\n")
+    program.is_due("a line that is not UTF-8", words, 2, b"refused usage\n", BAD_LINE % 2, b"org-add acme\norg-add \xff\norg-list\n")
     program.is_due("a line that is not a command", words, 2, b"refused usage\n", BAD_LINE % 2, b"org-add acme\nno command\norg-list\n")
     said("what lies in the folder", sorted(os.listdir(program.folder)), before)
     given = b"org-add acme\ntoken-add acme ci write %s\norg-list\ntoken-list acme" % TOKEN
@@ -210,6 +217,104 @@ def look_at_batches(program):
     program.is_due("commands up to one that is refused", words, 1, b"ok\nrefused exists\n", STOPPED % 2, b"org-limit acme 3\norg-add acme\norg-remove acme\n")
     program.is_due("what they did", ["org-list", "--db", "b.db"], 0, b"acme 0 3\n")
     print("right: admin carries out the commands on standard input in order, and says at which line it stops")
+
+
+class Model:
+    """Organizations with their limits, tokens and workspaces, as the commands and requests leave them."""
+
+    def __init__(self):
+        self.orgs = {}
+
+    def command(self, word, org, *rest):
+        """The text of a command's answer."""
+        if (word == "org-add") == (org in self.orgs):
+            return b"refused exists\n" if word == "org-add" else b"refused absent\n"
+        if word == "org-add":
+            self.orgs[org] = [int(rest[0]), {}, set()]
+        elif word == "org-limit":
+            self.orgs[org][0] = int(rest[0])
+        elif word == "org-remove":
+            del self.orgs[org]
+        elif word == "token-add":
+            name, _, secret = rest
+            if name in self.orgs[org][1]:
+                return b"refused exists\n"
+            self.orgs[org][1][name] = secret
+        elif rest[0] not in self.orgs[org][1]:
+            return b"refused absent\n"
+        else:
+            del self.orgs[org][1][rest[0]]
+        return b"ok\n"
+
+    def request(self, method, org, ws, secret):
+        """The status of a request, and the word of its refusal."""
+        limit, tokens, names = self.orgs.get(org, (0, {}, ()))
+        if secret not in tokens.values():
+            return 401, "bad-token"
+        if method == "PUT" and ws not in names:
+            if len(names) >= limit:
+                return 409, "limit"
+            names.add(ws)
+        elif ws not in names:
+            return 404, "not-found"
+        elif method == "DELETE":
+            names.remove(ws)
+        return 200, None
+
+    def rows(self):
+        orgs = [(org, limit) for org, (limit, _, _) in self.orgs.items()]
+        tokens = [(org, name, hashlib.sha256(secret.encode()).digest()) for org, (_, tokens, _) in self.orgs.items() for name, secret in tokens.items()]
+        return sorted(orgs), sorted(tokens), sorted((org, ws) for org, (_, _, names) in self.orgs.items() for ws in names)
+
+    def listed(self):
+        return b"".join(b"%s %d %d\n" % (org.encode(), len(names), limit) for org, (limit, _, names) in sorted(self.orgs.items()))
+
+
+def rows_in(program, path):
+    """The same rows by SQLite, in a copy of the file and its WAL, which the service has open."""
+    for end in ("", "-wal"):
+        shutil.copyfile(program.folder + "/" + path + end, program.folder + "/copy.db" + end)
+    with contextlib.closing(sqlite3.connect(program.folder + "/copy.db")) as database:
+        return tuple(database.execute(text).fetchall() for text in ["SELECT name, cap FROM org ORDER BY 1", "SELECT org, name, digest FROM token ORDER BY 1, 2", "SELECT org, name FROM ws ORDER BY 1, 2"])
+
+
+def next_step(chance, orgs):
+    """A command, or a request with its method, organization, workspace and secret. Mostly an organization and its token are there, and
+    requests come one behind the other: what is remembered of them is asked before a command makes it forgotten."""
+    org, token = chance.choices(["acme", "beta"], [3, 1])[0], chance.choices(["root", "ci"], [5, 1])[0]
+    secret = "%s%s11111111" % (org, token.ljust(4, "0"))
+    word = chance.choices(["PUT", "DELETE", "GET", "org-limit", "org-remove", "token-add", "token-revoke", "org-add"], [45, 25, 6, 8, 5, 4, 3, 4])[0]
+    if org not in orgs and chance.random() < 0.5:
+        word = "org-add"
+    elif org in orgs and token not in orgs[org][1] and chance.random() < 0.5:
+        word = "token-add"
+    if word in ("PUT", "DELETE", "GET"):
+        return word, org, chance.choice("abcd"), secret
+    limits = {"org-add": [chance.choice("0123")], "org-limit": [chance.choice("0123")], "org-remove": [], "token-add": [token, "admin", secret], "token-revoke": [token]}
+    return word, org, *limits[word]
+
+
+def look_at_memory(program):
+    """What a running service remembers between commands and requests (a token, how many workspaces there are) is what the tables have."""
+    chance, model, refused = random.Random(7), Model(), collections.Counter()
+    with Door(program, "m.db", ()) as door:
+        for step in range(MEMORY_STEPS):
+            word, org, *rest = next_step(chance, model.orgs)
+            what = "step %d, %s %s %s" % (step, word, org, " ".join(rest))
+            if word.isupper():
+                status, why = model.request(word, org, *rest)
+                came = door.asked(message(b"%s /v1/%s/workspaces/%s HTTP/1.1" % (word.encode(), org.encode(), rest[0].encode()), secret=b"Bearer %s.%s" % (org.encode(), rest[1].encode())))
+                said(what, (int(came[9:12]), json.loads(came.partition(b"\r\n\r\n")[2] or b"{}").get("error")), (status, why))
+                refused[why, model.orgs[org][0] == 0 if why == "limit" else None] += 1
+            else:
+                force = " force" if word == "org-remove" and chance.random() < 0.5 else ""
+                command = " ".join([word, org, *rest]).encode() + force.encode()
+                door.commands((command, model.command(word, org, *rest)))
+                door.commands((b"org-list", model.listed()))
+            said("the rows behind " + what, rows_in(program, "m.db"), model.rows())
+    if min(refused["limit", True], refused["limit", False], refused["bad-token", None], refused["not-found", None]) < 10:
+        raise Wrong("too few of a kind: %s" % refused)
+    print("right: behind each of %d commands and requests the service and SQLite have the same rows; %d times an organization was at its limit, %d times that was 0" % (MEMORY_STEPS, refused["limit", False], refused["limit", True]))
 
 
 class Client(threading.Thread):
@@ -422,4 +527,4 @@ if __name__ == "__main__":
     if sys.argv[1:] == ["story"]:
         print("\n".join(stories()))
     else:
-        look_at(__doc__, look_at_secrets, look_at_exchanges, look_at_closed_door, look_at_batches, look_at_work)
+        look_at(__doc__, look_at_secrets, look_at_exchanges, look_at_closed_door, look_at_batches, look_at_memory, look_at_work)

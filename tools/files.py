@@ -9,15 +9,18 @@ change may stand nothing is made, and no byte changes. `check` tells how many ro
 One program at a time has a file, and of two that make one neither spoils it. A new file has pages of 1,024 bytes, each with its sum; one that
 an older program made keeps its own. A file that sqlite3 wrote to, and whose sums (those of SQLite's cksumvfs, which a new file has) it spoiled so,
 comes back by a dump. A write without room shuts no store; a fault of the disk that does ends the service, and a command tells
-that its change may have been made (unsynced.c makes one). A change is synced before its reply, and the log and the file before the
-other is written (syncs.c tells that). The log is copied into the file behind the reply to a state that fills it, and a service killed meanwhile has lost
+that its change may have been made (calls.c makes one). A change is synced before its reply, and the log and the file before the
+other is written (calls.c tells that). Bodies of any size are answered, and the greatest value of each column is read as it was stored, by
+the program or by sqlite3. The log is copied into the file behind the reply to a state that fills it, and a service killed meanwhile has lost
 nothing. What damage does is looked at by flips.py. It prints a line for each thing that holds, and ends with status 1 at the
 first that doesn't.
 """
 
 import contextlib
 import errno
+import json
 import os
+import re
 import shutil
 import sqlite3
 import struct
@@ -26,7 +29,7 @@ import tempfile
 import time
 
 from harness import ANSWERED_503, DISK, DOWN, IN_USE, LOG_ALONE, LOG_STAYS, NEW_FILE, PATIENCE, PORT_TAKEN, SECRET_FORM, SMALL_FILES, UNCHANGED, UNFINISHED
-from harness import GET, PUT, Service, Wrong, bytes_of, compiled, free_port, look_at, ok, post, request, said, small_files
+from harness import GET, MADE, PUT, Service, Wrong, bytes_of, compiled, free_port, look_at, ok, post, reply, request, said, small_files
 
 READABLE = b"custody: users other than its owner may read the file or its -wal: chmod 600 ends that\n"
 NOT_PERMITTED = b"custody: no permission to read and write the file or its folder\n"
@@ -215,7 +218,7 @@ def look_at_reasons(program):
         ran = program.run(["org-add", "--db", "small.db", "acme"], under=small_files(blocks))
         said("a file that may not grow", ran, (3, b"refused down\n", DISK))
     program.is_due("told: a file that may not grow; it is made later", ["org-add", "--db", "small.db", "acme"], 0, b"ok\n")
-    full = dict(os.environ, LD_PRELOAD=compiled("unsynced", folder), FULL=folder)
+    full = dict(os.environ, LD_PRELOAD=compiled("calls", folder), FULL=folder)
     ran = program.run(["org-add", "--db", "roomless.db", "acme"], env=full)
     said("a new file for which the disk has no room", ran, (3, b"refused down\n", NO_ROOM))
     program.is_due("told: the disk has no room; the file is made later", ["org-add", "--db", "roomless.db", "acme"], 0, b"ok\n")
@@ -228,7 +231,7 @@ def look_at_reasons(program):
 def look_at_numbers(program):
     """Each number of errno by which the system refuses a call has the line that says so. (By EDQUOT and ENOSPC a write in an open is the
     kit's error of a full disk.)"""
-    library = compiled("unsynced", program.folder)
+    library = compiled("calls", program.folder)
     filled(program, "told.db")
     lists, adds = ["org-list", "--db", "told.db"], ["org-add", "--db", "new.db", "acme"]
     serves = ["serve", "--db", "told.db", "--port", str(free_port()), "--count", "1"]
@@ -399,6 +402,213 @@ def counted(path):
             numbers = [database.execute("SELECT count(*) FROM " + table).fetchone()[0] for table in ("org", "ws", "version", "run")]
             (newest,) = database.execute("SELECT max(created) FROM version").fetchone()
     return b"organizations %d workspaces %d versions %d runs %d newest %s\n" % (*numbers, b"-" if newest is None else b"%d" % newest)
+
+
+# The bytes of bodies: around the sizes of pages and of other bodies, and the most of a state.
+SIZES = [999, 1_001, 16_383, 16_384, 16_385, 1_000_001, 16_777_216]
+MOST_OTHERS = 16_384
+
+
+def look_at_sizes(program):
+    """A state of any size that may be is stored, listed and read byte for byte; other bodies are read up to their limit."""
+    filled(program, "sizes.db")
+    last = len(TEXTS)
+    states = [sized(b'{"serial":%d,"x":"' % (last + place), b'"}', size) for place, size in enumerate(SIZES, 1)]
+    asked = [(post(b"1"), reply(b"400 Bad Request", b'{"error":"bad-state"}'))]
+    asked += [(post(state), ok()) for state in states]
+    asked += [(request(b"GET /v1/acme/versions/net/%d HTTP/1.1" % number), ok(state)) for number, state in enumerate(states, last + 1)]
+    for size in [1, *SIZES]:
+        wide = size > MOST_OTHERS
+        refused = lambda word: reply(b"413 Payload Too Large", b'{"error":"too-large"}') if wide and word == b"bad-lock" else reply(b"400 Bad Request", b'{"error":"%s"}' % word)
+        asked.append((request(b"LOCK /v1/acme/state/net HTTP/1.1", b" " * size), refused(b"bad-lock")))
+        asked.append((request(b"POST /v1/acme/runs/net HTTP/1.1", b"[" * size), refused(b"bad-body")))
+        settings = b'{"keep_versions":100}'.ljust(size) if size > 1 else b"1"
+        asked.append((request(b"PUT /v1/acme/workspaces/net HTTP/1.1", settings), refused(b"bad-body") if wide or size == 1 else ok(MADE.replace(b"null}", b"%d}" % (last + len(SIZES))))))
+    with Service(program, "sizes.db", len(asked)) as service:
+        for sent, due in asked:
+            said("whether the reply to %s.. of %d bytes is %s.. of %d" % (sent[:40], len(sent), due[:12], len(due)), service.asked(sent) == due, True)
+        service.ends()
+    with Service(program, "sizes.db", 2) as service:
+        said("whether the newest state is read again", service.asked(GET) == ok(states[-1]), True)
+        found = json.loads(service.asked(request(b"GET /v1/acme/versions/net?after=%d HTTP/1.1" % last)).partition(b"\r\n\r\n")[2])
+        said("the sizes in the list", [one["size"] for one in found["items"]], SIZES)
+        service.ends()
+    print("right: states of %s bytes are stored, listed and read, and other bodies up to %d" % (", ".join(map(str, SIZES)), MOST_OTHERS))
+
+
+def sized(front, end, size):
+    """A text of so many bytes."""
+    return front + b"s" * (size - len(front) - len(end)) + end
+
+
+# The greatest values: names, a token's end and prefix, the limit of workspaces, a lock's ID and text, a lineage, a serial, a run's key and
+# message, a moment, and the number of a version or a run.
+TEAM, HOLDER, SECRET_64, LONG_NAME, ENDS = "o" * 40, "t" * 40, b"s" * 64, "w" * 90, 253_402_300_799
+LOCK_ID, LINEAGE, SERIAL, KEY, MESSAGE, NUMBER = "l" * 128, "n" * 256, 2**63 - 1, "k" * 64, "m" * 1_000, 1_000_000_000
+LOCK_TEXT = sized(b'{"ID":"%s","Info":"' % LOCK_ID.encode(), b'"}', MOST_OTHERS)
+STATE = b'{"serial":%d,"lineage":"%s"}' % (SERIAL, LINEAGE.encode())
+
+# What sqlite3 sets in a copy, which no requests reach.
+SET = """
+    UPDATE ws SET next_version = %d, next_run = %d WHERE name = 'numbers';
+    UPDATE version SET created = %d;
+    UPDATE run SET created = %d;
+""" % (NUMBER, NUMBER, ENDS, ENDS)
+
+# Of each column, the greatest number or the most bytes that stand there. (`twin`, `uses` and `place` have no limit, or that of a state.)
+GREATEST = {
+    "org": {"length(name)": 40, "cap": 100_000},
+    "token": {"length(org)": 40, "length(name)": 40, "length(digest)": 32, "role": 2},
+    "bound": {"until": ENDS, "length(prefix)": 90},
+    "ws": {
+        "length(name)": 90, "auto": 1, "kind": 2, "length(lock_id)": 128, "length(lock_text)": MOST_OTHERS, "run": NUMBER,
+        "length(released)": 128, "next_version": NUMBER + 1, "next_run": NUMBER + 1,
+    },
+    "keeping": {"length(ws)": 90, "keep": 1_000},
+    "version": {"number": NUMBER, "serial": SERIAL, "length(lineage)": 256, "created": ENDS},
+    "run": {"number": NUMBER, "plan_only": 1, "length(rkey)": 64, "length(message)": 1_000, "created": ENDS, "status": 8, "action": 6},
+}
+
+
+def by_holder(method, path, body=b""):
+    """A request by the token of the greatest name and secret; or by one without bounds, where that has none of the workspace."""
+    secret = SECRET_64 if LONG_NAME in path else b"r" * 16
+    return request(b"%s /v1/%s/%s HTTP/1.1" % (method.encode(), TEAM.encode(), path.encode()), body, TEAM.encode() + b"." + secret)
+
+
+def shown(**members):
+    return json.dumps(members, sort_keys=True, separators=(",", ":")).encode()
+
+
+def workspace_shown(name, holder=None, keep=100, version=None):
+    return shown(auto_apply=keep == 1_000, holder=holder, keep_versions=keep, name=name, version=version)
+
+
+def run_shown(number, status, action, key=None, message="", plan_only=False):
+    return shown(action=action, created=ENDS, key=key, message=message, number=number, plan_only=plan_only, status=status)
+
+
+def version_shown(number, text, serial, lineage):
+    return shown(created=ENDS, lineage=lineage, number=number, serial=serial, size=len(text))
+
+
+def listed(*items):
+    return b'{"items":[%s],"more":false}' % b",".join(items)
+
+
+def greatest_read(numbers=()):
+    """What is read of each column, and what is due; `numbers` of a copy in which they were set."""
+    canceled = run_shown(1, "canceled", "cancel", KEY, MESSAGE, True)
+    read = [
+        ("workspaces/" + LONG_NAME, workspace_shown(LONG_NAME, keep=1_000)),
+        ("workspaces/locked", workspace_shown("locked", LOCK_ID)),
+        ("workspaces/released", workspace_shown("released")),
+        ("workspaces/texts", workspace_shown("texts", version=1)),
+        ("workspaces/runs", workspace_shown("runs", "run-2")),
+        ("state/texts", STATE),
+        ("versions/texts", listed(version_shown(1, STATE, SERIAL, LINEAGE))),
+        ("versions/texts/1", STATE),
+        ("runs/runs", listed(canceled, run_shown(2, "planning", None, KEY[1:]))),
+        ("runs/runs/1", canceled),
+    ]
+    return [("GET", path, b"", due) for path, due in read] + [
+        ("UNLOCK", "state/released", b'{"ID":"%s"}' % LOCK_ID.encode(), b""),
+        ("POST", "runs/runs", shown(key=KEY), canceled),
+        ("GET", "workspaces?after=runs", b"", listed(workspace_shown("texts", version=1), workspace_shown(LONG_NAME, keep=1_000))),
+        *numbers,
+    ]
+
+
+# The last numbers, and that there is none behind them. What is made by requests has the moment of the clock.
+LAST_NUMBERS = [
+    ("GET", "workspaces/numbers", b"", workspace_shown("numbers", "run-%d" % NUMBER, version=NUMBER)),
+    ("GET", "versions/numbers/%d" % NUMBER, b"", b'{"serial":7}'),
+    ("GET", "versions/numbers", b"", listed(version_shown(NUMBER, b'{"serial":7}', 7, ""))),
+    ("GET", "runs/numbers", b"", listed(run_shown(NUMBER, "applying", "confirm"))),
+    ("GET", "runs/numbers/%d" % NUMBER, b"", run_shown(NUMBER, "applying", "confirm")),
+    ("POST", "state/numbers?ID=run-%d" % NUMBER, b'{"serial":8}', b'409 {"error":"limit"}'),
+    ("POST", "runs/numbers", b"", b'409 {"error":"limit"}'),
+]
+
+
+def told_of(wrong, service, method, name, body):
+    """The reply; none if it is a 503 without a cause: that is noted, and the next is asked."""
+    try:
+        return service.asked(by_holder(method, name, body))
+    except Wrong as why:
+        wrong.append("%s %s: %s" % (method, name[:30], why))
+        return None
+
+
+def read_all(program, what, path, asked, words=()):
+    """Each of these is asked of one service; all that differ are told. Moments that requests made are told as ENDS."""
+    wrong = []
+    with Service(program, path, len(asked), *words) as service:
+        for method, name, body, due in asked:
+            came = told_of(wrong, service, method, name, body)
+            if came is None:
+                continue
+            came = came.partition(b"\r\n\r\n")
+            status = came[0][9:12]
+            found = re.sub(rb'"created":\d+', b'"created":%d' % ENDS, came[2])
+            found = found if status == b"200" else status + b" " + found
+            if found != due:
+                wrong.append("%s %s: expected %s, came %s" % (method, name[:30], due[:200], found[:200]))
+        if not wrong:
+            service.ends()
+    if wrong:
+        raise Wrong("%s: %s" % (what, "; ".join(wrong)))
+
+
+def greatest(program, path):
+    """A file with the greatest values, and a copy that sqlite3 made, in which the next numbers and the moments are the greatest."""
+    for words, given in [
+        (["org-add", "--db", path, "--limit", "100000", TEAM], b""),
+        (["token-add", "--db", path, "--until", str(ENDS), "--prefix", LONG_NAME, TEAM, HOLDER, "admin"], SECRET_64 + b"\n"),
+        (["token-add", "--db", path, TEAM, "root", "admin"], b"r" * 16 + b"\n"),
+    ]:
+        said(words[0], program.run(words, given)[:2], (0, b"ok\n"))
+    lock = ("LOCK", LOCK_TEXT)
+    done = [("PUT", "workspaces/" + LONG_NAME, b'{"auto_apply":true,"keep_versions":1000}')]
+    done += [("PUT", "workspaces/" + name, b"") for name in ("locked", "released", "texts", "runs", "numbers")]
+    done += [(lock[0], "state/" + name, lock[1]) for name in ("locked", "released")] + [("UNLOCK", "state/released", LOCK_TEXT), ("POST", "state/texts", STATE)]
+    done += [("POST", "runs/runs", shown(key=KEY, message=MESSAGE, plan_only=True)), ("POST", "runs/runs/1/actions/cancel", b""), ("POST", "runs/runs", shown(key=KEY[1:]))]
+    wrong = []
+    with Service(program, path, len(done)) as service:
+        for method, name, body in done:
+            came = told_of(wrong, service, method, name, body)
+            if came is not None and not came.startswith(b"HTTP/1.1 200 "):
+                wrong.append("%s %s: %s" % (method, name[:30], came[:12]))
+        if not wrong:
+            service.ends()
+    if wrong:
+        raise Wrong("what stores the greatest values: " + "; ".join(wrong))
+    read_all(program, "the greatest values that requests store", path, greatest_read())
+    lists = [(["org-list", "--db", path], b"%s 6 100000\n" % TEAM.encode()), (["token-list", "--db", path, TEAM], b"root admin - -\n%s admin %d %s\n" % (HOLDER.encode(), ENDS, LONG_NAME.encode()))]
+    for words, due in lists:
+        said("a list of the greatest values", program.run(words), (0, due, b""))
+    _, dump = next(dumps_of(program.folder + "/" + path))
+    copy = "set-" + path
+    with contextlib.closing(sqlite3.connect(program.folder + "/" + copy, isolation_level=None)) as fresh:
+        fresh.executescript(dump + SET)
+    os.chmod(program.folder + "/" + copy, 0o600)
+    made = [("POST", "state/numbers", b'{"serial":7}', b"")]
+    made += [("POST", "runs/numbers" + step, b"", run_shown(NUMBER, *due)) for step, due in [("", ("planning", None)), ("/%d/actions/planned" % NUMBER, ("planned", "planned")), ("/%d/actions/confirm" % NUMBER, ("applying", "confirm"))]]
+    read_all(program, "the last numbers", copy, made)
+    return copy
+
+
+def look_at_greatest(program):
+    """The greatest value of each column is stored, and read as it was: by requests, and with numbers and moments that sqlite3 set in a copy."""
+    copy = greatest(program, "greatest.db")
+    for words in ((), ("--check",)):
+        read_all(program, "the greatest values", copy, greatest_read(LAST_NUMBERS), words)
+    said("no fault in them", program.run(["check", "--db", copy]), (0, b"ok\n" + counted(program.folder + "/" + copy), b""))
+    with contextlib.closing(sqlite3.connect("file:%s/%s?mode=ro&immutable=1" % (program.folder, copy), uri=True)) as database:
+        for table, columns in GREATEST.items():
+            for column, due in columns.items():
+                said("the greatest %s of %s, by SQLite" % (column, table), database.execute("SELECT max(%s) FROM %s" % (column, table)).fetchone(), (due,))
+    print("right: the greatest value of each of %d columns is stored, and read as it was" % sum(map(len, GREATEST.values())))
 
 
 # How many organizations, workspaces, versions of one workspace and runs there are where they are counted: more than any list has on a page.
@@ -592,7 +802,7 @@ def look_at_shut(program):
     """A fault of the disk that shuts the store ends the service, once that is answered and told; what was acknowledged stands there."""
     filled(program, "shut.db")
     fails = program.folder + "/fails"
-    with Service(program, "shut.db", 4, env=dict(os.environ, LD_PRELOAD=compiled("unsynced", program.folder), FAILS=fails)) as service:
+    with Service(program, "shut.db", 4, env=dict(os.environ, LD_PRELOAD=compiled("calls", program.folder), FAILS=fails)) as service:
         said("before the fault", service.asked(GET), ok(TEXTS[-1]))
         open(fails, "wb").close()
         said("the change that isn't synced", service.asked(post(b'{"serial":3}')), DOWN)
@@ -627,7 +837,7 @@ def lists_in(program, folder):
 def look_at_unsynced(program):
     """A command, of whose calls that sync one fails, ends as it is due; or it tells that its change may have been made, where it may; and
     where it tells that no record changed, none did."""
-    library, folder, fails = compiled("unsynced", program.folder), program.folder + "/unsynced", program.folder + "/fails-once"
+    library, folder, fails = compiled("calls", program.folder), program.folder + "/unsynced", program.folder + "/fails-once"
     os.mkdir(folder)
     filled(program, "unsynced/a.db")
     said("another organization", program.run(["org-add", "--db", "unsynced/b.db", "beta"]), (0, b"ok\n", NEW_FILE))
@@ -678,11 +888,11 @@ def look_at_unsynced(program):
 
 
 class Calls:
-    """What syncs.c tells of a program over one file: its calls, in turn. None is lost where another one comes before it is synced."""
+    """What calls.c tells of a program over one file: its calls, in turn. None is lost where another one comes before it is synced."""
 
     def __init__(self, program, path):
         self.file, self.log, self.told = path, path + "-wal", program.folder + "/told"
-        self.env = dict(os.environ, LD_PRELOAD=compiled("syncs", program.folder), TOLD=self.told)
+        self.env = dict(os.environ, LD_PRELOAD=compiled("calls", program.folder), TOLD=self.told)
         self.unsynced, self.read = set(), 0
 
     def next(self):
@@ -729,4 +939,4 @@ def look_at_synced(program):
 
 
 if __name__ == "__main__":
-    look_at(__doc__, look_at_modes, look_at_absent, look_at_lone_logs, look_at_totals, look_at_pages, look_at_owners, look_at_makers, look_at_reasons, look_at_numbers, look_at_spoiled, look_at_full, look_at_half, look_at_memory, look_at_salts, look_at_want, look_at_log, look_at_killed_behind, look_at_shut, look_at_unsynced, look_at_synced)
+    look_at(__doc__, look_at_modes, look_at_absent, look_at_lone_logs, look_at_totals, look_at_sizes, look_at_greatest, look_at_pages, look_at_owners, look_at_makers, look_at_reasons, look_at_numbers, look_at_spoiled, look_at_full, look_at_half, look_at_memory, look_at_salts, look_at_want, look_at_log, look_at_killed_behind, look_at_shut, look_at_unsynced, look_at_synced)

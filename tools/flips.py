@@ -257,7 +257,8 @@ def damage_all(program, what, content, older, due, kinds):
         for _ in range(count):
             damage, bytes_left = damaged()
             write(program, "damaged.db", bytes_left)
-            counts.take(damage, answers(program, "damaged.db", more=more), due)
+            with program.damaged():
+                counts.take(damage, answers(program, "damaged.db", more=more), due)
             forget(program, "damaged.db")
         counts.tell(allows_wrong)
 
@@ -306,71 +307,71 @@ def many(text, count):
 MANY_WORKSPACES = many("INSERT INTO ws SELECT 'acme', 'w' || n, 0, 0, NULL, NULL, NULL, NULL, 1, 1 FROM many", 100_001 - 2)
 MANY_WORKSPACES += "; " + many("INSERT INTO keeping SELECT 'acme', 'w' || n, 5 FROM many", 100_001 - 2)
 
-# What is changed by SQL in a file whose tables are sound, and how a line begins that `check` tells then; none where the open refuses
-# the file, or a row can't be read.
+# What is changed by SQL in a file whose tables are sound, and the lines that `check` tells then, each once for each row that breaks a
+# law, by the laws (tables/specs/Sound.antt); none where the open refuses the file, or a row can't be read.
 NET, APP, HELD = "org = 'acme' AND ws = 'net'", "org = 'acme' AND ws = 'app'", "org = 'beta' AND ws = 'app'"
 BREAKS = [
-    ("UPDATE version SET size = size + 1 WHERE %s AND number = 2" % NET, b"fault text acme net 2"),
-    ("UPDATE version SET size = 1152921504606846976 WHERE %s AND number = 2" % NET, b"fault text acme net 2"),
-    ("UPDATE version SET size = size - 16384 WHERE %s AND number = 3" % NET, b"fault place acme net 3"),
-    ("UPDATE version SET number = 9 WHERE %s AND number = 3" % NET, b"fault versions acme net "),
-    ("UPDATE version SET lineage = '%s' WHERE %s AND number = 3" % ("l" * 257, NET), b"fault versions acme net "),
-    ("UPDATE version SET ws = 'nat' WHERE %s" % NET, b"fault ownerless acme nat 1"),
+    ("UPDATE version SET size = size + 1 WHERE %s AND number = 2" % NET, [b"text acme net 2"]),
+    ("UPDATE version SET size = 1152921504606846976 WHERE %s AND number = 2" % NET, [b"text acme net 2"]),
+    ("UPDATE version SET size = size - 16384 WHERE %s AND number = 3" % NET, [b"place acme net 3", b"text acme net 3"]),
+    ("UPDATE version SET number = 9 WHERE %s AND number = 3" % NET, 5 * [b"place acme net 3"] + [b"text acme net 9", b"versions acme net -"]),
+    ("UPDATE version SET lineage = '%s' WHERE %s AND number = 3" % ("l" * 257, NET), [b"versions acme net 3"]),
+    ("UPDATE version SET ws = 'nat' WHERE %s" % NET, [b"ownerless acme nat 1", b"ownerless acme nat 2", b"ownerless acme nat 3", b"place acme net 1"] + 3 * [b"place acme net 2"] + 5 * [b"place acme net 3"] + [b"text acme nat 1", b"text acme nat 2", b"text acme nat 3"]),
     ("UPDATE version SET created = 253402300800 WHERE %s AND number = 3" % NET, None),
     ("UPDATE version SET serial = -1 WHERE %s AND number = 3" % NET, None),
-    ("DELETE FROM version WHERE %s AND number = 2" % NET, b"fault versions acme net "),
-    ("DELETE FROM version WHERE %s AND number = 3" % NET, b"fault place acme net 3"),
-    ("UPDATE page SET bytes = zeroblob(length(bytes)) WHERE rowid = 1", b"fault key acme net 1"),
-    ("UPDATE page SET bytes = zeroblob(16384) WHERE rowid = (SELECT max(rowid) FROM page)", b"fault key "),
-    ("UPDATE page SET bytes = substr(bytes, 2) WHERE rowid = 2", b"fault key acme net 2"),
+    ("DELETE FROM version WHERE %s AND number = 2" % NET, 3 * [b"place acme net 2"] + [b"versions acme net -"]),
+    ("DELETE FROM version WHERE %s AND number = 3" % NET, 5 * [b"place acme net 3"] + [b"versions acme net -"]),
+    ("UPDATE page SET bytes = zeroblob(length(bytes)) WHERE rowid = 1", [b"key acme net 1"]),
+    ("UPDATE page SET bytes = zeroblob(16384) WHERE rowid = (SELECT max(rowid) FROM page)", [b"key beta net 3", b"text beta net 3"]),
+    ("UPDATE page SET bytes = substr(bytes, 2) WHERE rowid = 2", [b"key acme net 2", b"text acme net 2", b"text beta net 2"]),
     ("UPDATE page SET pkey = zeroblob(32) WHERE rowid = 1", None),
-    ("UPDATE page SET uses = uses + 1 WHERE rowid = 2", b"fault uses acme net 2"),
-    ("UPDATE page SET uses = 9 WHERE rowid = 1", b"fault uses acme net 1"),
-    ("INSERT INTO page SELECT pkey, twin + 1, bytes, 1 FROM page WHERE rowid = 1", b"fault same-page - - -"),
-    ("INSERT INTO page SELECT zeroblob(32), 0, bytes, 1 FROM page WHERE rowid = 1", b"fault key - - -"),
+    ("UPDATE page SET uses = uses + 1 WHERE rowid = 2", [b"uses acme net 2"]),
+    ("UPDATE page SET uses = 9 WHERE rowid = 1", [b"uses acme net 1"]),
+    ("INSERT INTO page SELECT pkey, twin + 1, bytes, 1 FROM page WHERE rowid = 1", [b"same-page - - -", b"uses - - -"]),
+    ("INSERT INTO page SELECT zeroblob(32), 0, bytes, 1 FROM page WHERE rowid = 1", [b"key - - -", b"uses - - -"]),
     ("DELETE FROM page WHERE rowid = 3", None),
-    ("DELETE FROM vpage WHERE %s AND number = 3 AND place = 1" % NET, b"fault text acme net 3"),
-    ("UPDATE vpage SET place = 9 WHERE %s AND number = 3 AND place = 4" % NET, b"fault place acme net 3"),
-    ("UPDATE vpage SET place = place + 1 WHERE %s AND number = 1" % NET, b"fault text acme net 1"),
-    ("UPDATE vpage SET number = 7 WHERE %s AND number = 1" % NET, b"fault place acme net 7"),
-    ("UPDATE vpage SET (pkey, twin) = (SELECT pkey, twin FROM page WHERE rowid = 1) WHERE %s AND number = 3 AND place = 0" % NET, b"fault uses "),
-    ("UPDATE ws SET next_version = 3 WHERE org = 'acme' AND name = 'net'", b"fault versions acme net "),
-    ("UPDATE ws SET next_version = 9 WHERE org = 'acme' AND name = 'net'", b"fault versions acme net "),
-    ("UPDATE ws SET next_run = 1 WHERE org = 'acme' AND name = 'net'", b"fault runs acme net "),
-    ("UPDATE ws SET kind = 0, run = NULL WHERE org = 'acme' AND name = 'net'", b"fault runs acme net "),
-    ("UPDATE ws SET run = 7 WHERE org = 'acme' AND name = 'net'", b"fault runs acme net "),
-    ("UPDATE ws SET run = 1 WHERE org = 'beta' AND name = 'app'", b"fault runs beta app "),
-    ("UPDATE ws SET lock_id = 'run-1' WHERE org = 'acme' AND name = 'app'", b"fault runs acme app "),
+    ("DELETE FROM vpage WHERE %s AND number = 3 AND place = 1" % NET, [b"uses acme net 3", b"text acme net 3"]),
+    ("UPDATE vpage SET place = 9 WHERE %s AND number = 3 AND place = 4" % NET, [b"place acme net 3", b"text acme net 3"]),
+    ("UPDATE vpage SET place = place + 1 WHERE %s AND number = 1" % NET, [b"place acme net 1", b"text acme net 1"]),
+    ("UPDATE vpage SET number = 7 WHERE %s AND number = 1" % NET, [b"place acme net 7", b"text acme net 1"]),
+    ("UPDATE vpage SET (pkey, twin) = (SELECT pkey, twin FROM page WHERE rowid = 1) WHERE %s AND number = 3 AND place = 0" % NET, [b"uses acme net 1", b"uses beta net 3", b"text acme net 3"]),
+    ("UPDATE ws SET next_version = 3 WHERE org = 'acme' AND name = 'net'", [b"versions acme net -"]),
+    ("UPDATE ws SET next_version = 9 WHERE org = 'acme' AND name = 'net'", [b"versions acme net -"]),
+    ("UPDATE ws SET next_run = 1 WHERE org = 'acme' AND name = 'net'", [b"runs acme net -"]),
+    ("UPDATE ws SET kind = 0, run = NULL WHERE org = 'acme' AND name = 'net'", [b"runs acme net 1"]),
+    ("UPDATE ws SET run = 7 WHERE org = 'acme' AND name = 'net'", [b"runs acme net 1"]),
+    ("UPDATE ws SET run = 1 WHERE org = 'beta' AND name = 'app'", [b"runs beta app 2"]),
+    ("UPDATE ws SET lock_id = 'run-1' WHERE org = 'acme' AND name = 'app'", [b"runs acme app -"]),
     ("UPDATE ws SET lock_id = NULL WHERE org = 'acme' AND name = 'app'", None),
     ("UPDATE ws SET name = 'n t' WHERE org = 'beta' AND name = 'net'", None),
-    ("INSERT INTO ws SELECT 'zeta', name, auto, 0, NULL, NULL, NULL, NULL, 1, 1 FROM ws WHERE org = 'acme' AND name = 'net'", b"fault ownerless zeta net -"),
-    ("UPDATE run SET status = 1 WHERE %s AND number = 1" % NET, b"fault runs acme net "),
-    ("UPDATE run SET status = 4, action = 4 WHERE %s AND number = 1" % NET, b"fault runs acme net "),
-    ("UPDATE run SET rkey = '%s' WHERE %s AND number = 1" % ("k" * 65, NET), b"fault runs acme net "),
-    ("UPDATE run SET message = '%s' WHERE %s AND number = 1" % ("m" * 1001, NET), b"fault runs acme net "),
-    ("UPDATE run SET plan_only = 1 WHERE %s AND number = 1" % NET, b"fault runs acme net "),
+    ("INSERT INTO ws SELECT 'zeta', name, auto, 0, NULL, NULL, NULL, NULL, 1, 1 FROM ws WHERE org = 'acme' AND name = 'net'", [b"unkept zeta net -", b"ownerless zeta net -"]),
+    ("UPDATE run SET status = 1 WHERE %s AND number = 1" % NET, [b"runs acme net 1"]),
+    ("UPDATE run SET status = 4, action = 4 WHERE %s AND number = 1" % NET, [b"runs acme net 1"]),
+    ("UPDATE run SET rkey = '%s' WHERE %s AND number = 1" % ("k" * 65, NET), [b"runs acme net 1"]),
+    ("UPDATE run SET message = '%s' WHERE %s AND number = 1" % ("m" * 1001, NET), [b"runs acme net 1"]),
+    ("UPDATE run SET plan_only = 1 WHERE %s AND number = 1" % NET, [b"runs acme net 1"]),
     ("UPDATE run SET number = 0 WHERE %s AND number = 1" % NET, None),
     ("UPDATE run SET status = 9 WHERE %s AND number = 1" % NET, None),
-    ("DELETE FROM run WHERE %s AND number = 2" % HELD, b"fault runs beta app "),
-    ("UPDATE run SET ws = 'nat' WHERE %s" % HELD, b"fault ownerless beta nat 1"),
-    ("DELETE FROM bound WHERE org = 'acme'", b"fault unbounded acme root -"),
-    ("UPDATE bound SET prefix = 'a b' WHERE org = 'acme'", b"fault range acme root -"),
+    ("DELETE FROM run WHERE %s AND number = 2" % HELD, [b"runs beta app -"]),
+    ("UPDATE run SET ws = 'nat' WHERE %s" % HELD, [b"ownerless beta nat 1", b"ownerless beta nat 2", b"runs beta app -"]),
+    ("DELETE FROM bound WHERE org = 'acme'", [b"unbounded acme root -"]),
+    ("UPDATE bound SET prefix = 'a b' WHERE org = 'acme'", [b"range acme root -"]),
     ("UPDATE bound SET until = -1 WHERE org = 'acme'", None),
-    ("DELETE FROM keeping WHERE org = 'beta' AND ws = 'net'", b"fault unkept beta net -"),
-    ("UPDATE keeping SET keep = 2 WHERE %s" % NET, b"fault versions acme net "),
+    ("DELETE FROM keeping WHERE org = 'beta' AND ws = 'net'", [b"unkept beta net -"]),
+    ("UPDATE keeping SET keep = 2 WHERE %s" % NET, [b"versions acme net -"]),
     ("UPDATE keeping SET keep = 1001 WHERE %s" % NET, None),
-    ("UPDATE token SET digest = zeroblob(31) WHERE org = 'acme'", b"fault range acme root -"),
+    ("UPDATE token SET digest = zeroblob(31) WHERE org = 'acme'", [b"range acme root -"]),
     ("UPDATE token SET name = 'Root' WHERE org = 'acme'", None),
-    ("INSERT INTO token SELECT 'zeta', name, digest, role FROM token WHERE org = 'acme'", b"fault ownerless zeta root -"),
-    ("DELETE FROM org WHERE name = 'beta'", b"fault ownerless beta net -"),
-    ("UPDATE org SET name = 'Beta' WHERE name = 'beta'", b"fault range Beta - -"),
+    ("INSERT INTO token SELECT 'zeta', name, digest, role FROM token WHERE org = 'acme'", [b"unbounded zeta root -", b"ownerless zeta root -"]),
+    ("DELETE FROM org WHERE name = 'beta'", [b"ownerless beta root -", b"ownerless beta app -", b"ownerless beta net -"]),
+    ("UPDATE org SET name = 'Beta' WHERE name = 'beta'", [b"ownerless beta root -", b"ownerless beta app -", b"ownerless beta net -", b"range Beta - -"]),
     ("UPDATE org SET cap = 100001 WHERE name = 'beta'", None),
-    ("INSERT INTO meta VALUES (1, 1)", b"fault version - - -"),
-    ("UPDATE ws SET released = 'run-1' WHERE org = 'acme' AND name = 'net'", b"fault unlawful acme net -"),
-    ("UPDATE ws SET next_run = 4294967297 WHERE org = 'beta' AND name = 'net'", b"fault unlawful beta net -"),
-    (MANY_WORKSPACES, b"fault too-many acme - -"),
-    (many("INSERT INTO org SELECT 'Org' || n, 5 FROM many", 49), b"fault range Org49 - -"),
-    (many("INSERT INTO org SELECT 'Org' || n, 5 FROM many", 50), b"fault range Org50 - -"),
+    ("INSERT INTO meta VALUES (1, 1)", [b"version - - -"]),
+    ("UPDATE ws SET released = 'run-1' WHERE org = 'acme' AND name = 'net'", [b"unlawful acme net -"]),
+    ("UPDATE ws SET next_run = 4294967297 WHERE org = 'beta' AND name = 'net'", [b"unlawful beta net -"]),
+    (MANY_WORKSPACES, [b"too-many acme - -"]),
+    (many("INSERT INTO org SELECT 'Org' || n, 5 FROM many", 49), [b"range Org%d - -" % number for number in range(1, 50)]),
+    (many("INSERT INTO org SELECT 'Org' || n, 5 FROM many", 50), [b"range Org%d - -" % number for number in range(1, 51)]),
 ]
 
 # A second row of one key, which SQLite takes where the table is defined without its keys: the table, and what is added. The open refuses
@@ -451,8 +452,8 @@ def look_at_rows(program, plain):
         if line is None:
             said(text, (status, output), (3, b"refused down\n"))
             refused += 1
-        elif status != 1 or not any(told.startswith(line) for told in lines) or not all(told.startswith(b"fault ") for told in lines) or len(lines) > MOST_FAULTS:
-            raise Wrong("%s: %d %s %s" % (text, status, output, errors))
+        else:
+            said(text, (status, sorted(lines)), (1, sorted(b"fault " + fault for fault in line)))
         words = ["serve", "--check", "--db", "broken.db", "--port", str(free_port()), "--count", "1"]
         said("serve --check, " + text, program.run(words)[:2], (3, b"refused down\n"))
         not_copied(program, text, "broken.db", lambda errors: errors == (UNCOPIED + output if line else errors) != b"")
@@ -518,8 +519,9 @@ def look_at_files(program):
     said("one that sqlite3 made has none", plain[RESERVED_AT], 0)
     said("the same rows", answers(program, "plain.db"), due)
     damage_all(program, "a file without sums", plain, plain_older, due, kinds_of(plain, plain_older, False) + checked_kinds(plain, plain_older, False))
-    look_at_rows(program, plain)
-    look_at_copies(program, plain, due)
+    with program.damaged():
+        look_at_rows(program, plain)
+        look_at_copies(program, plain, due)
 
 
 # ----------------------------------------------------------------------------------------------------
@@ -552,7 +554,8 @@ def look_at_logs(program):
     for damage, bytes_left in damages:
         write(program, "left.db", content)
         write(program, "left.db-wal", bytes_left)
-        (came,) = answers(program, "left.db", question)
+        with program.damaged():
+            (came,) = answers(program, "left.db", question)
         forget(program, "left.db")
         if came is None or came == DOWN:
             counts["refused"] += 1
@@ -597,7 +600,7 @@ def look_at_open_files(program):
     taken(program, name, [("acme", b"PUT", place % b"workspaces", b"") for place in places])
     taken(program, name, [("acme", b"POST", place % b"state", text) for place, text in zip(places, due)])
     questions = [("acme", b"GET", place % b"state", b"") for place in places]
-    with Service(program, name, WORKSPACES) as service:
+    with program.damaged(), Service(program, name, WORKSPACES) as service:
         swap_beneath(program.folder + "/" + name, due)
         came = [service.answer(question) for question in questions]
         service.ends_with(0, 3)

@@ -6,13 +6,21 @@
 A script passes its checks to `look_at`. `Program` runs a command, `Service` starts `serve`, and `Service.asked` sends one request on
 a connection of its own. `said` compares what came with what is due, and raises `Wrong` if they differ: then `look_at` prints both
 and ends the script with status 1.
+
+A refusal for want of memory or of the disk has to have a cause. Each program runs under causes.c, which counts the requests for memory
+that are refused and the calls of files that fail. `Program.run` and `Service` look at the count where the program blames memory or the
+disk, on its error stream, by `refused down` or by a 503. If nothing failed meanwhile, that is `Wrong`, unless the files are damaged.
+
+A program that has nothing to read on its standard input has a pipe there that nobody closes: one that reads it to its end hangs.
 """
 
 import contextlib
 import datetime
+import mmap
 import os
 import random
 import re
+import select
 import shutil
 import socket
 import sqlite3
@@ -53,6 +61,26 @@ UNLOGGED = b"custody: the exchange log could not be written, so the service stop
 UNPRINTED = b"custody: not everything could be printed to standard output or standard error\n"
 UNREAD = b"custody: the input could not be read, or out of memory\n"
 UNWRITTEN = b"custody: connection %d: the reply could not be sent completely\n"
+
+# Lines that blame memory, the disk or a stream; `refused down` has one of them, or one of the lines that blame something else.
+BLAMES = re.compile(
+    rb"^custody: (?:connection \d+: out of memory or the store failed; replied 503|out of memory.*|the disk or the system reported an error"
+    rb"|a disk error closed the store.*|there is no space left on the disk|the input could not be read, or out of memory"
+    rb"|the exchange log could not be written.*|not everything could be printed.*)$",
+    re.M,
+)
+BLAMELESS = re.compile(
+    rb"^custody: (?:another program has the file open|no permission to .*|the path does not lead to a file.*|the folder of the --.* file does not exist"
+    rb"|there is no file at the path.*|the file is missing or empty.*|the file is a database without.*|a rollback journal lies.*|the file is damaged.*"
+    rb"|the file is not a database.*|the port is in use|could not listen on the port|the file's tables have faults.*)$",
+    re.M,
+)
+REPLIED_503 = re.compile(rb"^custody: connection \d+: .*; replied 503$", re.M)
+# The first line of a 503, behind the line `100 Continue` if there is one.
+IS_503 = re.compile(rb"(?:HTTP/1\.1 100 Continue\r\n\r\n)?HTTP/1\.1 503 ")
+
+# The commands that read their standard input; with --operator, `serve` does too.
+READERS = ("admin", "replay", "token-add")
 
 
 # ----------------------------------------------------------------------------------------------------
@@ -96,26 +124,70 @@ def look_at(doc, *looks):
 
 
 class Program:
-    """The program, in a temporary folder of its own."""
+    """The program, in a temporary folder of its own. It runs under causes.c."""
+
+    # Whether its files may be damaged: then a refusal needs no call that failed.
+    is_damaged = False
 
     def __init__(self, path):
-        self.path, self.room = os.path.abspath(path), tempfile.TemporaryDirectory()
-        self.folder = self.room.name
+        self.path, self.room, self.own = os.path.abspath(path), tempfile.TemporaryDirectory(), tempfile.TemporaryDirectory()
+        self.folder, self.library, self.counts = self.room.name, compiled("causes", self.own.name), self.own.name + "/causes"
+        with open(self.counts, "w+b") as file:
+            file.write(bytes(8))
+            file.flush()
+            self.count = mmap.mmap(file.fileno(), 8)
 
     def __enter__(self):
         return self
 
     def __exit__(self, *_):
         self.room.cleanup()
+        self.own.cleanup()
+
+    def causes(self):
+        """How many requests for memory were refused to it, and calls of files failed, so far."""
+        return struct.unpack("=Q", self.count[:8])[0]
+
+    def has_causes(self, what, before, least=1):
+        """Something failed since it was asked `before`."""
+        if self.causes() < before + least and not self.is_damaged:
+            raise Wrong("%s, for want of memory or of the disk, but %d requests for memory were refused or calls failed" % (what, self.causes() - before))
+
+    def judges(self, what, before, output, errors):
+        """What it blames on memory or the disk has a cause, and `refused down` has a reason."""
+        blame = BLAMES.search(errors or b"")
+        if blame:
+            self.has_causes("%s says %s" % (what, blame[0]), before, max(1, len(REPLIED_503.findall(errors))))
+        elif errors is not None and (output or b"").endswith(b"refused down\n") and not BLAMELESS.search(errors):
+            self.has_causes("%s says refused down" % what, before)
+
+    @contextlib.contextmanager
+    def damaged(self):
+        """What is done meanwhile is done over damaged files."""
+        was, self.is_damaged = self.is_damaged, True
+        try:
+            yield
+        finally:
+            self.is_damaged = was
 
     def start(self, words, given=None, output=subprocess.PIPE, errors=subprocess.PIPE, under=(), env=None):
         # (as a shell starts it: a write to a closed pipe is a signal, unless the program has it otherwise; `under` runs it)
+        env = dict(os.environ if env is None else env, CAUSES=self.counts)
+        env["LD_PRELOAD"] = ":".join(filter(None, [self.library, env.get("LD_PRELOAD")]))
         return subprocess.Popen([*under, self.path, *words], stdin=given, stdout=output, stderr=errors, cwd=self.folder, restore_signals=True, env=env)
 
-    def run(self, words, given=b"", **streams):
-        """The status, and what came on both streams; None for a stream that goes elsewhere."""
-        process = self.start(words, subprocess.PIPE, **streams)
-        output, errors = process.communicate(given, PATIENCE)
+    def run(self, words, given=b"", hears=True, **streams):
+        """The status, and what came on both streams; None for a stream that goes elsewhere. `hears` says whether it has an error stream."""
+        before, reads = self.causes(), bool(given) or words[0] in READERS or "--operator" in words
+        with contextlib.nullcontext(subprocess.PIPE) if reads else open_pipe() as stream:
+            process = self.start(words, stream, **streams)
+            try:
+                output, errors = process.communicate(given if reads else None, PATIENCE)
+            except BaseException:
+                process.kill()
+                process.wait()
+                raise
+        self.judges(" ".join(map(str, words)), before, output, errors if hears else None)
         return process.returncode, output, errors
 
     def is_due(self, what, words, status, output, errors=b"", given=b""):
@@ -126,22 +198,24 @@ class Program:
 class Service:
     """`serve` over a file, at a port of its own. It ends by its count (None: it has no count). Its `with` block kills it at the end.
 
-    If `lines` names a file, standard output goes there. Standard input is the file `given`. `Program.start` gets `how`. If DOOR is in
-    the environment, the operator's door is open."""
+    If `lines` names a file, standard output goes there. Standard input is the file `given`, otherwise a pipe that nobody closes.
+    `Program.start` gets `how`. If DOOR is in the environment, the operator's door is open."""
 
     # Seconds that its peers wait, and whether they keep their side of the connection open after a request.
     patience, stays = PATIENCE, False
 
-    def __init__(self, program, path, count, *words, port=None, lines=None, given=subprocess.DEVNULL, **how):
-        self.port = port or free_port()
+    def __init__(self, program, path, count, *words, port=None, lines=None, given=None, **how):
+        self.port, self.program, self.before = port or free_port(), program, program.causes()
         ends = ["--unlimited"] if count is None else ["--count", str(count)]
         if "DOOR" in os.environ and "--operator" not in words:
             words, given = (*words, "--operator"), secret_file()
         words = ["serve", "--db", path, "--port", str(self.port), *ends, *words]
+        self.input = contextlib.ExitStack()
+        stream = self.input.enter_context(open_pipe()) if given is None else given
         with open(lines, "wb") if lines else contextlib.nullcontext(subprocess.PIPE) as output:
-            self.process = program.start(words, given, output, **how)
+            self.process = program.start(words, stream, output, **how)
         try:
-            self.begins(first_line(lines) if lines else self.process.stdout.readline())
+            self.begins(first_line(lines) if lines else line_of(self.process.stdout))
         except BaseException:
             self.kill()
             raise
@@ -153,16 +227,18 @@ class Service:
         return self
 
     def __exit__(self, *_):
-        with self.process:
+        with self.input, self.process:
             self.process.kill()
 
     def kill(self):
-        self.process.kill()
-        self.process.wait()
+        with self.input:
+            self.process.kill()
+            self.process.wait()
 
     def left(self):
         """Waits for its end: its status, and what came on both streams after what was read of them."""
         output, errors = self.process.communicate(timeout=self.patience)
+        self.program.judges("a service", self.before, output, errors)
         return self.process.returncode, output, errors
 
     def ends(self, status=0, output=b"", errors=b""):
@@ -173,7 +249,29 @@ class Service:
 
     def asked(self, sent):
         """The reply to a request, undated."""
-        return undated(answered(self.port, sent, stays=self.stays, patience=self.patience))
+        before = self.program.causes()
+        came = undated(answered(self.port, sent, stays=self.stays, patience=self.patience))
+        if IS_503.match(came):
+            self.program.has_causes("a 503 to %s" % sent[:60], before)
+        return came
+
+
+@contextlib.contextmanager
+def open_pipe():
+    """The end of a pipe in which nothing comes, and whose other end is open meanwhile."""
+    reads, writes = os.pipe()
+    try:
+        yield reads
+    finally:
+        os.close(reads)
+        os.close(writes)
+
+
+def line_of(stream):
+    """The first line that a process writes to a pipe."""
+    if not select.select([stream], [], [], PATIENCE)[0]:
+        raise Wrong("a service doesn't listen")
+    return stream.readline()
 
 
 def secret_file():
@@ -195,13 +293,18 @@ def bytes_of(path):
         return file.read()
 
 
-def compiled(source, folder):
-    """A library of C that a program is started with, compiled into a folder."""
+def compile_c(source, out, *options):
+    """Compiles a file of C."""
     compiler = next(filter(None, map(shutil.which, ["cc", "gcc", "clang"])), None)
     if not compiler:
-        sys.exit("no C compiler: one of cc, gcc and clang makes the library " + source)
+        sys.exit("no C compiler: one of cc, gcc and clang compiles " + source)
+    subprocess.run([compiler, "-O1", "-o", out, source, *options], check=True)
+
+
+def compiled(source, folder):
+    """A library of C that a program is started with, compiled into a folder."""
     library = "%s/%s.so" % (folder, source)
-    subprocess.run([compiler, "-O1", "-shared", "-fPIC", "-o", library, "%s/%s.c" % (HERE, source), "-ldl"], check=True)
+    compile_c("%s/%s.c" % (HERE, source), library, "-shared", "-fPIC", "-ldl")
     return library
 
 

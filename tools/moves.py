@@ -11,7 +11,7 @@ acme have to be in the new file as they were in the old one, by SQLite's own lib
 last request acme is copied back.
 
 The words of the three commands are refused as they have to be. A copy and a removal are killed at each call that changes a
-file (ended.c): the organization is there whole or not at all, all else is as it was, and sent again it is done. So is
+file (calls.c): the organization is there whole or not at all, all else is as it was, and sent again it is done. So is
 `compact`: what it left has to be deleted where it has an organization, and then it is done. What is compacted has the same rows,
 sums, and no free pages but those few that the last page of a text leaves. Where its target has an organization `compact` is
 refused, and leaves it as it is: what was changed, revoked or removed since would be missed there.
@@ -31,6 +31,7 @@ import tempfile
 
 import refusals
 import stories
+from files import LAST_NUMBERS, TEAM, greatest, greatest_read, read_all
 from harness import DISK, IN_USE, LOG_ALONE, LOG_STAYS, NEW_FILE, UNFINISHED, Service, Wrong, bytes_of, compiled, look_at, request, said
 
 STORY = "a long history of two organizations that share texts"
@@ -272,7 +273,7 @@ def look_at_removals(program, path):
 
 def look_at_killed_removals(program, path):
     """A removal is killed at each call that changes a file: the organization is there whole or not at all."""
-    env = {**os.environ, "LD_PRELOAD": compiled("ended", program.folder)}
+    env = {**os.environ, "LD_PRELOAD": compiled("calls", program.folder)}
     file, before = program.folder + "/from.db", all_rows(path)
     left = {org: rows for org, rows in before.items() if org != "acme"}
     remove = ["org-remove", "--db", file, "--force", "acme"]
@@ -298,7 +299,7 @@ def look_at_killed_removals(program, path):
 
 def look_at_kills(program, path):
     """A copy is killed at each call that changes a file: it is whole or it isn't there."""
-    env = {**os.environ, "LD_PRELOAD": compiled("ended", program.folder)}
+    env = {**os.environ, "LD_PRELOAD": compiled("calls", program.folder)}
     before = all_rows(path)
     for words, parts in [(["org-copy"], ["acme"]), (["compact"], [])]:
         kills, seen = 0, set()
@@ -444,9 +445,47 @@ def look_at_lone_logs(program, path):
         print("right: %s beside a log behind a link to an empty file, with each of %d requests for memory refused" % (words[0], many))
 
 
+# How many versions there were: the number of the next one is above what a workspace may keep.
+VERSIONS = 1_001
+
+
+def look_at_many_versions(program):
+    """What is copied goes on: behind 1,001 versions, and behind the greatest value of each column."""
+    words, _ = asked()
+    path = "versions.db"
+    begin(program, path, words)
+    acts = [(b"PUT", b"workspaces/net", b'{"keep_versions":3}')] + [(b"POST", b"state/net", b'{"serial":%d}' % serial) for serial in range(1, VERSIONS + 1)]
+    for came in ask(program, path, [(b"acme", by_admin(words, *act)) for act in acts]):
+        said("the reply to one of them", came[:12], b"HTTP/1.1 200")
+    last = by_admin(words, b"POST", b"state/net", b'{"serial":%d}' % (VERSIONS + 1))
+    read = by_admin(words, b"GET", b"versions/net/%d" % (VERSIONS + 1))
+    great = greatest(program, "greatest.db")
+    for name, org, orgs, further in [(path, "acme", words_orgs(words), [last, read]), (great, TEAM, [TEAM], [])]:
+        before = all_rows(program.folder + "/" + name)
+        said("the organizations of " + name, sorted(before), sorted(orgs))
+        for copy in (["org-copy", "--db", name, "--to", "copy.db", org], ["compact", "--db", name, "--to", "copy.db"]):
+            said("%s of %s" % (copy[0], name), program.run(copy), (0, b"ok\n", NEW_FILE))
+            new = program.folder + "/copy.db"
+            said("what %s copies of %s" % (copy[0], name), all_rows(new), {one: before[one] for one in ([org] if copy[0] == "org-copy" else orgs)})
+            look_at_form("it", new)
+            if further:
+                said("how it goes on", [came.startswith(b"HTTP/1.1 200 ") for came in ask(program, new, [(b"acme", one) for one in further])], [True] * len(further))
+            else:
+                read_all(program, "the greatest values behind " + copy[0], "copy.db", greatest_read(LAST_NUMBERS))
+            forget(new)
+    print("right: org-copy and compact behind %d versions, and of the greatest value of each column" % VERSIONS)
+    forget(*(program.folder + "/" + name for name in (path, "greatest.db", great)))
+
+
+def words_orgs(words):
+    """The organizations that these words add."""
+    return [line.split(" ")[1] for line in words if line.startswith("org-add ")]
+
+
 def look_at_all(program):
     path = look_at_history(program)
     look_at_words(program, path)
+    look_at_many_versions(program)
     some = small(program)
     for look in (look_at_targets, look_at_removals, look_at_kills, look_at_killed_removals, look_at_memory, look_at_lone_logs):
         look(program, some)

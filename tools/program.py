@@ -44,6 +44,7 @@ def look_at_words(program):
     program.is_due("the list is printed", ["org-list", "--db", "t.db"], 0, b"acme 0 200\n")
     program.is_due("frames are answered", ["replay"], 0, b"reply 3\nok\n\n", given=b"at 0 admin org-add acme\n")
     program.is_due("a frame doesn't read", ["replay"], 2, b"", b"custody: bad frame 1\n", given=b"at\n")
+    program.is_due("nor does one that isn't UTF-8", ["replay"], 2, b"", b"custody: bad frame 1\n", given=b"at 0 admin org-add \xff\n")
     for words in [[b"org-add", b"--db", b"t.db", b"\xff"], [b"\xc3\x28"], [b"org-list", b"--db", b"t\xed\xa0\x80.db"]]:
         program.is_due("words that aren't UTF-8: %s" % words, words, 2, b"refused usage\n", ENCODING)
     program.is_due("the version is printed", ["--version"], 0, b"custody 1.0.0 (schema 3)\n")
@@ -99,9 +100,9 @@ def look_at_closed(program):
     """A stream that is closed is none of a database or a peer: what stands there is /dev/null."""
     every = [[stream for stream in range(3) if number >> stream & 1] for number in range(1, 8)]
     for streams in every:
-        status, output, errors = program.run(["token-list", "--db", "t.db", "acme"], under=without(streams))
+        status, output, errors = program.run(["token-list", "--db", "t.db", "acme"], under=without(streams), hears=2 not in streams)
         said("a list without the streams %s" % streams, (status, output), (0, b"" if 1 in streams else b"root admin - -\n"))
-        status, output, errors = program.run(["org-list", "--db", "none.db"], under=without(streams))
+        status, output, errors = program.run(["org-list", "--db", "none.db"], under=without(streams), hears=2 not in streams)
         said("a reason without the streams %s" % streams, (status, output), (3, b"" if 1 in streams else b"refused down\n"))
         said("and on the error stream", errors == b"", 2 in streams)
         # (a secret comes on the standard input)

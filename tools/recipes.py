@@ -3,7 +3,7 @@
 
     python3 tools/recipes.py CUSTODY    as root; the program as `rt ci` or `rt run` leaves it
 
-It needs curl, jq, openssl, sqlite3 and Terraform, on the filesystem of `/`, and no network. It runs in namespaces of its own (files,
+It needs curl, jq, openssl, sqlite3, dpkg and Terraform, on the filesystem of `/`, and no network. It runs in namespaces of its own (files,
 processes, network) over a copy of `/` that is dropped at the end (an overlay), so it adds users, installs units and listens at 443
 without changing this machine.
 
@@ -13,11 +13,11 @@ check below; LEFT has the lines that are left out, with the reason. Checks run c
 
 What this machine may lack has a stand-in, so these are not tested: systemd (units start, stop and restart with their user, input and
 environment, but none of their restrictions holds, and the timer never comes), journald, nginx (tools/front.py, with the certificate and the
-map of nginx.conf alone), apt-get, rsync (a copy to a folder) and `rt` (the program that is given).
+map of nginx.conf alone), apt and apt-get (dpkg installs the package), rsync (a copy to a folder) and `rt` (the program that is given).
 
 During the recipes at the operator's door a Terraform applies again and again, under a lock and without retries: each of its requests
 has to succeed. The script prints a line for each block, then how many ran and which were left. It ends with status 1 at the first
-that is wrong.
+that is wrong. For tools/quick-build, too, there is a stand-in, which leaves the program that is given.
 """
 
 import contextlib
@@ -48,10 +48,16 @@ TOP = os.path.dirname(HERE)
 REPOSITORY, STAND_INS, JOURNAL, ROOM = "/repository", "/stand-ins", "/journal", "/room"
 PATH = STAND_INS + ":/usr/local/sbin:/usr/local/bin:/usr/sbin:/usr/bin:/sbin:/bin"
 CONFIGURATION = "/configuration"
-ENVIRONMENT = {"PATH": PATH, "HOME": "/root", "LANG": "C.UTF-8", "CHECKPOINT_DISABLE": "1"}
+# (the copy has no git: the package gets a date of this script)
+ENVIRONMENT = {"PATH": PATH, "HOME": "/root", "LANG": "C.UTF-8", "CHECKPOINT_DISABLE": "1", "SOURCE_DATE_EPOCH": "1700000000"}
+UNITS = ["/etc/systemd/system/", "/usr/lib/systemd/system/"]
 
 # The lines of blocks that are not run, by their beginnings.
 LEFT = {"rt ci ": "it proves everything, for hours"}
+# What builds the program: it leaves the given one.
+BUILDER = '#!/bin/sh\n[ "$1 $3" = "custody -O2" ] && cp /given "$2" && echo "$2"\n'
+# The heading whose blocks are not run: they need two machines, which tools/standby.py starts.
+PAIR = "A standby"
 # The last line of a block, which never ends: it is run in a session of its own, and ended.
 ENDLESS = "exchanges -f "
 
@@ -76,14 +82,23 @@ PROGRAMS = {
         [ "$1" = install ] || exit 1
         mkdir -p /etc/nginx/conf.d /etc/nginx/sites-enabled /var/lib/nginx && touch /etc/nginx/sites-enabled/default
         """,
+    # (systemd itself may be missing here)
+    "apt": """
+        case "$1" in install) shift; exec dpkg --force-depends --install "$@" ;; purge) shift; exec dpkg --purge "$@" ;; *) exit 1 ;; esac
+        """,
     "rsync": """
         [ "$1" = -a ] && mkdir -p "${3#*:}" && cp -rp "$2." "${3#*:}"
         """,
     "rt": """
-        case "$1 $2" in "run --" | "try --") ;; *) exit 1 ;; esac
+        [ "$1 $2" = "run --" ] || exit 1
         shift 2; mkdir -p out && cp /given out/custody && exec out/custody "$@"
         """,
 }
+
+
+def unit_file(name):
+    """Where a unit's file is; the last place if it is nowhere."""
+    return next(filter(os.path.exists, [folder + name for folder in UNITS]), UNITS[-1] + name)
 
 
 class Unit:
@@ -96,7 +111,7 @@ class Unit:
     def settings(self):
         base, at, instance = self.name.partition("@")
         found = {}
-        with open("/etc/systemd/system/%s%s.service" % (base, at), encoding="utf-8") as file:
+        with open(unit_file("%s%s.service" % (base, at)), encoding="utf-8") as file:
             for line in file:
                 key, equals, value = line.strip().partition("=")
                 if equals and not key.startswith("#"):
@@ -174,7 +189,7 @@ class Machine:
             case "systemctl", ["daemon-reload"]:
                 return self.verifies()
             case "systemctl", ["enable", "--now", name] if name.endswith(".timer"):
-                return (0 if os.path.exists("/etc/systemd/system/" + name) else 1), ""
+                return (0 if os.path.exists(unit_file(name)) else 1), ""
             case "systemctl", ["start", *names] | ["enable", "--now", *names]:
                 done = [self.unit(name).start() for name in names]
                 return max(status for status, _ in done), "".join(text for _, text in done)
@@ -192,7 +207,7 @@ class Machine:
         """Whether systemd can read the units, if its program for that is here."""
         if not shutil.which("systemd-analyze"):
             return 0, ""
-        units = glob.glob("/etc/systemd/system/custody*")
+        units = [path for folder in UNITS for path in glob.glob(folder + "custody*")]
         done = subprocess.run(["systemd-analyze", "verify", *units], stdout=subprocess.PIPE, stderr=subprocess.STDOUT, text=True, check=False)
         return (1 if done.stdout else done.returncode), done.stdout
 
@@ -292,11 +307,13 @@ class Page:
         return text + "\n"
 
     def done(self):
-        """How many blocks there are, each of which was taken."""
+        """How many blocks were taken: each, except those of a pair."""
         for place, (heading, text) in enumerate(self.blocks):
-            if place not in self.taken:
+            if heading == PAIR:
+                Shell.left.append("%s: %s (it needs two machines)" % (self.name, text.splitlines()[0]))
+            elif place not in self.taken:
                 raise Wrong("%s, %s: nothing runs the block %s" % (self.name, heading, text))
-        return len(self.blocks)
+        return len(self.taken)
 
 
 # (the trap doesn't see a chain of `&&` that fails before its end, so `recipes_end` looks at the status of each line, too)
@@ -311,12 +328,18 @@ done
 """
 
 
+def is_whole(piece):
+    """Whether bash reads it as whole commands. (Of a here-document without its end it only warns.)"""
+    done = subprocess.run(["bash", "-n", "-c", piece], capture_output=True, check=False)
+    return not piece.endswith("\\") and done.returncode == 0 and b"here-document" not in done.stderr
+
+
 def commands_of(text):
     """The lines of a text, joined where bash needs the next one."""
     piece = ""
     for line in text.rstrip().splitlines():
         piece += line
-        if not line.endswith("\\") and subprocess.run(["bash", "-n", "-c", piece], stderr=subprocess.DEVNULL, check=False).returncode == 0:
+        if is_whole(piece):
             yield piece
             piece = ""
         else:
@@ -503,20 +526,19 @@ def lines_of(block, start):
 
 def readme():
     page = Page("README.md")
-    with Shell() as first, Shell() as second, Shell() as third:
-        with open(REPOSITORY + "/crates/custody/stdout", encoding="utf-8") as file:
-            due = file.read()
-        said("what the first command prints", first.runs(page, "(cd crates/custody && rt try"), due)
-        first.begins(page.block("custody="))
-        first.waits(LISTENS)
-        second.begins(page.block("(umask 077; echo 'header"))
-        second.waits('"name":"net"')
-        serves(8443)
-        configures(REPOSITORY, "a")
-        third.runs(page, "export TF_HTTP_USERNAME=", ["successfully initialized", "Enter a value:", "Apply complete!"], given="yes\n")
-        third.runs(page, "curl -K ci.curl", ['"status":"planning"', "Error acquiring the state lock", "ID=run-1", '"status":"canceled"'], ["1 terraform plan"])
-        tell(page, "custody=")
-        tell(page, "(umask 077; echo")
+    with Shell() as shell:
+        shell.runs(page, "mkdir -m 700 ~/custody-try", ["^/root/custody-try/custody$"])
+        shell.runs(page, "python3 tools/front.py", [r"^ok\nok\nok$"])
+        serves(8443, 8090)
+        shell.runs(page, "echo 'header", ['"name":"net"'])
+        shell.runs(page, "export TF_HTTP_USERNAME=", ["successfully initialized", "Enter a value:", "Apply complete! Resources: 1 added"], given="yes\n")
+        shell.runs(page, "curl -K ci.curl", ['"status":"planning"', "Error acquiring the state lock", "ID=run-1", '"status":"canceled"'], ["1 terraform plan"])
+        shell.runs(page, "kill ")
+        wait_until(lambda: not answers(8443) and not answers(8090), "what README stops still listens")
+        said("the folder of the trial", os.path.exists("/root/custody-try"), False)
+    with Shell() as shell:
+        shell.runs(page, "(cd crates/custody && rt run", [r"^custody \d"])
+        said("what was built", os.access(REPOSITORY + "/crates/custody/out/custody", os.X_OK), True)
     return page.done()
 
 
@@ -545,14 +567,30 @@ def operating():
 def variables():
     """What another session on this server needs first."""
     page = Page("docs/OPERATING.md")
-    return lines_of(page.block("openssl req"), "export ") + page.block("as_custody()") + lines_of(page.block("export TF_HTTP_USERNAME"), "export ")
+    return lines_of(page.block("openssl req"), "export ") + page.block(". /usr/share/custody") + lines_of(page.block("export TF_HTTP_USERNAME"), "export ")
+
+
+def by_hand(page, shell):
+    """Installs without a package, and removes that again."""
+    built = page.block("(cd crates/custody && rt run")
+    shell.does(lines_of(built, "(cd crates"), ["Usage"])
+    shell.runs(page, "install -m 755 crates/custody/out/custody")
+    shell.does("""runuser -u custody -- custody org-add --db /var/lib/custody/custody.db acme
+        echo operatoroperator1 > /root/operator; systemctl start custody""", ["^ok$"])
+    serves()
+    with open("/proc/%d/cmdline" % int(shell.does("systemctl show -p MainPID --value custody")), encoding="utf-8") as file:
+        said("the program that is started", file.read().split("\0")[0], "/usr/local/bin/custody")
+    shell.does("""systemctl stop custody
+        userdel custody; rm -r /root/operator /var/lib/custody /usr/local/bin/custody /usr/local/share/custody /etc/systemd/system/custody*""")
 
 
 def installs(page, shell):
-    shell.runs(page, "(cd crates/custody && rt run", ["Usage"])
+    by_hand(page, shell)
+    shell.runs(page, "(cd crates/custody && rt run", ["Usage", r"^\./custody_[0-9.]+_amd64\.deb$"])
+    shell.does("systemctl daemon-reload; ! systemctl start custody", ["Assertion failed"])
     shell.runs(page, "openssl req")
     shell.runs(page, "apt-get install nginx")
-    shell.runs(page, "as_custody()")
+    shell.runs(page, ". /usr/share/custody")
     shell.runs(page, "new_secret /root/operator", ["^ok$", "^ok$", "^ok$", '"name":"net"'])
     for path in glob.glob("/root/acme.*") + glob.glob("/root/operator*"):
         said("the mode of " + path, os.stat(path).st_mode & 0o777, 0o600)
@@ -596,7 +634,6 @@ def at_the_door(page, shell):
     shell.runs(page, "echo token-revoke acme ci |", ["^ok$"])
     shell.does("echo token-list acme | operator", [r"^ci-3 write \d{10} -$", "^root admin"])
     shell.does('curl -sS -K /root/acme.ci-3.curl "$CUSTODY/workspaces/net"', ['"name":"net"'])
-    shell.does(lines_of(page.block("exchanges()"), "exchanges()"))
     shell.runs(page, "echo token-revoke acme ci-3", ["^ok$", "^ok$", r'^\["20.*Z","show workspace","net",200\]$'])
     shell.does('curl -sS -K /root/acme.ci-3.curl "$CUSTODY/workspaces/net"', ["bad-token"])
     work.turn()
@@ -654,7 +691,7 @@ def backups(page, shell):
     stop = "to=/root/backup-$(date +%F-%H%M%S)\ninstall"
     shell.runs(page, stop, [COUNTS])
     time.sleep(1)
-    shell.runs(page, "to=/root/backup-$(date +%F-%H%M%S)\ndocs/", [COUNTS])
+    shell.runs(page, "to=/root/backup-$(date +%F-%H%M%S)\n/usr/share/", [COUNTS])
     copies = sorted(glob.glob("/root/backup-*"))
     said("the copies", [sorted(os.listdir(path)) for path in copies], [["custody.db", "custody.db-wal"]] * 2)
     shell.runs(page, "apt-get install rsync")
@@ -685,7 +722,7 @@ def backups(page, shell):
     serves()
     said("what was restored", shell.does(state), before)
     # (an upgrade)
-    shell.does("systemctl stop custody\n" + page.inline("install -m 755 crates/custody/out/custody /usr/local/bin/custody") + "systemctl start custody")
+    shell.does("systemctl stop custody\n" + page.inline("apt install ./custody_*_amd64.deb") + "systemctl start custody")
     serves()
     shell.does(state, ['"name":"net"'])
     shell.does(page.inline("systemctl show -p NRestarts --value custody"), ["^0$"])
@@ -695,9 +732,9 @@ def backups(page, shell):
 
 
 def log(page, shell):
-    block = page.block("exchanges()")
-    shell.runs(page, "exchanges()", [r"^ +\d+ locked|^ +\d+ held-by-run acme net$", r'^\["20.*"ci","lock","5f2c",null\]$'], block=block)
-    with Shell(first=lines_of(block, "exchanges()")) as other:
+    block = page.block("exchanges --since")
+    shell.runs(page, "exchanges --since", [r"^ +\d+ locked|^ +\d+ held-by-run acme net$", r'^\["20.*"ci","lock","5f2c",null\]$'], block=block)
+    with Shell(first=page.block(". /usr/share/custody")) as other:
         other.begins(lines_of(block, ENDLESS))
         other.waits('"force unlock"')
 
@@ -780,7 +817,7 @@ def growing():
     with Shell(first=variables()) as shell, Shell(CONFIGURATION, variables()) as other:
         shell.does("rm /root/beta.*; echo org-add beta | operator; new_token beta root admin; curl -sS -K /root/beta.root.curl -X PUT %s/workspaces/net" % beta, ["ok", "ok", "net"])
         shell.does("curl -sS -K /root/beta.root.curl -X LOCK -d '%s' %s/state/net" % (LOCK, beta))
-        shell.runs(page, "install -m 644 docs/operating/custody@.service")
+        shell.runs(page, "install -d -m 755 /etc/custody")
         shell.does("systemctl start custody@beta", ["Assertion failed"], ["1 "])
         maps(page, "moving")
         shell.does("nginx -s reload; curl -sS -i -K /root/beta.root.curl %s/workspaces/net" % beta, ["503", "Retry-After: 15"])
@@ -842,12 +879,12 @@ def mounts(place, program):
     subprocess.run(["mount", "-t", "proc", "proc", root + "/proc"], check=True)
     for name in [REPOSITORY, STAND_INS, JOURNAL, ROOM]:
         os.mkdir(root + name)
-    for name in ["docs", "tools"]:
+    for name in ["docs", "package", "tools"]:
         shutil.copytree("%s/%s" % (TOP, name), "%s%s/%s" % (root, REPOSITORY, name))
     shutil.copy(TOP + "/README.md", root + REPOSITORY)
     os.makedirs(root + REPOSITORY + "/crates/custody")
-    for name in ["stdin", "stdout"]:
-        shutil.copy("%s/crates/custody/%s" % (TOP, name), "%s%s/crates/custody" % (root, REPOSITORY))
+    with open(root + REPOSITORY + "/tools/quick-build", "w", encoding="utf-8") as file:
+        file.write(BUILDER)
     shutil.copy(program, root + "/given")
     os.chmod(root + "/given", 0o755)
     os.chroot(root)

@@ -11,9 +11,9 @@ before it left; frames over a database in memory; commands on a file. Commands a
 rows of the tables that are due, or in a 503 (`refused down`), with the rows as before; and what was refused is sent
 again and has its right reply. Rows are read by SQLite's own library.
 
-With `--log` a service prints the line of either reply, by the rules of logged.py; the line of a 503 names what had been read, and
-for each request some 503's line has to name all of it. Where memory for the line is refused it
-prints nothing of it, says so, and ends with status 3; that has to be met behind both replies of each request.
+With `--log` a service prints the line of either reply, by the rules of model.py. The line of a 503 names what had been read: of each
+request and each command at the operator's door, the later memory is refused, the more it names, up to all of it. Where memory for the
+line is refused the service prints nothing of it, says so, and ends with status 3; that has to be met behind both replies of each request.
 """
 
 import collections
@@ -30,7 +30,7 @@ import sys
 import tempfile
 
 import doors
-import logged
+import model
 import stories
 from harness import ANSWERED_503, HERE, LOG_STAYS, NEW_FILE, UNCHANGED, UNLOGGED, UNREAD, Wrong, answered, compiled
 
@@ -39,19 +39,20 @@ TEXT = HERE + "/refusals.txt"
 PATIENCE = 300
 # Of how many contents of a file the rows are remembered.
 KNOWN = 20
+# The moment at which each program runs (refuse.c).
+MOMENT = 1_700_000_000
 # More requests for memory than any run makes.
 MOST = 1000000
 # How many requests for memory in a row are refused, of a request to a service; of a longer one, and of a whole run, one.
 WIDTHS = [1, 2]
 LONG = 100000
 
-CONTINUE = b"HTTP/1.1 100 Continue\r\n\r\n"
 DOWN_HEAD = (
     b"HTTP/1.1 503 Service Unavailable\r\nDate: Tue, 14 Nov 2023 22:13:20 GMT\r\nConnection: close\r\n"
     b"Cache-Control: private, no-store\r\nContent-Type: application/json\r\nContent-Length: 16\r\n\r\n"
 )
 DOWN = DOWN_HEAD + b'{"error":"down"}'
-LENGTHS = [len(DOWN), len(DOWN_HEAD), len(CONTINUE + DOWN)]
+LENGTHS = [len(DOWN), len(DOWN_HEAD), len(model.CONTINUE + DOWN)]
 REFUSED = (3, b"refused down\n")
 # Why `refused down`, as regular expressions. Where memory is refused the line that a file was made may be missing. No other program
 # has the file: a copy is made with the locks of the process that it was made from, and each process opens a file once.
@@ -75,7 +76,16 @@ REPLAYED = [
     "ten runs with keys",
 ]
 
-# Commands at the operator's door, the replies, and what they leave in the tables.
+# The act of each command at the operator's door, as the log has it; commands, the replies, and what they leave in the tables.
+DOOR_ACTS = {
+    b"org-add": "add organization",
+    b"org-limit": "limit organization",
+    b"org-list": "list organizations",
+    b"org-remove": "remove organization",
+    b"token-add": "add token",
+    b"token-list": "list tokens",
+    b"token-revoke": "revoke token",
+}
 AT_DOOR = [
     (b"org-add acme", b"ok\n", "INSERT INTO org VALUES ('acme', 200)"),
     (
@@ -356,27 +366,34 @@ class Asked:
 
     def __init__(self, sent, due, before, rows, told=None):
         self.sent, self.due, self.rows, self.told = sent, due, {False: before, True: rows}, told
-        # Behind which replies the log lacked the line, the right one or the 503; and the rows that it had of the 503.
+        # Behind which replies the log lacked the line, the right one or the 503; and, for each width, which of its rows it had of the 503.
         self.untold, self.told_down = set(), []
 
     def downs(self):
         """Its 503: for HEAD without its body, where the head was read; behind the line, where one was due."""
-        return [DOWN] + [DOWN_HEAD] * self.sent.startswith(b"HEAD ") + [CONTINUE + DOWN] * self.due.startswith(CONTINUE)
+        return [DOWN] + [DOWN_HEAD] * self.sent.startswith(b"HEAD ") + [model.CONTINUE + DOWN] * self.due.startswith(model.CONTINUE)
 
     def widths(self):
         return WIDTHS if len(self.sent) < LONG and len(self.due) < LONG else [1]
 
     def rows_told(self, is_right):
         """The rows that the log may have: of the right reply, or of its 503."""
-        return [self.told.row] if is_right else logged.rows_of_503(self.sent, self.told.row)
+        return [self.told.row] if is_right else model.rows_of_503(self.sent, self.told.row)
 
     def lines(self, place, is_right=True):
         """Its line in the log: each that may be there."""
-        return [logged.line_of(place, "ok", row) for row in self.rows_told(is_right)] if self.told else [b""]
+        return [model.line_of(place, "ok", row) for row in self.rows_told(is_right)] if self.told else [b""]
 
-    def tells_all(self):
-        """Whether some 503 had the line that tells all that was read: memory was refused behind that."""
-        return not self.told or self.rows_told(False)[-1] in self.told_down
+    def look_at_told(self):
+        """The later memory is refused, the more a 503's line names: all that was read up to then, and where only the change is left, all."""
+        if not self.told:
+            return
+        rows, places = self.rows_told(False), self.told_down[0]
+        if any(found != sorted(found) for found in self.told_down):
+            raise Wrong("the lines of its 503s name more, and then less: %s" % self.told_down)
+        # (where two requests in a row are refused, the line of such a 503 may be the second)
+        if not places or rows[places[-1]] != rows[-1]:
+            raise Wrong("no line of a 503 tells all that was read; the last tells: %s" % (places and rows[places[-1]]))
 
 
 class Service:
@@ -419,7 +436,7 @@ class Service:
         lines = asked.lines(self.place, is_right)
         if (word, errors) == ("accepts", reason) and out in lines:
             if asked.told and not is_right:
-                asked.told_down.append(asked.rows_told(False)[lines.index(out)])
+                asked.told_down[-1].append(lines.index(out))
             return True
         if asked.told and (word, (status, out), errors) == ("ended", REFUSED, reason + UNLOGGED):
             asked.untold.add(is_right)
@@ -463,6 +480,7 @@ class Service:
 
     def refuse_each(self, asked):
         for width in asked.widths():
+            asked.told_down.append([])
             for first in range(1, MOST):
                 try:
                     met, is_right = self.run(asked, first, first + width - 1)
@@ -471,10 +489,9 @@ class Service:
                         break
                 except Wrong as wrong:
                     raise Wrong("request %d for memory refused, %d in a row: %s" % (first, width, wrong))
+        asked.look_at_told()
         if asked.told and asked.untold != {True, False}:
             raise Wrong("the line was left out behind these replies alone, right or not: %s" % asked.untold)
-        if not asked.tells_all():
-            raise Wrong("no line of a 503 tells all that was read: %s" % asked.told_down)
 
 
 def asked_in(story):
@@ -530,27 +547,43 @@ def refuse_service(custody, library, story, folder, *options, rules=None):
 
 def refuse_logged(custody, library, story, folder):
     """The same of a service with its log."""
-    return refuse_service(custody, library, story, folder, "--log", rules=logged.Custody())
+    return refuse_service(custody, library, story, folder, "--log", rules=model.Custody())
 
 
-def refuse_door(custody, library, story, folder):
+def told_at_door(command, text):
+    """The exchange of a command at the door, with its row of the log."""
+    word, *names = command.split(b" ")
+    org = names[0].decode() if names else None
+    subject = names[1].decode() if word in (b"token-add", b"token-revoke") else None
+    told = doors.done(command, text, DOOR_ACTS[word], org, subject)
+    told.row = model.row_of(MOMENT, **{key: told.row[key] for key in told.row if key != "end"})
+    return told
+
+
+def refuse_door(custody, library, story, folder, *options):
     """Each command at the operator's door in turn, over a new file. (The story tells only its name.)"""
     counts, due, file = Counts(), Due(), File(folder)
-    words = [custody, "serve", "--db", "t.db", "--port", "8090", "--count", "1000000", "--idle", "3600", "--most", "3600", "--operator"]
+    words = [custody, "serve", "--db", "t.db", "--port", "8090", "--count", "1000000", "--idle", "3600", "--most", "3600", "--operator", *options]
     with Program(library, "accept", words, folder, doors.SECRET + b"\n") as program:
         service = Service(program, file, counts)
         for command, text, *leaves in AT_DOOR:
             before = due.rows()
             for sql in leaves:
                 due.db.execute(sql)
-            reply = doors.done(command, text, None).due.replace(b"Date: DATE", b"Date: " + doors.DATE)
-            asked = Asked(doors.at_door(command), reply, before, due.rows())
+            told = told_at_door(command, text)
+            reply = told.due.replace(b"Date: DATE", b"Date: " + doors.DATE)
+            asked = Asked(told.sent, reply, before, due.rows(), told if options else None)
             try:
                 service.refuse_each(asked)
                 service.go(asked)
             except Wrong as wrong:
                 raise Wrong("%s: %s" % (command.decode(), wrong))
     return counts
+
+
+def refuse_logged_door(custody, library, story, folder):
+    """The same of a service with its log."""
+    return refuse_door(custody, library, story, folder, "--log")
 
 
 # ----------------------------------------------------------------------------------------------------
@@ -798,6 +831,7 @@ def jobs_of(told, custody, program):
             if not any(story is later.after for later in told.values()):
                 jobs.append(("requests of a service", refuse_service, custody, story))
     jobs.append(("commands at the operator's door", refuse_door, custody, told["two organizations"]))
+    jobs.append(("commands at the operator's door of a service with its log", refuse_logged_door, custody, told["two organizations"]))
     return jobs
 
 

@@ -8,7 +8,7 @@ of each such story the program has to say its name, the way, the line of the ste
 that the others are right; how many failed of how many; and to end with status 1.
 
 No text is wrong on some ways alone, as by readers of one byte. So a story that is right is told where one request for memory
-is refused (refuse.c), or one sync of a file fails (unsynced.c): it then fails on the way on which that comes, and the program
+is refused (refuse.c), or one sync of a file fails (calls.c): it then fails on the way on which that comes, and the program
 has to say so: of each way; of files for each that is opened, and for the steps over each; of links for what is cut, read, written
 and sent again by each reader; of a store that refuses changes; and of streams. It ends with status 1 at the first that isn't said.
 """
@@ -230,7 +230,7 @@ def look_at_syncs(program, text):
     """The story fails on the ways over files: in turn over a file, over that opened again midway, before it is copied, as it is, over
     the copy, and over that of which it is. A step whose sync fails shuts the store, which then doesn't close."""
     with tempfile.TemporaryDirectory() as folder:
-        found = at_syncs(program, right_text(text, "copied"), compiled("unsynced", folder), folder)
+        found = at_syncs(program, right_text(text, "copied"), compiled("calls", folder), folder)
     file, copied = ([(way, 0, why) for why in FAULTS] for way in (IN_FILE, COPIED))
     due = 2 * file + copied + [(COPIED, 0, "the organizations aren't copied")] + 2 * copied
     came = [said for said, _ in itertools.groupby(filter(None, found))]
