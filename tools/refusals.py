@@ -3,9 +3,11 @@
 
     python3 tools/refusals.py CUSTODY STORIES    the two programs as `rt ci` or `rt run` leaves them
     python3 tools/refusals.py CUSTODY            all but the replays that the program `stories` tells
+    python3 tools/refusals.py --each ..          those too that an earlier run came to alike
 
-Request for memory number N is refused, for N from 1 on, until a run meets no refusal; and then N and the one behind it. (Of
-many alike in a row, of a command or a replay, some: refuse.c.)
+Request for memory number N is refused, for each N; and N and the one behind it. (Of many alike in a row, of a command or a replay,
+some: refuse.c. And one in eight of those that an earlier command, or an earlier request of a service without its log, came to alike:
+the 32 up to it were for as many bytes each. So the opening of a file is refused throughout once, and in part for each command.)
 tools/refusals.txt has what is done meanwhile: requests of a service over a file, each by itself, over what the requests
 before it left; frames over a database in memory; commands on a file. Commands at the operator's door stand below. Each run has to end in the right reply, with the
 rows of the tables that are due, or in a 503 (`refused down`), with the rows as before; and what was refused is sent
@@ -101,6 +103,10 @@ AT_DOOR = [
     (b"org-remove acme", b"ok\n", "DELETE FROM org"),
     (b"org-remove acme", b"refused absent\n"),
 ]
+
+# How many requests for memory in a row, for as many bytes each, show that an earlier run came to the last of them alike; and of how many
+# such ones one is refused, by turns.
+ROW, TURNS = 32, 8
 
 # No replay asks for memory so often once its last step is taken.
 BEHIND = 200
@@ -283,6 +289,8 @@ class Program:
             self.process = subprocess.Popen(words, start_new_session=True, **how)
         os.close(asks)
         os.close(tells)
+        # The bytes of the request for memory before which it waits.
+        self.size = 0
 
     def __enter__(self):
         return self
@@ -314,9 +322,11 @@ class Program:
     def is_ready(self):
         """Whether it waits; it has ended otherwise."""
         line = self.line()
-        if line not in ["ready", ""]:
+        word, _, size = line.partition(" ")
+        if word not in ["ready", ""]:
             raise Wrong("the program told " + line)
-        return line == "ready"
+        self.size = int(size or 0)
+        return word == "ready"
 
     def await_ready(self):
         if not self.is_ready():
@@ -329,6 +339,11 @@ class Program:
             raise Wrong("the program ended")
         word, number, asked, refused = line.split(" ")
         return word, int(number), int(asked), int(refused)
+
+    def sizes(self):
+        """The bytes that each request of the last copy was for."""
+        self.ask("sizes")
+        return [int(size) for size in self.line().split()]
 
     def said(self):
         """What came on the output and the error stream since it was asked last."""
@@ -343,12 +358,6 @@ class Counts(collections.Counter):
 
     def of(self, met, is_right):
         self["refused" if not is_right else "right" if met else "unrefused"] += 1
-
-
-def is_over(met, is_right):
-    if met == 0 and not is_right:
-        raise Wrong("no memory was refused, and the run was")
-    return met == 0
 
 
 # ----------------------------------------------------------------------------------------------------
@@ -397,10 +406,10 @@ class Asked:
 
 
 class Service:
-    """A service over a file, of which a copy is made for each run."""
+    """A service over a file, of which a copy is made for each run; with its log each request for memory is refused, else those not left."""
 
-    def __init__(self, program, file, counts):
-        self.program, self.file, self.counts, self.place = program, file, counts, 1
+    def __init__(self, program, file, counts, earlier):
+        self.program, self.file, self.counts, self.earlier, self.place = program, file, counts, earlier, 1
         program.await_ready()
         out, _ = program.said()
         if not out.startswith(b"listening 127.0.0.1:"):
@@ -409,11 +418,11 @@ class Service:
         file.bytes()
 
     def run(self, asked, first, last):
-        """One request of a copy; whether something was refused, and whether all of it was right."""
+        """One request of a copy; how many requests for memory it made, whether one was refused, and whether all of it was right."""
         was = self.file.held
         self.program.ask("try %d %d" % (first, last))
         came = exchanged(self.port, asked.sent)
-        word, status, _, met = self.program.counted()
+        word, status, made, met = self.program.counted()
         found = self.file.bytes()
         rows = asked.rows[False] if found == was else self.file.rows(found)
         is_right = came == asked.due
@@ -427,7 +436,7 @@ class Service:
         if is_told:
             self.end(asked, not is_right and first == last)
         self.file.put_back(was)
-        return met, is_right and is_told
+        return made, met, is_right and is_told
 
     def is_told(self, asked, is_right, word, status):
         """Whether a copy said what is due of a reply, and goes on; it may end where the log lacks the line alone."""
@@ -479,14 +488,27 @@ class Service:
             raise Wrong("%s it said %s" % (how, said))
 
     def refuse_each(self, asked):
+        """Each request for memory in turn, and it and the one behind it. (Where it made none behind it, these two are one run.)"""
+        made, _, is_right = self.run(asked, MOST, MOST)
+        if not is_right:
+            raise Wrong("no memory was refused, and the run was")
+        self.counts.of(0, True)
+        sizes = self.program.sizes()
+        if len(sizes) != made:
+            raise Wrong("of %d requests for memory the sizes of %d are told" % (made, len(sizes)))
+        firsts = [place for place, size in enumerate(sizes, 1) if not self.earlier.is_left(size) or asked.told]
+        self.earlier.end()
         for width in asked.widths():
             asked.told_down.append([])
-            for first in range(1, MOST):
+            before, firsts = firsts, []
+            for first in before:
                 try:
-                    met, is_right = self.run(asked, first, first + width - 1)
+                    made, met, is_right = self.run(asked, first, first + width - 1)
                     self.counts.of(met, is_right)
-                    if is_over(met, is_right):
-                        break
+                    if met == 0:
+                        raise Wrong("it was not asked for")
+                    if made > first:
+                        firsts.append(first)
                 except Wrong as wrong:
                     raise Wrong("request %d for memory refused, %d in a row: %s" % (first, width, wrong))
         asked.look_at_told()
@@ -519,9 +541,24 @@ def asked_next(parts, step, due, rules):
     return Asked(sent, reply, before, due.rows(), rules and rules.exchange(at, sent))
 
 
-def refuse_service(custody, library, story, folder, *options, rules=None):
-    """Each request of a story in turn, over what the steps before it left."""
-    counts, due, file = Counts(), Due(), File(folder)
+def rooms_of(told, folder):
+    """Stories, each with a folder of its own."""
+    for number, story in enumerate(told):
+        room = "%s/%d" % (folder, number)
+        os.mkdir(room)
+        yield story, room
+
+
+def refuse_services(custody, library, told, folder):
+    """Each request of these stories in turn, over what the steps of its story before it left."""
+    counts, earlier = Counts(), Earlier()
+    for story, room in rooms_of(told, folder):
+        refuse_service(custody, library, story, room, counts, earlier)
+    return counts
+
+
+def refuse_service(custody, library, story, folder, counts, earlier, *options, rules=None):
+    due, file = Due(), File(folder)
     before = steps_before(story)
     commands = [(parts, step) for parts, step in before if isinstance(step[1], str)]
     for parts, (_, sent, _) in commands:
@@ -532,7 +569,7 @@ def refuse_service(custody, library, story, folder, *options, rules=None):
             rules.operate(sent)
     words = [custody, "serve", "--db", "t.db", "--port", "8090", "--count", "1000000", "--idle", "3600", "--most", "3600", *options]
     with Program(library, "accept", words, folder) as program:
-        service = Service(program, file, counts)
+        service = Service(program, file, counts, earlier)
         for parts, step in before[len(commands) :]:
             service.go(asked_next(parts, step, due, rules))
         for place, (parts, step) in enumerate(asked_in(story)):
@@ -541,13 +578,14 @@ def refuse_service(custody, library, story, folder, *options, rules=None):
                 service.refuse_each(asked)
                 service.go(asked)
             except Wrong as wrong:
-                raise Wrong("step %d, %s: %s" % (place + 1, parts[0].line, wrong))
-    return counts
+                raise Wrong("%s, step %d, %s: %s" % (story.name, place + 1, parts[0].line, wrong))
 
 
 def refuse_logged(custody, library, story, folder):
     """The same of a service with its log."""
-    return refuse_service(custody, library, story, folder, "--log", rules=model.Custody())
+    counts = Counts()
+    refuse_service(custody, library, story, folder, counts, Earlier(), "--log", rules=model.Custody())
+    return counts
 
 
 def told_at_door(command, text):
@@ -565,7 +603,7 @@ def refuse_door(custody, library, story, folder, *options):
     counts, due, file = Counts(), Due(), File(folder)
     words = [custody, "serve", "--db", "t.db", "--port", "8090", "--count", "1000000", "--idle", "3600", "--most", "3600", "--operator", *options]
     with Program(library, "accept", words, folder, doors.SECRET + b"\n") as program:
-        service = Service(program, file, counts)
+        service = Service(program, file, counts, Earlier())
         for command, text, *leaves in AT_DOOR:
             before = due.rows()
             for sql in leaves:
@@ -589,6 +627,29 @@ def refuse_logged_door(custody, library, story, folder):
 # ----------------------------------------------------------------------------------------------------
 # Runs of a program, refused at each of its requests
 # ----------------------------------------------------------------------------------------------------
+
+
+class Earlier:
+    """What earlier commands, or requests of a service, asked for: each row of sizes, in bytes."""
+
+    turns = TURNS
+
+    def __init__(self):
+        self.rows, self.own, self.last, self.turn = set(), set(), collections.deque(maxlen=ROW), 0
+
+    def is_left(self, size):
+        """Whether the next request, for so many bytes, isn't refused, since an earlier one came to it alike."""
+        self.last.append(size)
+        row = tuple(self.last)
+        self.own.add(row)
+        self.turn += row in self.rows
+        return row in self.rows and self.turn % self.turns != 0
+
+    def end(self):
+        """A command is over: what it asked for is earlier from now on."""
+        self.rows |= self.own
+        self.own.clear()
+        self.last.clear()
 
 
 def refuse_run(program, counts, judge, file=None, first=1, is_left=lambda errors: False):
@@ -698,9 +759,16 @@ def copy(folder, line):
     shutil.copyfile(os.path.join(os.path.dirname(stories.TEXT), "data", name), os.path.join(folder, path))
 
 
-def refuse_commands(custody, library, story, folder):
-    """Each command of a story in turn, on the file that the commands before it left."""
-    counts, due, file = Counts(), Due(), File(folder)
+def refuse_commands(custody, library, told, folder):
+    """Each command of these stories in turn, on the file that the commands of its story before it left."""
+    counts, earlier = Counts(), Earlier()
+    for story, room in rooms_of(told, folder):
+        refuse_commands_of(custody, library, story, room, counts, earlier)
+    return counts
+
+
+def refuse_commands_of(custody, library, story, folder, counts, earlier):
+    due, file = Due(), File(folder)
     for parts in story.plots:
         if parts[0].line.startswith("copy "):
             due.take(parts[0])
@@ -712,10 +780,10 @@ def refuse_commands(custody, library, story, folder):
         try:
             command = Command(custody, parts, file, before, due.rows())
             with Program(library, "request", command.words, folder, command.given) as program:
-                refuse_run(program, counts, command.judge, file)
+                refuse_run(program, counts, command.judge, file, is_left=lambda _, program=program: earlier.is_left(program.size))
+            earlier.end()
         except Wrong as wrong:
-            raise Wrong("%s: %s" % (parts[0].line, wrong))
-    return counts
+            raise Wrong("%s, %s: %s" % (story.name, parts[0].line, wrong))
 
 
 # ----------------------------------------------------------------------------------------------------
@@ -814,22 +882,18 @@ def read_stories():
 
 
 def jobs_of(told, custody, program):
-    """What is to be run: a kind, its function, its program, and a story."""
-    jobs = []
+    """What is to be run: a kind, its function, its program, and a story, or a list of them."""
+    of_commands = [story for story in told.values() if any(parts[0].line.startswith("$") for parts in story.plots)]
+    of_requests = [story for story in told.values() if story.name not in [LEFT, ALIKE] and story not in of_commands]
+    last = [story for story in of_requests if not any(story is later.after for later in told.values())]
+    jobs = [("commands on a file", refuse_commands, custody, of_commands), ("requests of a service", refuse_services, custody, last)]
     for story in told.values():
         if story.name in RESUMED and program:
             jobs.append(("steps that a replay left", refuse_told, program, story))
-        if story.name in [LEFT, ALIKE]:
-            continue
-        if any(parts[0].line.startswith("$") for parts in story.plots):
-            jobs.append(("commands on a file", refuse_commands, custody, story))
-        else:
-            if story.name in REPLAYED:
-                jobs.append(("frames replayed", refuse_replay, custody, story))
-            if story.name in LOGGED:
-                jobs.append(("requests of a service with its log", refuse_logged, custody, story))
-            if not any(story is later.after for later in told.values()):
-                jobs.append(("requests of a service", refuse_service, custody, story))
+        if story.name in REPLAYED:
+            jobs.append(("frames replayed", refuse_replay, custody, story))
+        if story.name in LOGGED:
+            jobs.append(("requests of a service with its log", refuse_logged, custody, story))
     jobs.append(("commands at the operator's door", refuse_door, custody, told["two organizations"]))
     jobs.append(("commands at the operator's door of a service with its log", refuse_logged_door, custody, told["two organizations"]))
     return jobs
@@ -839,10 +903,11 @@ def run_job(library, room, number, job):
     kind, refuse, program, story = job
     folder = "%s/%d" % (room, number)
     os.mkdir(folder)
+    name = "%d stories" % len(story) if isinstance(story, list) else story.name
     try:
-        return kind, story.name, refuse(program, library, story, folder), None
+        return kind, name, refuse(program, library, story, folder), None
     except (Wrong, OSError, sqlite3.Error, subprocess.SubprocessError) as error:
-        return kind, story.name, Counts(), error
+        return kind, name, Counts(), error
 
 
 def tell(kind, name, counts, error):
@@ -851,12 +916,15 @@ def tell(kind, name, counts, error):
 
 
 def main():
-    if len(sys.argv) < 2:
+    words = sys.argv[1:]
+    if words[:1] == ["--each"]:
+        words, Earlier.turns = words[1:], 1
+    if len(words) not in (1, 2):
         sys.exit(__doc__)
     # (a file that others may read is told of)
     os.umask(0o077)
-    custody = os.path.abspath(sys.argv[1])
-    program = os.path.abspath(sys.argv[2]) if len(sys.argv) > 2 else None
+    custody, *programs = map(os.path.abspath, words)
+    program = programs[0] if programs else None
     total, failed = Counts(), 0
     with tempfile.TemporaryDirectory(prefix="refusals-") as room:
         library = compiled("refuse", room)

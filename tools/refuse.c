@@ -5,10 +5,11 @@
 //     REFUSE=MOMENT ASKED=FD TOLD=FD LD_PRELOAD=./refuse.so PROGRAM ..
 //
 // At the moment (`start`: before its first line; `request`: before each request for memory, of many alike before some;
-// `each`: before each of them; `accept`: before it accepts a connection) the process tells `ready` and reads lines from the
-// descriptor ASKED. `try K L`: a copy of it goes on, in which the requests K to L are refused, counted from that moment on, or
-// from the copy's connection on; `try K L M`: so, and behind M requests it ends with status 97. `go`: it goes on itself, up to the next such moment, and at `go K` up to the K-th one, of
-// requests. At the end of ASKED it ends.
+// `each`: before each of them; `accept`: before it accepts a connection) the process tells `ready SIZE`, with the bytes that are
+// requested, or 0, and reads lines from the descriptor ASKED. `try K L`: a copy of it goes on, in which the requests K to L are
+// refused, counted from that moment on, or from the copy's connection on; `try K L M`: so, and behind M requests it ends with
+// status 97. `sizes`: the bytes that each request of the last copy was for are told, in one line. `go`: it goes on itself, up to
+// the next such moment, and at `go K` up to the K-th one, of requests. At the end of ASKED it ends.
 //
 // What is told, a line each on the descriptor TOLD, beside `ready`: `ended STATUS ASKED REFUSED` where a copy has ended
 // (a signal is 128 and its number), with how many requests were made and how many refused; `accepts 0 ASKED REFUSED`
@@ -37,9 +38,13 @@
 // Behind so many requests in a row for as many bytes, as for the slots of pages, one in so many is a moment.
 #define ALIKE 64
 #define LEAP 50
+// Of how many requests of a copy the sizes are told, and in how many digits.
+#define SIZES 100000
+#define DIGITS 21
 
 struct counts {
   long asked, refused;
+  size_t sizes[SIZES];
 };
 
 static struct counts *counts;
@@ -71,6 +76,15 @@ static void tell(const char *line, int length) {
   if (write(tells, line, length) != length) give_up("TOLD");
 }
 
+// Tells the bytes that the last copy requested, each behind a space.
+static void tell_sizes(void) {
+  static char text[SIZES * DIGITS];
+  int length = 0;
+  for (long n = 0; n < counts->asked && n < SIZES; n++) length += snprintf(text + length, DIGITS, " %zu", counts->sizes[n]);
+  text[length++] = '\n';
+  tell(text, length);
+}
+
 static void await(pid_t copy) {
   int status;
   char line[LINE];
@@ -80,15 +94,19 @@ static void await(pid_t copy) {
 }
 
 // Makes copies until this process goes on itself, or is one.
-static void make_copies(void) {
+static void make_copies(size_t size) {
   char line[LINE];
-  tell("ready\n", 6);
+  tell(line, snprintf(line, LINE, "ready %zu\n", size));
   while (read_line(line)) {
     if (!strcmp(line, "go")) return;
     if (sscanf(line, "go %ld", &passes) == 1) return;
+    if (!strcmp(line, "sizes")) {
+      tell_sizes();
+      continue;
+    }
     most = 0;
     if (sscanf(line, "try %ld %ld %ld", &from, &to, &most) < 2) give_up(line);
-    memset(counts, 0, sizeof *counts);
+    counts->asked = counts->refused = 0;
     off_t place = lseek(0, 0, SEEK_CUR);
     pid_t copy = fork();
     if (copy < 0) give_up("fork");
@@ -113,7 +131,7 @@ static void __attribute__((constructor)) begin(void) {
   waits_at_each = !strcmp(moment, "each");
   waits_at_request = waits_at_each || !strcmp(moment, "request");
   if (waits_at_accept || waits_at_request) return;
-  make_copies();
+  make_copies(0);
   is_counting = is_copy;
 }
 
@@ -128,11 +146,12 @@ static int is_one_of_many(size_t size) {
 static int is_refused(size_t size) {
   if (waits_at_request && !is_copy && (waits_at_each || !is_one_of_many(size)) && --passes <= 0) {
     passes = 0;
-    make_copies();
+    make_copies(size);
     is_counting = is_copy;
   }
   if (!is_counting) return 0;
   long n = ++counts->asked;
+  if (n <= SIZES) counts->sizes[n - 1] = size;
   if (most && n > most) _exit(97);
   if (n < from || n > to) return 0;
   ++counts->refused;
@@ -186,7 +205,7 @@ static void accept_again(void) {
 int accept4(int listener, struct sockaddr *address, socklen_t *length, int flags) {
   static int (*real)(int, struct sockaddr *, socklen_t *, int);
   if (!real) real = dlsym(RTLD_NEXT, "accept4");
-  if (waits_at_accept && !is_copy) make_copies();
+  if (waits_at_accept && !is_copy) make_copies(0);
   else if (waits_at_accept) accept_again();
   int stream = real(listener, address, length, flags);
   if (waits_at_accept && is_copy && stream >= 0) is_counting = !accepted++;
