@@ -830,7 +830,7 @@ class Taken:
 def refuse_told(program, library, story, folder):
     """A story's own steps replayed over each store in memory: where a replay is refused, the steps that are left are sent again.
     The program compares all rows, where the last of the stores gave up and at the end of each over tables."""
-    counts, taken, text = Counts(), Taken(), told_text(story)
+    counts, taken, earlier, text = Counts(), Taken(), Earlier(), told_text(story)
     names = [before.name.encode() for before in chain_of(story)]
     whole = b"".join(b"passed %s\n" % name for name in names) + b"%d stories passed\n" % len(names)
 
@@ -845,7 +845,17 @@ def refuse_told(program, library, story, folder):
         return False
 
     with Program(library, "request", [program], folder, text) as told:
-        refuse_run(told, counts, judge, is_left=taken.is_left)
+
+        def is_left(errors):
+            """What a replay over an earlier store came to alike is refused in part."""
+            store = taken.store
+            if taken.is_left(errors):
+                return True
+            if taken.store != store:
+                earlier.end()
+            return earlier.is_left(told.size)
+
+        refuse_run(told, counts, judge, is_left=is_left)
     taken.look(STORES)
     return counts
 
