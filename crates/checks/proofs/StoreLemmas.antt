@@ -67,7 +67,7 @@ pub tables_reported : (old new : State) (names lines : List (List ℕ)) (faults 
     → lines ≡ map fault_line faults → ReportsTables old.committed new.committed lines
 tables_reported old new names lines faults named holds clean reported are = record {
   none = (λ none. named.none.0 (holds (map_none fault_line faults (sym are ∙ none))), λ ours. are ∙ none_listed fault_line faults (clean (named.none.1 ours)));
-  others = record { names = names; others = named.named; each = record { faults = faults; reported = reported; lines_are = are } };
+  others = record { names = names; others = named.named; every = named.every; each = record { faults = faults; reported = reported; lines_are = are } };
   same = named.same;
 }
 

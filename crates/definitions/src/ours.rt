@@ -4,7 +4,7 @@ ghost use Rattle.std.specs.List.{AllByRecursion, AllZip};
 ghost use Rattle.sqlite_schema.specs.declared.schema.Table.{Table};
 ghost use Rattle.statements.specs.Inner.Making.{IsDefinedBy, texts_in};
 ghost use Rattle.statements.specs.Tables.{our_tables, IsOurs};
-ghost use Rattle.definitions.specs.Others.{IsOther};
+ghost use Rattle.definitions.specs.Others.{IsOther, IsOwnOrNamed};
 
 use crate::own::others_among;
 use basis::{Down, Items as BasisItems, Text};
@@ -40,6 +40,7 @@ fn our_tables(alloc: Global) -> Result<Items<Table>, Down>
 pub fn others(alloc: Global, schema: &Schema) -> Result<BasisItems<Text>, Down>
     ensures none { IfOk result (λ names. (names ≡ []) ↔ IsOurs schema.now) }
     ensures named { IfOk result (AllByRecursion (IsOther schema.now our_tables)) }
+    ensures every { IfOk result (λ names. AllByRecursion (IsOwnOrNamed schema.now names) our_tables) }
 {
     let tables = our_tables(alloc)?;
     others_among(alloc, schema, tables.as_slice())

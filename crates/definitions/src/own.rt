@@ -2,7 +2,7 @@
 ghost use Rattle.std.specs.Prelude.{◌≡◌, ◌↔◌, [], IsTrue, IfOk, OnOk};
 ghost use Rattle.std.specs.List.{AllByRecursion};
 ghost use Rattle.statements.specs.Place.{tree_of, IsOwn};
-ghost use Rattle.definitions.specs.Others.{IsOther};
+ghost use Rattle.definitions.specs.Others.{IsOther, IsOwnOrNamed};
 ghost use Rattle.definitions.specs.Inner.{IsFound, IsFirst, IsKept, NamesOther};
 
 use crate::alike::{are_alike, same_references};
@@ -135,6 +135,7 @@ fn name_other(
 pub fn others_among(alloc: Global, schema: &Schema, tables: &[Table]) -> Result<Items<Text>, Down>
     ensures none { IfOk result (λ names. (names ≡ []) ↔ AllByRecursion (IsOwn schema.now) tables.now) }
     ensures named { IfOk result (AllByRecursion (IsOther schema.now tables.now)) }
+    ensures every { IfOk result (λ names. AllByRecursion (IsOwnOrNamed schema.now names) tables.now) }
 {
     let mut names = Items::new(Vec::new(alloc));
     for table in tables {

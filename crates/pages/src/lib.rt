@@ -10,5 +10,5 @@ mod twins;
 
 pub use keys::{PageKey, ShaKey};
 pub use scans::heads;
-pub use store::{PageId, get, put_known, put_own, release, same};
+pub use store::{PageId, get, put, put_known, put_own, release, same};
 pub use twins::Twin;

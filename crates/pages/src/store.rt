@@ -171,8 +171,8 @@ fn alike(first: Option<FirstPage>) -> Option<PageUse>
     }
 }
 
-/// Adds a use of a page, or the page, under its own key. Fails if the number of its uses or its twin number
-/// would exceed 9,223,372,036,854,775,807.
+/// Adds a use of a page, or the page, under this key, which its caller has computed. Fails if the number of
+/// its uses or its twin number would exceed 9,223,372,036,854,775,807.
 pub fn put_own<S: Alter>(
     tx: &mut Transaction<'_, S>,
     key: &[u8; 32],
@@ -183,6 +183,14 @@ pub fn put_own<S: Alter>(
     let twin = put_under(tx, key.as_slice(), page)?;
     prove!(twin.get() <= MAX_TWIN);
     Ok(PageId { key: *key, twin })
+}
+
+/// Adds a use of a page, or the page, under the key of its bytes. Fails as `put_own` does.
+pub fn put<K: PageKey, S: Alter>(tx: &mut Transaction<'_, S>, page: &[u8]) -> Result<PageId, Error>
+    ensures { PutsUnder S.Store (K.key_of page.now) page.now tx.old tx.new result }
+{
+    let key = K::key(page);
+    put_own(tx, &key, page)
 }
 
 /// Adds a use to an existing page with a known key.
@@ -211,10 +219,7 @@ pub fn put_known<K: PageKey, S: Alter>(
     let first = first(tx, known.as_slice(), page)?;
     let found = alike(first);
     match found {
-        None => {
-            let key = K::key(page);
-            put_own(tx, &key, page)
-        }
+        None => put::<K, S>(tx, page),
         Some(found) => {
             prove!(found.twin.get() <= MAX_TWIN);
             use_known(tx, known, found)

@@ -5,6 +5,7 @@ pub mod BoundTexts
 pub mod BoundWrites
 pub mod Calm
 pub mod Casts
+pub mod CellLemmas
 pub mod Childless
 pub mod Codes
 pub mod Columns

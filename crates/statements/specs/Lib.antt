@@ -1,5 +1,6 @@
 pub mod Belonging
 pub mod Calls
+pub mod Cells
 pub mod Changes
 pub mod Finds
 pub mod Inner

@@ -1,11 +1,12 @@
 //! Reads the cells of a row as values, and those of a version or a run as one value.
-ghost use Rattle.std.specs.Prelude.{◌≡◌, ◌<◌, false, None, string_bytes, IfOk, IfErr};
+ghost use Rattle.std.specs.Prelude.{◌≡◌, ◌<◌, ◌+◌, false, None, string_bytes, IfOk, IfErr};
 ghost use Rattle.basis.specs.Names.{is_lock_id, is_prefix, is_ws_name};
 ghost use Rattle.basis.specs.Numbers.{within};
 ghost use Rattle.basis.specs.declared.numbers.TheConstants.{MAX_KEPT, MAX_LIMIT, MAX_MOMENT, MAX_NUMBER, MAX_SERIAL};
 ghost use Rattle.sqlite_value.specs.Order.{column};
 ghost use Rattle.sqlite_value.specs.declared.value.Value.TheVariants.{Text as TextCell, Blob as BlobCell};
 ghost use Rattle.statements.specs.Rows.{number, role_code, status_code, number_at, flag, flag_at, bytes_at, some_bytes_at, status_at, action_code, action_at, some_action_at, version_in_row, run_in_row};
+ghost use Rattle.statements.specs.Cells.{IsTextCell, IsBlobCell, IsNumberCell, IsWithin, IsLockIdCell, IsRoleCell, IsBooleanCell, IsStatusCell, IsActionCell, IsNullOr, HasVersion, HasRun, IsRefused, AreRefused};
 ghost use Rattle.statements.specs.Calls.{IsVersionIn, IsRunIn, IsFlagCell, IsTextOrNull, IsNumberOrNull, IsActionOrNull};
 
 use basis::{
@@ -18,6 +19,7 @@ use sqlite::{Error, Row};
 pub(crate) fn text_in(row: &Row, at: usize) -> Result<Text, Error>
     ensures is { IfOk result (λ x. x ≡ bytes_at row.now at) }
     ensures cell { IfOk result (λ x. column row.now at ≡ TextCell x) }
+    ensures err { IfErr result (IsRefused IsTextCell row.now at) }
 {
     Ok(Text::new(row.get(at)?))
 }
@@ -25,6 +27,7 @@ pub(crate) fn text_in(row: &Row, at: usize) -> Result<Text, Error>
 pub(crate) fn bytes_in(row: &Row, at: usize) -> Result<Bytes, Error>
     ensures is { IfOk result (λ x. x ≡ bytes_at row.now at) }
     ensures cell { IfOk result (λ x. column row.now at ≡ BlobCell x) }
+    ensures err { IfErr result (IsRefused IsBlobCell row.now at) }
 {
     Ok(Bytes::new(row.get(at)?))
 }
@@ -32,6 +35,7 @@ pub(crate) fn bytes_in(row: &Row, at: usize) -> Result<Bytes, Error>
 pub(crate) fn unsigned_in(row: &Row, at: usize) -> Result<u64, Error>
     ensures is { IfOk result (λ x. x ≡ number_at row.now at) }
     ensures cell { IfOk result (λ x. column row.now at ≡ number x) }
+    ensures err { IfErr result (IsRefused IsNumberCell row.now at) }
 {
     row.get(at)
 }
@@ -39,6 +43,7 @@ pub(crate) fn unsigned_in(row: &Row, at: usize) -> Result<u64, Error>
 pub(crate) fn number_in(row: &Row, at: usize) -> Result<Number, Error>
     ensures is { IfOk result (λ x. x ≡ number_at row.now at) }
     ensures cell { IfOk result (λ x. column row.now at ≡ number x) }
+    ensures err { IfErr result (IsRefused (IsWithin 1 MAX_NUMBER) row.now at) }
 {
     number_of(row.get(at)?, at)
 }
@@ -46,6 +51,7 @@ pub(crate) fn number_in(row: &Row, at: usize) -> Result<Number, Error>
 pub(crate) fn moment_in(row: &Row, at: usize) -> Result<Moment, Error>
     ensures is { IfOk result (λ x. x ≡ number_at row.now at) }
     ensures cell { IfOk result (λ x. column row.now at ≡ number x) }
+    ensures err { IfErr result (IsRefused (IsWithin 0 MAX_MOMENT) row.now at) }
 {
     moment_of(row.get(at)?, at)
 }
@@ -53,6 +59,7 @@ pub(crate) fn moment_in(row: &Row, at: usize) -> Result<Moment, Error>
 pub(crate) fn serial_in(row: &Row, at: usize) -> Result<Serial, Error>
     ensures is { IfOk result (λ x. x ≡ number_at row.now at) }
     ensures cell { IfOk result (λ x. column row.now at ≡ number x) }
+    ensures err { IfErr result (IsRefused (IsWithin 0 MAX_SERIAL) row.now at) }
 {
     serial_of(row.get(at)?, at)
 }
@@ -71,6 +78,7 @@ fn serial_of(serial: u64, at: usize) -> Result<Serial, Error>
 pub(crate) fn optional_text(row: &Row, at: usize) -> Result<Option<Text>, Error>
     ensures is { IfOk result (λ x. x ≡ some_bytes_at row.now at) }
     ensures cell { IfOk result (IsTextOrNull (column row.now at)) }
+    ensures err { IfErr result (IsRefused (IsNullOr IsTextCell) row.now at) }
 {
     match row.get::<Option<String>>(at)? {
         Some(text) => Ok(Some(Text::new(text))),
@@ -157,7 +165,8 @@ pub(crate) fn name_of(name: String, at: usize) -> Result<WsName, Error>
 }
 
 pub(crate) fn optional_number(row: &Row, at: usize) -> Result<Option<Number>, Error>
-    ensures { IfOk result (IsNumberOrNull (column row.now at)) }
+    ensures cell { IfOk result (IsNumberOrNull (column row.now at)) }
+    ensures err { IfErr result (IsRefused (IsNullOr (IsWithin 1 MAX_NUMBER)) row.now at) }
 {
     match row.get::<Option<u64>>(at)? {
         Some(value) => Ok(Some(number_of(value, at)?)),
@@ -166,7 +175,8 @@ pub(crate) fn optional_number(row: &Row, at: usize) -> Result<Option<Number>, Er
 }
 
 pub(crate) fn optional_moment(row: &Row, at: usize) -> Result<Option<Moment>, Error>
-    ensures { IfOk result (IsNumberOrNull (column row.now at)) }
+    ensures cell { IfOk result (IsNumberOrNull (column row.now at)) }
+    ensures err { IfErr result (IsRefused (IsNullOr (IsWithin 0 MAX_MOMENT)) row.now at) }
 {
     match row.get::<Option<u64>>(at)? {
         Some(value) => Ok(Some(moment_of(value, at)?)),
@@ -175,7 +185,8 @@ pub(crate) fn optional_moment(row: &Row, at: usize) -> Result<Option<Moment>, Er
 }
 
 pub(crate) fn optional_retention(row: &Row, at: usize) -> Result<Option<KeepCount>, Error>
-    ensures { IfOk result (IsNumberOrNull (column row.now at)) }
+    ensures cell { IfOk result (IsNumberOrNull (column row.now at)) }
+    ensures err { IfErr result (IsRefused (IsNullOr (IsWithin 1 MAX_KEPT)) row.now at) }
 {
     match row.get::<Option<u64>>(at)? {
         Some(value) => Ok(Some(retention_of(value, at)?)),
@@ -186,6 +197,7 @@ pub(crate) fn optional_retention(row: &Row, at: usize) -> Result<Option<KeepCoun
 pub(crate) fn optional_lock_id(row: &Row, at: usize) -> Result<Option<LockId>, Error>
     ensures is { IfOk result (λ x. x ≡ some_bytes_at row.now at) }
     ensures cell { IfOk result (IsTextOrNull (column row.now at)) }
+    ensures err { IfErr result (IsRefused (IsNullOr IsLockIdCell) row.now at) }
 {
     match row.get::<Option<String>>(at)? {
         Some(value) => Ok(Some(lock_id_of(value, at)?)),
@@ -195,7 +207,8 @@ pub(crate) fn optional_lock_id(row: &Row, at: usize) -> Result<Option<LockId>, E
 
 /// The role with the number in this column.
 pub(crate) fn role_in(row: &Row, at: usize) -> Result<Role, Error>
-    ensures { IfOk result (λ role. column row.now at ≡ number (role_code role)) }
+    ensures cell { IfOk result (λ role. column row.now at ≡ number (role_code role)) }
+    ensures err { IfErr result (IsRefused IsRoleCell row.now at) }
 {
     role_of(row.get(at)?, at)
 }
@@ -218,6 +231,7 @@ pub(crate) fn flag_in(row: &Row, at: usize) -> Result<bool, Error>
     ensures is { IfOk result (λ b. b ≡ flag_at row.now at) }
     ensures cell { IfOk result (IsFlagCell (column row.now at)) }
     ensures exact { IfOk result (λ b. column row.now at ≡ flag b) }
+    ensures err { IfErr result (IsRefused IsBooleanCell row.now at) }
 {
     match row.get::<u64>(at)? {
         0 => Ok(false),
@@ -227,7 +241,8 @@ pub(crate) fn flag_in(row: &Row, at: usize) -> Result<bool, Error>
 }
 
 pub(crate) fn status_in(row: &Row, at: usize) -> Result<RunStatus, Error>
-    ensures { IfOk result (λ status. column row.now at ≡ number (status_code status)) }
+    ensures cell { IfOk result (λ status. column row.now at ≡ number (status_code status)) }
+    ensures err { IfErr result (IsRefused IsStatusCell row.now at) }
 {
     status_of(row.get(at)?, at)
 }
@@ -253,6 +268,7 @@ fn status_of(code: u64, at: usize) -> Result<RunStatus, Error>
 pub(crate) fn action_in(row: &Row, at: usize) -> Result<Option<RunAction>, Error>
     ensures is { IfOk result (λ x. x ≡ some_action_at row.now at) }
     ensures cell { IfOk result (IsActionOrNull (column row.now at)) }
+    ensures err { IfErr result (IsRefused (IsNullOr IsActionCell) row.now at) }
 {
     match row.get::<Option<u64>>(at)? {
         Some(code) => Ok(Some(action_of(code, at)?)),
@@ -280,6 +296,7 @@ fn action_of(code: u64, at: usize) -> Result<RunAction, Error>
 fn status_of_row(row: &Row, at: usize) -> Result<RunStatus, Error>
     ensures is { IfOk result (λ x. x ≡ status_at (number_at row.now at)) }
     ensures cell { IfOk result (λ x. column row.now at ≡ number (status_code x)) }
+    ensures err { IfErr result (IsRefused IsStatusCell row.now at) }
 {
     status_in(row, at)
 }
@@ -288,6 +305,7 @@ fn status_of_row(row: &Row, at: usize) -> Result<RunStatus, Error>
 pub(crate) fn version_in(row: &Row, at: u8) -> Result<VersionRow, Error>
     ensures is { IfOk result (λ x. x ≡ version_in_row row.now at) }
     ensures cells { IfOk result (IsVersionIn at row.now) }
+    ensures err { IfErr result (AreRefused (HasVersion at) row.now (at + 4)) }
 {
     let at = usize::from(at);
     Ok(VersionRow {
@@ -303,6 +321,7 @@ pub(crate) fn version_in(row: &Row, at: u8) -> Result<VersionRow, Error>
 pub(crate) fn run_in(row: &Row, at: u8) -> Result<RunRow, Error>
     ensures is { IfOk result (λ x. x ≡ run_in_row row.now at) }
     ensures cells { IfOk result (IsRunIn at row.now) }
+    ensures err { IfErr result (AreRefused (HasRun at) row.now (at + 6)) }
 {
     let at = usize::from(at);
     Ok(RunRow {

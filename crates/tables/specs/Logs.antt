@@ -1,4 +1,4 @@
--- What is counted as written into the WAL, and what is left when the WAL was copied into the file.
+-- What counts as written into the WAL, and what a checkpoint leaves of this count.
 use Rattle.std.specs.Prelude.{◌≡◌, ◌<◌, ◌≤◌, ℕ, length}
 use Rattle.machine.specs.declared.acts.Edit.{Edit}
 use Rattle.machine.specs.declared.acts.Edit.TheVariants.{AddVersion}
@@ -9,8 +9,8 @@ abbrev pub text_bytes : Edit → ℕ
 text_bytes (AddVersion version outgoing) = length version.text
 text_bytes other = 0
 
--- If the WAL is not long, the store is unchanged. After a long one, nothing counts as written any more: the WAL was copied, or the store
--- refused to do so.
+-- If fewer than `LONG_LOG` bytes count as written, the store is unchanged. Otherwise none count afterwards. This says neither that the WAL
+-- was copied into the file, nor that the store refused.
 pub record CopiesLog {K : Type 0} (logged left : ℕ) (old new : K) : Type 0 where
   pub short : logged < LONG_LOG → new ≡ old
   pub long : LONG_LOG ≤ logged → left ≡ 0

@@ -13,6 +13,7 @@ ghost use Rattle.machine.specs.Changes.{changed_by, IsDue};
 ghost use Rattle.machine.specs.declared.records.Organization.{Organization as AnyOrganization};
 ghost use Rattle.machine.specs.Ranges.{IsMoment};
 ghost use Rattle.tables.specs.Scans.{ArePagesKeyed};
+ghost use Rattle.tables.specs.Inner.Remembering.{reads_text};
 ghost use Rattle.tables.specs.Logs.{text_bytes};
 
 use crate::memo::Memo;
@@ -41,7 +42,9 @@ fn name_after(after: Option<&WsName>) -> &str
 }
 
 /// Whether an act answers with the text of a version, so that this text is read next.
-fn reads_text(act: &Act) -> bool {
+fn reads_text(act: &Act) -> bool
+    ensures { result ≡ reads_text act.now }
+{
     match act {
         Act::Query(Query::State) => true,
         Act::Query(Query::Version(_)) => true,

@@ -1,7 +1,7 @@
 //! The keys of a text's pages, computed four at a time.
-ghost use Rattle.std.specs.Prelude.{◌≡◌, ◌≤◌, ◌<◌, ◌+◌, ◌*◌, ℕ, List, IsTrue, length};
+ghost use Rattle.std.specs.Prelude.{◌≡◌, ◌≤◌, ◌<◌, ◌+◌, ◌*◌, ℕ, List, IsTrue, None, cond, length};
 ghost use Rattle.texts.specs.Texts.{piece_at};
-ghost use Rattle.texts.specs.Inner.Ahead.{AreKeysOf};
+ghost use Rattle.texts.specs.Inner.Ahead.{AreKeysOf, has_key};
 
 use crate::texts::{PAGE_BYTES, piece_at};
 use pages::PageKey;
@@ -38,6 +38,7 @@ impl Ahead {
 
     /// Whether the key of the page at a place has been computed.
     fn has(&self, place: u64) -> bool
+        ensures exact { result ≡ has_key self.now place }
         ensures made { IsTrue result → IsTrue self.now.is_made }
         ensures there { IsTrue result → (self.now.from ≤ place) × (place < self.now.from + 4) }
     {
@@ -50,7 +51,9 @@ impl Ahead {
         &self,
         place: u64,
         known: Option<&'a [u8; 32]>,
-    ) -> Option<&'a [u8; 32]> {
+    ) -> Option<&'a [u8; 32]>
+        ensures { result ≡ cond (has_key self.now place) None known.entry }
+    {
         if self.has(place) { None } else { known }
     }
 

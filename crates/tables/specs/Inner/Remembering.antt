@@ -1,6 +1,9 @@
 -- What is kept in memory about versions and tokens, and how it changes.
-use Rattle.std.specs.Prelude.{◌≡◌, ◌==◌, ◌&&◌, ℕ, cond, List, Option, Some, None}
+use Rattle.std.specs.Prelude.{◌≡◌, ◌==◌, ◌&&◌, ℕ, Bool, true, false, cond, List, Option, Some, None}
 use Rattle.std.specs.Str.{bytes_eq}
+use Rattle.basis.specs.declared.acts.Query.TheVariants as query
+use Rattle.machine.specs.declared.acts.Act.{Act}
+use Rattle.machine.specs.declared.acts.Act.TheVariants.{Query}
 use Rattle.machine.specs.declared.acts.Edit.{Edit}
 use Rattle.machine.specs.declared.keeps.TokenRow.{TokenRow}
 use Rattle.tables.specs.Inner.Counting.{changed_count}
@@ -8,6 +11,12 @@ use Rattle.tables.specs.declared.askers.Asked.{Asked}
 use Rattle.tables.specs.declared.versions.VersionSize.{VersionSize}
 use Rattle.tables.specs.declared.memo.Memo.{Memo}
 use Rattle.tables.specs.declared.sizes.SizedVersion.{SizedVersion}
+
+-- whether an act answers with the text of a version
+abbrev pub reads_text : Act → Bool
+reads_text (Query query.State) = true
+reads_text (Query (query.Version n)) = true
+reads_text other = false
 
 -- the number of bytes of a version's text, if it is in memory
 abbrev pub size_kept : Option SizedVersion → List ℕ → List ℕ → ℕ → Option ℕ

@@ -2,7 +2,7 @@ use Rattle.std.proofs.Common.{◌≡◌, ◌↔◌, ◌∙◌, [], IfOk, subst}
 use Rattle.std.specs.List.{AllByRecursion}
 use Rattle.std.proofs.lemmas.Result.{IfOk-weaker}
 use Rattle.statements.specs.Place.{IsOwn}
-use Rattle.definitions.specs.Others.{IsOther}
+use Rattle.definitions.specs.Others.{IsOther, IsOwnOrNamed}
 use Rattle.definitions.proofs.Apart.{our_own}
 use Rattle.definitions.proofs.ours.others.Goals as goal
 
@@ -16,3 +16,7 @@ returns-clause-none c =
 
 pub returns-clause-named : goal.returns-clause-named
 returns-clause-named c = subst (λ l. IfOk c.others_among.result (AllByRecursion (IsOther c.args.schema.now l))) (c.as_slice.ensures ∙ c.in_ok-tables.ensures) c.others_among.ensures.named
+
+pub returns-clause-every : goal.returns-clause-every
+returns-clause-every c =
+    subst (λ l. IfOk c.others_among.result (λ names. AllByRecursion (IsOwnOrNamed c.args.schema.now names) l)) (c.as_slice.ensures ∙ c.in_ok-tables.ensures) c.others_among.ensures.every

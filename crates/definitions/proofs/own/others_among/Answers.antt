@@ -2,6 +2,7 @@ use Rattle.std.proofs.Common.{◌≡◌, ◌↔◌, [], subst}
 use Rattle.std.proofs.lemmas.List.{take_all}
 use Rattle.std.specs.List.{AllByRecursion}
 use Rattle.statements.specs.Place.{IsOwn}
+use Rattle.definitions.specs.Others.{IsOwnOrNamed}
 use Rattle.definitions.proofs.Naming.{names_more}
 use Rattle.definitions.proofs.own.others_among.Goals as goal
 
@@ -15,3 +16,7 @@ returns-clause-none c =
 
 pub returns-clause-named : goal.returns-clause-named
 returns-clause-named c = c.loop-table.invariant.named
+
+pub returns-clause-every : goal.returns-clause-every
+returns-clause-every c =
+    subst (λ l. AllByRecursion (IsOwnOrNamed c.args.schema.now c.loop-table.names) l) (take_all c.loop-table.table-index c.args.tables.now c.loop-table-test.false) c.loop-table.invariant.every

@@ -1,4 +1,4 @@
-use Rattle.std.proofs.Common.{rules, ◌≡◌, ◌<◌, ◌+◌, ◌^◌, ℕ, List, Some, IfOk, sym, subst, ◌∙◌}
+use Rattle.std.proofs.Common.{rules, ◌≡◌, ◌+◌, Some, sym, ◌∙◌}
 use Rattle.std.proofs.lemmas.Result.{IfOk-weaker}
 use Rattle.sqlite.specs.Held.{state}
 use Rattle.sqlite.specs.State.{HasCleanDisk}
@@ -16,13 +16,12 @@ returns-in_err-first-clause-puts g c = (c.args.known.now, search rules)
 pub returns-in-None-clause-puts : goal.returns-in-None-clause-puts
 returns-in-None-clause-puts g c =
     let read = c.in_ok-first.ensures.read in (
-      c.key-key.result,
-      puts_behind g.S.Store c.key-key.result c.args.page.now c.args.tx.now c.first.new.tx c.put_own.new.tx c.put_own.result c.first.ensures.same_reference c.first.ensures.survives (λ clean. (read clean).1.0) c.put_own.ensures,
+      g.K.PageKey.key_of c.args.page.now,
+      puts_behind g.S.Store (g.K.PageKey.key_of c.args.page.now) c.args.page.now c.args.tx.now c.first.new.tx c.put.new.tx c.put.result c.first.ensures.same_reference c.first.ensures.survives (λ clean. (read clean).1.0) c.put.ensures,
     )
 
 pub returns-in-None-clause-keyed : goal.returns-in-None-clause-keyed
-returns-in-None-clause-keyed g c clean = own_fits g.K.PageKey.key_of c.args.page.now (state g.S.Store c.args.tx.now.conn.now) c.put_own.result
-    (subst (λ (key : List ℕ). IfOk c.put_own.result (λ id. (id.key ≡ key) × (id.twin < 2 ^ 63))) c.key-key.ensures c.put_own.ensures.named)
+returns-in-None-clause-keyed g c clean = own_fits g.K.PageKey.key_of c.args.page.now (state g.S.Store c.args.tx.now.conn.now) c.put.result c.put.ensures.named
 
 pub returns-in-Some-clause-puts : goal.returns-in-Some-clause-puts
 returns-in-Some-clause-puts g c =
