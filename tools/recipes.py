@@ -532,7 +532,7 @@ def readme():
         serves(8443, 8090)
         shell.runs(page, "echo 'header", ['"name":"net"'])
         shell.runs(page, "export TF_HTTP_USERNAME=", ["successfully initialized", "Enter a value:", "Apply complete! Resources: 1 added"], given="yes\n")
-        shell.runs(page, "curl -K ci.curl", ['"status":"planning"', "Error acquiring the state lock", "ID=run-1", '"status":"canceled"'], ["1 terraform plan"])
+        shell.runs(page, "curl --noproxy '*' -K ci.curl", ['"status":"planning"', "Error acquiring the state lock", "ID=run-1", '"status":"canceled"'], ["1 terraform plan"])
         shell.runs(page, "kill ")
         wait_until(lambda: not answers(8443) and not answers(8090), "what README stops still listens")
         said("the folder of the trial", os.path.exists("/root/custody-try"), False)
