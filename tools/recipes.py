@@ -744,12 +744,9 @@ def locks(page, shell):
 
 
 def backups(page, shell):
-    stop = "to=/root/backup-$(date +%F-%H%M%S)\ninstall"
-    shell.runs(page, stop, [COUNTS])
-    time.sleep(1)
     shell.runs(page, "to=/root/backup-$(date +%F-%H%M%S)\n/usr/share/", [COUNTS])
     copies = sorted(glob.glob("/root/backup-*"))
-    said("the copies", [sorted(os.listdir(path)) for path in copies], [["custody.db", "custody.db-wal"]] * 2)
+    said("the copies", [sorted(os.listdir(path)) for path in copies], [["custody.db", "custody.db-wal"]])
     shell.runs(page, "apt-get install rsync")
     with open(JOURNAL + "/custody-backup", encoding="utf-8") as file:
         said("what check says of the daily copy", re.search(COUNTS, file.read(), re.M) is not None, True)
@@ -780,6 +777,7 @@ def backups(page, shell):
     said("what was restored", shell.does(state), before)
     one_workspace(page, shell)
     shell.does("cp -rp %s /root/look\n" % copies[-1] + page.inline("sqlite3 /root/look/custody.db 'PRAGMA integrity_check; PRAGMA foreign_key_check'") + "rm -r /root/look", ["^ok$"])
+    before = shell.does(state)
     repairs(page, shell)
     serves()
     said("what was restored", shell.does(state), before)
