@@ -222,7 +222,7 @@ class Machine:
                 return self.unit(name).start()
             case "systemctl", ["show", "-p", what, "--value", name]:
                 return 0, "%d\n" % self.unit(name).show(what)
-            case "systemctl", ["--failed", "custody*"]:
+            case "systemctl", ["list-units", "--failed", "custody*"]:
                 return 0, "".join("%s.service failed\n" % name for name, unit in self.units.items() if unit.failed)
         return 1, "%s: no stand-in for %s\n" % (program, words)
 
@@ -786,7 +786,7 @@ def backups(page, shell):
     serves()
     shell.does(state, ['"name":"net"'])
     shell.does(page.inline("systemctl show -p NRestarts --value custody"), ["^0$"])
-    said("what failed", shell.does(page.inline("systemctl --failed 'custody*'")), "")
+    said("what failed", shell.does(page.inline("systemctl list-units --failed 'custody*'")), "")
     shell.does(page.inline("find /var/backups/custody -maxdepth 1 -name '20*' -mtime -1"), ["^/var/backups/custody/20"])
     shell.does(page.inline("df /var/lib/custody /var/lib/nginx"))
 
