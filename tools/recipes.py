@@ -828,6 +828,7 @@ def repairs(page, shell):
     serves()
     shell.does(runs, [r'"key":"k\\u0000x".*"number":2', '"number":3', '"number":4'])
     said("the rows after a repair", shell.does(rows), before)
+    shell.does('for n in 2 3 4; do curl -sS -f -K /root/acme.ci.curl -X POST "$CUSTODY/runs/net/$n/actions/cancel"; done', ['"canceled"'] * 3)
 
 
 def log(page, shell):
