@@ -5,8 +5,8 @@
 # there go to a folder whose name is printed.
 set -eu
 service=$1 from=$2
-home=/var/lib/$(echo "$service" | tr @ -)
-now=$(date -u +%F-%H%M%S)
+file=$(realpath -m "/var/lib/$(echo "$service" | tr @ -)/custody.db")     # custody follows symbolic links, too
+home=$(dirname "$file") now=$(date -u +%F-%H%M%S)
 new=$home/new-$now lost=$home/lost-$now
 umask 077
 mkdir "$new"
@@ -17,15 +17,17 @@ chown -R custody: "$new"
 runuser -u custody -- custody check --db "$new/custody.db"
 systemctl stop "$service"
 # a service would write on into a file that is moved away, and what it acknowledges would be lost
-if [ -e "$home/custody.db" ] && [ "$(find /proc/[0-9]*/fd -lname "$(realpath "$home/custody.db")" 2> /dev/null)" ]; then
-    echo "a process has $home/custody.db open: nothing was moved" >&2
+if [ "$(find /proc/[0-9]*/fd -lname "$file" 2> /dev/null)" ]; then
+    echo "a process has $file open: nothing was moved" >&2
     exit 1
 fi
 mkdir "$lost"
 chown custody: "$lost"
-for file in custody.db custody.db-wal; do
-    [ ! -e "$home/$file" ] || mv "$home/$file" "$lost/"
+for old in "$file" "$file-wal" "$file-journal"; do
+    [ ! -e "$old" ] || mv "$old" "$lost/"
 done
-mv "$new"/custody.db* "$home/"
+for end in "" -wal; do
+    [ ! -e "$new/custody.db$end" ] || mv "$new/custody.db$end" "$file$end"
+done
 systemctl start "$service"
 echo "the former files are in $lost"
