@@ -13,6 +13,7 @@
   docs/ARCHITECTURE.md.
 - lives: the steps of runs, as crates/machine/specs/RunSteps.antt lists them, and the life of a token.
 - deployment: what docs/operating/ installs around the service.
+- pair: the two ways to have a second machine, as docs/GROWING.md describes them.
 
 The script ends with status 1 if the source or a page lacks a name or number that a picture has.
 """
@@ -298,6 +299,50 @@ def draw_deployment():
     drawn += [path([(696, 384), (778, 384)]), words(739, 376, "rsync", "small", "middle")]
     drawn.append(words(10, 446, "Yellow: who asks. Blue: programs. Green: files. Nobody outside the machine reaches /operator or the service's port.", "small"))
     write("deployment", 950, 460, drawn)
+
+
+# What the picture of a second machine names.
+PAIRED = {
+    "docs/GROWING.md": ["protocol C", "fence-peer", "drbdadm primary custody", "/dev/drbd0", "upstream pair", "/srv/custody-standby", "restore.sh custody"],
+    "docs/operating/custody-standby.timer": ["OnCalendar=*:0/5"],
+    "docs/operating/backup-standby.sh": ["custody check", "rsync"],
+}
+
+
+def machine(x, y, wide, tall, name):
+    return [box(x, y, wide, tall, ("#fafafa", "#bbb")), words(x + 12, y + 20, name, "name")]
+
+
+def draw_pair():
+    for file, names in PAIRED.items():
+        for name in names:
+            if name not in read(f"{TOP}/{file}"):
+                fail(f"{name} in {file}")
+    drawn = [words(20, 24, "A pair over DRBD: nothing that was acknowledged is lost", "name")]
+    drawn += machine(20, 130, 214, 240, "a") + machine(316, 130, 214, 240, "b")
+    drawn += part(195, 44, 160, 50, BLUE, "nginx", "asks both machines")
+    drawn += part(36, 164, 182, 62, BLUE, "nginx, custody serve", "serves, and has mounted", "/dev/drbd0")
+    drawn += part(332, 164, 182, 62, GRAY, "nginx, custody", "stopped until a is fenced:", "drbdadm primary custody")
+    drawn += part(36, 300, 182, 50, GREEN, "its disk", "custody.db, custody.db-wal")
+    drawn += part(332, 300, 182, 50, GREEN, "its disk", "equal to that of a")
+    drawn += [path([(235, 94), (127, 164)]), path([(315, 94), (423, 164)], "dash"), words(390, 118, "503, or nobody", "small")]
+    drawn += [path([(127, 226), (127, 300)]), words(119, 266, "syncs", "small", "end")]
+    drawn += [path([(218, 325), (332, 325)]), words(275, 317, "each write,", "small", "middle"), words(275, 342, "protocol C", "small", "middle")]
+    drawn += [path([(514, 180), (546, 180), (546, 400), (127, 400), (127, 370)], "dash"), words(330, 416, "fence-peer: cuts the other machine's power before b takes over", "small", "middle")]
+    drawn += [words(570, 24, "Copies every five minutes: these minutes can be lost", "name")]
+    drawn += machine(570, 130, 214, 240, "first machine") + machine(836, 130, 214, 240, "second machine")
+    drawn += part(597, 44, 160, 50, BLUE, "nginx", "asks the first machine")
+    drawn += part(586, 164, 182, 46, BLUE, "custody serve", "paused while it is copied")
+    drawn += part(586, 236, 182, 46, GREEN, "custody.db", "and its WAL")
+    drawn += part(586, 308, 182, 46, BLUE, "backup-standby.sh", "copies, checks, sends")
+    drawn += part(852, 164, 182, 46, GRAY, "custody serve", "not started yet")
+    drawn += part(852, 236, 182, 46, GRAY, "restore.sh", "checks, moves, starts")
+    drawn += part(852, 308, 182, 46, GREEN, "/srv/custody-standby", "custody.db, checked")
+    drawn += [path([(720, 94), (720, 164)]), path([(677, 210), (677, 236)]), path([(677, 282), (677, 308)])]
+    drawn += [path([(768, 331), (852, 331)]), words(810, 323, "rsync", "small", "middle")]
+    drawn += [path([(943, 308), (943, 282)], "dash"), path([(943, 236), (943, 210)], "dash")]
+    drawn.append(words(836, 392, "by hand, once the first machine is off", "small"))
+    write("pair", 1070, 430, drawn)
 
 
 def steps_of(text, words_of):
@@ -605,7 +650,7 @@ def draw_performance():
     write("performance", 820, end - 26, [*above, *below, *last], "text{font:13px sans-serif;fill:#222}.head{font-weight:bold}.grid{stroke:#ddd}.one{stroke:#222}.limit{stroke:#c0392b;stroke-dasharray:4 3}.range{stroke:#d68910;stroke-width:2}.axis{font-size:12px;fill:#555}", "")
 
 
-DRAWINGS = {"crates": draw_crates, "performance": draw_performance, "tables": draw_tables, "post": draw_post, "lives": draw_lives, "deployment": draw_deployment}
+DRAWINGS = {"crates": draw_crates, "performance": draw_performance, "tables": draw_tables, "post": draw_post, "lives": draw_lives, "deployment": draw_deployment, "pair": draw_pair}
 
 
 def main():

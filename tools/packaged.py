@@ -25,6 +25,7 @@ TOP = os.path.dirname(HERE)
 PACKAGE = HERE + "/package"
 EPOCH = "1700000000"     # 2023-11-14 22:13:20 UTC
 DOC, SHARED, UNITS = "usr/share/doc/custody", "usr/share/custody", "usr/lib/systemd/system"
+JOURNAL = "usr/lib/systemd/journald@custody.conf.d/custody.conf"
 
 
 def right(what):
@@ -133,7 +134,7 @@ def files_due():
     due.update(("%s/%s" % (SHARED, name), "-rwxr-xr-x" if name != "functions.sh" else "-rw-r--r--") for name in operating(".sh"))
     plain = ["%s/%s" % (UNITS, name) for name in operating(".service", ".timer", ".socket", ".path", ".target")]
     plain += ["%s/examples/%s" % (DOC, name) for name in ["Caddyfile", "Containerfile", "nginx.conf"]]
-    plain += [DOC + "/changelog.gz", DOC + "/copyright", "usr/lib/sysusers.d/custody.conf", "usr/lib/tmpfiles.d/custody.conf"]
+    plain += [JOURNAL, DOC + "/changelog.gz", DOC + "/copyright", "usr/lib/sysusers.d/custody.conf", "usr/lib/tmpfiles.d/custody.conf"]
     plain += ["usr/share/bash-completion/completions/custody", "usr/share/lintian/overrides/custody", "usr/share/man/man1/custody.1.gz"]
     plain += [place for _, place in pages()]
     due.update((path, "-rw-r--r--") for path in plain)
@@ -162,7 +163,7 @@ def has_contents(program):
     same = [("docs/operating/" + name, "%s/%s" % (SHARED, name)) for name in operating(".sh")]
     same += [("docs/operating/" + name, "%s/%s" % (UNITS, name)) for name in operating(".service", ".timer", ".socket", ".path", ".target")]
     same += [("docs/operating/" + name, "%s/examples/%s" % (DOC, name)) for name in ["Caddyfile", "Containerfile", "nginx.conf"]]
-    same += list(pages())
+    same += [("docs/operating/journald@custody.conf", JOURNAL), *pages()]
     for path, place in same:
         content = package.read(place)
         if place.endswith(".gz"):
@@ -218,7 +219,7 @@ def scripts_call(program):
     """What the scripts of dpkg call: neither a start nor a removal of data."""
     package, running = unpacked(program), os.path.isdir("/run/systemd/system")
     reloads = ["systemctl daemon-reload"] if running else []
-    stops = ["deb-systemd-invoke stop custody-backup.timer custody-backup.service custody.service custody@*.service"] if running else []
+    stops = ["deb-systemd-invoke stop custody-backup* custody-standby* custody.service custody@*.service"] if running else []
     cleans = ["find /etc/systemd/system -path *.wants/custody* -xtype l -lname */lib/systemd/system/custody* -delete"]
     creates = ["systemd-sysusers custody.conf", "systemd-tmpfiles --create custody.conf"]
     due = [

@@ -13,7 +13,8 @@ check below; LEFT has the lines that are left out, with the reason. Checks run c
 
 What this machine may lack has a stand-in, so these are not tested: systemd (units start, stop and restart with their user, input and
 environment, but none of their restrictions holds, and the timer never comes), journald, nginx (tools/front.py, with the certificate and the
-map of nginx.conf alone), apt and apt-get (dpkg installs the package), rsync (a copy to a folder) and `rt` (the program that is given).
+map of nginx.conf alone), apt and apt-get (dpkg installs the package), rsync and ssh (this machine is the other one) and `rt`
+(the program that is given). A standby that starts from copies is this machine, too.
 
 During the recipes at the operator's door a Terraform applies again and again, under a lock and without retries: each of its requests
 has to succeed. The script prints a line for each block, then how many ran and which were left. It ends with status 1 at the first
@@ -71,12 +72,17 @@ PROGRAMS = {
     "nginx": 'exec python3 %s/tools/recipes.py --ask nginx "$@"' % REPOSITORY,
     # (its lines have no times: everything is newer than an hour)
     "journalctl": """
-        follow= unit=
+        cd %s || exit 1
+        follow= units= spaced=
         while [ $# -gt 0 ]; do
-            case "$1" in -f) follow=-f ;; -u) unit=$2; shift ;; -o | --since) shift ;; *) echo "journalctl: $1" >&2; exit 1 ;; esac
+            case "$1" in
+                --namespace=custody) spaced=1 ;; -f) follow=-f ;; -u) units="$units $2"; shift ;; -o | --since) shift ;;
+                *) echo "journalctl: $1" >&2; exit 1 ;;
+            esac
             shift
         done
-        exec tail -n +1 $follow "%s/$unit"
+        [ "$spaced" ] || { echo "journalctl: the units have a namespace" >&2; exit 1; }
+        exec tail -q -n +1 $follow $(for unit in $units; do ls -d $unit 2> /dev/null; done)
         """ % JOURNAL,
     "apt-get": """
         [ "$1" = install ] || exit 1
@@ -87,8 +93,13 @@ PROGRAMS = {
         case "$1" in install) shift; exec dpkg --force-depends --install "$@" ;; purge) shift; exec dpkg --purge "$@" ;; *) exit 1 ;; esac
         """,
     "rsync": """
-        [ "$1" = -a ] && mkdir -p "${3#*:}" && cp -rp "$2." "${3#*:}"
+        case "$1" in
+            -a) mkdir "${3#*:}" 2> /dev/null || [ -d "${3#*:}" ] && cp -rp "$2." "${3#*:}" ;;
+            -pt) mkdir -p "${3#*:}" && cp -p "$2" "${3#*:}" ;;
+            *) exit 1 ;;
+        esac
         """,
+    "ssh": 'shift && cd /room && exec sh -c "$*"',
     "rt": """
         [ "$1 $2" = "run --" ] || exit 1
         shift 2; mkdir -p out && cp /given out/custody && exec out/custody "$@"
@@ -101,6 +112,11 @@ def unit_file(name):
     return next(filter(os.path.exists, [folder + name for folder in UNITS]), UNITS[-1] + name)
 
 
+def unit_file_of(name):
+    base, at, _ = name.removesuffix(".service").partition("@")
+    return unit_file("%s%s.service" % (base, at))
+
+
 class Unit:
     """A unit, by the lines of its file."""
 
@@ -109,9 +125,8 @@ class Unit:
         self.lock = threading.RLock()
 
     def settings(self):
-        base, at, instance = self.name.partition("@")
-        found = {}
-        with open(unit_file("%s%s.service" % (base, at)), encoding="utf-8") as file:
+        instance, found = self.name.partition("@")[2], {}
+        with open(unit_file_of(self.name), encoding="utf-8") as file:
             for line in file:
                 key, equals, value = line.strip().partition("=")
                 if equals and not key.startswith("#"):
@@ -136,7 +151,11 @@ class Unit:
             return subprocess.Popen(words, stdin=reads, stdout=lines, stderr=lines, **how)
 
     def start(self):
+        if os.path.exists("/stuck"):     # (what a check below plants)
+            return 1, "Job for %s failed.\n" % self.name
         settings = self.settings()
+        if settings["LogNamespace"] != ["custody"]:
+            return 1, "%s.service does not write to the journal of custody.\n" % self.name
         if not all(map(os.path.exists, settings.get("AssertPathExists", []))):
             return 1, "Assertion failed on job for %s.service.\n" % self.name
         if "oneshot" in settings.get("Type", []):
@@ -189,18 +208,23 @@ class Machine:
             case "systemctl", ["daemon-reload"]:
                 return self.verifies()
             case "systemctl", ["enable", "--now", name] if name.endswith(".timer"):
-                return (0 if os.path.exists(unit_file(name)) else 1), ""
+                return (0 if os.path.exists(unit_file(re.sub(r"@.*\.", "@.", name))) else 1), ""
             case "systemctl", ["start", *names] | ["enable", "--now", *names]:
                 done = [self.unit(name).start() for name in names]
                 return max(status for status, _ in done), "".join(text for _, text in done)
             case "systemctl", ["stop", *names]:
+                if os.path.exists("/stuck") or not all(map(os.path.exists, map(unit_file_of, names))):
+                    return 5, "Failed to stop %s.\n" % names
                 for name in names:
                     self.unit(name).stop()
                 return 0, ""
+            case "systemctl", ["restart", name]:
+                self.unit(name).stop()
+                return self.unit(name).start()
             case "systemctl", ["show", "-p", what, "--value", name]:
                 return 0, "%d\n" % self.unit(name).show(what)
-            case "systemctl", ["is-failed", name]:
-                return (0, "failed\n") if self.unit(name).failed else (1, "inactive\n")
+            case "systemctl", ["list-units", "--failed", "custody*"]:
+                return 0, "".join("%s.service failed\n" % name for name, unit in self.units.items() if unit.failed)
         return 1, "%s: no stand-in for %s\n" % (program, words)
 
     def verifies(self):
@@ -532,7 +556,7 @@ def readme():
         serves(8443, 8090)
         shell.runs(page, "echo 'header", ['"name":"net"'])
         shell.runs(page, "export TF_HTTP_USERNAME=", ["successfully initialized", "Enter a value:", "Apply complete! Resources: 1 added"], given="yes\n")
-        shell.runs(page, "curl -K ci.curl", ['"status":"planning"', "Error acquiring the state lock", "ID=run-1", '"status":"canceled"'], ["1 terraform plan"])
+        shell.runs(page, "curl --noproxy '*' -K ci.curl", ['"status":"planning"', "Error acquiring the state lock", "ID=run-1", '"status":"canceled"'], ["1 terraform plan"])
         shell.runs(page, "kill ")
         wait_until(lambda: not answers(8443) and not answers(8090), "what README stops still listens")
         said("the folder of the trial", os.path.exists("/root/custody-try"), False)
@@ -581,7 +605,7 @@ def by_hand(page, shell):
     with open("/proc/%d/cmdline" % int(shell.does("systemctl show -p MainPID --value custody")), encoding="utf-8") as file:
         said("the program that is started", file.read().split("\0")[0], "/usr/local/bin/custody")
     shell.does("""systemctl stop custody
-        userdel custody; rm -r /root/operator /var/lib/custody /usr/local/bin/custody /usr/local/share/custody /etc/systemd/system/custody*""")
+        userdel custody; rm -r /root/operator /var/lib/custody /usr/local/bin/custody /usr/local/share/custody /etc/systemd/system/custody* /etc/systemd/journald@custody.conf""")
 
 
 def installs(page, shell):
@@ -591,7 +615,8 @@ def installs(page, shell):
     shell.runs(page, "openssl req")
     shell.runs(page, "apt-get install nginx")
     shell.runs(page, ". /usr/share/custody")
-    shell.runs(page, "new_secret /root/operator", ["^ok$", "^ok$", "^ok$", '"name":"net"'])
+    shell.runs(page, "new_operator\n", ["^ok$", "^ok$", "^ok$", '"name":"net"'])
+    shell.does("echo 127.0.0.1 RUNNER >> /etc/hosts; %s; cmp /room/custody.token /root/acme.ci" % page.inline("ssh RUNNER 'umask 077; cat > custody.token' < /root/acme.ci").strip())
     for path in glob.glob("/root/acme.*") + glob.glob("/root/operator*"):
         said("the mode of " + path, os.stat(path).st_mode & 0o777, 0o600)
     shows_no_secret(shell)
@@ -638,21 +663,22 @@ def at_the_door(page, shell):
     shell.does('curl -sS -K /root/acme.ci-3.curl "$CUSTODY/workspaces/net"', ["bad-token"])
     work.turn()
     teams = ["beta"] + ["team-%d" % number for number in range(20)]
-    shell.does("printf '%%s\\n' %s > teams" % " ".join(teams))
-    shell.runs(page, "while read -r team", ["^ok$"] * (2 * len(teams)))
-    shell.does(page.inline("sed 's/^/org-add /' teams | as_custody admin --db /var/lib/custody/custody.db").replace("custody.db", "new.db"), ["^ok$"] * len(teams))
-    shell.does("rm /var/lib/custody/new.db*")
+    many_teams(page, shell, teams)
     work.turn()
     # (beta has a lock, then none)
     shell.does("""beta=https://state.example.com/v1/beta
         curl -sS -K /root/beta.root.curl -X PUT "$beta/workspaces/net"
         curl -sS -K /root/beta.root.curl -X LOCK -d '%s' "$beta/state/net" """ % LOCK)
-    start = "echo org-remove "
-    shell.runs(page, start, ["^refused in-use$"], ["22 "])
-    shell.does('curl -sS -K /root/beta.root.curl -X UNLOCK "$beta/state/net"')
+    start = "empty_organization beta"
+    shell.runs(page, start, ["423", "beta/net is held"], ["1 "])
+    # (a workspace is left to the list's second part)
+    shell.does("""curl -sS -K /root/beta.root.curl -X UNLOCK "$beta/state/net"
+        for n in $(seq 51); do curl -sS -K /root/beta.root.curl -X PUT "$beta/workspaces/n$n"; done; echo org-list | operator""", ["^beta 52 200$"])
     shell.runs(page, start, ["^ok$"])
+    shell.does("echo org-list | operator | grep '^beta'", [], ["1 "])
     work.turn()
     work.end()
+    operators(page, shell)
     with open(JOURNAL + "/custody", encoding="utf-8") as file:
         lines = [json.loads(line) for line in file if line.startswith("{")]
     mine = [line for line in lines if line["token"] == "work"]
@@ -662,6 +688,37 @@ def at_the_door(page, shell):
     # (the pages go on with the token ci)
     shell.does("rm /root/acme.ci /root/acme.ci.curl; new_token acme ci write")
     print("right: meanwhile a Terraform applied %d times: %d requests, none of which failed" % (work.turns, len(mine)))
+
+
+def many_teams(page, shell, teams):
+    """A loop that stops, and goes on; a last line without a line feed."""
+    start = "new_teams teams"
+    shell.does("printf '%%s\\n' %s > teams; printf 'No' >> teams; touch /root/team-3.root.curl" % " ".join(teams))
+    shell.runs(page, start, ["^%s is added$" % team for team in teams] + ["^No is not added: {\"error\":\"bad-body\"}"], ["1 "])
+    shell.does("printf '\\n\\n%s' last-team > last; sed -i '$d' teams; cat last >> teams")
+    shell.runs(page, start, ["^last-team is added$"])
+    said("what is added again", shell.runs(page, start), "")
+    shell.does("rm /root/last-team.root")
+    shell.runs(page, start, ["^last-team has the token root, but /root/last-team.root is missing: revoke it$"], ["1 "])
+    shell.does("echo token-revoke last-team root | operator", ["^ok$"])
+    shell.runs(page, start, ["^last-team is added$"])
+    # (a token that is refused, and bounds that are mistakes, leave no file)
+    for words, why in [("last-team root admin", "refused exists"), ("none-such ci write", "refused absent"),
+                       ("last-team ci write prefix=", "an empty prefix="), ("last-team ci write until=1", "until=1 has passed")]:
+        shell.does("mkdir -p /aside; mv /root/last-team.root* /aside; new_token %s; ls /root/last-team.* /root/none-such.*; mv /aside/* /root" % words, [why], [".*"] * 2)
+    admin = page.block("grep . teams | ").replace("custody.db", "new.db")
+    shell.does("mkdir /aside-2; mv /root/*.root* /aside-2")
+    shell.runs(page, "grep . teams | ", ["^ok$"] * (2 * len(teams) + 2), block=admin)
+    shell.does("as_custody token-list --db /var/lib/custody/new.db last-team; rm /var/lib/custody/new.db* /root/*.root*; mv /aside-2/* /root", ["^root admin - -$"])
+
+
+def operators(page, shell):
+    """The operator's secret is replaced."""
+    shell.does("cp /root/operator.curl /room/former.curl")
+    shell.runs(page, "new_operator && systemctl restart custody")
+    serves()
+    shell.does('curl -sS --noproxy "*" -K /room/former.curl --data-binary org-list http://127.0.0.1:8090/operator', ["bad-token"])
+    shell.runs(page, "exchanges | jq -ac 'select(.operator) ", [r'^\["20.*Z",200,"add token","acme","ci-3"\]$', r'^\["20.*Z",401,', "^acme:$", "^root admin - -$"])
 
 
 def locks(page, shell):
@@ -688,37 +745,44 @@ def locks(page, shell):
 
 
 def backups(page, shell):
-    stop = "to=/root/backup-$(date +%F-%H%M%S)\ninstall"
-    shell.runs(page, stop, [COUNTS])
-    time.sleep(1)
     shell.runs(page, "to=/root/backup-$(date +%F-%H%M%S)\n/usr/share/", [COUNTS])
     copies = sorted(glob.glob("/root/backup-*"))
-    said("the copies", [sorted(os.listdir(path)) for path in copies], [["custody.db", "custody.db-wal"]] * 2)
+    said("the copies", [sorted(os.listdir(path)) for path in copies], [["custody.db", "custody.db-wal"]])
     shell.runs(page, "apt-get install rsync")
     with open(JOURNAL + "/custody-backup", encoding="utf-8") as file:
         said("what check says of the daily copy", re.search(COUNTS, file.read(), re.M) is not None, True)
     # (the other machine's folder is one of this machine)
     newest = sorted(glob.glob("/srv/custody/20*"))[-1]
     shell.does("custody check --db %s/custody.db | cmp - %s/check" % (newest, newest))
-    shell.does(page.inline("find /srv/custody -mindepth 1 -maxdepth 1 -name '20*' -mtime +90 -exec rm -r {} +") + "ls -d " + newest)
-    chosen, restore = page.block("from=/root/backup-2026-01-31-"), "systemctl stop custody\nlost="
-    shell.does("cp -rp %s %s" % (copies[-1], re.match(r"from=(\S+)", chosen)[1]))
+    shell.does(page.inline("find /srv/custody -mindepth 1 -maxdepth 2 -name '20*' -mtime +90 -prune -exec rm -r {} +") + "ls -d " + newest)
+    restore = "/usr/share/custody/restore.sh custody /root/backup-2026"
+    shell.does("cp -rp %s /root/backup-2026-01-31-040000" % copies[-1])
     state = 'curl -sS -K /root/acme.ci.curl "$CUSTODY/workspaces/net"\n'
     serves()
     before = shell.does(state, ['"name":"net"'])
-    shell.runs(page, "from=", [COUNTS], block=chosen)
-    shell.runs(page, restore, [COUNTS])
+    # (nothing moves under a service that runs on: the unit cannot be stopped, is mistyped, or is not what has the file open)
+    files = "ls -l --time-style=full-iso /var/lib/custody"
+    place = shell.does(files)
+    shell.does("touch /stuck; %s; rm /stuck" % page.block(restore).strip(), [COUNTS, "Failed to stop"], ["5 "])
+    shell.does(page.block(restore).replace("restore.sh custody ", "restore.sh custdoy "), ["custdoy"], ["1 "])
+    shell.does("as_custody serve --db /var/lib/custody/other.db --port 8099 --unlimited & sleep 1; echo", ["listening"])
+    shell.does("mkdir -p /etc/custody /var/lib/custody-other; ln -s /var/lib/custody/other.db /var/lib/custody-other/custody.db")
+    shell.does("/usr/share/custody/restore.sh custody@other /root/backup-2026-01-31-040000", [COUNTS, "a process has /var/lib/custody/other.db open: nothing was moved"], ["1 "])
+    # (a link is followed, once nobody has its file open; there is no unit to start)
+    shell.does("kill $(pgrep -f 'db /var/lib/custody/other.db'); wait; /usr/share/custody/restore.sh custody@other /root/backup-2026-01-31-040000", [COUNTS], ["1 "])
+    shell.does("as_custody check --db /var/lib/custody-other/custody.db; cmp /var/lib/custody/other.db /var/lib/custody-other/custody.db; ls /var/lib/custody/lost-*/", [COUNTS, "^other.db$"])
+    shell.does("rm -r /var/lib/custody-other /var/lib/custody/other.db* /var/lib/custody/lost-*")
+    # (nor for a copy with a fault)
+    shell.does("cp -rp /root/backup-2026-01-31-040000 /root/bad; sqlite3 /root/bad/custody.db 'DELETE FROM edition' || true; /usr/share/custody/restore.sh custody /root/bad", ["refused|fault"], ["[13] "])
+    said("the files after restores that end", shell.does(files), place)
+    said("what is served", shell.does(state), before)
+    shell.runs(page, restore, [COUNTS, r"^the former files are in /var/lib/custody/lost-"])
     serves()
     said("what was restored", shell.does(state), before)
+    one_workspace(page, shell)
     shell.does("cp -rp %s /root/look\n" % copies[-1] + page.inline("sqlite3 /root/look/custody.db 'PRAGMA integrity_check; PRAGMA foreign_key_check'") + "rm -r /root/look", ["^ok$"])
-    # (another program writes to the file)
-    shell.does("""systemctl stop custody
-        sqlite3 /var/lib/custody/custody.db "UPDATE org SET cap = 300 WHERE name = 'acme'; PRAGMA wal_checkpoint(TRUNCATE)" > /dev/null
-        chown custody: /var/lib/custody/custody.db*
-        as_custody check --db /var/lib/custody/custody.db""", ["the file is damaged", "refused down"], ["3 "])
-    shell.runs(page, "systemctl stop custody\ninstall -d -m 700 /root/spoiled")
-    shell.runs(page, "from=", [COUNTS], block=re.sub(r"^from=.*", page.inline("from=/root/fresh").strip(), chosen))
-    shell.runs(page, restore, [COUNTS])
+    before = shell.does(state)
+    repairs(page, shell)
     serves()
     said("what was restored", shell.does(state), before)
     # (an upgrade)
@@ -726,9 +790,49 @@ def backups(page, shell):
     serves()
     shell.does(state, ['"name":"net"'])
     shell.does(page.inline("systemctl show -p NRestarts --value custody"), ["^0$"])
-    shell.does(page.inline("systemctl is-failed custody-backup"), ["^inactive$"], ["1 "])
+    said("what failed", shell.does(page.inline("systemctl list-units --failed 'custody*'")), "")
     shell.does(page.inline("find /var/backups/custody -maxdepth 1 -name '20*' -mtime -1"), ["^/var/backups/custody/20"])
     shell.does(page.inline("df /var/lib/custody /var/lib/nginx"))
+
+
+def one_workspace(page, shell):
+    """A state goes back to that of a copy, while the service answers."""
+    shell.does("cd %s; export TF_HTTP_USERNAME=\"acme.$(cat /root/acme.ci)\"; terraform apply -auto-approve -var value=newer" % CONFIGURATION, ["Apply complete!"])
+    start = "cp -rp /root/backup-2026-01-31-040000 /root/look\n"
+    shell.runs(page, start, ["cannot import state with serial|Failed to write state"], ["1 "])
+    shell.does('terraform state pull > /room/newer; curl -sS -K /root/acme.root.curl -X DELETE "$CUSTODY/state/net"')
+    shell.runs(page, start)
+    shell.does("terraform output", ['one = "a"|one = "b"'])
+    shell.does("cd " + REPOSITORY)
+
+
+TEXTS = """import sqlite3, sys
+table = {}
+base = sqlite3.connect(sys.argv[1])
+for name, in base.execute("SELECT name FROM sqlite_schema WHERE type = 'table' AND name NOT LIKE 'sqlite%' ORDER BY name"):
+    rows = sorted(map(repr, base.execute("SELECT * FROM " + name)))
+    print(name, len(rows), __import__('hashlib').sha256("\\n".join(rows).encode()).hexdigest())
+"""
+
+
+def repairs(page, shell):
+    """Texts with NUL, then another program that writes to the file: each row is kept."""
+    runs = 'for key in x y z; do curl -sS -K /root/acme.ci.curl -d "{\\"key\\":\\"k\\\\u0000$key\\",\\"message\\":\\"m\\\\u0000$key\\",\\"plan_only\\":true}" "$CUSTODY/runs/net"; done\n'
+    shell.does(runs, [r'"key":"k\\u0000x".*"number":2', '"number":3', '"number":4'])
+    shell.does("""systemctl stop custody
+        as_custody check --db /var/lib/custody/custody.db
+        sqlite3 /var/lib/custody/custody.db "UPDATE org SET cap = 300 WHERE name = 'acme'; PRAGMA wal_checkpoint(TRUNCATE)" > /dev/null
+        chown custody: /var/lib/custody/custody.db*
+        as_custody check --db /var/lib/custody/custody.db""", [COUNTS, "the file is damaged", "refused down"], ["3 "])
+    with open("/room/texts.py", "w", encoding="utf-8") as file:
+        file.write(TEXTS)
+    rows = "cp /var/lib/custody/custody.db /room/rows.db; python3 /room/texts.py /room/rows.db\n"
+    before = shell.does(rows)
+    shell.runs(page, "systemctl stop custody && /usr/share/custody/repair.sh", ["^ok$", COUNTS, COUNTS, "^the former files are in"])
+    serves()
+    shell.does(runs, [r'"key":"k\\u0000x".*"number":2', '"number":3', '"number":4'])
+    said("the rows after a repair", shell.does(rows), before)
+    shell.does('for n in 2 3 4; do curl -sS -f -K /root/acme.ci.curl -X POST "$CUSTODY/runs/net/$n/actions/cancel"; done', ['"canceled"'] * 3)
 
 
 def log(page, shell):
@@ -822,10 +926,14 @@ def growing():
         maps(page, "moving")
         shell.does("nginx -s reload; curl -sS -i -K /root/beta.root.curl %s/workspaces/net" % beta, ["503", "Retry-After: 15"])
         shell.does(acme, ['"name":"net"'])
-        shell.runs(page, "cd /var/lib\n", ["^ok$"])
+        # (a copy that is refused removes nothing)
+        shell.does("as_custody org-add --db /var/lib/custody-beta/custody.db beta", ["^ok$"])
+        moves = "cd /var/lib && systemctl stop custody"
+        said("a move to a file that has beta", shell.runs(page, moves, ["^refused exists$"], ["1 "]), "refused exists\n")
+        shell.does("rm /var/lib/custody-beta/custody.db*; as_custody org-list --db /var/lib/custody/custody.db", ["^beta 1 200$"])
         # (a Terraform that comes meanwhile waits)
         other.begins("terraform apply -auto-approve -var value=moved")
-        shell.runs(page, "as_custody org-remove", ["^ok$"])
+        shell.runs(page, moves, ["^ok$", "^ok$"])
         time.sleep(2)
         shell.does(page.inline("systemctl start custody custody@beta"))
         serves(8090, 8091)
@@ -835,19 +943,29 @@ def growing():
         other.is_right("a Terraform during the move", ["Apply complete!"])
         operator = page.inline("PORT=8091 operator").strip()
         shell.does("PORT=8091 new_token beta ci write; echo token-list beta | %s; echo token-list beta | operator" % operator, ["ok", "^ci write", "^root admin - -$", "refused absent"], ["22 "])
-        old = "cd /var/lib/custody\nold="
-        # (once it is put back, and once it stays)
-        shell.runs(page, old, ["^ok$", COUNTS, COUNTS])
-        shell.runs(page, 'runuser -u custody -- mkdir -m 700 "$old/unused"')
-        serves()
-        shell.does(acme, ['"name":"net"'])
-        time.sleep(1)
-        counts = re.findall(r"^organizations .*", shell.runs(page, old, ["^ok$", COUNTS, COUNTS]), re.M)
+        small = "cd /var/lib/custody && systemctl stop custody"
+        counts = re.findall(r"^organizations .*", shell.runs(page, small, [COUNTS, "^ok$", COUNTS]), re.M)
         said("both second lines", counts[0], counts[1])
-        shell.runs(page, "systemctl start custody\n")
         serves()
         shell.does(acme, ['"name":"net"'])
+        standby(page, shell, acme)
     return page.done()
+
+
+def standby(page, shell, look):
+    """A copy that another machine starts from. (Its machine is this one.)"""
+    shell.runs(page, "echo TARGET=backup@b.example.com")
+    copy = os.stat("/srv/custody-standby/custody.db")
+    said("the mode of a copy", oct(copy.st_mode & 0o777), "0o600")
+    shell.does("systemctl start custody-standby")
+    said("whether a second copy takes the place of the first", os.listdir("/srv/custody-standby"), ["custody.db"])
+    before = shell.does(look)
+    shell.runs(page, "/usr/share/custody/restore.sh custody /srv/custody-standby", [COUNTS])
+    serves()
+    said("what is served from a copy", shell.does(look), before)
+    # (a team's daily copy)
+    shell.does("systemctl start custody-backup@beta; ls /srv/custody/custody-beta/*/", ["^check$", "^custody.db$"])
+    shell.does("systemctl enable --now %s" % page.inline("custody-backup@beta.timer"))
 
 
 def maps(page, place):

@@ -1,5 +1,6 @@
 #!/bin/sh
-# Copies a database and its WAL into a new folder while their service is paused.
+# Copies a database and its WAL into a new folder while their service is paused. On a file system that shares blocks between files (XFS,
+# btrfs), and in a folder there, the pause does not grow with the file.
 #     backup.sh PID DATABASE FOLDER
 set -eu
 pid=$1 db=$2 to=$3
@@ -15,4 +16,4 @@ until [ "$(sed 's/.*) \(.\).*/\1/' "/proc/$pid/stat")" = T ]; do   # a system ca
     [ "$tries" -lt 500 ] || { echo "process $pid doesn't stop" >&2; exit 1; }
     sleep 0.02
 done
-cp -p "$db" "$db-wal" "$to/"
+cp --reflink=auto -p "$db" "$db-wal" "$to/"
