@@ -28,13 +28,12 @@ import subprocess
 import tempfile
 import time
 
-from harness import ANSWERED_503, DISK, DOWN, IN_USE, LOG_ALONE, LOG_STAYS, NEW_FILE, PATIENCE, PORT_TAKEN, SECRET_FORM, SMALL_FILES, UNCHANGED, UNFINISHED
+from harness import ANSWERED_503, DISK, DOWN, IN_USE, LOG_ALONE, LOG_STAYS, NEW_FILE, NO_FOLDER, PATIENCE, PORT_TAKEN, SECRET_FORM, SMALL_FILES, UNCHANGED, UNFINISHED
 from harness import GET, MADE, PUT, Service, Wrong, bytes_of, compiled, free_port, look_at, ok, post, reply, request, said, small_files
 
 READABLE = b"custody: users other than its owner may read the file or its -wal: chmod 600 ends that\n"
 NOT_PERMITTED = b"custody: no permission to read and write the file or its folder\n"
 NO_FILE = b"custody: the path does not lead to a file, or the file has more than one hard link\n"
-NO_FOLDER = b"custody: the folder of the --db file does not exist\n"
 NO_TARGET_FOLDER = b"custody: the folder of the --to file does not exist\n"
 MISSING = b"custody: there is no file at the path, or it is empty; only org-add, serve without --check, and --to create one\n"
 NO_TABLES = b"custody: the file is a database without custody's tables\n"

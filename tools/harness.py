@@ -52,6 +52,7 @@ LEFT_EARLY = b"custody: connection %d: the peer closed the connection before its
 LOG_ALONE = b"custody: the file is missing or empty, and the -wal beside it may hold changes: put the file back\n"
 LOG_STAYS = b"custody: the WAL could not be copied into the file: keep the file and its -wal together\n"
 NEW_FILE = b"custody: there was no file at the path; a new one was created\n"
+NO_FOLDER = b"custody: the folder of the --db file does not exist\n"
 PORT_TAKEN = b"custody: the port is in use\n"
 READ_FAILED = b"custody: connection %d: a read failed\n"
 SECRET_FORM = b"custody: the secret must be one line of 16 to 64 ASCII letters or digits\n"

@@ -5,8 +5,8 @@
 
 No contract says what a socket, a timeout or the clock of the system does. Here `serve` is asked over 127.0.0.1, and its times are
 taken from a monotonic clock: who reaches it, when a peer is cut off, which moment it tells, that a peer that sends more than is
-taken reads its whole reply, how long it is waited for then, that one that stays holds up nobody, and that a service which is
-stopped and goes on serves. It prints a line for each thing that holds, and ends with status 1 at the first that doesn't.
+taken reads its whole reply, how long it is waited for then, that one that stays holds up nobody, that one who comes while the
+file is opened waits, and that a service which is stopped and goes on serves. It prints a line for each thing that holds, and ends with status 1 at the first that doesn't.
 
 A look never fails since the machine is slow, but for two bounds: a cut-off comes at most SLACK seconds behind its time, and
 STAYING peers that stay take at most STAYED seconds more than as many that leave, the best of up to TRIES times. Where this
@@ -14,6 +14,7 @@ script itself is too slow to tell what a refused peer sees at once, it is asked 
 """
 
 import contextlib
+import os
 import select
 import signal
 import socket
@@ -23,7 +24,7 @@ import time
 
 import harness
 from harness import GET, MADE, PUT, READ_FAILED, SMALL_BUFFER, SOON, UNWRITTEN
-from harness import Program, Wrong, answered, is_free, moment_of, ok, post, received, reply, said, undated, wait_until
+from harness import Program, Wrong, answered, connected, free_port, is_free, moment_of, open_pipe, ok, post, received, reply, said, undated, wait_until
 
 # Seconds after which all looks together are held for hanging; for one peer or one service they are SOON.
 LIMIT = 120
@@ -56,6 +57,9 @@ STOPS = 3
 
 # A text that no buffers of a connection hold (what is sent has 4 MB at most).
 STATE = b'{"version":4,"serial":1,"lineage":"a1","x":"%s"}' % (b"links" * 1_600_000)
+
+# Bytes of a state that makes a file so large that its open takes a while.
+LARGE = 8_000_000
 
 # What a rude peer sends behind what is taken: less than is read of it, and more than a buffer holds that nobody reads. And more
 # than is read of it and all buffers hold: 8,192 reads have 33,554,432 bytes at most.
@@ -348,6 +352,50 @@ def look_at_again(program):
     print("right: a service is started again at its port at once")
 
 
+def connected_early(port):
+    """A connection to a service, as soon as one is made."""
+    end = time.monotonic() + SOON
+    while time.monotonic() < end:
+        try:
+            return connected(port, SOON)
+        except ConnectionRefusedError:
+            pass
+    raise Wrong("no connection to a service is made")
+
+
+def read_by(process):
+    """How many bytes a process has read from files so far."""
+    with open("/proc/%d/io" % process.pid, encoding="ascii") as counts:
+        return int(next(line for line in counts if line.startswith("rchar")).split()[1])
+
+
+def look_at_opening(program):
+    """A peer that comes while the file is opened waits for that, and is answered: a connection is made before the file was read whole."""
+    state = STATE.replace(b'"serial":1', b'"serial":2').replace(b"links" * 1_600_000, os.urandom(LARGE // 2).hex().encode())
+    with Service(program, 1) as service:
+        said("a state whose pages differ is posted", service.asked(post(state)), ok())
+        service.ends()
+    size = os.path.getsize(program.folder + "/t.db")
+    for _ in range(TRIES):
+        port = free_port()
+        with open_pipe() as given, program.start(["serve", "--db", "t.db", "--port", str(port), "--count", "1"], given) as process:
+            try:
+                with connected_early(port) as peer:
+                    process.send_signal(signal.SIGSTOP)
+                    read = read_by(process)
+                    process.send_signal(signal.SIGCONT)
+                    peer.sendall(GET)
+                    said("a peer that came while the file was opened", undated(received(peer)) == ok(state), True)
+                output, errors = process.communicate(timeout=SOON)
+                said("its service", (process.returncode, output, errors), (0, b"listening 127.0.0.1:%d\n" % port, b""))
+            finally:
+                process.kill()
+        if read < size:
+            print("right: a connection made when %d of %d bytes were read is answered once the file is open" % (read, size))
+            return
+    raise Wrong("no connection is made before the file of %d bytes is read" % size)
+
+
 def trickle(peer):
     try:
         peer.sendall(b"x")
@@ -389,6 +437,7 @@ LOOKS = {
     "refused": look_at_refused_peer,
     "again": look_at_again,
     "stops": look_at_stops,
+    "opening": look_at_opening,
 }
 
 

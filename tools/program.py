@@ -14,7 +14,7 @@ import socket
 import subprocess
 import time
 
-from harness import LEFT_EARLY, MADE, NEW_FILE, PATIENCE, PORT_TAKEN, SECRET_FORM, UNPRINTED, UNREAD
+from harness import LEFT_EARLY, MADE, NEW_FILE, NO_FOLDER, PATIENCE, PORT_TAKEN, SECRET_FORM, UNPRINTED, UNREAD
 from harness import GET, PUT, Service, Wrong, answered, closed_pipe, free_port, look_at, ok, post, request, said, undated
 
 # How many connections a service without a count answers here.
@@ -176,6 +176,8 @@ def look_at_service(program):
         other.listen()
         words = ["serve", "--db", "t.db", "--port", str(other.getsockname()[1]), "--count", "1"]
         program.is_due("a port that is taken", words, 3, b"refused down\n", PORT_TAKEN)
+        words = ["serve", "--db", "nowhere/t.db", *words[3:]]
+        program.is_due("a port that is taken, and a file that is not opened", words, 3, b"refused down\n", NO_FOLDER)
 
 
 def look_at_unlimited(program):

@@ -92,7 +92,7 @@ socat TCP-LISTEN:8091,bind=10.0.2.15,reuseaddr,fork,backlog=128 TCP:127.0.0.1:80
 while true; do socat TCP-LISTEN:7000,bind=10.0.2.15,reuseaddr,fork EXEC:/bin/sh 2>/dev/null; sleep 1; done
 """
 NOW = "cut -d' ' -f1 /proc/uptime"
-# As the unit's AssertPathExists: `serve` would create a missing file. Port 8090 listens once the file is open.
+# As the unit's AssertPathExists: `serve` would create a missing file. Port 8090 listens before the file is open: requests wait for that.
 SERVE = (
     "cd /mnt && ls custody.db > /dev/null && "
     "{ setsid custody serve --db /mnt/custody.db --port 8090 --unlimited --log < /dev/null > /dev/ttyS1 2>> /errors & } && "

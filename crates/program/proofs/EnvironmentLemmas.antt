@@ -17,7 +17,7 @@ use Rattle.program.specs.Inner.Outcomes.{ChecksFirst, ServesOpened}
 use Rattle.serve.specs.declared.steps.Admin.{Admin}
 use Rattle.machine.specs.StoreCalls.{Unchanged, Lasts}
 use Rattle.program.specs.Outcomes.{stream, error_stream, environment, ReportsFound, opening_of, HasFailed, IsOperated, Operates, ReportsCause, Opens, OpensSound, Closes, ServesFrom, ServesChecked, ChecksFile, SaysServed, ReportsUnsound}
-use Rattle.program.specs.Serving.{State, Serves, ServesAtPort, state, AnswersAtPort}
+use Rattle.program.specs.Serving.{State, Serves, ServesBound, state, AnswersBound}
 use Rattle.program.specs.Streams.{Reported}
 
 -- records that are the same at each organization
@@ -113,16 +113,16 @@ module _ {K F : Type 0} (k : keep.Ghosts K) (f : files.Ghosts F K) where
 
 module _ {K F N C R W : Type 0} (k : keep.Ghosts K) (f : files.Ghosts F K) (n : connections.Ghosts N R W) (c : clock.Ghosts C) (i : inlet.Ghosts R) (o : outlet.Ghosts W) where
   -- connections are answered from an opened store, and it is closed
-  pub serves_opened : (path : List ℕ) (port : ℕ) (terms : Terms) (count : ℕ) (old new : F) (network network' : N) (time time' : C) (opened from to closed : K) (served e : Exit) (out reported last : Option (List ℕ)) (before lines after : Reported)
+  pub serves_opened : (path : List ℕ) (bound : Result ℕ Cause) (terms : Terms) (count : ℕ) (old new : F) (network network' : N) (time time' : C) (opened from to closed : K) (served e : Exit) (out reported last : Option (List ℕ)) (before lines after : Reported)
       → from ≡ opened → closed ≡ to
       → Lasts k.clean k.sound k.keyed k.shielded from to
       → (k.clean to → k.sound from
-      → Serves (λ es. ServesAtPort k f n c i o port terms count es (state network time from before out) (state network' time' to lines reported) served) terms.door count (k.rows from) (k.rows to))
-      → AnswersAtPort k f n c i o port terms count (state network time from before out) (state network' time' to lines reported) served
+      → Serves (λ es. ServesBound k f n c i o bound terms count es (state network time from before out) (state network' time' to lines reported) served) terms.door count (k.rows from) (k.rows to))
+      → AnswersBound k f n c i o bound terms count (state network time from before out) (state network' time' to lines reported) served
       → Closes k f path old new closed (error_stream lines after) → SaysServed served e reported last
-      → ServesOpened k f n c i o path port terms count opened (environment old network time) (environment new network' time') e (stream out last) (error_stream before after)
-  serves_opened path port terms count old new network network' time time' opened from to closed served e out reported last before lines after begins ends lasts serves answers closes says =
-      subst (λ (s : K). ServesOpened k f n c i o path port terms count s (environment old network time) (environment new network' time') e (stream out last) (error_stream before after)) begins
+      → ServesOpened k f n c i o path bound terms count opened (environment old network time) (environment new network' time') e (stream out last) (error_stream before after)
+  serves_opened path bound terms count old new network network' time time' opened from to closed served e out reported last before lines after begins ends lasts serves answers closes says =
+      subst (λ (s : K). ServesOpened k f n c i o path bound terms count s (environment old network time) (environment new network' time') e (stream out last) (error_stream before after)) begins
       (record {
         after = to;
         lasts = lasts;
@@ -136,18 +136,18 @@ module _ {K F N C R W : Type 0} (k : keep.Ghosts K) (f : files.Ghosts F K) (n : 
       })
 
   -- what is served over one output is served over another that holds the same
-  serves_over : (port : ℕ) (terms : Terms) (count : ℕ) (network : N) (time : C) (store : K) (errors : Reported) (heard out : Option (List ℕ)) (new : State N C K) (served : Exit) (old' new' : List ℕ → Option Organization) → heard ≡ out
-      → Serves (λ es. ServesAtPort k f n c i o port terms count es (state network time store errors heard) new served) terms.door count old' new'
-      → Serves (λ es. ServesAtPort k f n c i o port terms count es (state network time store errors out) new served) terms.door count old' new'
-  serves_over port terms count network time store errors heard out new served old' new' same serves =
-      subst (λ (o' : Option (List ℕ)). Serves (λ es. ServesAtPort k f n c i o port terms count es (state network time store errors o') new served) terms.door count old' new') same serves
+  serves_over : (bound : Result ℕ Cause) (terms : Terms) (count : ℕ) (network : N) (time : C) (store : K) (errors : Reported) (heard out : Option (List ℕ)) (new : State N C K) (served : Exit) (old' new' : List ℕ → Option Organization) → heard ≡ out
+      → Serves (λ es. ServesBound k f n c i o bound terms count es (state network time store errors heard) new served) terms.door count old' new'
+      → Serves (λ es. ServesBound k f n c i o bound terms count es (state network time store errors out) new served) terms.door count old' new'
+  serves_over bound terms count network time store errors heard out new served old' new' same serves =
+      subst (λ (o' : Option (List ℕ)). Serves (λ es. ServesBound k f n c i o bound terms count es (state network time store errors o') new served) terms.door count old' new') same serves
 
   -- a store is opened at a path, and connections are answered from it
-  pub serves_from : (path : List ℕ) (port : ℕ) (terms : Terms) (count : ℕ) (old mid new : F) (network network' : N) (time time' : C) (opened : K) (e : Exit) (out heard last : Option (List ℕ)) (before noted after : Reported)
+  pub serves_from : (path : List ℕ) (bound : Result ℕ Cause) (terms : Terms) (count : ℕ) (old mid new : F) (network network' : N) (time time' : C) (opened : K) (e : Exit) (out heard last : Option (List ℕ)) (before noted after : Reported)
       → Opens k f path Created old mid opened (error_stream before noted) → heard ≡ out
-      → ServesOpened k f n c i o path port terms count opened (environment mid network time) (environment new network' time') e (stream heard last) (error_stream noted after)
-      → ServesFrom k f n c i o path port terms count (environment old network time) (environment new network' time') e (stream out last) (error_stream before after)
-  serves_from path port terms count old mid new network network' time time' opened e out heard last before noted after opens same from = record {
+      → ServesOpened k f n c i o path bound terms count opened (environment mid network time) (environment new network' time') e (stream heard last) (error_stream noted after)
+      → ServesFrom k f n c i o path bound terms count (environment old network time) (environment new network' time') e (stream out last) (error_stream before after)
+  serves_from path bound terms count old mid new network network' time time' opened e out heard last before noted after opens same from = record {
     before = opened;
     after = from.after;
     worked = mid;
@@ -157,19 +157,19 @@ module _ {K F N C R W : Type 0} (k : keep.Ghosts K) (f : files.Ghosts F K) (n : 
     served = from.served;
     reported = from.reported;
     lines = from.lines;
-    serves = λ clean sound. serves_over port terms count network time opened noted heard out (state network' time' from.after from.lines from.reported) from.served (k.rows opened) (k.rows from.after) same (from.serves clean sound);
-    answers = subst (λ (o' : Option (List ℕ)). AnswersAtPort k f n c i o port terms count (state network time opened noted o') (state network' time' from.after from.lines from.reported) from.served) same from.answers;
+    serves = λ clean sound. serves_over bound terms count network time opened noted heard out (state network' time' from.after from.lines from.reported) from.served (k.rows opened) (k.rows from.after) same (from.serves clean sound);
+    answers = subst (λ (o' : Option (List ℕ)). AnswersBound k f n c i o bound terms count (state network time opened noted o') (state network' time' from.after from.lines from.reported) from.served) same from.answers;
     says = from.says;
     closes = from.closes;
     others = λ other store differs held. from.closes.others other store differs (opens.others other store differs held);
   }
 
   -- a store is opened at a path, a check finds no fault in its tables, and connections are answered from it
-  pub serves_checked : (path : List ℕ) (port : ℕ) (terms : Terms) (count : ℕ) (old mid new : F) (network network' : N) (time time' : C) (store : K) (e : Exit) (out heard last : Option (List ℕ)) (before known after : Reported)
+  pub serves_checked : (path : List ℕ) (bound : Result ℕ Cause) (terms : Terms) (count : ℕ) (old mid new : F) (network network' : N) (time time' : C) (store : K) (e : Exit) (out heard last : Option (List ℕ)) (before known after : Reported)
       → OpensSound k f path old mid store (error_stream before known) → heard ≡ out
-      → ServesOpened k f n c i o path port terms count store (environment mid network time) (environment new network' time') e (stream heard last) (error_stream known after)
-      → ServesChecked k f n c i o path port terms count (environment old network time) (environment new network' time') e (stream out last) (error_stream before after)
-  serves_checked path port terms count old mid new network network' time time' store e out heard last before known after opens same from = record {
+      → ServesOpened k f n c i o path bound terms count store (environment mid network time) (environment new network' time') e (stream heard last) (error_stream known after)
+      → ServesChecked k f n c i o path bound terms count (environment old network time) (environment new network' time') e (stream out last) (error_stream before after)
+  serves_checked path bound terms count old mid new network network' time time' store e out heard last before known after opens same from = record {
     before = store;
     after = from.after;
     worked = mid;
@@ -179,17 +179,17 @@ module _ {K F N C R W : Type 0} (k : keep.Ghosts K) (f : files.Ghosts F K) (n : 
     served = from.served;
     reported = from.reported;
     lines = from.lines;
-    serves = λ clean sound. serves_over port terms count network time store known heard out (state network' time' from.after from.lines from.reported) from.served (k.rows store) (k.rows from.after) same (from.serves clean sound);
+    serves = λ clean sound. serves_over bound terms count network time store known heard out (state network' time' from.after from.lines from.reported) from.served (k.rows store) (k.rows from.after) same (from.serves clean sound);
     sound_ours = λ clean ours. let is = opens.sound_ours (from.lasts.so_far clean) ours in (is.0, from.lasts.kept clean is.1);
     keyed_ours = λ clean ours.
         let before = from.lasts.so_far clean in
         let is = opens.keyed_ours before ours in
         (is.0, from.lasts.keys clean (opens.sound_ours before ours).1 is.1);
     serves_ours = λ clean ours.
-        let served = serves_over port terms count network time store known heard out (state network' time' from.after from.lines from.reported) from.served (k.rows store) (k.rows from.after) same (from.serves clean (opens.sound_ours (from.lasts.so_far clean) ours).1) in
-        subst (λ (rows : List ℕ → Option Organization). Serves (λ es. ServesAtPort k f n c i o port terms count es (state network time store known out) (state network' time' from.after from.lines from.reported) from.served) terms.door count rows (k.rows from.after))
+        let served = serves_over bound terms count network time store known heard out (state network' time' from.after from.lines from.reported) from.served (k.rows store) (k.rows from.after) same (from.serves clean (opens.sound_ours (from.lasts.so_far clean) ours).1) in
+        subst (λ (rows : List ℕ → Option Organization). Serves (λ es. ServesBound k f n c i o bound terms count es (state network time store known out) (state network' time' from.after from.lines from.reported) from.served) terms.door count rows (k.rows from.after))
         (same_records (k.rows store) (k.rows opens.opened) (opens.unchanged.same (from.lasts.so_far clean))) served;
-    answers = subst (λ (o' : Option (List ℕ)). AnswersAtPort k f n c i o port terms count (state network time store known o') (state network' time' from.after from.lines from.reported) from.served) same from.answers;
+    answers = subst (λ (o' : Option (List ℕ)). AnswersBound k f n c i o bound terms count (state network time store known o') (state network' time' from.after from.lines from.reported) from.served) same from.answers;
     says = from.says;
     closes = from.closes;
     others = λ other kept differs held. from.closes.others other kept differs (opens.opens.others other kept differs held);

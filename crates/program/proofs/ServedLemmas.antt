@@ -25,7 +25,7 @@ use Rattle.program.specs.declared.environment.Files as files
 use Rattle.program.specs.declared.exits.Exit.{Exit}
 use Rattle.program.specs.declared.exits.Exit.TheVariants as exit
 use Rattle.program.specs.declared.reasons.Cause.{Cause}
-use Rattle.program.specs.Serving.{State, state, AnswersNext, AnswersAll, EndsEarly, AnswersCount, ServesNext, ServesAll, EndsServed, ServesCount, LoopsAreServed, ServesAtPort, Serves}
+use Rattle.program.specs.Serving.{State, state, AnswersNext, AnswersAll, EndsEarly, AnswersCount, ServesNext, ServesAll, EndsServed, ServesCount, LoopsAreServed, ServesBound, Serves}
 use Rattle.program.proofs.ServingLemmas.{after_reply_lasts, after_reply_rows}
 use Rattle.program.proofs.LogLemmas.{clean_next, clean_all, sound_next}
 
@@ -183,27 +183,15 @@ module _ {K F N C R W : Type 0} (k : keep.Ghosts K) (f : files.Ghosts F K) (n : 
         promised = services_are_as_promised terms.door served.0 (k.rows old.store) (k.rows new.store) served.2 lawful;
       }
 
-  -- so is what it serves at the port that was bound
-  pub bound_serves : (port given : ℕ) (terms : Terms) (count : ℕ) (bound : N) (old new : State N C K) (e : Exit) → n.binds old.network (127 ∷ 0 ∷ 0 ∷ 1 ∷ []) port (Ok given) bound
-      → Serves (λ es. ServesCount k f n c i o given terms count es (state bound old.clock old.store old.errors old.output) new e) terms.door count (k.rows old.store) (k.rows new.store)
-      → Serves (λ es. ServesAtPort k f n c i o port terms count es old new e) terms.door count (k.rows old.store) (k.rows new.store)
-  bound_serves port given terms count bound old new e binds serves = record {
-    exchanges = serves.exchanges;
-    few = serves.few;
-    of_connections = inl (bound, given, binds, serves.of_connections);
-    served = serves.served;
-    promised = serves.promised;
-  }
-
-  -- and nothing, if no port was bound
-  pub none_serves : (port : ℕ) (terms : Terms) (count : ℕ) (why : Cause) (old new : State N C K) → n.binds old.network (127 ∷ 0 ∷ 0 ∷ 1 ∷ []) port (Err why) new.network → new.clock ≡ old.clock → new.store ≡ old.store
-      → AreLawful (k.rows old.store) → Serves (λ es. ServesAtPort k f n c i o port terms count es old new exit.Down) terms.door count (k.rows old.store) (k.rows new.store)
-  none_serves port terms count why old new binds clock store lawful =
+  -- and so is nothing, if no port was bound
+  pub none_serves : (terms : Terms) (count : ℕ) (why : Cause) (old new : State N C K) → new.network ≡ old.network → new.clock ≡ old.clock → new.store ≡ old.store
+      → AreLawful (k.rows old.store) → Serves (λ es. ServesBound k f n c i o (Err why) terms count es old new exit.Down) terms.door count (k.rows old.store) (k.rows new.store)
+  none_serves terms count why old new network clock store lawful =
       let stays = none_since terms.door old new store in
       record {
         exchanges = [];
         few = omega arith;
-        of_connections = inr (refl, why, binds, clock, store, refl);
+        of_connections = (refl, network, clock, store, refl);
         served = stays;
         promised = services_are_as_promised terms.door [] (k.rows old.store) (k.rows new.store) stays lawful;
       }

@@ -39,7 +39,7 @@ use Rattle.program.specs.Moves.{org_copied, IsFilled, SomeAreCopied, CopiesBetwe
 use Rattle.program.specs.Paths.{AllStay, OthersStay, OthersStayBut, LeavesVacant, makes}
 use Rattle.program.specs.Replies.{printed, bad_frame_text, answer_line, fault_lines, AreReplies, Replays}
 use Rattle.program.specs.Secrets.{secret_in}
-use Rattle.program.specs.Serving.{listening_line, Serves, ServesAtPort, state, AnswersAtPort}
+use Rattle.program.specs.Serving.{listening_line, Serves, ServesBound, state, AnswersBound}
 use Rattle.program.specs.Streams.{Reported, GetsAll, Reports}
 use Rattle.program.specs.declared.environment.Clock as clock
 use Rattle.program.specs.declared.environment.Connections as connections
@@ -623,8 +623,9 @@ SaysServed served e old new =
     ((served ≡ exit.Down) × IsSaid exit.Down e old new) ⊎ ((served ≢ exit.Down) × (e ≡ served) × (new ≡ old))
 
 module _ {K F N C R W : Type 0} (k : keep.Ghosts K) (f : files.Ghosts F K) (n : connections.Ghosts N R W) (c : clock.Ghosts C) (i : inlet.Ghosts R) (o : outlet.Ghosts W) where
-  -- connections are answered on these terms from the store at a path. What they left is there now, and nothing else changed
-  pub record ServesFrom (path : List ℕ) (port : ℕ) (terms : Terms) (count : ℕ) (old new : Environment F N C) (e : Exit) (output : Stream) (errors : Errors) : Type 0 where
+  -- connections are answered on these terms from the store at a path, once the network has been asked to listen, with this result. What they
+  -- left is there now, and nothing else changed
+  pub record ServesFrom (path : List ℕ) (bound : Result ℕ Cause) (terms : Terms) (count : ℕ) (old new : Environment F N C) (e : Exit) (output : Stream) (errors : Errors) : Type 0 where
     pub before : K
     pub after : K
     pub worked : F
@@ -635,15 +636,15 @@ module _ {K F N C R W : Type 0} (k : keep.Ghosts K) (f : files.Ghosts F K) (n : 
     pub reported : Option (List ℕ)
     pub lines : Reported
     pub serves : k.clean after → k.sound before
-        → Serves (λ es. ServesAtPort k f n c i o port terms count es (state old.network old.clock before noted output.old) (state new.network new.clock after lines reported) served) terms.door count (k.rows before) (k.rows after)
-    pub answers : AnswersAtPort k f n c i o port terms count (state old.network old.clock before noted output.old) (state new.network new.clock after lines reported) served
+        → Serves (λ es. ServesBound k f n c i o bound terms count es (state old.network old.clock before noted output.old) (state new.network new.clock after lines reported) served) terms.door count (k.rows before) (k.rows after)
+    pub answers : AnswersBound k f n c i o bound terms count (state old.network old.clock before noted output.old) (state new.network new.clock after lines reported) served
     pub says : SaysServed served e reported output.new
     pub closes : Closes k f path worked new.files after (error_stream lines errors.new)
     pub others : OthersStay f.holds path old.files new.files
 
   -- the same for a file that existed, after a check of its tables, which found no fault. So what is served is sound and keyed, if the store
   -- `is_ours`
-  pub record ServesChecked (path : List ℕ) (port : ℕ) (terms : Terms) (count : ℕ) (old new : Environment F N C) (e : Exit) (output : Stream) (errors : Errors) : Type 0 where
+  pub record ServesChecked (path : List ℕ) (bound : Result ℕ Cause) (terms : Terms) (count : ℕ) (old new : Environment F N C) (e : Exit) (output : Stream) (errors : Errors) : Type 0 where
     pub before : K
     pub after : K
     pub worked : F
@@ -654,30 +655,32 @@ module _ {K F N C R W : Type 0} (k : keep.Ghosts K) (f : files.Ghosts F K) (n : 
     pub reported : Option (List ℕ)
     pub lines : Reported
     pub serves : k.clean after → k.sound before
-        → Serves (λ es. ServesAtPort k f n c i o port terms count es (state old.network old.clock before noted output.old) (state new.network new.clock after lines reported) served) terms.door count (k.rows before) (k.rows after)
+        → Serves (λ es. ServesBound k f n c i o bound terms count es (state old.network old.clock before noted output.old) (state new.network new.clock after lines reported) served) terms.door count (k.rows before) (k.rows after)
     pub sound_ours : k.clean after → f.is_ours opens.opened → k.sound opens.opened × k.sound after
     pub keyed_ours : k.clean after → f.is_ours opens.opened → k.keyed opens.opened × k.keyed after
     pub serves_ours : k.clean after → f.is_ours opens.opened
-        → Serves (λ es. ServesAtPort k f n c i o port terms count es (state old.network old.clock before noted output.old) (state new.network new.clock after lines reported) served) terms.door count (k.rows opens.opened) (k.rows after)
-    pub answers : AnswersAtPort k f n c i o port terms count (state old.network old.clock before noted output.old) (state new.network new.clock after lines reported) served
+        → Serves (λ es. ServesBound k f n c i o bound terms count es (state old.network old.clock before noted output.old) (state new.network new.clock after lines reported) served) terms.door count (k.rows opens.opened) (k.rows after)
+    pub answers : AnswersBound k f n c i o bound terms count (state old.network old.clock before noted output.old) (state new.network new.clock after lines reported) served
     pub says : SaysServed served e reported output.new
     pub closes : Closes k f path worked new.files after (error_stream lines errors.new)
     pub others : OthersStay f.holds path old.files new.files
 
   -- connections are answered. If a check is asked for (`true`), only after one that found no fault, and no file is created. Or the store at
   -- the path is not opened
-  abbrev pub ServesAsAsked : Bool → List ℕ → ℕ → Terms → ℕ → Environment F N C → Environment F N C → Exit → Stream → Errors → Type 0
-  ServesAsAsked false path port terms count old new e output errors =
-      ServesFrom path port terms count old new e output errors ⊎ (RefusesToOpen k f path opening.Created old.files new.files e output errors × IsAlone old new)
-  ServesAsAsked true path port terms count old new e output errors =
-      (ServesChecked path port terms count old new e output errors ⊎ (RefusesUnsound k f path cause.Faults old.files new.files e output errors × IsAlone old new))
+  abbrev pub ServesAsAsked : Bool → List ℕ → Result ℕ Cause → Terms → ℕ → Environment F N C → Environment F N C → Exit → Stream → Errors → Type 0
+  ServesAsAsked false path bound terms count old new e output errors =
+      ServesFrom path bound terms count old new e output errors ⊎ (RefusesToOpen k f path opening.Created old.files new.files e output errors × IsAlone old new)
+  ServesAsAsked true path bound terms count old new e output errors =
+      (ServesChecked path bound terms count old new e output errors ⊎ (RefusesUnsound k f path cause.Faults old.files new.files e output errors × IsAlone old new))
       ⊎ (RefusesToOpen k f path opening.Existing old.files new.files e output errors × IsAlone old new)
 
+  -- the network is asked to listen on 127.0.0.1 at a port, and nowhere else, whatever becomes of the store. With the result of that,
   -- connections are answered, with these timeouts, the log or no log, and the door that is asked for. Or a door is asked for (`operates`), and
   -- the input has no secret or could not be read, and nothing changes
   abbrev pub ServesWithDoor : Bool → Bool → List ℕ → ℕ → Timeouts → Bool → ℕ → Option (List ℕ) → Environment F N C → Environment F N C → Exit → Stream → Errors → Type 0
   ServesWithDoor operates checks path port timeouts logs count input old new e output errors =
-      ((door : Door) × IsDoor operates input door × ServesAsAsked checks path port (record { timeouts = timeouts; logs = logs; door = door }) count old new e output errors)
+      ((door : Door) × IsDoor operates input door × (bound : Result ℕ Cause) × (network : N) × n.binds old.network (127 ∷ 0 ∷ 0 ∷ 1 ∷ []) port bound network
+      × ServesAsAsked checks path bound (record { timeouts = timeouts; logs = logs; door = door }) count (environment old.files network old.clock) new e output errors)
       ⊎ ((operates ≡ true) × (new ≡ old) × ((HasNoSecret input × RefusesUsage e output errors × Reports errors.old errors.new secret_line)
       ⊎ (RefusesDown e output × ReportsCause cause.Input errors)))
 

@@ -137,14 +137,12 @@ module _ {K F N C R W : Type 0} (k : keep.Ghosts K) (f : files.Ghosts F K) (n : 
   AnswersCount port terms count old new exit.Unprinted = (new.network ≡ old.network) × (new.clock ≡ old.clock) × (new.store ≡ old.store) × (new.errors ≡ old.errors)
   AnswersCount port terms count old new other = ⊥
 
-  -- the network listens on 127.0.0.1 at a port, and nowhere else. The port that it gave is printed, and this many connections are answered. Or
-  -- it cannot listen, and the error stream gets the cause
-  abbrev pub AnswersAtPort : ℕ → Terms → ℕ → State N C K → State N C K → Exit → Type 0
-  AnswersAtPort port terms count old new e =
-      ((bound : N) × (given : ℕ) × n.binds old.network (127 ∷ 0 ∷ 0 ∷ 1 ∷ []) port (Ok given) bound
-      × AnswersCount given terms count (state bound old.clock old.store old.errors old.output) new e × ListensAt given terms.logs e old.output new.output)
-      ⊎ ((why : Cause) × n.binds old.network (127 ∷ 0 ∷ 0 ∷ 1 ∷ []) port (Err why) new.network
-      × (new.clock ≡ old.clock) × (new.store ≡ old.store) × Reports old.errors new.errors (cause_line why) × (e ≡ exit.Down) × (new.output ≡ old.output))
+  -- the network has been asked to listen, with this result. It gave a port, which is printed, and this many connections are answered. Or it
+  -- cannot listen, and the error stream gets the cause
+  abbrev pub AnswersBound : Result ℕ Cause → Terms → ℕ → State N C K → State N C K → Exit → Type 0
+  AnswersBound (Ok given) terms count old new e = AnswersCount given terms count old new e × ListensAt given terms.logs e old.output new.output
+  AnswersBound (Err why) terms count old new e =
+      (new.network ≡ old.network) × (new.clock ≡ old.clock) × (new.store ≡ old.store) × Reports old.errors new.errors (cause_line why) × (e ≡ exit.Down) × (new.output ≡ old.output)
 
   -- the log has one line for each answered connection, in order. Between two lines, only the record of the organization that the later line
   -- names changes
@@ -192,13 +190,11 @@ module _ {K F N C R W : Type 0} (k : keep.Ghosts K) (f : files.Ghosts F K) (n : 
       → AnswersCount port terms count old new e → k.clean new.store → k.sound old.store
       → (es : List Exchange) × ServesCount port terms count es old new e × AreServed terms.door es (k.rows old.store) (k.rows new.store)
 
-  -- the exchanges at a port, as `AnswersAtPort` says; none if the network cannot listen there
-  abbrev pub ServesAtPort : ℕ → Terms → ℕ → List Exchange → State N C K → State N C K → Exit → Type 0
-  ServesAtPort port terms count es old new e =
-      ((bound : N) × (given : ℕ) × n.binds old.network (127 ∷ 0 ∷ 0 ∷ 1 ∷ []) port (Ok given) bound
-      × ServesCount given terms count es (state bound old.clock old.store old.errors old.output) new e)
-      ⊎ ((es ≡ []) × (why : Cause) × n.binds old.network (127 ∷ 0 ∷ 0 ∷ 1 ∷ []) port (Err why) new.network
-      × (new.clock ≡ old.clock) × (new.store ≡ old.store) × (e ≡ exit.Down))
+  -- the exchanges, as `AnswersBound` says; none if the network cannot listen
+  abbrev pub ServesBound : Result ℕ Cause → Terms → ℕ → List Exchange → State N C K → State N C K → Exit → Type 0
+  ServesBound (Ok given) terms count es old new e = ServesCount given terms count es old new e
+  ServesBound (Err why) terms count es old new e =
+      (es ≡ []) × (new.network ≡ old.network) × (new.clock ≡ old.clock) × (new.store ≡ old.store) × (e ≡ exit.Down)
 
 -- at most this many exchanges were served with this door, one after the other, as promised, and nothing else changed a record. They are
 -- those of the connections (`AreOf`)

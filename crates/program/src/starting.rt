@@ -4,7 +4,7 @@ ghost use Rattle.machine.specs.StoreCalls.{Lasts};
 ghost use Rattle.program.specs.Outcomes.{stream, error_stream, IsSaid, ServesAt, ServesFrom, ServesChecked, ServesAsAsked, RefusesUnsound, RefusesToOpen, environment, IsAlone, SaysServed, HasNoSecret, IsDoor, HasDoor, ServesBehind, ServesWithDoor};
 ghost use Rattle.program.specs.Inputs.{LeavesUnless};
 ghost use Rattle.program.specs.Inner.Outcomes.{ServesOpened};
-ghost use Rattle.program.specs.Serving.{Listens, Serves, ServesAtPort, state, AnswersAtPort};
+ghost use Rattle.program.specs.Serving.{Listens, Serves, ServesBound, state, AnswersBound};
 
 use crate::checking::check_first;
 use crate::environment::{Clock, Connections, Files, Opening};
@@ -24,26 +24,27 @@ use std::alloc::Global;
 use std::io::{Read, Write};
 use std::net::Ipv4Addr;
 
-fn serve_at<K: Keep, F: Files<K>, N: Connections, C: Clock, O: Write, E: ErrorStream>(
+// Answers connections from a store at the port that was bound, or reports why none was.
+fn serve_bound<K: Keep, F: Files<K>, N: Connections, C: Clock, O: Write, E: ErrorStream>(
     alloc: Global,
     files: &F,
     network: &mut N,
     clock: &mut C,
     service: &mut Service<K>,
-    port: u16,
+    bound: Result<u16, Cause>,
     count: u64,
     terms: &Terms,
     output: &mut O,
     errors: &mut E,
 ) -> Exit
     ensures lasts { Lasts K.clean K.sound K.keyed K.shielded service.old.keep service.new.keep }
-    ensures serves { K.clean service.new.keep → K.sound service.old.keep → Serves (λ exchanges. ServesAtPort K.Keep F.Files N.Connections C.Clock N.Reader.Inlet N.Writer.Outlet port terms.now count exchanges (state network.old clock.old service.old.keep (E.reported errors.old) (O.contents output.old)) (state network.new clock.new service.new.keep (E.reported errors.new) (O.contents output.new)) result)
+    ensures serves { K.clean service.new.keep → K.sound service.old.keep → Serves (λ exchanges. ServesBound K.Keep F.Files N.Connections C.Clock N.Reader.Inlet N.Writer.Outlet bound terms.now count exchanges (state network.old clock.old service.old.keep (E.reported errors.old) (O.contents output.old)) (state network.new clock.new service.new.keep (E.reported errors.new) (O.contents output.new)) result)
         terms.now.door count (K.rows service.old.keep) (K.rows service.new.keep) }
     ensures listens { Listens terms.now.logs result (O.contents output.old) (O.contents output.new) }
-    ensures answers { AnswersAtPort K.Keep F.Files N.Connections C.Clock N.Reader.Inlet N.Writer.Outlet port terms.now count (state network.old clock.old service.old.keep (E.reported errors.old) (O.contents output.old)) (state network.new clock.new service.new.keep (E.reported errors.new) (O.contents output.new)) result }
+    ensures answers { AnswersBound K.Keep F.Files N.Connections C.Clock N.Reader.Inlet N.Writer.Outlet bound terms.now count (state network.old clock.old service.old.keep (E.reported errors.old) (O.contents output.old)) (state network.new clock.new service.new.keep (E.reported errors.new) (O.contents output.new)) result }
 {
     service.keep.records_are_lawful();
-    match network.bind(Ipv4Addr::LOCALHOST, port) {
+    match bound {
         Ok(given) => serve_loop(
             alloc, files, network, given, service, count, terms, clock, output, errors,
         ),
@@ -73,23 +74,23 @@ fn serve_opened<K: Keep, F: Files<K>, N: Connections, C: Clock, O: Write, E: Err
     clock: &mut C,
     db: &str,
     keep: K,
-    port: u16,
+    bound: Result<u16, Cause>,
     count: u64,
     terms: &Terms,
     output: &mut O,
     errors: &mut E,
 ) -> Exit
     ensures line { ServesAt terms.now.logs result (stream (O.contents output.old) (O.contents output.new)) }
-    ensures serves { ServesOpened K.Keep F.Files N.Connections C.Clock N.Reader.Inlet N.Writer.Outlet db.now port terms.now count keep (environment files.old network.old clock.old) (environment files.new network.new clock.new) result (stream (O.contents output.old) (O.contents output.new)) (error_stream (E.reported errors.old) (E.reported errors.new)) }
+    ensures serves { ServesOpened K.Keep F.Files N.Connections C.Clock N.Reader.Inlet N.Writer.Outlet db.now bound terms.now count keep (environment files.old network.old clock.old) (environment files.new network.new clock.new) result (stream (O.contents output.old) (O.contents output.new)) (error_stream (E.reported errors.old) (E.reported errors.new)) }
 {
     let mut service = Service::new(keep);
-    let exit = serve_at(
+    let exit = serve_bound(
         alloc,
         files,
         network,
         clock,
         &mut service,
-        port,
+        bound,
         count,
         terms,
         output,
@@ -106,14 +107,14 @@ fn serve<K: Keep, F: Files<K>, N: Connections, C: Clock, O: Write, E: ErrorStrea
     network: &mut N,
     clock: &mut C,
     db: &str,
-    port: u16,
+    bound: Result<u16, Cause>,
     count: u64,
     terms: &Terms,
     output: &mut O,
     errors: &mut E,
 ) -> Exit
     ensures line { ServesAt terms.now.logs result (stream (O.contents output.old) (O.contents output.new)) }
-    ensures serves { ServesFrom K.Keep F.Files N.Connections C.Clock N.Reader.Inlet N.Writer.Outlet db.now port terms.now count (environment files.old network.old clock.old) (environment files.new network.new clock.new) result (stream (O.contents output.old) (O.contents output.new)) (error_stream (E.reported errors.old) (E.reported errors.new))
+    ensures serves { ServesFrom K.Keep F.Files N.Connections C.Clock N.Reader.Inlet N.Writer.Outlet db.now bound terms.now count (environment files.old network.old clock.old) (environment files.new network.new clock.new) result (stream (O.contents output.old) (O.contents output.new)) (error_stream (E.reported errors.old) (E.reported errors.new))
         ⊎ (RefusesToOpen K.Keep F.Files db.now Opening.Created files.old files.new result (stream (O.contents output.old) (O.contents output.new)) (error_stream (E.reported errors.old) (E.reported errors.new)) × IsAlone (environment files.old network.old clock.old) (environment files.new network.new clock.new)) }
 {
     let keep = match open_one(files, db, Opening::Created, output, errors) {
@@ -121,7 +122,7 @@ fn serve<K: Keep, F: Files<K>, N: Connections, C: Clock, O: Write, E: ErrorStrea
         Err(exit) => return exit,
     };
     serve_opened(
-        alloc, files, network, clock, db, keep, port, count, terms, output, errors,
+        alloc, files, network, clock, db, keep, bound, count, terms, output, errors,
     )
 }
 
@@ -131,14 +132,14 @@ fn serve_checked<K: Keep, F: Files<K>, N: Connections, C: Clock, O: Write, E: Er
     network: &mut N,
     clock: &mut C,
     db: &str,
-    port: u16,
+    bound: Result<u16, Cause>,
     count: u64,
     terms: &Terms,
     output: &mut O,
     errors: &mut E,
 ) -> Exit
     ensures line { ServesAt terms.now.logs result (stream (O.contents output.old) (O.contents output.new)) }
-    ensures serves { (ServesChecked K.Keep F.Files N.Connections C.Clock N.Reader.Inlet N.Writer.Outlet db.now port terms.now count (environment files.old network.old clock.old) (environment files.new network.new clock.new) result (stream (O.contents output.old) (O.contents output.new)) (error_stream (E.reported errors.old) (E.reported errors.new))
+    ensures serves { (ServesChecked K.Keep F.Files N.Connections C.Clock N.Reader.Inlet N.Writer.Outlet db.now bound terms.now count (environment files.old network.old clock.old) (environment files.new network.new clock.new) result (stream (O.contents output.old) (O.contents output.new)) (error_stream (E.reported errors.old) (E.reported errors.new))
         ⊎ (RefusesUnsound K.Keep F.Files db.now Cause.Faults files.old files.new result (stream (O.contents output.old) (O.contents output.new)) (error_stream (E.reported errors.old) (E.reported errors.new)) × IsAlone (environment files.old network.old clock.old) (environment files.new network.new clock.new)))
         ⊎ (RefusesToOpen K.Keep F.Files db.now Opening.Existing files.old files.new result (stream (O.contents output.old) (O.contents output.new)) (error_stream (E.reported errors.old) (E.reported errors.new)) × IsAlone (environment files.old network.old clock.old) (environment files.new network.new clock.new)) }
 {
@@ -148,7 +149,7 @@ fn serve_checked<K: Keep, F: Files<K>, N: Connections, C: Clock, O: Write, E: Er
     };
     if check_first(alloc, files, &mut keep, Cause::Faults, errors) {
         return serve_opened(
-            alloc, files, network, clock, db, keep, port, count, terms, output, errors,
+            alloc, files, network, clock, db, keep, bound, count, terms, output, errors,
         );
     }
     close_after(files, db, keep, errors);
@@ -162,7 +163,7 @@ fn serve_as_asked<K: Keep, F: Files<K>, N: Connections, C: Clock, O: Write, E: E
     network: &mut N,
     clock: &mut C,
     db: &str,
-    port: u16,
+    bound: Result<u16, Cause>,
     count: u64,
     terms: &Terms,
     checks: bool,
@@ -170,15 +171,15 @@ fn serve_as_asked<K: Keep, F: Files<K>, N: Connections, C: Clock, O: Write, E: E
     errors: &mut E,
 ) -> Exit
     ensures line { ServesAt terms.now.logs result (stream (O.contents output.old) (O.contents output.new)) }
-    ensures serves { ServesAsAsked K.Keep F.Files N.Connections C.Clock N.Reader.Inlet N.Writer.Outlet checks db.now port terms.now count (environment files.old network.old clock.old) (environment files.new network.new clock.new) result (stream (O.contents output.old) (O.contents output.new)) (error_stream (E.reported errors.old) (E.reported errors.new)) }
+    ensures serves { ServesAsAsked K.Keep F.Files N.Connections C.Clock N.Reader.Inlet N.Writer.Outlet checks db.now bound terms.now count (environment files.old network.old clock.old) (environment files.new network.new clock.new) result (stream (O.contents output.old) (O.contents output.new)) (error_stream (E.reported errors.old) (E.reported errors.new)) }
 {
     if checks {
         serve_checked(
-            alloc, files, network, clock, db, port, count, terms, output, errors,
+            alloc, files, network, clock, db, bound, count, terms, output, errors,
         )
     } else {
         serve(
-            alloc, files, network, clock, db, port, count, terms, output, errors,
+            alloc, files, network, clock, db, bound, count, terms, output, errors,
         )
     }
 }
@@ -209,7 +210,8 @@ fn read_door<I: Read>(alloc: Global, operates: bool, input: &mut I) -> Result<Do
 }
 
 /// Answers connections from the file at a path, with these timeouts, with the log or without it. If `operates` is true, the
-/// operator's door is open, and its secret is read before the file is opened.
+/// operator's door is open, and its secret is read first. The port is bound before the file is opened, so that peers who come
+/// meanwhile wait. A port that cannot be had is reported once the file is open.
 pub fn serve_with_door<
     K: Keep,
     F: Files<K>,
@@ -245,8 +247,9 @@ pub fn serve_with_door<
                 logs,
                 door,
             };
+            let bound = network.bind(Ipv4Addr::LOCALHOST, port);
             serve_as_asked(
-                alloc, files, network, clock, db, port, count, &terms, checks, output, errors,
+                alloc, files, network, clock, db, bound, count, &terms, checks, output, errors,
             )
         }
         Err(Unfit::Syntax) => say_why(output, errors, Exit::Usage, SECRET_FORM),

@@ -14,7 +14,7 @@ use Rattle.program.specs.declared.reasons.Cause.{Cause}
 use Rattle.program.specs.declared.serving.Terms.{Terms}
 use Rattle.program.specs.declared.totals.Findings.{Findings}
 use Rattle.program.specs.Outcomes.{Stream, Errors, Environment, error_stream, Says, GetsSome, SaysServed, ChecksStore, Closes, ReportsUnsound}
-use Rattle.program.specs.Serving.{Serves, ServesAtPort, state, AnswersAtPort}
+use Rattle.program.specs.Serving.{Serves, ServesBound, state, AnswersBound}
 use Rattle.program.specs.Streams.{Reported}
 
 -- the line of an exit on standard output and its cause on the error stream; or a stream did not take everything
@@ -32,15 +32,15 @@ module _ {K F : Type 0} (k : keep.Ghosts K) (f : files.Ghosts F K) where
   ChecksFirst why opened is_sound before errors = ChecksStore k f (λ found reported. FindsNone why found is_sound reported) opened before errors
 
 module _ {K F N C R W : Type 0} (k : keep.Ghosts K) (f : files.Ghosts F K) (n : connections.Ghosts N R W) (c : clock.Ghosts C) (i : inlet.Ghosts R) (o : outlet.Ghosts W) where
-  -- connections are answered from an open store, which is then closed at this path
-  pub record ServesOpened (path : List ℕ) (port : ℕ) (terms : Terms) (count : ℕ) (before : K) (old new : Environment F N C) (e : Exit) (output : Stream) (errors : Errors) : Type 0 where
+  -- connections are answered from an open store, which is then closed at this path; the network has been asked to listen, with this result
+  pub record ServesOpened (path : List ℕ) (bound : Result ℕ Cause) (terms : Terms) (count : ℕ) (before : K) (old new : Environment F N C) (e : Exit) (output : Stream) (errors : Errors) : Type 0 where
     pub after : K
     pub lasts : Lasts k.clean k.sound k.keyed k.shielded before after
     pub served : Exit
     pub reported : Option (List ℕ)
     pub lines : Reported
     pub serves : k.clean after → k.sound before
-        → Serves (λ es. ServesAtPort k f n c i o port terms count es (state old.network old.clock before errors.old output.old) (state new.network new.clock after lines reported) served) terms.door count (k.rows before) (k.rows after)
-    pub answers : AnswersAtPort k f n c i o port terms count (state old.network old.clock before errors.old output.old) (state new.network new.clock after lines reported) served
+        → Serves (λ es. ServesBound k f n c i o bound terms count es (state old.network old.clock before errors.old output.old) (state new.network new.clock after lines reported) served) terms.door count (k.rows before) (k.rows after)
+    pub answers : AnswersBound k f n c i o bound terms count (state old.network old.clock before errors.old output.old) (state new.network new.clock after lines reported) served
     pub says : SaysServed served e reported output.new
     pub closes : Closes k f path old.files new.files after (error_stream lines errors.new)

@@ -5,7 +5,7 @@ pub returns-in-Ok-clause-line : goal.returns-in-Ok-clause-line
 returns-in-Ok-clause-line g c = inl (c.in-Ok.ensures.has, c.serve_as_asked.ensures.line)
 
 pub returns-in-Ok-clause-serves : goal.returns-in-Ok-clause-serves
-returns-in-Ok-clause-serves g c = inl (c.in-Ok.door, c.in-Ok.ensures.is, c.serve_as_asked.ensures.serves)
+returns-in-Ok-clause-serves g c = inl (c.in-Ok.door, c.in-Ok.ensures.is, c.bind-bound.result, c.bind-bound.new.self, c.bind-bound.ensures, c.serve_as_asked.ensures.serves)
 
 pub returns-in-Err-Syntax-clause-line : goal.returns-in-Err-Syntax-clause-line
 returns-in-Err-Syntax-clause-line g c = inr (search rules, inl (search rules, search rules))
