@@ -20,3 +20,5 @@ pub mod LoggedChanges
 pub mod DoorLemmas
 pub mod LogInputs
 pub mod ServedLemmas
+pub mod ApartLemmas
+pub mod ApartExamples

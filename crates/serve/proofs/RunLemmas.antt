@@ -249,7 +249,7 @@ own_of_one org r (a ∷ asked) = chosen (is_own (organization org) a) refl (λ q
     chosen false own rest = rest r
 
 -- a thing said has one text
-one_text : (said : Said) (x y : List ℕ) → IsOfOne said → IsSaidText said x → IsSaidText said y → x ≡ y
+pub one_text : (said : Said) (x y : List ℕ) → IsOfOne said → IsSaidText said x → IsSaidText said y → x ≡ y
 one_text lists x y of_one h k = absurd of_one
 one_text lists_tokens x y of_one h k = absurd of_one
 one_text nothing x y of_one h k = h ∙ sym k

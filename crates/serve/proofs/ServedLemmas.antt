@@ -237,7 +237,7 @@ served_rows door (e ∷ es) old new h org = by_ask e.ask h.1.1 (served_rows door
     by_ask (Some a) one rest = rest ∙ ap (λ (r : Option Organization). own_record r (own_asks (organization org) (asked_in es))) (one.carries org) ∙ by_owner a (is_own (organization org) a)
 
 -- the record that the owner's next exchange reads
-record_then : (owner : Owner) (a : Ask) (old mid : List ℕ → Option Organization) → Carries a old mid → (b : Bool) → is_own owner a ≡ b → record_for mid owner ≡ after_ask b a (record_for old owner)
+pub record_then : (owner : Owner) (a : Ask) (old mid : List ℕ → Option Organization) → Carries a old mid → (b : Bool) → is_own owner a ≡ b → record_for mid owner ≡ after_ask b a (record_for old owner)
 record_then (organization org) a old mid carries b e = carries org ∙ ap (λ (t : Bool). after_ask t a (old org)) e
 record_then unattributed a old mid carries true e = sym (nobody_still a None e)
 record_then unattributed a old mid carries false e = refl
@@ -390,17 +390,17 @@ services_are_as_promised door es old new h lawful = record {
 
 -- ---- two worlds
 
-whole_is : (is_whole : Bool) (written text : List ℕ) → is_whole ≡ true → IsFrontOf is_whole written text → written ≡ text
+pub whole_is : (is_whole : Bool) (written text : List ℕ) → is_whole ≡ true → IsFrontOf is_whole written text → written ≡ text
 whole_is true written text e h = h
 whole_is false written text e h = absurd (let none : ⊥ = cc in none)
 
 -- the reply to a command at a moment has one text
-one_report : (answer : AdminAnswer) (at now : ℕ) (awaited flag : Bool) (x y : List ℕ) → at ≡ now → awaited ≡ flag → IsReportText at awaited answer x → IsReportText now flag answer y → x ≡ y
+pub one_report : (answer : AdminAnswer) (at now : ℕ) (awaited flag : Bool) (x y : List ℕ) → at ≡ now → awaited ≡ flag → IsReportText at awaited answer x → IsReportText now flag answer y → x ≡ y
 one_report answer at now awaited flag x y moment line h k =
     let same = one_reply (reported_answer answer) now h.0 k.0 (subst (λ (t : ℕ). IsReplyText (reported_answer answer) t h.0) moment h.1) k.1 in
     h.2 ∙ ap (λ (b : Bool). continue_if b ++ h.0) line ∙ ap (λ (r : List ℕ). continue_if flag ++ r) same ∙ sym k.2
 
-one_told : (said : Said) (at now : ℕ) (awaited flag : Bool) (x y : List ℕ) → IsOfOne said → at ≡ now → awaited ≡ flag → IsToldText at awaited said x → IsToldText now flag said y → x ≡ y
+pub one_told : (said : Said) (at now : ℕ) (awaited flag : Bool) (x y : List ℕ) → IsOfOne said → at ≡ now → awaited ≡ flag → IsToldText at awaited said x → IsToldText now flag said y → x ≡ y
 one_told nothing at now awaited flag x y of_one moment line h k = h ∙ sym k
 one_told (replies due then answer) at now awaited flag x y of_one moment line h k =
     let same = one_reply answer now h.2 k.2 (subst (λ (t : ℕ). IsReplyText answer t h.2) moment h.3) k.3 in

@@ -16,4 +16,5 @@ pub mod Book
 pub mod AbsentForms
 pub mod Served
 pub mod Promises
+pub mod Apart
 pub mod Inner

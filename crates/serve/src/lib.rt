@@ -1,6 +1,7 @@
 //! One exchange, operator's commands and replay, over any keep.
 #![tactic(auto)]
 
+mod apart;
 pub mod bounds;
 mod checks;
 mod commands;
@@ -17,6 +18,7 @@ mod service;
 pub mod steps;
 pub mod words;
 
+pub use apart::services_apart_are_one;
 pub use doors::Door;
 pub use exchanges::LinkFault;
 pub use laws::{
