@@ -8,6 +8,7 @@ mod EnvironmentLemmas
 mod ErrorLemmas
 mod LogLemmas
 mod ServedLemmas
+pub mod ServiceLemmas
 mod MoveLemmas
 mod CopyLemmas
 mod BatchLemmas

@@ -11,6 +11,7 @@ pub mod Outcomes
 pub mod Paths
 pub mod Replies
 pub mod Secrets
+pub mod Services
 pub mod Serving
 pub mod Streams
 pub mod Totals

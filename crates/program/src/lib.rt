@@ -26,6 +26,6 @@ pub mod totals;
 
 pub use command_line::timeouts;
 pub use laws::{
-    copied_organizations_go_on, copies_to_none_are_the_same, done_copies_are_equal,
+    copied_organizations_go_on, copies_to_none_are_the_same, done_copies_are_equal, services_begin,
     stopped_copies_go_on,
 };

@@ -18,7 +18,7 @@ mod tuning;
 
 pub use clock::SystemClock;
 pub use files::{DiskFiles, FileKeep, close_file, open_file};
-pub use laws::shielded_stores_are_clean_or_digests_collide;
+pub use laws::{new_files_are_served, shielded_stores_are_clean_or_digests_collide};
 pub use running::run_here;
 pub use sockets::{LINGER_READS, LINGER_SECONDS, Sockets, TcpSockets};
 pub use streams::{Half, SystemHalf, Timed, TimedStream};
