@@ -2,8 +2,8 @@
 use Rattle.std.proofs.Common.{◌⊎◌, inl, inr, ℕ, Bool, List, Option}
 use Rattle.machine.specs.declared.keeps.Keep as keep
 use Rattle.command_line.specs.declared.timeouts.Timeouts.{Timeouts}
-use Rattle.program.specs.Outcomes.{Stream, Errors, error_stream, Environment, IsAlone}
-use Rattle.program.specs.Services.{HasNoOrganization, ServesFromNothing}
+use Rattle.program.specs.Outcomes.{Stream, Errors, error_stream, Environment}
+use Rattle.program.specs.Services.{HasNoOrganization, ServesFromNothing, NobodyIsAnswered}
 use Rattle.program.specs.Streams.{Reported}
 use Rattle.program.specs.declared.environment.Clock as clock
 use Rattle.program.specs.declared.environment.Connections as connections
@@ -17,8 +17,8 @@ use Rattle.system.specs.Services.{ServesNewFile, NewFilesAreServed}
 module _ {K F N C R W : Type 0} {k : keep.Ghosts K} {f : files.Ghosts F K} {n : connections.Ghosts N R W} {c : clock.Ghosts C} {i : inlet.Ghosts R} {o : outlet.Ghosts W} where
   with_disk : (HasCollided : K → Type 0) (path : List ℕ) (port count : ℕ) (timeouts : Timeouts) (logs operates : Bool) (input : Option (List ℕ)) (old new : Environment F N C) (e : Exit) (output : Stream) (errors : Errors)
       → ((store : K) → f.holds old.files path store → k.clean store → k.shielded store) → ((store : K) → k.shielded store → k.clean store ⊎ HasCollided store)
-      → ((reported : Reported) × ServesFromNothing k f n c i o path port count timeouts logs operates input old new e output (error_stream errors.old reported)) ⊎ IsAlone old new
-      → ((reported : Reported) × ServesNewFile k f n c i o HasCollided path port count timeouts logs operates input old new e output (error_stream errors.old reported)) ⊎ IsAlone old new
+      → ((reported : Reported) × ServesFromNothing k f n c i o path port count timeouts logs operates input old new e output (error_stream errors.old reported)) ⊎ NobodyIsAnswered k f n c i o port old new
+      → ((reported : Reported) × ServesNewFile k f n c i o HasCollided path port count timeouts logs operates input old new e output (error_stream errors.old reported)) ⊎ NobodyIsAnswered k f n c i o port old new
   with_disk HasCollided path port count timeouts logs operates input old new e output errors guarded means (inl (reported, service)) =
       let program = service.program in
       inl (reported, record { service = service; disk = λ clean. means program.after (program.lasts.shield (guarded program.before program.opens.found clean)) })

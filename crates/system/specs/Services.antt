@@ -4,8 +4,8 @@ use Rattle.machine.specs.declared.keeps.Keep as keep
 use Rattle.command_line.specs.Orders.{serves}
 use Rattle.command_line.specs.Words.{asked_in}
 use Rattle.command_line.specs.declared.timeouts.Timeouts.{Timeouts}
-use Rattle.program.specs.Outcomes.{Stream, Errors, error_stream, Environment, IsAlone, Runs}
-use Rattle.program.specs.Services.{ServesFromNothing}
+use Rattle.program.specs.Outcomes.{Stream, Errors, error_stream, Environment, Runs}
+use Rattle.program.specs.Services.{ServesFromNothing, NobodyIsAnswered}
 use Rattle.program.specs.Streams.{Reported}
 use Rattle.program.specs.declared.environment.Clock as clock
 use Rattle.program.specs.declared.environment.Connections as connections
@@ -21,8 +21,8 @@ module _ {K F N C R W : Type 0} (k : keep.Ghosts K) (f : files.Ghosts F K) (n : 
     pub service : ServesFromNothing k f n c i o path port count timeouts logs operates input old new e output errors
     pub disk : k.clean service.program.before → k.clean service.program.after ⊎ HasCollided service.program.after
 
-  -- what the words of `serve` lead to, if the file that is opened first is new: such a service, or no use of the network and the clock
+  -- what the words of `serve` lead to, if the file that is opened first is new: such a service, or nobody is answered
   abbrev pub NewFilesAreServed : (K → Type 0) → (F → Type 0) → Type 0
   NewFilesAreServed HasCollided IsUnopened = (words : List (List ℕ)) (path : List ℕ) (port count : ℕ) (timeouts : Timeouts) (logs operates : Bool) (input : Option (List ℕ)) (old new : Environment F N C) (e : Exit) (output : Stream) (errors : Errors)
       → asked_in words ≡ Some (serves path port count timeouts logs false operates) → IsUnopened old.files → Runs k f n c i o words input old new e output errors
-      → ((reported : Reported) × ServesNewFile HasCollided path port count timeouts logs operates input old new e output (error_stream errors.old reported)) ⊎ IsAlone old new
+      → ((reported : Reported) × ServesNewFile HasCollided path port count timeouts logs operates input old new e output (error_stream errors.old reported)) ⊎ NobodyIsAnswered k f n c i o port old new
