@@ -3,7 +3,7 @@ _custody() {
     local word=${COMP_WORDS[COMP_CWORD]} before=${COMP_WORDS[COMP_CWORD - 1]} words
     COMPREPLY=()
     case $before in
-        --db | --to)
+        --db | --to | --socket)
             compopt -o filenames 2> /dev/null
             mapfile -t COMPREPLY < <(compgen -f -- "$word")
             return ;;
@@ -18,7 +18,7 @@ _custody() {
             org-copy | compact) words="--db --to --help" ;;
             org-remove) words="--db --force --help" ;;
             token-add) words="--db --until --prefix --help read write admin" ;;
-            serve) words="--db --port --count --unlimited --idle --most --log --check --operator --help" ;;
+            serve) words="--db --port --socket --count --unlimited --idle --most --log --check --operator --help" ;;
             replay) words="--help" ;;
             help) ((COMP_CWORD > 2)) || words="org-add org-limit org-copy org-remove org-list token-add token-list token-revoke serve check compact admin replay" ;;
         esac

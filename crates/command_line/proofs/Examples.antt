@@ -6,9 +6,9 @@ use lib.Utf8.{encode}
 use Rattle.basis.specs.declared.roles.Role.TheVariants.{Write}
 use Rattle.clap.proofs.OnLiterals.{clap_on_literals}
 use Rattle.serve.specs.Bounds.{bounds, no_bounds}
-use Rattle.command_line.specs.Orders.{carries, adds_token, checks_file, copies, compacts, serves, carries_all, replays, reports_version, unlimited}
+use Rattle.command_line.specs.Orders.{at_port, at_socket, carries, adds_token, checks_file, copies, compacts, serves, carries_all, replays, reports_version, unlimited}
 use Rattle.command_line.specs.Words.{asked_in, misfit_in}
-use Rattle.command_line.specs.declared.arguments.Argument.TheVariants.{Org, Limit, Counting, Count}
+use Rattle.command_line.specs.declared.arguments.Argument.TheVariants.{Org, Limit, Listening, Counting, Count}
 use Rattle.serve.specs.declared.steps.Admin.TheVariants.{OrgAdd, OrgRemove, TokenList}
 
 organization_asked : asked_in (codes "org-add" ∷ codes "--db" ∷ codes "t.db" ∷ codes "acme" ∷ []) ≡ Some (carries (codes "t.db") (OrgAdd (codes "acme") 200))
@@ -52,12 +52,12 @@ tokens_asked : asked_in (codes "token-list" ∷ codes "--db" ∷ codes "t.db" �
 unfolding clap_on_literals chars is_utf8 encode
 tokens_asked = refl
 
-serving_asked : asked_in (codes "serve" ∷ codes "--db" ∷ codes "t.db" ∷ codes "--port" ∷ codes "8090" ∷ codes "--count" ∷ codes "3" ∷ []) ≡ Some (serves (codes "t.db") 8090 3 (record { idle = 10; most = 120 }) false false false)
+serving_asked : asked_in (codes "serve" ∷ codes "--db" ∷ codes "t.db" ∷ codes "--port" ∷ codes "8090" ∷ codes "--count" ∷ codes "3" ∷ []) ≡ Some (serves (codes "t.db") (at_port 8090) 3 (record { idle = 10; most = 120 }) false false false)
 unfolding clap_on_literals chars is_utf8 encode
 serving_asked = refl
 
 timeouts_given : asked_in (codes "serve" ∷ codes "--db" ∷ codes "t.db" ∷ codes "--most" ∷ codes "3600" ∷ codes "--idle=1" ∷ codes "--port" ∷ codes "8090" ∷ codes "--count" ∷ codes "3" ∷ [])
-    ≡ Some (serves (codes "t.db") 8090 3 (record { idle = 1; most = 3_600 }) false false false)
+    ≡ Some (serves (codes "t.db") (at_port 8090) 3 (record { idle = 1; most = 3_600 }) false false false)
 unfolding clap_on_literals chars is_utf8 encode
 timeouts_given = refl
 
@@ -65,7 +65,7 @@ no_such_seconds : asked_in (codes "serve" ∷ codes "--db" ∷ codes "t.db" ∷ 
 unfolding clap_on_literals chars is_utf8 encode
 no_such_seconds = refl
 
-log_asked : asked_in (codes "serve" ∷ codes "--log" ∷ codes "--db" ∷ codes "t.db" ∷ codes "--port" ∷ codes "8090" ∷ codes "--count" ∷ codes "3" ∷ []) ≡ Some (serves (codes "t.db") 8090 3 (record { idle = 10; most = 120 }) true false false)
+log_asked : asked_in (codes "serve" ∷ codes "--log" ∷ codes "--db" ∷ codes "t.db" ∷ codes "--port" ∷ codes "8090" ∷ codes "--count" ∷ codes "3" ∷ []) ≡ Some (serves (codes "t.db") (at_port 8090) 3 (record { idle = 10; most = 120 }) true false false)
 unfolding clap_on_literals chars is_utf8 encode
 log_asked = refl
 
@@ -77,11 +77,11 @@ log_asked_twice : asked_in (codes "serve" ∷ codes "--db" ∷ codes "t.db" ∷ 
 unfolding clap_on_literals chars is_utf8 encode
 log_asked_twice = refl
 
-check_asked_of_serve : asked_in (codes "serve" ∷ codes "--check" ∷ codes "--db" ∷ codes "t.db" ∷ codes "--port" ∷ codes "8090" ∷ codes "--count" ∷ codes "3" ∷ []) ≡ Some (serves (codes "t.db") 8090 3 (record { idle = 10; most = 120 }) false true false)
+check_asked_of_serve : asked_in (codes "serve" ∷ codes "--check" ∷ codes "--db" ∷ codes "t.db" ∷ codes "--port" ∷ codes "8090" ∷ codes "--count" ∷ codes "3" ∷ []) ≡ Some (serves (codes "t.db") (at_port 8090) 3 (record { idle = 10; most = 120 }) false true false)
 unfolding clap_on_literals chars is_utf8 encode
 check_asked_of_serve = refl
 
-operator_asked : asked_in (codes "serve" ∷ codes "--db" ∷ codes "t.db" ∷ codes "--port" ∷ codes "8090" ∷ codes "--unlimited" ∷ codes "--operator" ∷ []) ≡ Some (serves (codes "t.db") 8090 unlimited (record { idle = 10; most = 120 }) false false true)
+operator_asked : asked_in (codes "serve" ∷ codes "--db" ∷ codes "t.db" ∷ codes "--port" ∷ codes "8090" ∷ codes "--unlimited" ∷ codes "--operator" ∷ []) ≡ Some (serves (codes "t.db") (at_port 8090) unlimited (record { idle = 10; most = 120 }) false false true)
 unfolding clap_on_literals chars is_utf8 encode
 operator_asked = refl
 
@@ -137,7 +137,7 @@ nothing_asked : asked_in [] ≡ None
 unfolding clap_on_literals chars is_utf8 encode
 nothing_asked = refl
 
-no_limit_asked : asked_in (codes "serve" ∷ codes "--db" ∷ codes "t.db" ∷ codes "--port" ∷ codes "8090" ∷ codes "--unlimited" ∷ []) ≡ Some (serves (codes "t.db") 8090 unlimited (record { idle = 10; most = 120 }) false false false)
+no_limit_asked : asked_in (codes "serve" ∷ codes "--db" ∷ codes "t.db" ∷ codes "--port" ∷ codes "8090" ∷ codes "--unlimited" ∷ []) ≡ Some (serves (codes "t.db") (at_port 8090) unlimited (record { idle = 10; most = 120 }) false false false)
 unfolding clap_on_literals chars is_utf8 encode
 no_limit_asked = refl
 
@@ -148,6 +148,18 @@ no_count = refl
 count_and_no_limit : misfit_in (codes "serve" ∷ codes "--db" ∷ codes "t.db" ∷ codes "--port" ∷ codes "8090" ∷ codes "--count" ∷ codes "3" ∷ codes "--unlimited" ∷ []) ≡ Some Counting
 unfolding clap_on_literals chars is_utf8 encode
 count_and_no_limit = refl
+
+socket_asked : asked_in (codes "serve" ∷ codes "--db" ∷ codes "t.db" ∷ codes "--socket" ∷ codes "run/s" ∷ codes "--unlimited" ∷ []) ≡ Some (serves (codes "t.db") (at_socket (codes "run/s")) unlimited (record { idle = 10; most = 120 }) false false false)
+unfolding clap_on_literals chars is_utf8 encode
+socket_asked = refl
+
+no_address : misfit_in (codes "serve" ∷ codes "--db" ∷ codes "t.db" ∷ codes "--unlimited" ∷ []) ≡ Some Listening
+unfolding clap_on_literals chars is_utf8 encode
+no_address = refl
+
+port_and_socket : misfit_in (codes "serve" ∷ codes "--db" ∷ codes "t.db" ∷ codes "--port" ∷ codes "8090" ∷ codes "--socket" ∷ codes "run/s" ∷ codes "--unlimited" ∷ []) ≡ Some Listening
+unfolding clap_on_literals chars is_utf8 encode
+port_and_socket = refl
 
 no_such_count : misfit_in (codes "serve" ∷ codes "--db" ∷ codes "t.db" ∷ codes "--port" ∷ codes "8090" ∷ codes "--count" ∷ codes "1000001" ∷ []) ≡ Some Count
 unfolding clap_on_literals chars is_utf8 encode

@@ -13,7 +13,7 @@ use Rattle.command_line.specs.Arguments.{arguments_at, arguments_of, arguments_o
 use Rattle.serve.specs.Bounds.{moment_of}
 use Rattle.command_line.specs.Bounds.{bounds_given, prefix_given, until_given}
 use Rattle.serve.specs.Parts.{limit_of, role_of, org_command, limit_command, remove_command, list_command, revoke_command}
-use Rattle.command_line.specs.Orders.{Given, asked_with, command_in, command_on, compacting_asked, connections_of, copying_asked, count_asked, file_asked, limit_or_first, port_of, seconds_of, seconds_or, serving_asked, timeouts_asked, token_asked}
+use Rattle.command_line.specs.Orders.{Given, address_asked, asked_with, at_port, command_in, command_on, compacting_asked, connections_of, copying_asked, count_asked, file_asked, limit_or_first, port_of, seconds_of, seconds_or, serving_asked, timeouts_asked, token_asked}
 use Rattle.command_line.specs.declared.arguments.Argument.{Argument}
 use Rattle.command_line.specs.declared.arguments.Argument.TheVariants as argument
 
@@ -30,11 +30,6 @@ some_map (Some x) f e = refl
 some_where : {X : Type 0} (b : Bool) (o : Option X) → b ≡ true → is_some o ≡ true → is_some (cond b o None) ≡ true
 some_where true o e is = is
 some_where false o e is = cc
-
--- a value that has to be there reads
-read_then : {X Y : Type 0} (o : Option X) (f : X → Option Y) → option_map_or (λ x. is_some (f x)) o false ≡ true → is_some (option_and_then f o) ≡ true
-read_then None f e = e
-read_then (Some x) f e = e
 
 -- a value that has to be there is there
 is_there : {X : Type 0} (p : X → Bool) (o : Option X) → option_map_or p o false ≡ true → is_some o ≡ true
@@ -94,6 +89,12 @@ prefix_fits (Some word) e = some_where (is_prefix word) (Some word) e refl
 bounds_fit : (until prefix : Option (List ℕ)) → option_map_or (λ word. is_some (moment_of word)) until true ≡ true → option_map_or is_prefix prefix true ≡ true → is_some (bounds_given until prefix) ≡ true
 bounds_fit until prefix u p = some_then (until_given until) _ (until_fits until u) (λ end is. some_map (prefix_given prefix) _ (prefix_fits prefix p))
 
+address_fits : (port socket : Option (List ℕ)) → is_one_of (is_some port) (is_some socket) ≡ true → option_map_or (λ word. is_some (port_of word)) port true ≡ true → is_some (address_asked port socket) ≡ true
+address_fits (Some word) (Some path) one e = cc
+address_fits (Some word) None one e = some_map (port_of word) at_port e
+address_fits None (Some path) one e = refl
+address_fits None None one e = one
+
 count_fits : (o : Option (List ℕ)) (unlimited : Bool) → is_one_of (is_some o) unlimited ≡ true → option_map_or (λ word. is_some (connections_of word)) o true ≡ true → is_some (count_asked o unlimited) ≡ true
 count_fits (Some word) true one e = cc
 count_fits (Some word) false one e = e
@@ -103,15 +104,15 @@ count_fits None false one e = one
 -- ---- commands
 
 module _ (given : Given) (db : List ℕ) where
-  serve_leads : Leads given (argument.Db ∷ argument.Port ∷ argument.Counting ∷ argument.Count ∷ argument.Idle ∷ argument.Most ∷ []) (serving_asked db given)
+  serve_leads : Leads given (argument.Db ∷ argument.Listening ∷ argument.Port ∷ argument.Counting ∷ argument.Count ∷ argument.Idle ∷ argument.Most ∷ []) (serving_asked db given)
   serve_leads all =
       let timed : is_some (timeouts_asked given) ≡ true =
-      some_then (seconds_or 10 given.idle) _ (seconds_fit 10 given.idle all.1.1.1.1.0)
-      (λ idle is. some_map (seconds_or 120 given.most) _ (seconds_fit 120 given.most all.1.1.1.1.1.0)) in
+      some_then (seconds_or 10 given.idle) _ (seconds_fit 10 given.idle all.1.1.1.1.1.0)
+      (λ idle is. some_map (seconds_or 120 given.most) _ (seconds_fit 120 given.most all.1.1.1.1.1.1.0)) in
       let counted : is_some (count_asked given.count given.unlimited) ≡ true =
-      count_fits given.count given.unlimited all.1.1.0 all.1.1.1.0 in
-      some_then (option_and_then port_of given.port) _ (read_then given.port port_of all.1.0)
-      (λ port is. some_then (count_asked given.count given.unlimited) _ counted (λ count is. some_map (timeouts_asked given) _ timed))
+      count_fits given.count given.unlimited all.1.1.1.0 all.1.1.1.1.0 in
+      some_then (address_asked given.port given.socket) _ (address_fits given.port given.socket all.1.0 all.1.1.0)
+      (λ site is. some_then (count_asked given.count given.unlimited) _ counted (λ count is. some_map (timeouts_asked given) _ timed))
 
   copy_leads : Leads given (argument.Db ∷ argument.To ∷ argument.Org ∷ []) (copying_asked db given)
   copy_leads all =

@@ -20,6 +20,7 @@ form_line argument.Limit = codes "custody: the value of --limit must be 0 to 100
 form_line argument.NewLimit = codes "custody: the value of N must be 0 to 100000 without a leading zero\n"
 form_line argument.Until = codes "custody: the value of --until must be 0 to 253402300799 without a leading zero\n"
 form_line argument.Prefix = codes "custody: the value of --prefix must be 0 to 90 ASCII letters, digits, '-' and '_'\n"
+form_line argument.Listening = codes "custody: serve needs either --port P or --socket PATH\n"
 form_line argument.Port = codes "custody: the value of --port must be 1 to 65535 without a leading zero\n"
 form_line argument.Counting = codes "custody: serve needs either --count N or --unlimited\n"
 form_line argument.Count = codes "custody: the value of --count must be 1 to 1000000 without a leading zero\n"
@@ -42,7 +43,8 @@ fits given argument.Limit = option_map_or (λ word. is_some (limit_of word)) giv
 fits given argument.NewLimit = option_map_or (λ word. is_some (limit_of word)) given.limit false
 fits given argument.Until = option_map_or (λ word. is_some (moment_of word)) given.until true
 fits given argument.Prefix = option_map_or is_prefix given.prefix true
-fits given argument.Port = option_map_or (λ word. is_some (port_of word)) given.port false
+fits given argument.Listening = is_one_of (is_some given.port) (is_some given.socket)
+fits given argument.Port = option_map_or (λ word. is_some (port_of word)) given.port true
 fits given argument.Counting = is_one_of (is_some given.count) given.unlimited
 fits given argument.Count = option_map_or (λ word. is_some (connections_of word)) given.count true
 fits given argument.Idle = option_map_or (λ word. is_some (seconds_of word)) given.idle true
@@ -60,7 +62,7 @@ arguments_on command =
 -- the arguments of a command on a file, in the order in which their values are judged
 abbrev pub arguments_at : List ℕ → List Argument
 arguments_at command =
-    cond (bytes_eq command (codes "serve")) (argument.Db ∷ argument.Port ∷ argument.Counting ∷ argument.Count ∷ argument.Idle ∷ argument.Most ∷ [])
+    cond (bytes_eq command (codes "serve")) (argument.Db ∷ argument.Listening ∷ argument.Port ∷ argument.Counting ∷ argument.Count ∷ argument.Idle ∷ argument.Most ∷ [])
     (cond (bytes_eq command (codes "check")) (argument.Db ∷ [])
     (cond (bytes_eq command (codes "admin")) (argument.Db ∷ [])
     (cond (bytes_eq command (codes "org-copy")) (argument.Db ∷ argument.To ∷ argument.Org ∷ [])

@@ -11,11 +11,23 @@ use Rattle.serve.specs.declared.steps.Admin as Operator
 use Rattle.serve.specs.declared.steps.Admin.TheVariants.{OrgList, TokenAdd}
 use Rattle.command_line.specs.Bounds.{bounds_given}
 use Rattle.serve.specs.Parts.{limit_of, role_of, org_command, limit_command, remove_command, list_command, revoke_command}
+use Rattle.command_line.specs.declared.addresses.Address.{Address}
+use Rattle.command_line.specs.declared.addresses.Address.TheVariants.{Port, Socket}
 use Rattle.command_line.specs.declared.orders.NewToken.{NewToken}
 use Rattle.command_line.specs.declared.orders.Values.{Values}
 use Rattle.command_line.specs.declared.orders.Order.{Order}
 use Rattle.command_line.specs.declared.orders.Order.TheVariants.{Carry, AddToken, Check, Copy, Compact, Serve, CarryAll, Replay, Version}
 use Rattle.command_line.specs.declared.timeouts.Timeouts.{Timeouts}
+
+-- where a service listens: at a TCP port of 127.0.0.1, or at a Unix socket, by its path
+pub data Site : Type 0 where
+  at_port : ℕ → Site
+  at_socket : List ℕ → Site
+
+-- the same of an address
+abbrev pub site_of : Address → Site
+site_of (Port port) = at_port port
+site_of (Socket path) = at_socket path.now
 
 -- what is asked for; a database is named by the path of its file
 pub data Asked : Type 0 where
@@ -29,9 +41,9 @@ pub data Asked : Type 0 where
   copies : List ℕ → List ℕ → List ℕ → Asked
   -- to copy every organization from one file to another
   compacts : List ℕ → List ℕ → Asked
-  -- to serve on a port: this many connections, each with these timeouts; whether the log is on; whether the tables are checked first; whether
+  -- to serve at a site: this many connections, each with these timeouts; whether the log is on; whether the tables are checked first; whether
   -- an operator's door is open
-  serves : List ℕ → ℕ → ℕ → Timeouts → Bool → Bool → Bool → Asked
+  serves : List ℕ → Site → ℕ → Timeouts → Bool → Bool → Bool → Asked
   -- to carry out the operator's commands on standard input, one per line, on a file
   carries_all : List ℕ → Asked
   -- to answer frames
@@ -50,6 +62,7 @@ pub record Given : Type 0 where
   pub until : Option (List ℕ)
   pub prefix : Option (List ℕ)
   pub port : Option (List ℕ)
+  pub socket : Option (List ℕ)
   pub count : Option (List ℕ)
   pub idle : Option (List ℕ)
   pub most : Option (List ℕ)
@@ -62,6 +75,12 @@ pub record Given : Type 0 where
 -- a port: 1 to 65,535
 abbrev pub port_of : List ℕ → Option ℕ
 port_of word = option_and_then (within 1 65_535) (whole_of word)
+
+-- where to listen: from `--port` or from `--socket`, never from both
+abbrev pub address_asked : Option (List ℕ) → Option (List ℕ) → Option Site
+address_asked (Some word) None = option_map at_port (port_of word)
+address_asked None (Some path) = Some (at_socket path)
+address_asked _ _ = None
 
 -- a number of connections: 1 to 1,000,000
 abbrev pub connections_of : List ℕ → Option ℕ
@@ -121,7 +140,7 @@ timeouts_asked given =
 
 abbrev pub serving_asked : List ℕ → Given → Option Asked
 serving_asked db given =
-    option_and_then (λ port. option_and_then (λ count. option_map (λ timeouts. serves db port count timeouts given.logs given.checks given.operates) (timeouts_asked given)) (count_asked given.count given.unlimited)) (option_and_then port_of given.port)
+    option_and_then (λ site. option_and_then (λ count. option_map (λ timeouts. serves db site count timeouts given.logs given.checks given.operates) (timeouts_asked given)) (count_asked given.count given.unlimited)) (address_asked given.port given.socket)
 
 -- a copy of one organization, if its name is valid
 abbrev pub copy_in : List ℕ → List ℕ → List ℕ → Option Asked
@@ -166,6 +185,7 @@ given_in rows = record {
   until = first_of (codes "until") rows;
   prefix = first_of (codes "prefix") rows;
   port = first_of (codes "port") rows;
+  socket = first_of (codes "socket") rows;
   count = first_of (codes "count") rows;
   idle = first_of (codes "idle") rows;
   most = first_of (codes "most") rows;
@@ -188,6 +208,7 @@ given_found found = record {
   until = first_value found (codes "until");
   prefix = first_value found (codes "prefix");
   port = first_value found (codes "port");
+  socket = first_value found (codes "socket");
   count = first_value found (codes "count");
   idle = first_value found (codes "idle");
   most = first_value found (codes "most");
@@ -212,6 +233,7 @@ given_of values = record {
   until = text_in values.until;
   prefix = text_in values.prefix;
   port = text_in values.port;
+  socket = text_in values.socket;
   count = text_in values.count;
   idle = text_in values.idle;
   most = text_in values.most;
@@ -229,7 +251,7 @@ said_by (AddToken db token) = adds_token db.now token.org token.name token.role 
 said_by (Check db) = checks_file db.now
 said_by (Copy from to org) = copies from.now to.now org
 said_by (Compact from to) = compacts from.now to.now
-said_by (Serve db port count timeouts logs checks operates) = serves db.now port count timeouts logs checks operates
+said_by (Serve db address count timeouts logs checks operates) = serves db.now (site_of address) count timeouts logs checks operates
 said_by (CarryAll db) = carries_all db.now
 said_by Replay = replays
 said_by Version = reports_version

@@ -80,6 +80,10 @@ token_list = with_rule (with_rule (new_app (codes "token-list")) database) organ
 abbrev pub token_revoke : App
 token_revoke = with_rule (with_rule (with_rule (new_app (codes "token-revoke")) database) organization) (value_rule (codes "name"))
 
+-- `[--port P] [--socket PATH]` behind the rest
+abbrev pub with_sites : App → App
+with_sites app = with_rule (with_rule app (option_rule (codes "port") false)) (option_rule (codes "socket") false)
+
 -- `[--count N] [--unlimited]` behind the rest
 abbrev pub with_counts : App → App
 with_counts app = with_rule (with_rule app (option_rule (codes "count") false)) (flag_rule (codes "unlimited"))
@@ -92,9 +96,9 @@ with_timeouts app = with_rule (with_rule app (option_rule (codes "idle") false))
 abbrev pub with_flags : App → App
 with_flags app = with_rule (with_rule (with_rule app (flag_rule (codes "log"))) (flag_rule (codes "check"))) (flag_rule (codes "operator"))
 
--- `serve --db PATH --port P [--count N] [--unlimited] [--idle SECONDS] [--most SECONDS] [--log] [--check] [--operator]`
+-- `serve --db PATH [--port P] [--socket PATH] [--count N] [--unlimited] [--idle SECONDS] [--most SECONDS] [--log] [--check] [--operator]`
 abbrev pub serve : App
-serve = with_flags (with_timeouts (with_counts (with_rule (with_rule (new_app (codes "serve")) database) (option_rule (codes "port") true))))
+serve = with_flags (with_timeouts (with_counts (with_sites (with_rule (new_app (codes "serve")) database))))
 
 -- `check --db PATH`
 abbrev pub check : App

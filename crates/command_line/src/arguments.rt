@@ -2,8 +2,9 @@
 ghost use Rattle.std.specs.Prelude.{◌≡◌, ◌<◌, length};
 ghost use Rattle.command_line.specs.Arguments.{form_line};
 
-/// An argument whose value can be invalid. `Limit` is `--limit` of `org-add`, and `NewLimit` is `N` of `org-limit`. `Counting` is
-/// the choice between `--count` and `--unlimited`. `clap` itself refuses words without `Command`, `Db` or `To`.
+/// An argument whose value can be invalid. `Limit` is `--limit` of `org-add`, and `NewLimit` is `N` of `org-limit`. `Listening`
+/// is the choice between `--port` and `--socket`, and `Counting` that between `--count` and `--unlimited`. `clap` itself refuses
+/// words without `Command`, `Db` or `To`.
 #[derive(Clone, Copy)]
 pub enum Argument {
     Command,
@@ -16,6 +17,7 @@ pub enum Argument {
     NewLimit,
     Until,
     Prefix,
+    Listening,
     Port,
     Counting,
     Count,
@@ -52,6 +54,7 @@ impl Argument {
             Argument::Prefix => {
                 "custody: the value of --prefix must be 0 to 90 ASCII letters, digits, '-' and '_'\n"
             }
+            Argument::Listening => "custody: serve needs either --port P or --socket PATH\n",
             Argument::Port => {
                 "custody: the value of --port must be 1 to 65535 without a leading zero\n"
             }

@@ -78,11 +78,11 @@ fn is_moment(value: Option<&str>) -> bool
 }
 
 fn is_port(value: Option<&str>) -> bool
-    ensures { result ≡ option_map_or (λ word. is_some (port_of word)) (text_in value.entry) false }
+    ensures { result ≡ option_map_or (λ word. is_some (port_of word)) (text_in value.entry) true }
 {
     match value {
         Some(word) => number_up_to(word, MAX_PORT).is_some(),
-        None => false,
+        None => true,
     }
 }
 
@@ -118,6 +118,7 @@ fn fits(alloc: Global, values: &Values<'_>, argument: Argument) -> Result<bool, 
         Argument::NewLimit => Ok(is_limit(values.limit, false)),
         Argument::Until => Ok(is_moment(values.until)),
         Argument::Prefix => is_prefix(alloc, values.prefix),
+        Argument::Listening => Ok(values.port.is_some() != values.socket.is_some()),
         Argument::Port => Ok(is_port(values.port)),
         Argument::Counting => Ok(values.count.is_some() != values.unlimited),
         Argument::Count => Ok(is_count(values.count)),
@@ -133,6 +134,7 @@ fn arguments_of(command: &str) -> &'static [Argument]
         "replay" => &[],
         "serve" => &[
             Argument::Db,
+            Argument::Listening,
             Argument::Port,
             Argument::Counting,
             Argument::Count,

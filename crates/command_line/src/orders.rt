@@ -2,10 +2,11 @@
 ghost use Rattle.std.specs.Prelude.{◌≡◌, ◌≤◌, Option, Some, None, IfOk, IsErrOf, option_map, option_and_then, IfSome};
 ghost use Rattle.basis.specs.Numbers.{whole_of, within};
 ghost use Rattle.clap.specs.Words.{found_of};
-ghost use Rattle.command_line.specs.Orders.{limit_or_first, command_on, command_in, token_in, token_asked, seconds_or, timeouts_asked, serving_asked, copy_in, copying_asked, compacting_asked, adds_token, file_asked, asked_with, flag_of, given_found, given_of, text_in, said_by, with_secret, port_of, count_asked, carries};
+ghost use Rattle.command_line.specs.Orders.{limit_or_first, command_on, command_in, token_in, token_asked, seconds_or, timeouts_asked, serving_asked, address_asked, site_of, copy_in, copying_asked, compacting_asked, adds_token, file_asked, asked_with, flag_of, given_found, given_of, text_in, said_by, with_secret, port_of, count_asked, carries};
 ghost use Rattle.command_line.specs.Bounds.{bounds_given};
 ghost use Rattle.serve.specs.Parts.{limit_of, limit_command, revoke_command};
 
+use crate::addresses::Address;
 use crate::bounds::give_bounds;
 use crate::timeouts::{IDLE_SECONDS, MOST_SECONDS, Seconds, Timeouts};
 use basis::numbers::{FIRST_LIMIT, whole_number};
@@ -106,14 +107,13 @@ pub enum Order<'a> {
         from: &'a str,
         to: &'a str,
     },
-    /// To answer so many connections from a file, at a port of the loopback address; `UNLIMITED` where
-    /// no number is asked for.
+    /// To answer so many connections from a file, at an address; `UNLIMITED` where no number is asked for.
     /// Where `logs` is true, a line is printed for each exchange. Where `checks` is true, faults in
     /// the file's tables are looked for first. Where `operates` is true, the secret of an operator's door
     /// is read first.
     Serve {
         db: &'a str,
-        port: u16,
+        address: Address<'a>,
         count: u64,
         timeouts: Timeouts,
         logs: bool,
@@ -143,6 +143,7 @@ pub struct Values<'a> {
     pub until: Option<&'a str>,
     pub prefix: Option<&'a str>,
     pub port: Option<&'a str>,
+    pub socket: Option<&'a str>,
     pub count: Option<&'a str>,
     pub idle: Option<&'a str>,
     pub most: Option<&'a str>,
@@ -167,6 +168,7 @@ impl<'a> Values<'a> {
             until: matches.get_str("until"),
             prefix: matches.get_str("prefix"),
             port: matches.get_str("port"),
+            socket: matches.get_str("socket"),
             count: matches.get_str("count"),
             idle: matches.get_str("idle"),
             most: matches.get_str("most"),
@@ -276,6 +278,16 @@ fn port_of(value: Option<&str>) -> Option<u16>
     Some(number as u16)
 }
 
+fn address_of<'a>(port: Option<&'a str>, socket: Option<&'a str>) -> Option<Address<'a>>
+    ensures { option_map site_of result ≡ address_asked (text_in port.entry) (text_in socket.entry) }
+{
+    match (port, socket) {
+        (Some(_), None) => Some(Address::Port(port_of(port)?)),
+        (None, Some(path)) => Some(Address::Socket(path)),
+        _ => None,
+    }
+}
+
 fn count_of(value: Option<&str>, unlimited: bool) -> Option<u64>
     ensures { result ≡ count_asked (text_in value.entry) unlimited }
 {
@@ -306,12 +318,12 @@ fn timeouts_of(values: &Values<'_>) -> Option<Timeouts>
 fn serving<'a>(db: &'a str, values: &Values<'a>) -> Option<Order<'a>>
     ensures { option_map said_by result ≡ serving_asked db.entry.now (given_of values.now) }
 {
-    let port = port_of(values.port)?;
+    let address = address_of(values.port, values.socket)?;
     let count = count_of(values.count, values.unlimited)?;
     let timeouts = timeouts_of(values)?;
     Some(Order::Serve {
         db,
-        port,
+        address,
         count,
         timeouts,
         logs: values.logs,

@@ -3,7 +3,7 @@
 ghost use Rattle.std.specs.Prelude.{◌≡◌, ◌<◌, ◌⊎◌, IfOk, IfErr, Some, codes, length, string_bytes, ℕ, List};
 ghost use Rattle.clap.specs.Words.{app_of, subcommand_of, subcommand_rows_of, HasKind, FailsBy, IsAmong, kind_of, App, Rule, new_app, with_rule, with_subcommand};
 ghost use Rattle.command_line.specs.Orders.{said_by};
-ghost use Rattle.command_line.specs.Words.{words_bytes, database, target, organization, option_rule, value_rule, flag_rule, org_add, org_limit, org_copy, org_remove, org_list, token_add, token_list, token_revoke, serve, check, compact, admin, replay, bare, custody, faults, asked_by_command, asked_in, with_organizations, with_tokens, with_running, with_bounds, with_counts, with_timeouts, with_flags, IsWhy, IsArg, IsCommand};
+ghost use Rattle.command_line.specs.Words.{words_bytes, database, target, organization, option_rule, value_rule, flag_rule, org_add, org_limit, org_copy, org_remove, org_list, token_add, token_list, token_revoke, serve, check, compact, admin, replay, bare, custody, with_sites, faults, asked_by_command, asked_in, with_organizations, with_tokens, with_running, with_bounds, with_counts, with_timeouts, with_flags, IsWhy, IsArg, IsCommand};
 ghost use Rattle.command_line.specs.Inner.Misfits.{IsUnreadOf};
 
 use crate::arguments::Argument;
@@ -60,9 +60,9 @@ fn flag<'a>(alloc: Global, id: &'a str, help: &'a str) -> Arg<'a>
 /// The help of `--db` for a command that creates no file.
 const OLD_FILE: &str = "The database file. It must exist";
 
-/// The usage of `serve`: one of `--count` and `--unlimited` is required.
+/// The usage of `serve`: one of `--port` and `--socket` is required, and one of `--count` and `--unlimited`.
 const SERVE_USAGE: &str =
-    "custody serve [OPTIONS] --db <PATH> --port <P> <--count <N>|--unlimited>";
+    "custody serve [OPTIONS] --db <PATH> <--port <P>|--socket <PATH>> <--count <N>|--unlimited>";
 
 /// The end of the help of `admin`: the lines that it reads.
 const ADMIN_LINES: &str = "Lines, with one space between words:
@@ -254,20 +254,33 @@ fn token_revoke<'a>(alloc: Global) -> Result<Command<'a>, AllocError>
 fn serve<'a>(alloc: Global) -> Result<Command<'a>, AllocError>
     ensures { IfOk result (λ command. IsCommand command serve) }
 {
-    let about = "Serves Terraform and runners on 127.0.0.1";
+    let about = "Serves Terraform and runners on 127.0.0.1, or at a Unix socket";
     let file_help = "The database file. Created if it does not exist; with --check it must exist";
-    let port_help = "The TCP port of 127.0.0.1: 1 to 65535";
     let example = "Example: custody serve --db custody.db --port 8090 --unlimited --log";
     let bare = command(alloc, "serve", about, example);
     let used = with_usage(bare, SERVE_USAGE);
     let on_file = with_arg(used, database(alloc, file_help));
-    let at_port = with_arg(on_file, option(alloc, "port", true, "P", port_help));
-    let counted = with_counts(alloc, at_port);
+    let sited = with_sites(alloc, on_file);
+    let counted = with_counts(alloc, sited);
     let timed = with_timeouts(alloc, counted);
     with_flags(alloc, timed)
 }
 
-// `clap` accepts neither and both here: its contracts don't cover arguments that exclude each other. `count_of` refuses them.
+// `clap` accepts neither and both here, and in `with_counts`: its contracts don't cover arguments that exclude each other.
+// `address_of` and `count_of` refuse them.
+fn with_sites<'a>(
+    alloc: Global,
+    bare: Result<Command<'a>, AllocError>,
+) -> Result<Command<'a>, AllocError>
+    ensures { (app : App) → IfOk bare.entry (λ it. IsCommand it app) → IfOk result (λ whole. IsCommand whole (with_sites app)) }
+{
+    let port_help = "Listen at this TCP port of 127.0.0.1: 1 to 65535. Give this or --socket";
+    let socket_help =
+        "Listen at a Unix socket of this path, which is made with mode 0660. Give this or --port";
+    let at_port = with_arg(bare, option(alloc, "port", false, "P", port_help));
+    with_arg(at_port, option(alloc, "socket", false, "PATH", socket_help))
+}
+
 fn with_counts<'a>(
     alloc: Global,
     bare: Result<Command<'a>, AllocError>,

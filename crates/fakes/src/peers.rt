@@ -3,7 +3,7 @@ ghost use Rattle.std.specs.Prelude.{◌≡◌, ◌++◌, ◌∷◌, ◌⊎◌, [
 ghost use Rattle.fakes.specs.Peers.{AcceptsNext, IsBound};
 
 use basis::{Bytes, Down};
-use program::environment::Connections;
+use program::environment::{Connections, Standing};
 use program::reasons::Cause;
 use program::timeouts::Timeouts;
 use std::alloc::Global;
@@ -43,6 +43,10 @@ pub struct MemoryPeers<'a> {
     waiting: &'a [&'a [u8]],
     /// The address and the port that were bound last.
     pub bound: Option<(Ipv4Addr, u16)>,
+    /// What stands at each path.
+    pub standing: Standing,
+    /// The mode of the socket that was made last.
+    pub made: Option<u32>,
     /// The timeouts of the connection that was accepted last.
     pub timeouts: Option<Timeouts>,
     /// What each peer got, in turn.
@@ -58,6 +62,8 @@ impl<'a> MemoryPeers<'a> {
             alloc,
             waiting,
             bound: None,
+            standing: Standing::Nothing,
+            made: None,
             timeouts: None,
             got: Vec::new(alloc),
             is_lost: false,
@@ -72,6 +78,12 @@ impl<'a> Connections for MemoryPeers<'a> {
 
     ghost binds = { λ old address port result new. (result ≡ Ok port) × IsBound new.bound address port };
 
+    ghost looks = { λ old path result new. (result ≡ Ok old.standing) × (new ≡ old) };
+
+    ghost removes = { λ old path result new. new.standing ≡ Standing.Nothing };
+
+    ghost listens = { λ old path mode result new. new.made ≡ Some mode };
+
     ghost accepts = { λ old timeouts result new. AcceptsNext ⟦<FromRead<&'a [u8]> as Inlet>⟧ ⟦<ToWrite<Sipped> as Outlet>⟧ old.waiting.now result new.waiting.now × OnOk result (new.timeouts ≡ Some timeouts) };
 
     ghost ends = { λ old _ writer _ new. (new.is_lost ≡ true) ⊎ IfSome (⟦<ToWrite<Sipped> as Outlet>⟧.written writer) (λ bytes. new.got.items ≡ old.got.items ++ bytes ∷ []) };
@@ -79,6 +91,20 @@ impl<'a> Connections for MemoryPeers<'a> {
     fn bind(&mut self, address: Ipv4Addr, port: u16) -> Result<u16, Cause> {
         self.bound = Some((address, port));
         Ok(port)
+    }
+
+    fn look(&mut self, _path: &str) -> Result<Standing, Cause> {
+        Ok(self.standing)
+    }
+
+    fn remove(&mut self, _path: &str) -> Result<(), Cause> {
+        self.standing = Standing::Nothing;
+        Ok(())
+    }
+
+    fn listen(&mut self, _path: &str, mode: u32) -> Result<(), Cause> {
+        self.made = Some(mode);
+        Ok(())
     }
 
     fn accept(

@@ -5,6 +5,7 @@ use Rattle.machine.specs.declared.keeps.Keep as keep
 use Rattle.machine.specs.declared.records.Organization.{Organization}
 use Rattle.wire.specs.declared.devices.Inlet as inlet
 use Rattle.wire.specs.declared.devices.Outlet as outlet
+use Rattle.command_line.specs.Orders.{Site}
 use Rattle.program.specs.declared.exits.Exit.{Exit}
 use Rattle.program.specs.declared.environment.Clock as clock
 use Rattle.program.specs.declared.environment.Connections as connections
@@ -113,7 +114,7 @@ module _ {K F : Type 0} (k : keep.Ghosts K) (f : files.Ghosts F K) where
 
 module _ {K F N C R W : Type 0} (k : keep.Ghosts K) (f : files.Ghosts F K) (n : connections.Ghosts N R W) (c : clock.Ghosts C) (i : inlet.Ghosts R) (o : outlet.Ghosts W) where
   -- connections are answered from an opened store, and it is closed
-  pub serves_opened : (path : List ℕ) (bound : Result ℕ Cause) (terms : Terms) (count : ℕ) (old new : F) (network network' : N) (time time' : C) (opened from to closed : K) (served e : Exit) (out reported last : Option (List ℕ)) (before lines after : Reported)
+  pub serves_opened : (path : List ℕ) (bound : Result Site Cause) (terms : Terms) (count : ℕ) (old new : F) (network network' : N) (time time' : C) (opened from to closed : K) (served e : Exit) (out reported last : Option (List ℕ)) (before lines after : Reported)
       → from ≡ opened → closed ≡ to
       → Lasts k.clean k.sound k.keyed k.shielded from to
       → (k.clean to → k.sound from
@@ -136,14 +137,14 @@ module _ {K F N C R W : Type 0} (k : keep.Ghosts K) (f : files.Ghosts F K) (n : 
       })
 
   -- what is served over one output is served over another that holds the same
-  serves_over : (bound : Result ℕ Cause) (terms : Terms) (count : ℕ) (network : N) (time : C) (store : K) (errors : Reported) (heard out : Option (List ℕ)) (new : State N C K) (served : Exit) (old' new' : List ℕ → Option Organization) → heard ≡ out
+  serves_over : (bound : Result Site Cause) (terms : Terms) (count : ℕ) (network : N) (time : C) (store : K) (errors : Reported) (heard out : Option (List ℕ)) (new : State N C K) (served : Exit) (old' new' : List ℕ → Option Organization) → heard ≡ out
       → Serves (λ es. ServesBound k f n c i o bound terms count es (state network time store errors heard) new served) terms.door count old' new'
       → Serves (λ es. ServesBound k f n c i o bound terms count es (state network time store errors out) new served) terms.door count old' new'
   serves_over bound terms count network time store errors heard out new served old' new' same serves =
       subst (λ (o' : Option (List ℕ)). Serves (λ es. ServesBound k f n c i o bound terms count es (state network time store errors o') new served) terms.door count old' new') same serves
 
   -- a store is opened at a path, and connections are answered from it
-  pub serves_from : (path : List ℕ) (bound : Result ℕ Cause) (terms : Terms) (count : ℕ) (old mid new : F) (network network' : N) (time time' : C) (opened : K) (e : Exit) (out heard last : Option (List ℕ)) (before noted after : Reported)
+  pub serves_from : (path : List ℕ) (bound : Result Site Cause) (terms : Terms) (count : ℕ) (old mid new : F) (network network' : N) (time time' : C) (opened : K) (e : Exit) (out heard last : Option (List ℕ)) (before noted after : Reported)
       → Opens k f path Created old mid opened (error_stream before noted) → heard ≡ out
       → ServesOpened k f n c i o path bound terms count opened (environment mid network time) (environment new network' time') e (stream heard last) (error_stream noted after)
       → ServesFrom k f n c i o path bound terms count (environment old network time) (environment new network' time') e (stream out last) (error_stream before after)
@@ -165,7 +166,7 @@ module _ {K F N C R W : Type 0} (k : keep.Ghosts K) (f : files.Ghosts F K) (n : 
   }
 
   -- a store is opened at a path, a check finds no fault in its tables, and connections are answered from it
-  pub serves_checked : (path : List ℕ) (bound : Result ℕ Cause) (terms : Terms) (count : ℕ) (old mid new : F) (network network' : N) (time time' : C) (store : K) (e : Exit) (out heard last : Option (List ℕ)) (before known after : Reported)
+  pub serves_checked : (path : List ℕ) (bound : Result Site Cause) (terms : Terms) (count : ℕ) (old mid new : F) (network network' : N) (time time' : C) (store : K) (e : Exit) (out heard last : Option (List ℕ)) (before known after : Reported)
       → OpensSound k f path old mid store (error_stream before known) → heard ≡ out
       → ServesOpened k f n c i o path bound terms count store (environment mid network time) (environment new network' time') e (stream heard last) (error_stream known after)
       → ServesChecked k f n c i o path bound terms count (environment old network time) (environment new network' time') e (stream out last) (error_stream before after)

@@ -18,6 +18,7 @@ use Rattle.serve.specs.declared.doors.Door.TheVariants.{Closed, Open}
 use Rattle.serve.specs.declared.exchanges.LinkFault.{LinkFault}
 use Rattle.serve.specs.declared.exchanges.LinkFault.TheVariants.{Ended, Read, Continue, Write}
 use Rattle.serve.proofs.ServedLemmas.{exchanges_are_served, served_in_turn, services_are_as_promised}
+use Rattle.command_line.specs.Orders.{Site}
 use Rattle.program.specs.declared.serving.Terms.{Terms}
 use Rattle.program.specs.declared.environment.Clock as clock
 use Rattle.program.specs.declared.environment.Connections as connections
@@ -126,10 +127,10 @@ module _ {K F N C R W : Type 0} (k : keep.Ghosts K) (f : files.Ghosts F K) (n : 
       sound_all terms (suc connection) moments all.0 new all.2 clean (sound_next k f n c i o terms connection at false true old all.0 all.1 before sound)
 
   pub loops_are_served : LoopsAreServed k f n c i o
-  loops_are_served port terms count old new exit.Done h clean sound =
+  loops_are_served site terms count old new exit.Done h clean sound =
       let served = served_all terms 1 h.2 (state old.network old.clock old.store old.errors h.0) new h.4 clean sound in
       (served.0, (h.0, h.1, served.1 ∙ h.3, served.2), served.3)
-  loops_are_served port terms count old new exit.Down h clean sound =
+  loops_are_served site terms count old new exit.Down h clean sound =
       let start = state old.network old.clock old.store old.errors h.0 in
       let last = h.3 in
       let ended = state new.network new.clock new.store h.7 new.output in
@@ -140,14 +141,14 @@ module _ {K F N C R W : Type 0} (k : keep.Ghosts K) (f : files.Ghosts F K) (n : 
         (h.0, h.1, served.0, since.0, refl, last, subst (λ (m : ℕ). m < count) (sym served.1) h.4, served.2, h.6, h.7, subst (λ (m : ℕ). EndsServed k f n c i o terms (suc m) since.0 last ended h.6) (sym served.1) since.1, h.9),
         served_in_turn terms.door served.0 since.0 (k.rows old.store) (k.rows last.store) (k.rows new.store) served.3 since.2,
       )
-  loops_are_served port terms count old new exit.Unprinted h clean sound = ([], (refl, h.0, h.1, h.2, h.3), λ org. ap (λ (s : K). k.rows s org) h.2)
-  loops_are_served port terms count old new exit.Exists h clean sound = absurd h
-  loops_are_served port terms count old new exit.Absent h clean sound = absurd h
-  loops_are_served port terms count old new exit.InUse h clean sound = absurd h
-  loops_are_served port terms count old new exit.Faults h clean sound = absurd h
-  loops_are_served port terms count old new exit.Usage h clean sound = absurd h
-  loops_are_served port terms count old new exit.BadFrame h clean sound = absurd h
-  loops_are_served port terms count old new exit.Schema h clean sound = absurd h
+  loops_are_served site terms count old new exit.Unprinted h clean sound = ([], (refl, h.0, h.1, h.2, h.3), λ org. ap (λ (s : K). k.rows s org) h.2)
+  loops_are_served site terms count old new exit.Exists h clean sound = absurd h
+  loops_are_served site terms count old new exit.Absent h clean sound = absurd h
+  loops_are_served site terms count old new exit.InUse h clean sound = absurd h
+  loops_are_served site terms count old new exit.Faults h clean sound = absurd h
+  loops_are_served site terms count old new exit.Usage h clean sound = absurd h
+  loops_are_served site terms count old new exit.BadFrame h clean sound = absurd h
+  loops_are_served site terms count old new exit.Schema h clean sound = absurd h
 
   few_since : (terms : Terms) (connection : ℕ) (before since es : List Exchange) (last new : State N C K) (why : Cause) (count : ℕ) → es ≡ before ++ since → length before < count
       → EndsServed k f n c i o terms connection since last new why → length es ≤ count
@@ -158,32 +159,32 @@ module _ {K F N C R W : Type 0} (k : keep.Ghosts K) (f : files.Ghosts F K) (n : 
   few_since terms connection before since es last new why count is few (inr (inr unlogged)) =
       let same : length es ≡ length before + 1 = ap length (is ∙ ap (λ (x : List Exchange). before ++ x) unlogged.1) ∙ length_push before unlogged.0 in omega arith
 
-  few_served : (port : ℕ) (terms : Terms) (count : ℕ) (es : List Exchange) (old new : State N C K) (e : Exit) → ServesCount k f n c i o port terms count es old new e → length es ≤ count
-  few_served port terms count es old new exit.Done h = let all = h.2 in omega arith
-  few_served port terms count es old new exit.Down h = few_since terms (suc (length h.2)) h.2 h.3 es h.5 (state new.network new.clock new.store h.9 new.output) h.8 count h.4 h.6 h.10
-  few_served port terms count es old new exit.Unprinted h = let none : length es ≡ 0 = ap length h.0 in omega arith
-  few_served port terms count es old new exit.Exists h = absurd h
-  few_served port terms count es old new exit.Absent h = absurd h
-  few_served port terms count es old new exit.InUse h = absurd h
-  few_served port terms count es old new exit.Faults h = absurd h
-  few_served port terms count es old new exit.Usage h = absurd h
-  few_served port terms count es old new exit.BadFrame h = absurd h
-  few_served port terms count es old new exit.Schema h = absurd h
+  few_served : (site : Site) (terms : Terms) (count : ℕ) (es : List Exchange) (old new : State N C K) (e : Exit) → ServesCount k f n c i o site terms count es old new e → length es ≤ count
+  few_served site terms count es old new exit.Done h = let all = h.2 in omega arith
+  few_served site terms count es old new exit.Down h = few_since terms (suc (length h.2)) h.2 h.3 es h.5 (state new.network new.clock new.store h.9 new.output) h.8 count h.4 h.6 h.10
+  few_served site terms count es old new exit.Unprinted h = let none : length es ≡ 0 = ap length h.0 in omega arith
+  few_served site terms count es old new exit.Exists h = absurd h
+  few_served site terms count es old new exit.Absent h = absurd h
+  few_served site terms count es old new exit.InUse h = absurd h
+  few_served site terms count es old new exit.Faults h = absurd h
+  few_served site terms count es old new exit.Usage h = absurd h
+  few_served site terms count es old new exit.BadFrame h = absurd h
+  few_served site terms count es old new exit.Schema h = absurd h
 
   -- what a loop serves is as promised
-  pub loop_serves : (port : ℕ) (terms : Terms) (count : ℕ) (old new : State N C K) (e : Exit) → AnswersCount k f n c i o port terms count old new e → k.clean new.store → k.sound old.store
-      → AreLawful (k.rows old.store) → Serves (λ es. ServesCount k f n c i o port terms count es old new e) terms.door count (k.rows old.store) (k.rows new.store)
-  loop_serves port terms count old new e answers clean sound lawful =
-      let served = loops_are_served port terms count old new e answers clean sound in
+  pub loop_serves : (site : Site) (terms : Terms) (count : ℕ) (old new : State N C K) (e : Exit) → AnswersCount k f n c i o site terms count old new e → k.clean new.store → k.sound old.store
+      → AreLawful (k.rows old.store) → Serves (λ es. ServesCount k f n c i o site terms count es old new e) terms.door count (k.rows old.store) (k.rows new.store)
+  loop_serves site terms count old new e answers clean sound lawful =
+      let served = loops_are_served site terms count old new e answers clean sound in
       record {
         exchanges = served.0;
-        few = few_served port terms count served.0 old new e served.1;
+        few = few_served site terms count served.0 old new e served.1;
         of_connections = served.1;
         served = served.2;
         promised = services_are_as_promised terms.door served.0 (k.rows old.store) (k.rows new.store) served.2 lawful;
       }
 
-  -- and so is nothing, if no port was bound
+  -- and so is nothing, if the network cannot listen
   pub none_serves : (terms : Terms) (count : ℕ) (why : Cause) (old new : State N C K) → new.network ≡ old.network → new.clock ≡ old.clock → new.store ≡ old.store
       → AreLawful (k.rows old.store) → Serves (λ es. ServesBound k f n c i o (Err why) terms count es old new exit.Down) terms.door count (k.rows old.store) (k.rows new.store)
   none_serves terms count why old new network clock store lawful =

@@ -3,7 +3,7 @@ use Rattle.std.specs.Prelude.{◌++◌, ℕ, List, [], ◌∷◌, Bool, true, fa
 use Rattle.serve.specs.declared.exchanges.LinkFault.{LinkFault}
 use Rattle.serve.specs.declared.exchanges.LinkFault.TheVariants.{Ended, Read, Continue, Write}
 use Rattle.program.specs.declared.reasons.Cause.{Cause}
-use Rattle.program.specs.declared.reasons.Cause.TheVariants.{InUse, NotPermitted, NoFile, NoFolder, NoTargetFolder, Missing, LogAlone, NoTables, Journal, Corrupt, Unsound, NoRoom, NoMemory, Disk, Store, Unfinished, Shut, Halted, Unknown, Input, PortTaken, PortNotPermitted, Port, Accept, Clock, Log, Faults, SourceFaults, Encoding, NoNull}
+use Rattle.program.specs.declared.reasons.Cause.TheVariants.{InUse, NotPermitted, NoFile, NoFolder, NoTargetFolder, Missing, LogAlone, NoTables, Journal, Corrupt, Unsound, NoRoom, NoMemory, Disk, Store, Unfinished, Shut, Halted, Unknown, Input, PortTaken, PortNotPermitted, Port, SocketTaken, NoSocket, SocketNotPermitted, Socket, Accept, Clock, Log, Faults, SourceFaults, Encoding, NoNull}
 use Rattle.program.specs.declared.reasons.OtherSchema.{OtherSchema}
 use Rattle.program.specs.declared.reasons.OtherSchema.TheVariants.{Version, Unversioned}
 use Rattle.program.specs.Streams.{Reported, Reports}
@@ -75,6 +75,10 @@ cause_line Input = codes "custody: the input could not be read, or out of memory
 cause_line PortTaken = codes "custody: the port is in use\n"
 cause_line PortNotPermitted = codes "custody: no permission to use the port\n"
 cause_line Port = codes "custody: could not listen on the port\n"
+cause_line SocketTaken = codes "custody: another program answers at the socket\n"
+cause_line NoSocket = codes "custody: something else than a socket stands at the path of --socket\n"
+cause_line SocketNotPermitted = codes "custody: no permission to use the socket or its folder\n"
+cause_line Socket = codes "custody: could not listen at the socket: its folder must exist, and its path have 1 to 107 bytes\n"
 cause_line Accept = codes "custody: a connection could not be accepted\n"
 cause_line Clock = codes "custody: the clock could not be read, or it is out of range\n"
 cause_line Log = codes "custody: the exchange log could not be written, so the service stops\n"

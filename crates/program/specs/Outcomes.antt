@@ -34,7 +34,8 @@ use Rattle.program.specs.declared.environment.Opening.TheVariants as opening
 use Rattle.program.specs.declared.totals.Findings.{Findings}
 use Rattle.program.specs.declared.totals.Totals.{Totals}
 use Rattle.program.specs.Totals.{sound_text, version_text}
-use Rattle.command_line.specs.Orders.{Asked, carries, adds_token, checks_file, copies, compacts, serves, carries_all, replays, reports_version}
+use Rattle.command_line.specs.Orders.{Asked, Site, at_port, at_socket, carries, adds_token, checks_file, copies, compacts, serves, carries_all, replays, reports_version}
+use Rattle.program.specs.Listening.{AsksToListen}
 use Rattle.program.specs.Moves.{org_copied, IsFilled, SomeAreCopied, CopiesBetween}
 use Rattle.program.specs.Paths.{AllStay, OthersStay, OthersStayBut, LeavesVacant, makes}
 use Rattle.program.specs.Replies.{printed, bad_frame_text, answer_line, fault_lines, AreReplies, Replays}
@@ -250,12 +251,12 @@ abbrev pub ReportsUnsound : Cause → Result Findings Down → Errors → Type 0
 ReportsUnsound why (Ok findings) errors = ReportsEach why findings.faults errors
 ReportsUnsound why (Err refused) errors = ReportsCause cause.Store errors
 
--- connections are served on the port that is printed, followed by the log if it is on (`true`)
+-- connections are served at the site that is printed, followed by the log if it is on (`true`)
 abbrev pub ServesAt : Bool → Exit → Stream → Type 0
-ServesAt logs exit.Done output = (port : ℕ) × (log : List ℕ) × Gets output (with_log logs (listening_line port) log)
+ServesAt logs exit.Done output = (site : Site) × (log : List ℕ) × Gets output (with_log logs (listening_line site) log)
 ServesAt logs exit.Schema output = Says exit.Schema output
 ServesAt logs exit.Down output =
-    Says exit.Down output ⊎ ((port : ℕ) × (log : List ℕ) × Gets output (with_log logs (listening_line port) log ++ answer_line (ending_line exit.Down)))
+    Says exit.Down output ⊎ ((site : Site) × (log : List ℕ) × Gets output (with_log logs (listening_line site) log ++ answer_line (ending_line exit.Down)))
 ServesAt logs exit.Unprinted output = ⊤
 ServesAt logs e output = ⊥
 
@@ -309,7 +310,7 @@ Does schema (adds_token db org name role bounds) input e output errors = AddsTok
 Does schema (checks_file db) input e output errors = AnswersFaults e output
 Does schema (copies from to org) input e output errors = AnswersLine e output
 Does schema (compacts from to) input e output errors = AnswersFilled e output
-Does schema (serves db port count timeouts logs checks operates) input e output errors = ServesBehind operates logs input e output errors
+Does schema (serves db site count timeouts logs checks operates) input e output errors = ServesBehind operates logs input e output errors
 Does schema (carries_all db) input e output errors = AnswersBatch input e output errors
 Does schema replays input e output errors = ReplaysFrames input e output errors
 Does schema reports_version input e output errors = ReportsVersion schema e output
@@ -625,7 +626,7 @@ SaysServed served e old new =
 module _ {K F N C R W : Type 0} (k : keep.Ghosts K) (f : files.Ghosts F K) (n : connections.Ghosts N R W) (c : clock.Ghosts C) (i : inlet.Ghosts R) (o : outlet.Ghosts W) where
   -- connections are answered on these terms from the store at a path, once the network has been asked to listen, with this result. What they
   -- left is there now, and nothing else changed
-  pub record ServesFrom (path : List ℕ) (bound : Result ℕ Cause) (terms : Terms) (count : ℕ) (old new : Environment F N C) (e : Exit) (output : Stream) (errors : Errors) : Type 0 where
+  pub record ServesFrom (path : List ℕ) (bound : Result Site Cause) (terms : Terms) (count : ℕ) (old new : Environment F N C) (e : Exit) (output : Stream) (errors : Errors) : Type 0 where
     pub before : K
     pub after : K
     pub worked : F
@@ -644,7 +645,7 @@ module _ {K F N C R W : Type 0} (k : keep.Ghosts K) (f : files.Ghosts F K) (n : 
 
   -- the same for a file that existed, after a check of its tables, which found no fault. So what is served is sound and keyed, if the store
   -- `is_ours`
-  pub record ServesChecked (path : List ℕ) (bound : Result ℕ Cause) (terms : Terms) (count : ℕ) (old new : Environment F N C) (e : Exit) (output : Stream) (errors : Errors) : Type 0 where
+  pub record ServesChecked (path : List ℕ) (bound : Result Site Cause) (terms : Terms) (count : ℕ) (old new : Environment F N C) (e : Exit) (output : Stream) (errors : Errors) : Type 0 where
     pub before : K
     pub after : K
     pub worked : F
@@ -667,20 +668,27 @@ module _ {K F N C R W : Type 0} (k : keep.Ghosts K) (f : files.Ghosts F K) (n : 
 
   -- connections are answered. If a check is asked for (`true`), only after one that found no fault, and no file is created. Or the store at
   -- the path is not opened
-  abbrev pub ServesAsAsked : Bool → List ℕ → Result ℕ Cause → Terms → ℕ → Environment F N C → Environment F N C → Exit → Stream → Errors → Type 0
+  abbrev pub ServesAsAsked : Bool → List ℕ → Result Site Cause → Terms → ℕ → Environment F N C → Environment F N C → Exit → Stream → Errors → Type 0
   ServesAsAsked false path bound terms count old new e output errors =
       ServesFrom path bound terms count old new e output errors ⊎ (RefusesToOpen k f path opening.Created old.files new.files e output errors × IsAlone old new)
   ServesAsAsked true path bound terms count old new e output errors =
       (ServesChecked path bound terms count old new e output errors ⊎ (RefusesUnsound k f path cause.Faults old.files new.files e output errors × IsAlone old new))
       ⊎ (RefusesToOpen k f path opening.Existing old.files new.files e output errors × IsAlone old new)
 
-  -- the network is asked to listen on 127.0.0.1 at a port, and nowhere else, whatever becomes of the store. With the result of that,
-  -- connections are answered, with these timeouts, the log or no log, and the door that is asked for. Or a door is asked for (`operates`), and
-  -- the input has no secret or could not be read, and nothing changes
-  abbrev pub ServesWithDoor : Bool → Bool → List ℕ → ℕ → Timeouts → Bool → ℕ → Option (List ℕ) → Environment F N C → Environment F N C → Exit → Stream → Errors → Type 0
-  ServesWithDoor operates checks path port timeouts logs count input old new e output errors =
-      ((door : Door) × IsDoor operates input door × (bound : Result ℕ Cause) × (network : N) × n.binds old.network (127 ∷ 0 ∷ 0 ∷ 1 ∷ []) port bound network
-      × ServesAsAsked checks path bound (record { timeouts = timeouts; logs = logs; door = door }) count (environment old.files network old.clock) new e output errors)
+  -- the network has been asked to listen at a site, with this result. A socket that cannot be had ends the start before the store is opened; of
+  -- a port the store is opened first
+  abbrev pub StartsAt : Site → Bool → List ℕ → Result Site Cause → Terms → ℕ → Environment F N C → Environment F N C → Exit → Stream → Errors → Type 0
+  StartsAt (at_port port) checks path bound terms count old new e output errors = ServesAsAsked checks path bound terms count old new e output errors
+  StartsAt (at_socket at) checks path (Ok given) terms count old new e output errors = ServesAsAsked checks path (Ok given) terms count old new e output errors
+  StartsAt (at_socket at) checks path (Err why) terms count old new e output errors = (new ≡ old) × Refuses why e output errors
+
+  -- the network is asked to listen at a site, and nowhere else. With the result of that, connections are answered, with these timeouts,
+  -- the log or no log, and the door that is asked for. Or a door is asked for (`operates`), and the input has no secret or could not be read,
+  -- and nothing changes
+  abbrev pub ServesWithDoor : Bool → Bool → List ℕ → Site → Timeouts → Bool → ℕ → Option (List ℕ) → Environment F N C → Environment F N C → Exit → Stream → Errors → Type 0
+  ServesWithDoor operates checks path site timeouts logs count input old new e output errors =
+      ((door : Door) × IsDoor operates input door × (bound : Result Site Cause) × (network : N) × AsksToListen n site old.network bound network
+      × StartsAt site checks path bound (record { timeouts = timeouts; logs = logs; door = door }) count (environment old.files network old.clock) new e output errors)
       ⊎ ((operates ≡ true) × (new ≡ old) × ((HasNoSecret input × RefusesUsage e output errors × Reports errors.old errors.new secret_line)
       ⊎ (RefusesDown e output × ReportsCause cause.Input errors)))
 
@@ -692,8 +700,8 @@ module _ {K F N C R W : Type 0} (k : keep.Ghosts K) (f : files.Ghosts F K) (n : 
   Leaves (checks_file db) input old new e output errors = ChecksAt k f db old.files new.files e output errors × IsAlone old new
   Leaves (copies from to org) input old new e output errors = CopiesAt k f from to org old.files new.files e output errors × IsAlone old new
   Leaves (compacts from to) input old new e output errors = CompactsAt k f from to old.files new.files e output errors × IsAlone old new
-  Leaves (serves db port count timeouts logs checks operates) input old new e output errors =
-      ServesWithDoor operates checks db port timeouts logs count input old new e output errors
+  Leaves (serves db site count timeouts logs checks operates) input old new e output errors =
+      ServesWithDoor operates checks db site timeouts logs count input old new e output errors
   Leaves (carries_all db) input old new e output errors = CarriesAllAt k f db input old.files new.files e output errors × IsAlone old new
   Leaves replays input old new e output errors = new ≡ old
   Leaves reports_version input old new e output errors = new ≡ old

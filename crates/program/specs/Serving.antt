@@ -24,29 +24,31 @@ use Rattle.program.specs.declared.exits.Exit.TheVariants as exit
 use Rattle.program.specs.declared.environment.Connections as connections
 use Rattle.program.specs.declared.environment.Files as files
 use Rattle.program.specs.declared.environment.Clock as clock
+use Rattle.command_line.specs.Orders.{Site, at_port, at_socket}
 use Rattle.command_line.specs.declared.timeouts.Timeouts.{Timeouts}
 use Rattle.program.specs.declared.serving.Terms.{Terms}
 use Rattle.wire.specs.declared.devices.Inlet as inlet
 use Rattle.wire.specs.declared.devices.Outlet as outlet
 
--- `listening 127.0.0.1:PORT` and a line feed (10)
-abbrev pub listening_line : ℕ → List ℕ
-listening_line port = codes "listening 127.0.0.1:" ++ decimal port ++ 10 ∷ []
+-- `listening 127.0.0.1:PORT` or `listening PATH`, and a line feed (10)
+abbrev pub listening_line : Site → List ℕ
+listening_line (at_port port) = codes "listening 127.0.0.1:" ++ decimal port ++ 10 ∷ []
+listening_line (at_socket path) = codes "listening " ++ path ++ 10 ∷ []
 
 -- what standard output gets: this line once, before the first connection, then the log if it is on (`true`). If no connection can be accepted,
 -- the line may be missing
 abbrev pub Listens : Bool → Exit → Option (List ℕ) → Option (List ℕ) → Type 0
-Listens logs exit.Done old new = (port : ℕ) × (log : List ℕ) × Appends old new (with_log logs (listening_line port) log)
-Listens logs exit.Down old new = (new ≡ old) ⊎ ((port : ℕ) × (log : List ℕ) × Appends old new (with_log logs (listening_line port) log))
+Listens logs exit.Done old new = (site : Site) × (log : List ℕ) × Appends old new (with_log logs (listening_line site) log)
+Listens logs exit.Down old new = (new ≡ old) ⊎ ((site : Site) × (log : List ℕ) × Appends old new (with_log logs (listening_line site) log))
 Listens logs exit.Unprinted old new = ⊤
 Listens logs other old new = ⊥
 
--- the same, if the port is known
-abbrev pub ListensAt : ℕ → Bool → Exit → Option (List ℕ) → Option (List ℕ) → Type 0
-ListensAt port logs exit.Done old new = (log : List ℕ) × Appends old new (with_log logs (listening_line port) log)
-ListensAt port logs exit.Down old new = (log : List ℕ) × Appends old new (with_log logs (listening_line port) log)
-ListensAt port logs exit.Unprinted old new = ⊤
-ListensAt port logs other old new = ⊥
+-- the same, if the site is known
+abbrev pub ListensAt : Site → Bool → Exit → Option (List ℕ) → Option (List ℕ) → Type 0
+ListensAt site logs exit.Done old new = (log : List ℕ) × Appends old new (with_log logs (listening_line site) log)
+ListensAt site logs exit.Down old new = (log : List ℕ) × Appends old new (with_log logs (listening_line site) log)
+ListensAt site logs exit.Unprinted old new = ⊤
+ListensAt site logs other old new = ⊥
 
 -- the network, the clock, the store, and the contents of the error stream and standard output, between two connections
 pub record State (N C K : Type 0) : Type 0 where
@@ -124,22 +126,22 @@ module _ {K F N C R W : Type 0} (k : keep.Ghosts K) (f : files.Ghosts F K) (n : 
       ⊎ (((at : ℕ) × (is_logged : Bool) × AnswersNext terms connection at true is_logged last new × (why ≡ cause.Shut))
       ⊎ ((at : ℕ) × AnswersNext terms connection at false false last new × (why ≡ cause.Log)))
 
-  -- the line with the port is printed, then this many connections are answered; or fewer, because no further one is accepted, and the error
+  -- the line with the site is printed, then this many connections are answered; or fewer, because no further one is accepted, and the error
   -- stream gets the cause; or none, because the line could not be printed
-  abbrev pub AnswersCount : ℕ → Terms → ℕ → State N C K → State N C K → Exit → Type 0
-  AnswersCount port terms count old new exit.Done =
-      (heard : Option (List ℕ)) × Appends old.output heard (listening_line port)
+  abbrev pub AnswersCount : Site → Terms → ℕ → State N C K → State N C K → Exit → Type 0
+  AnswersCount site terms count old new exit.Done =
+      (heard : Option (List ℕ)) × Appends old.output heard (listening_line site)
       × (moments : List ℕ) × (length moments ≡ count) × AnswersAll terms 1 moments (state old.network old.clock old.store old.errors heard) new
-  AnswersCount port terms count old new exit.Down =
-      (heard : Option (List ℕ)) × Appends old.output heard (listening_line port)
+  AnswersCount site terms count old new exit.Down =
+      (heard : Option (List ℕ)) × Appends old.output heard (listening_line site)
       × (moments : List ℕ) × (last : State N C K) × (length moments < count) × AnswersAll terms 1 moments (state old.network old.clock old.store old.errors heard) last
       × (why : Cause) × (errors : Reported) × EndsEarly terms (suc (length moments)) last (state new.network new.clock new.store errors new.output) why × Reports errors new.errors (cause_line why)
-  AnswersCount port terms count old new exit.Unprinted = (new.network ≡ old.network) × (new.clock ≡ old.clock) × (new.store ≡ old.store) × (new.errors ≡ old.errors)
-  AnswersCount port terms count old new other = ⊥
+  AnswersCount site terms count old new exit.Unprinted = (new.network ≡ old.network) × (new.clock ≡ old.clock) × (new.store ≡ old.store) × (new.errors ≡ old.errors)
+  AnswersCount site terms count old new other = ⊥
 
-  -- the network has been asked to listen, with this result. It gave a port, which is printed, and this many connections are answered. Or it
+  -- the network has been asked to listen, with this result. The site that it gave is printed, and this many connections are answered. Or it
   -- cannot listen, and the error stream gets the cause
-  abbrev pub AnswersBound : Result ℕ Cause → Terms → ℕ → State N C K → State N C K → Exit → Type 0
+  abbrev pub AnswersBound : Result Site Cause → Terms → ℕ → State N C K → State N C K → Exit → Type 0
   AnswersBound (Ok given) terms count old new e = AnswersCount given terms count old new e × ListensAt given terms.logs e old.output new.output
   AnswersBound (Err why) terms count old new e =
       (new.network ≡ old.network) × (new.clock ≡ old.clock) × (new.store ≡ old.store) × Reports old.errors new.errors (cause_line why) × (e ≡ exit.Down) × (new.output ≡ old.output)
@@ -172,26 +174,26 @@ module _ {K F N C R W : Type 0} (k : keep.Ghosts K) (f : files.Ghosts F K) (n : 
       ⊎ ((e : Exchange) × (es ≡ e ∷ []) × ServesNext terms connection e false false last new × (why ≡ cause.Log)))
 
   -- the exchanges of a loop, by how it ended, as `AnswersCount` says
-  abbrev pub ServesCount : ℕ → Terms → ℕ → List Exchange → State N C K → State N C K → Exit → Type 0
-  ServesCount port terms count es old new exit.Done =
-      (heard : Option (List ℕ)) × Appends old.output heard (listening_line port)
+  abbrev pub ServesCount : Site → Terms → ℕ → List Exchange → State N C K → State N C K → Exit → Type 0
+  ServesCount site terms count es old new exit.Done =
+      (heard : Option (List ℕ)) × Appends old.output heard (listening_line site)
       × (length es ≡ count) × ServesAll terms 1 es (state old.network old.clock old.store old.errors heard) new
-  ServesCount port terms count es old new exit.Down =
-      (heard : Option (List ℕ)) × Appends old.output heard (listening_line port)
+  ServesCount site terms count es old new exit.Down =
+      (heard : Option (List ℕ)) × Appends old.output heard (listening_line site)
       × (before : List Exchange) × (since : List Exchange) × (es ≡ before ++ since) × (last : State N C K) × (length before < count)
       × ServesAll terms 1 before (state old.network old.clock old.store old.errors heard) last
       × (why : Cause) × (errors : Reported) × EndsServed terms (suc (length before)) since last (state new.network new.clock new.store errors new.output) why × Reports errors new.errors (cause_line why)
-  ServesCount port terms count es old new exit.Unprinted = (es ≡ []) × (new.network ≡ old.network) × (new.clock ≡ old.clock) × (new.store ≡ old.store) × (new.errors ≡ old.errors)
-  ServesCount port terms count es old new other = ⊥
+  ServesCount site terms count es old new exit.Unprinted = (es ≡ []) × (new.network ≡ old.network) × (new.clock ≡ old.clock) × (new.store ≡ old.store) × (new.errors ≡ old.errors)
+  ServesCount site terms count es old new other = ⊥
 
   -- what a loop answered are exchanges, each with the bytes of its connection, served one after the other
   abbrev pub LoopsAreServed : Type 0
-  LoopsAreServed = (port : ℕ) (terms : Terms) (count : ℕ) (old new : State N C K) (e : Exit)
-      → AnswersCount port terms count old new e → k.clean new.store → k.sound old.store
-      → (es : List Exchange) × ServesCount port terms count es old new e × AreServed terms.door es (k.rows old.store) (k.rows new.store)
+  LoopsAreServed = (site : Site) (terms : Terms) (count : ℕ) (old new : State N C K) (e : Exit)
+      → AnswersCount site terms count old new e → k.clean new.store → k.sound old.store
+      → (es : List Exchange) × ServesCount site terms count es old new e × AreServed terms.door es (k.rows old.store) (k.rows new.store)
 
   -- the exchanges, as `AnswersBound` says; none if the network cannot listen
-  abbrev pub ServesBound : Result ℕ Cause → Terms → ℕ → List Exchange → State N C K → State N C K → Exit → Type 0
+  abbrev pub ServesBound : Result Site Cause → Terms → ℕ → List Exchange → State N C K → State N C K → Exit → Type 0
   ServesBound (Ok given) terms count es old new e = ServesCount given terms count es old new e
   ServesBound (Err why) terms count es old new e =
       (es ≡ []) × (new.network ≡ old.network) × (new.clock ≡ old.clock) × (new.store ≡ old.store) × (e ≡ exit.Down)

@@ -3,6 +3,7 @@ ghost use Rattle.std.specs.Prelude.{◌≡◌, ◌≢◌, ℕ, Bool, List, [], O
 ghost use Rattle.std.specs.Net.Addr.{ipv4_octets};
 ghost use Rattle.basis.specs.declared.memory.Down.{Down as AnyDown};
 ghost use Rattle.command_line.specs.declared.timeouts.Timeouts.{Timeouts as AnyTimeouts};
+ghost use Rattle.program.specs.declared.environment.Standing.{Standing as AnyStanding};
 ghost use Rattle.program.specs.declared.reasons.Cause.{Cause as AnyCause};
 ghost use Rattle.program.specs.declared.reasons.OpenFault.{OpenFault as AnyFault};
 ghost use Rattle.machine.specs.Effects.{effect};
@@ -142,6 +143,18 @@ pub trait Files<K: Keep> {
         ensures { IfOk result (λ replies. AreReplies steps.now replies.items) };
 }
 
+/// What stands at a path where a socket is to be made.
+#[derive(Clone, Copy)]
+pub enum Standing {
+    Nothing,
+    /// A socket at which nobody answers.
+    Silent,
+    /// A socket at which somebody answers.
+    Answered,
+    /// Something else than a socket.
+    Other,
+}
+
 /// What peers connect to. Each connection is a reader and a writer.
 pub trait Connections {
     type Reader: Inlet + Drop;
@@ -150,6 +163,16 @@ pub trait Connections {
 
     // Binds the octets of an address, and a port: the network before, the result, the network after.
     ghost binds: { Self → List ℕ → ℕ → Result ℕ AnyCause → Self → Type 0 };
+
+    // Finds out what stands at a path: the network before, what it is, the network after.
+    ghost looks: { Self → List ℕ → Result AnyStanding AnyCause → Self → Type 0 };
+
+    // Removes a socket at a path: the network before, the result, the network after.
+    ghost removes: { Self → List ℕ → Result (Unit {0}) AnyCause → Self → Type 0 };
+
+    // Makes a socket at a path, with a mode whose bits say who may connect, and listens at it: the network before, the
+    // result, the network after.
+    ghost listens: { Self → List ℕ → ℕ → Result (Unit {0}) AnyCause → Self → Type 0 };
 
     // Accepts a connection that is waited for no longer than these timeouts: the network before, its two sides or
     // none, the network after.
@@ -162,6 +185,18 @@ pub trait Connections {
     /// Listens on an address and a port. Returns the port in use, or why it cannot listen.
     fn bind(&mut self, address: Ipv4Addr, port: u16) -> Result<u16, Cause>
         ensures { binds self.old (ipv4_octets address) port result self.new };
+
+    /// What stands at a path. A socket there is tried by connecting to it.
+    fn look(&mut self, path: &str) -> Result<Standing, Cause>
+        ensures { looks self.old path.now result self.new };
+
+    /// Removes the socket at a path.
+    fn remove(&mut self, path: &str) -> Result<(), Cause>
+        ensures { removes self.old path.now result self.new };
+
+    /// Makes a socket at a path where nothing stands, with this mode, and listens at it.
+    fn listen(&mut self, path: &str, mode: u32) -> Result<(), Cause>
+        ensures { listens self.old path.now mode result self.new };
 
     /// The next connection. Neither side has failed yet. A read or a write fails when a timeout ends it.
     fn accept(&mut self, timeouts: &Timeouts) -> Result<(Self::Reader, Self::Writer), Down>

@@ -11,6 +11,7 @@ pub mod exits;
 pub mod frame_headers;
 pub mod frames;
 mod laws;
+mod listening;
 mod logs;
 mod openings;
 mod operating;
@@ -24,7 +25,7 @@ mod starting;
 pub mod streams;
 pub mod totals;
 
-pub use command_line::timeouts;
+pub use command_line::{Address, timeouts};
 pub use laws::{
     copied_organizations_go_on, copies_to_none_are_the_same, done_copies_are_equal, services_begin,
     stopped_copies_go_on,

@@ -47,6 +47,13 @@ pub enum Cause {
     PortNotPermitted,
     /// The service could not listen on the port.
     Port,
+    /// Somebody answers at the socket.
+    SocketTaken,
+    /// Something else than a socket stands at the socket's path.
+    NoSocket,
+    SocketNotPermitted,
+    /// The service could not listen at the socket.
+    Socket,
     /// A connection could not be accepted.
     Accept,
     /// The clock could not be read, or it is out of range.
@@ -109,6 +116,13 @@ impl Cause {
             Cause::PortTaken => "custody: the port is in use\n",
             Cause::PortNotPermitted => "custody: no permission to use the port\n",
             Cause::Port => "custody: could not listen on the port\n",
+            Cause::SocketTaken => "custody: another program answers at the socket\n",
+            Cause::NoSocket =>
+                "custody: something else than a socket stands at the path of --socket\n",
+            Cause::SocketNotPermitted => "custody: no permission to use the socket or its folder\n",
+            Cause::Socket => {
+                "custody: could not listen at the socket: its folder must exist, and its path have 1 to 107 bytes\n"
+            }
             Cause::Accept => "custody: a connection could not be accepted\n",
             Cause::Clock => "custody: the clock could not be read, or it is out of range\n",
             Cause::Log => {

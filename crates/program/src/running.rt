@@ -61,15 +61,15 @@ fn run_order<K: Keep, F: Files<K>, N: Connections, C: Clock, I: Read, O: Write, 
         Order::Compact { from, to } => compact(alloc, files, from, to, output, errors),
         Order::Serve {
             db,
-            port,
+            address,
             count,
             timeouts,
             logs,
             checks,
             operates,
         } => serve_with_door(
-            alloc, files, network, clock, db, port, count, timeouts, logs, checks, operates, input,
-            output, errors,
+            alloc, files, network, clock, db, address, count, timeouts, logs, checks, operates,
+            input, output, errors,
         ),
         Order::CarryAll { db } => read_and_carry(alloc, files, db, input, output, errors),
         Order::Replay => { replay_frames::<K, F, I, O, E>(alloc, files, input, output, errors) }

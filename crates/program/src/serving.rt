@@ -2,6 +2,7 @@
 
 ghost use Rattle.std.specs.Prelude.{◌≡◌, ◌++◌, ℕ, List, Ok, Some, IfOk, IfErr, IfSome, OnOk, true, false};
 ghost use Rattle.std.specs.Io.KnownBytes.{Appends, Consumes};
+ghost use Rattle.command_line.specs.Orders.{site_of};
 ghost use Rattle.machine.specs.StoreCalls.{Lasts};
 ghost use Rattle.serve.specs.Doors.{ExchangesWith};
 ghost use Rattle.serve.specs.Exchanges.{ChangesAsLogged};
@@ -18,6 +19,7 @@ use crate::reasons::Cause;
 use crate::streams::ErrorStream;
 use basis::Moment;
 use basis::numbers::MAX_MOMENT;
+use command_line::Address;
 use command_line::timeouts::Timeouts;
 use machine::Keep;
 use serve::{Door, LinkFault, Service};
@@ -146,10 +148,19 @@ fn serve_one<K: Keep, N: Connections, O: Write, E: ErrorStream>(
     is_logged
 }
 
-fn print_listening<O: Write>(output: &mut O, port: u16) -> io::Result<()>
-    ensures { OnOk result (Appends (O.contents output.old) (O.contents output.new) (listening_line port)) }
+fn write_listening<O: Write>(output: &mut O, address: Address<'_>) -> io::Result<()>
+    ensures { OnOk result (Appends (O.contents output.old) (O.contents output.new) (listening_line (site_of address.entry))) }
 {
-    writeln!(output, "listening 127.0.0.1:{port}")?;
+    match address {
+        Address::Port(port) => writeln!(output, "listening 127.0.0.1:{port}"),
+        Address::Socket(path) => writeln!(output, "listening {path}"),
+    }
+}
+
+fn print_listening<O: Write>(output: &mut O, address: Address<'_>) -> io::Result<()>
+    ensures { OnOk result (Appends (O.contents output.old) (O.contents output.new) (listening_line (site_of address.entry))) }
+{
+    write_listening(output, address)?;
     output.flush()
 }
 
@@ -236,12 +247,12 @@ fn serve_next<K: Keep, F: Files<K>, N: Connections, C: Clock, O: Write, E: Error
     }
 }
 
-// Prints the port, then answers this many connections, unless it stops before.
+// Prints the address, then answers this many connections, unless it stops before.
 fn answer_all<K: Keep, F: Files<K>, N: Connections, C: Clock, O: Write, E: ErrorStream>(
     alloc: Global,
     files: &F,
     network: &mut N,
-    port: u16,
+    address: Address<'_>,
     service: &mut Service<K>,
     count: u64,
     terms: &Terms,
@@ -250,10 +261,10 @@ fn answer_all<K: Keep, F: Files<K>, N: Connections, C: Clock, O: Write, E: Error
     errors: &mut E,
 ) -> Exit
     ensures lasts { Lasts K.clean K.sound K.keyed K.shielded service.old.keep service.new.keep }
-    ensures answers { AnswersCount K.Keep F.Files N.Connections C.Clock N.Reader.Inlet N.Writer.Outlet port terms.now count (state network.old clock.old service.old.keep (E.reported errors.old) (O.contents output.old)) (state network.new clock.new service.new.keep (E.reported errors.new) (O.contents output.new)) result }
-    ensures listens { ListensAt port terms.now.logs result (O.contents output.old) (O.contents output.new) }
+    ensures answers { AnswersCount K.Keep F.Files N.Connections C.Clock N.Reader.Inlet N.Writer.Outlet (site_of address.entry) terms.now count (state network.old clock.old service.old.keep (E.reported errors.old) (O.contents output.old)) (state network.new clock.new service.new.keep (E.reported errors.new) (O.contents output.new)) result }
+    ensures listens { ListensAt (site_of address.entry) terms.now.logs result (O.contents output.old) (O.contents output.new) }
 {
-    if print_listening(output, port).is_err() {
+    if print_listening(output, address).is_err() {
         return Exit::Unprinted;
     }
     'connections: for connection in 0..count {
@@ -278,8 +289,8 @@ fn answer_all<K: Keep, F: Files<K>, N: Connections, C: Clock, O: Write, E: Error
     Exit::Done
 }
 
-/// Prints the port it listens on, then answers this many connections, one after the other, each with one exchange. The network
-/// already listens on that port. A connection that ends in a link fault or a timeout still counts, and a line of the error stream
+/// Prints the address, then answers this many connections, one after the other, each with one exchange. The network already
+/// listens there. A connection that ends in a link fault or a timeout still counts, and a line of the error stream
 /// reports it. A 503 for a failed allocation or store is reported, too. It stops, with a line that says why, if an accept fails,
 /// the clock is out of range, or a disk error has closed the store. If the terms have the log on, it prints one line per exchange
 /// to standard output, and stops if a line cannot be written completely.
@@ -287,7 +298,7 @@ pub fn serve_loop<K: Keep, F: Files<K>, N: Connections, C: Clock, O: Write, E: E
     alloc: Global,
     files: &F,
     network: &mut N,
-    port: u16,
+    address: Address<'_>,
     service: &mut Service<K>,
     count: u64,
     terms: &Terms,
@@ -296,14 +307,14 @@ pub fn serve_loop<K: Keep, F: Files<K>, N: Connections, C: Clock, O: Write, E: E
     errors: &mut E,
 ) -> Exit
     ensures lasts { Lasts K.clean K.sound K.keyed K.shielded service.old.keep service.new.keep }
-    ensures serves { K.clean service.new.keep → K.sound service.old.keep → Serves (λ exchanges. ServesCount K.Keep F.Files N.Connections C.Clock N.Reader.Inlet N.Writer.Outlet port terms.now count exchanges (state network.old clock.old service.old.keep (E.reported errors.old) (O.contents output.old)) (state network.new clock.new service.new.keep (E.reported errors.new) (O.contents output.new)) result)
+    ensures serves { K.clean service.new.keep → K.sound service.old.keep → Serves (λ exchanges. ServesCount K.Keep F.Files N.Connections C.Clock N.Reader.Inlet N.Writer.Outlet (site_of address.entry) terms.now count exchanges (state network.old clock.old service.old.keep (E.reported errors.old) (O.contents output.old)) (state network.new clock.new service.new.keep (E.reported errors.new) (O.contents output.new)) result)
         terms.now.door count (K.rows service.old.keep) (K.rows service.new.keep) }
-    ensures answers { AnswersCount K.Keep F.Files N.Connections C.Clock N.Reader.Inlet N.Writer.Outlet port terms.now count (state network.old clock.old service.old.keep (E.reported errors.old) (O.contents output.old)) (state network.new clock.new service.new.keep (E.reported errors.new) (O.contents output.new)) result }
-    ensures listens { ListensAt port terms.now.logs result (O.contents output.old) (O.contents output.new) }
+    ensures answers { AnswersCount K.Keep F.Files N.Connections C.Clock N.Reader.Inlet N.Writer.Outlet (site_of address.entry) terms.now count (state network.old clock.old service.old.keep (E.reported errors.old) (O.contents output.old)) (state network.new clock.new service.new.keep (E.reported errors.new) (O.contents output.new)) result }
+    ensures listens { ListensAt (site_of address.entry) terms.now.logs result (O.contents output.old) (O.contents output.new) }
 {
     service.keep.records_are_lawful();
     answer_all(
-        alloc, files, network, port, service, count, terms, clock, output, errors,
+        alloc, files, network, address, service, count, terms, clock, output, errors,
     )
 }
 

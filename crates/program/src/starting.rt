@@ -1,7 +1,9 @@
 //! The command `serve`: a file is opened, connections are answered from it, and it is closed.
 ghost use Rattle.std.specs.Prelude.{◌≡◌, ◌≢◌, ◌⊎◌, true, IfOk, OnOk, OnErr, IsErrOf};
+ghost use Rattle.command_line.specs.Orders.{site_of};
 ghost use Rattle.machine.specs.StoreCalls.{Lasts};
-ghost use Rattle.program.specs.Outcomes.{stream, error_stream, IsSaid, ServesAt, ServesFrom, ServesChecked, ServesAsAsked, RefusesUnsound, RefusesToOpen, environment, IsAlone, SaysServed, HasNoSecret, IsDoor, HasDoor, ServesBehind, ServesWithDoor};
+ghost use Rattle.program.specs.Listening.{bound_site};
+ghost use Rattle.program.specs.Outcomes.{stream, error_stream, IsSaid, ServesAt, ServesFrom, ServesChecked, ServesAsAsked, RefusesUnsound, RefusesToOpen, environment, IsAlone, SaysServed, HasNoSecret, IsDoor, HasDoor, ServesBehind, StartsAt, ServesWithDoor};
 ghost use Rattle.program.specs.Inputs.{LeavesUnless};
 ghost use Rattle.program.specs.Inner.Outcomes.{ServesOpened};
 ghost use Rattle.program.specs.Serving.{Listens, Serves, ServesBound, state, AnswersBound};
@@ -10,6 +12,7 @@ use crate::checking::check_first;
 use crate::environment::{Clock, Connections, Files, Opening};
 use crate::errors::report_cause;
 use crate::exits::Exit;
+use crate::listening::listen;
 use crate::openings::{close_after, open_one};
 use crate::operating::{SECRET_FORM, input_secret, say_why};
 use crate::reasons::Cause;
@@ -17,31 +20,31 @@ use crate::replies::{refuse, say};
 use crate::serving::{Terms, serve_loop};
 use crate::streams::ErrorStream;
 use basis::Unfit;
+use command_line::Address;
 use command_line::timeouts::Timeouts;
 use machine::Keep;
 use serve::{Door, Service};
 use std::alloc::Global;
 use std::io::{Read, Write};
-use std::net::Ipv4Addr;
 
-// Answers connections from a store at the port that was bound, or reports why none was.
+// Answers connections from a store at the address where the network listens, or reports why it does not.
 fn serve_bound<K: Keep, F: Files<K>, N: Connections, C: Clock, O: Write, E: ErrorStream>(
     alloc: Global,
     files: &F,
     network: &mut N,
     clock: &mut C,
     service: &mut Service<K>,
-    bound: Result<u16, Cause>,
+    bound: Result<Address<'_>, Cause>,
     count: u64,
     terms: &Terms,
     output: &mut O,
     errors: &mut E,
 ) -> Exit
     ensures lasts { Lasts K.clean K.sound K.keyed K.shielded service.old.keep service.new.keep }
-    ensures serves { K.clean service.new.keep → K.sound service.old.keep → Serves (λ exchanges. ServesBound K.Keep F.Files N.Connections C.Clock N.Reader.Inlet N.Writer.Outlet bound terms.now count exchanges (state network.old clock.old service.old.keep (E.reported errors.old) (O.contents output.old)) (state network.new clock.new service.new.keep (E.reported errors.new) (O.contents output.new)) result)
+    ensures serves { K.clean service.new.keep → K.sound service.old.keep → Serves (λ exchanges. ServesBound K.Keep F.Files N.Connections C.Clock N.Reader.Inlet N.Writer.Outlet (bound_site bound.entry) terms.now count exchanges (state network.old clock.old service.old.keep (E.reported errors.old) (O.contents output.old)) (state network.new clock.new service.new.keep (E.reported errors.new) (O.contents output.new)) result)
         terms.now.door count (K.rows service.old.keep) (K.rows service.new.keep) }
     ensures listens { Listens terms.now.logs result (O.contents output.old) (O.contents output.new) }
-    ensures answers { AnswersBound K.Keep F.Files N.Connections C.Clock N.Reader.Inlet N.Writer.Outlet bound terms.now count (state network.old clock.old service.old.keep (E.reported errors.old) (O.contents output.old)) (state network.new clock.new service.new.keep (E.reported errors.new) (O.contents output.new)) result }
+    ensures answers { AnswersBound K.Keep F.Files N.Connections C.Clock N.Reader.Inlet N.Writer.Outlet (bound_site bound.entry) terms.now count (state network.old clock.old service.old.keep (E.reported errors.old) (O.contents output.old)) (state network.new clock.new service.new.keep (E.reported errors.new) (O.contents output.new)) result }
 {
     service.keep.records_are_lawful();
     match bound {
@@ -74,14 +77,14 @@ fn serve_opened<K: Keep, F: Files<K>, N: Connections, C: Clock, O: Write, E: Err
     clock: &mut C,
     db: &str,
     keep: K,
-    bound: Result<u16, Cause>,
+    bound: Result<Address<'_>, Cause>,
     count: u64,
     terms: &Terms,
     output: &mut O,
     errors: &mut E,
 ) -> Exit
     ensures line { ServesAt terms.now.logs result (stream (O.contents output.old) (O.contents output.new)) }
-    ensures serves { ServesOpened K.Keep F.Files N.Connections C.Clock N.Reader.Inlet N.Writer.Outlet db.now bound terms.now count keep (environment files.old network.old clock.old) (environment files.new network.new clock.new) result (stream (O.contents output.old) (O.contents output.new)) (error_stream (E.reported errors.old) (E.reported errors.new)) }
+    ensures serves { ServesOpened K.Keep F.Files N.Connections C.Clock N.Reader.Inlet N.Writer.Outlet db.now (bound_site bound.entry) terms.now count keep (environment files.old network.old clock.old) (environment files.new network.new clock.new) result (stream (O.contents output.old) (O.contents output.new)) (error_stream (E.reported errors.old) (E.reported errors.new)) }
 {
     let mut service = Service::new(keep);
     let exit = serve_bound(
@@ -107,14 +110,14 @@ fn serve<K: Keep, F: Files<K>, N: Connections, C: Clock, O: Write, E: ErrorStrea
     network: &mut N,
     clock: &mut C,
     db: &str,
-    bound: Result<u16, Cause>,
+    bound: Result<Address<'_>, Cause>,
     count: u64,
     terms: &Terms,
     output: &mut O,
     errors: &mut E,
 ) -> Exit
     ensures line { ServesAt terms.now.logs result (stream (O.contents output.old) (O.contents output.new)) }
-    ensures serves { ServesFrom K.Keep F.Files N.Connections C.Clock N.Reader.Inlet N.Writer.Outlet db.now bound terms.now count (environment files.old network.old clock.old) (environment files.new network.new clock.new) result (stream (O.contents output.old) (O.contents output.new)) (error_stream (E.reported errors.old) (E.reported errors.new))
+    ensures serves { ServesFrom K.Keep F.Files N.Connections C.Clock N.Reader.Inlet N.Writer.Outlet db.now (bound_site bound.entry) terms.now count (environment files.old network.old clock.old) (environment files.new network.new clock.new) result (stream (O.contents output.old) (O.contents output.new)) (error_stream (E.reported errors.old) (E.reported errors.new))
         ⊎ (RefusesToOpen K.Keep F.Files db.now Opening.Created files.old files.new result (stream (O.contents output.old) (O.contents output.new)) (error_stream (E.reported errors.old) (E.reported errors.new)) × IsAlone (environment files.old network.old clock.old) (environment files.new network.new clock.new)) }
 {
     let keep = match open_one(files, db, Opening::Created, output, errors) {
@@ -132,14 +135,14 @@ fn serve_checked<K: Keep, F: Files<K>, N: Connections, C: Clock, O: Write, E: Er
     network: &mut N,
     clock: &mut C,
     db: &str,
-    bound: Result<u16, Cause>,
+    bound: Result<Address<'_>, Cause>,
     count: u64,
     terms: &Terms,
     output: &mut O,
     errors: &mut E,
 ) -> Exit
     ensures line { ServesAt terms.now.logs result (stream (O.contents output.old) (O.contents output.new)) }
-    ensures serves { (ServesChecked K.Keep F.Files N.Connections C.Clock N.Reader.Inlet N.Writer.Outlet db.now bound terms.now count (environment files.old network.old clock.old) (environment files.new network.new clock.new) result (stream (O.contents output.old) (O.contents output.new)) (error_stream (E.reported errors.old) (E.reported errors.new))
+    ensures serves { (ServesChecked K.Keep F.Files N.Connections C.Clock N.Reader.Inlet N.Writer.Outlet db.now (bound_site bound.entry) terms.now count (environment files.old network.old clock.old) (environment files.new network.new clock.new) result (stream (O.contents output.old) (O.contents output.new)) (error_stream (E.reported errors.old) (E.reported errors.new))
         ⊎ (RefusesUnsound K.Keep F.Files db.now Cause.Faults files.old files.new result (stream (O.contents output.old) (O.contents output.new)) (error_stream (E.reported errors.old) (E.reported errors.new)) × IsAlone (environment files.old network.old clock.old) (environment files.new network.new clock.new)))
         ⊎ (RefusesToOpen K.Keep F.Files db.now Opening.Existing files.old files.new result (stream (O.contents output.old) (O.contents output.new)) (error_stream (E.reported errors.old) (E.reported errors.new)) × IsAlone (environment files.old network.old clock.old) (environment files.new network.new clock.new)) }
 {
@@ -163,7 +166,7 @@ fn serve_as_asked<K: Keep, F: Files<K>, N: Connections, C: Clock, O: Write, E: E
     network: &mut N,
     clock: &mut C,
     db: &str,
-    bound: Result<u16, Cause>,
+    bound: Result<Address<'_>, Cause>,
     count: u64,
     terms: &Terms,
     checks: bool,
@@ -171,7 +174,7 @@ fn serve_as_asked<K: Keep, F: Files<K>, N: Connections, C: Clock, O: Write, E: E
     errors: &mut E,
 ) -> Exit
     ensures line { ServesAt terms.now.logs result (stream (O.contents output.old) (O.contents output.new)) }
-    ensures serves { ServesAsAsked K.Keep F.Files N.Connections C.Clock N.Reader.Inlet N.Writer.Outlet checks db.now bound terms.now count (environment files.old network.old clock.old) (environment files.new network.new clock.new) result (stream (O.contents output.old) (O.contents output.new)) (error_stream (E.reported errors.old) (E.reported errors.new)) }
+    ensures serves { ServesAsAsked K.Keep F.Files N.Connections C.Clock N.Reader.Inlet N.Writer.Outlet checks db.now (bound_site bound.entry) terms.now count (environment files.old network.old clock.old) (environment files.new network.new clock.new) result (stream (O.contents output.old) (O.contents output.new)) (error_stream (E.reported errors.old) (E.reported errors.new)) }
 {
     if checks {
         serve_checked(
@@ -181,6 +184,37 @@ fn serve_as_asked<K: Keep, F: Files<K>, N: Connections, C: Clock, O: Write, E: E
         serve(
             alloc, files, network, clock, db, bound, count, terms, output, errors,
         )
+    }
+}
+
+// Starts once the network has been asked to listen. A socket that cannot be had ends the start before the file is opened.
+fn start_at<K: Keep, F: Files<K>, N: Connections, C: Clock, O: Write, E: ErrorStream>(
+    alloc: Global,
+    files: &mut F,
+    network: &mut N,
+    clock: &mut C,
+    db: &str,
+    address: Address<'_>,
+    bound: Result<Address<'_>, Cause>,
+    count: u64,
+    terms: &Terms,
+    checks: bool,
+    output: &mut O,
+    errors: &mut E,
+) -> Exit
+    ensures line { ServesAt terms.now.logs result (stream (O.contents output.old) (O.contents output.new)) }
+    ensures starts { StartsAt K.Keep F.Files N.Connections C.Clock N.Reader.Inlet N.Writer.Outlet (site_of address.entry) checks db.now (bound_site bound.entry) terms.now count (environment files.old network.old clock.old) (environment files.new network.new clock.new) result (stream (O.contents output.old) (O.contents output.new)) (error_stream (E.reported errors.old) (E.reported errors.new)) }
+{
+    match address {
+        Address::Port(_) => serve_as_asked(
+            alloc, files, network, clock, db, bound, count, terms, checks, output, errors,
+        ),
+        Address::Socket(_) => match bound {
+            Ok(_) => serve_as_asked(
+                alloc, files, network, clock, db, bound, count, terms, checks, output, errors,
+            ),
+            Err(cause) => refuse(output, errors, cause),
+        },
     }
 }
 
@@ -210,8 +244,8 @@ fn read_door<I: Read>(alloc: Global, operates: bool, input: &mut I) -> Result<Do
 }
 
 /// Answers connections from the file at a path, with these timeouts, with the log or without it. If `operates` is true, the
-/// operator's door is open, and its secret is read first. The port is bound before the file is opened, so that peers who come
-/// meanwhile wait. A port that cannot be had is reported once the file is open.
+/// operator's door is open, and its secret is read first. The network listens before the file is opened, so that peers who
+/// come meanwhile wait. A port that cannot be had is reported once the file is open.
 pub fn serve_with_door<
     K: Keep,
     F: Files<K>,
@@ -226,7 +260,7 @@ pub fn serve_with_door<
     network: &mut N,
     clock: &mut C,
     db: &str,
-    port: u16,
+    address: Address<'_>,
     count: u64,
     timeouts: Timeouts,
     logs: bool,
@@ -237,7 +271,7 @@ pub fn serve_with_door<
     errors: &mut E,
 ) -> Exit
     ensures line { ServesBehind operates logs (I.remaining input.old) result (stream (O.contents output.old) (O.contents output.new)) (error_stream (E.reported errors.old) (E.reported errors.new)) }
-    ensures serves { ServesWithDoor K.Keep F.Files N.Connections C.Clock N.Reader.Inlet N.Writer.Outlet operates checks db.now port timeouts logs count (I.remaining input.old) (environment files.old network.old clock.old) (environment files.new network.new clock.new) result (stream (O.contents output.old) (O.contents output.new)) (error_stream (E.reported errors.old) (E.reported errors.new)) }
+    ensures serves { ServesWithDoor K.Keep F.Files N.Connections C.Clock N.Reader.Inlet N.Writer.Outlet operates checks db.now (site_of address.entry) timeouts logs count (I.remaining input.old) (environment files.old network.old clock.old) (environment files.new network.new clock.new) result (stream (O.contents output.old) (O.contents output.new)) (error_stream (E.reported errors.old) (E.reported errors.new)) }
     ensures input { LeavesUnless operates (I.remaining input.old) (I.remaining input.new) }
 {
     match read_door(alloc, operates, input) {
@@ -247,9 +281,10 @@ pub fn serve_with_door<
                 logs,
                 door,
             };
-            let bound = network.bind(Ipv4Addr::LOCALHOST, port);
-            serve_as_asked(
-                alloc, files, network, clock, db, bound, count, &terms, checks, output, errors,
+            let bound = listen(network, address);
+            start_at(
+                alloc, files, network, clock, db, address, bound, count, &terms, checks, output,
+                errors,
             )
         }
         Err(Unfit::Syntax) => say_why(output, errors, Exit::Usage, SECRET_FORM),

@@ -4,7 +4,8 @@ ghost use Rattle.std.specs.Prelude.{⊤, None};
 use basis::{Down, Moment};
 use fakes::{MemoryFile, StandingClock};
 use machine::PlainKeep;
-use program::environment::Connections;
+use program::Address;
+use program::environment::{Connections, Standing};
 use program::exits::Exit;
 use program::reasons::Cause;
 use program::serving::{Terms, serve_loop};
@@ -171,12 +172,30 @@ impl<'a, H: Half + Drop> Connections for Slow<'a, H> {
 
     ghost binds = { λ _ _ _ _ _. ⊤ };
 
+    ghost looks = { λ _ _ _ _. ⊤ };
+
+    ghost removes = { λ _ _ _ _. ⊤ };
+
+    ghost listens = { λ _ _ _ _ _. ⊤ };
+
     ghost accepts = { λ _ _ _ _. ⊤ };
 
     ghost ends = { λ _ _ _ _ _. ⊤ };
 
     fn bind(&mut self, address: Ipv4Addr, port: u16) -> Result<u16, Cause> {
         self.network.bind(address, port)
+    }
+
+    fn look(&mut self, path: &str) -> Result<Standing, Cause> {
+        self.network.look(path)
+    }
+
+    fn remove(&mut self, path: &str) -> Result<(), Cause> {
+        self.network.remove(path)
+    }
+
+    fn listen(&mut self, path: &str, mode: u32) -> Result<(), Cause> {
+        self.network.listen(path, mode)
     }
 
     fn accept(&mut self, timeouts: &Timeouts) -> Result<(Self::Reader, Self::Writer), Down> {
@@ -256,7 +275,7 @@ impl Bout<'_> {
             alloc,
             &MemoryFile::new(alloc, ""),
             network,
-            8090,
+            Address::Port(8090),
             service,
             count,
             &terms,

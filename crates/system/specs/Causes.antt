@@ -1,5 +1,5 @@
--- Why the system or SQLite refused a file or a port, in the program's words.
-use Rattle.std.specs.Prelude.{◌≡◌, nat_lt, if◌then◌else◌, Bool, true, false, ⊤}
+-- Why the system or SQLite refused a file, a port or a socket, in the program's words.
+use Rattle.std.specs.Prelude.{◌≡◌, nat_lt, if◌then◌else◌, Bool, true, false, Result, Ok, Err, ⊤}
 use Rattle.std.specs.IoError.{error_kind}
 use Rattle.std.specs.declared.io.ErrorKind.{ErrorKind}
 use Rattle.std.specs.declared.io.ErrorKind.TheVariants as kind
@@ -12,7 +12,9 @@ use Rattle.sqlite_std_file.specs.declared.pair.OpenError.TheVariants as pair
 use Rattle.sqlite_store.specs.declared.error.OpenError.{OpenError}
 use Rattle.sqlite_store.specs.declared.error.OpenError.TheVariants as begin
 use Rattle.program.specs.declared.reasons.Cause.{Cause}
-use Rattle.program.specs.declared.reasons.Cause.TheVariants.{InUse, NotPermitted, NoFile, NoFolder, Missing, LogAlone, NoTables, Journal, Corrupt, Unsound, NoRoom, NoMemory, Disk, Store, PortTaken, PortNotPermitted, Port}
+use Rattle.program.specs.declared.reasons.Cause.TheVariants.{InUse, NotPermitted, NoFile, NoFolder, Missing, LogAlone, NoTables, Journal, Corrupt, Unsound, NoRoom, NoMemory, Disk, Store, PortTaken, PortNotPermitted, Port, SocketNotPermitted, Socket}
+use Rattle.program.specs.declared.environment.Standing.{Standing}
+use Rattle.program.specs.declared.environment.Standing.TheVariants as standing
 use Rattle.program.specs.declared.reasons.OpenFault.{OpenFault}
 use Rattle.program.specs.declared.reasons.OpenFault.TheVariants.{Schema, Down, Memory}
 
@@ -56,6 +58,17 @@ port_cause kind.AddrInUse = PortTaken
 port_cause kind.PermissionDenied = PortNotPermitted
 port_cause kind.OutOfMemory = NoMemory
 port_cause _ = Port
+
+-- a failed listen at a socket, or a failed look at what stands there
+abbrev pub socket_cause : ErrorKind → Cause
+socket_cause kind.PermissionDenied = SocketNotPermitted
+socket_cause kind.OutOfMemory = NoMemory
+socket_cause _ = Socket
+
+-- what a socket is to which no connection was made, by why: nobody answers only if the system says that it was refused
+abbrev pub standing_of : ErrorKind → Result Standing Cause
+standing_of kind.ConnectionRefused = Ok standing.Silent
+standing_of other = Err (socket_cause other)
 
 -- Why a file is not opened, except for memory.
 abbrev pub is_file_cause : Cause → Bool

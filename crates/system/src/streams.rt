@@ -1,4 +1,4 @@
-//! Streams over TCP that wait no longer than they may.
+//! Streams over sockets that wait no longer than they may.
 ghost use Rattle.std.specs.Prelude.{◌≡◌, ℕ, List, Option, None};
 ghost use Rattle.std.specs.Io.{ReadsAtMost, WritesAtMost};
 ghost use Rattle.std.specs.Io.KnownBytes.{ReadConsumes, WriteAppends};
@@ -13,6 +13,9 @@ use std::time::{Duration, Instant};
 
 /// How often a call that a signal interrupts is retried.
 const MOST_INTERRUPTIONS: u32 = 1_000_000;
+
+/// The most bytes that one call writes. A Unix socket takes a longer text in pieces, and may wait for the timeout before each.
+const MOST_WRITTEN: usize = 32_768;
 
 /// One side of a socket: what is assumed of the calls that read and write it. All else is proved for every half. The program names
 /// `SystemHalf`, which knows no bytes, because no contract says what the system's calls give and take.
@@ -75,7 +78,7 @@ impl Half for SystemHalf {
 
     fn write(&mut self, buf: &[u8]) -> io::Result<usize> {
         let mut stream = self.stream();
-        stream.write(buf)
+        stream.write(&buf[..buf.len().min(MOST_WRITTEN)])
     }
 
     fn stream(&self) -> &TcpStream {

@@ -5,6 +5,7 @@ use Rattle.machine.specs.declared.keeps.Keep as keep
 use Rattle.machine.specs.StoreCalls.{Lasts}
 use Rattle.wire.specs.declared.devices.Inlet as inlet
 use Rattle.wire.specs.declared.devices.Outlet as outlet
+use Rattle.command_line.specs.Orders.{Site}
 use Rattle.program.specs.declared.exits.Exit.{Exit}
 use Rattle.program.specs.declared.exits.Exit.TheVariants.{Unprinted}
 use Rattle.program.specs.declared.environment.Clock as clock
@@ -33,7 +34,7 @@ module _ {K F : Type 0} (k : keep.Ghosts K) (f : files.Ghosts F K) where
 
 module _ {K F N C R W : Type 0} (k : keep.Ghosts K) (f : files.Ghosts F K) (n : connections.Ghosts N R W) (c : clock.Ghosts C) (i : inlet.Ghosts R) (o : outlet.Ghosts W) where
   -- connections are answered from an open store, which is then closed at this path; the network has been asked to listen, with this result
-  pub record ServesOpened (path : List ℕ) (bound : Result ℕ Cause) (terms : Terms) (count : ℕ) (before : K) (old new : Environment F N C) (e : Exit) (output : Stream) (errors : Errors) : Type 0 where
+  pub record ServesOpened (path : List ℕ) (bound : Result Site Cause) (terms : Terms) (count : ℕ) (before : K) (old new : Environment F N C) (e : Exit) (output : Stream) (errors : Errors) : Type 0 where
     pub after : K
     pub lasts : Lasts k.clean k.sound k.keyed k.shielded before after
     pub served : Exit

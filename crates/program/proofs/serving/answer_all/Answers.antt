@@ -1,4 +1,5 @@
 use Rattle.std.proofs.Common.{◌≡◌, ℕ, suc, length, ◌<◌, ◌+◌, arith, refl, sym, subst, ◌++◌, ◌∷◌, [], rules}
+use Rattle.command_line.specs.Orders.{site_of}
 use Rattle.machine.proofs.LastingLemmas.{lasts_still, lasts_then}
 use Rattle.program.specs.Serving.{state, EndsEarly, listening_line}
 use Rattle.program.proofs.ServingLemmas.{answers_more, one_more}
@@ -54,7 +55,7 @@ returns-in-Err-clause-listens g c =
     let start = state c.args.network.now c.args.clock.now c.args.service.now.keep (g.E.ErrorStream.reported c.args.errors.now) heard in
     let last = state c.connections.network c.connections.clock c.connections.service.keep (g.E.ErrorStream.reported c.connections.errors) (g.O.Write.contents c.connections.output) in
     let new = state c.serve_next.new.network c.serve_next.new.clock c.serve_next.new.service.keep (g.E.ErrorStream.reported c.serve_next.new.errors) (g.O.Write.contents c.serve_next.new.output) in
-    heard_log c.args.terms.now.logs (listening_line c.args.port) (g.O.Write.contents c.args.output.now) heard (g.O.Write.contents c.serve_next.new.output) (search rules)
+    heard_log c.args.terms.now.logs (listening_line (site_of c.args.address)) (g.O.Write.contents c.args.output.now) heard (g.O.Write.contents c.serve_next.new.output) (search rules)
     (grows_then c.args.terms.now.logs heard (g.O.Write.contents c.connections.output) (g.O.Write.contents c.serve_next.new.output)
     (grows_all g.K.Keep g.F.Files g.N.Connections g.C.Clock g.N.Reader.Inlet g.N.Writer.Outlet c.args.terms.now 1 so_far.0 start last so_far.2)
     (grows_early g.K.Keep g.F.Files g.N.Connections g.C.Clock g.N.Reader.Inlet g.N.Writer.Outlet c.args.terms.now (c.connections.connection + 1) last new c.in-Err.cause c.in-Err.ensures.refused))
@@ -65,5 +66,5 @@ returns-clause-listens g c =
     let heard = g.O.Write.contents c.print_listening.new.output in
     let start = state c.args.network.now c.args.clock.now c.args.service.now.keep (g.E.ErrorStream.reported c.args.errors.now) heard in
     let new = state c.connections.network c.connections.clock c.connections.service.keep (g.E.ErrorStream.reported c.connections.errors) (g.O.Write.contents c.connections.output) in
-    heard_log c.args.terms.now.logs (listening_line c.args.port) (g.O.Write.contents c.args.output.now) heard (g.O.Write.contents c.connections.output) (search rules)
+    heard_log c.args.terms.now.logs (listening_line (site_of c.args.address)) (g.O.Write.contents c.args.output.now) heard (g.O.Write.contents c.connections.output) (search rules)
     (grows_all g.K.Keep g.F.Files g.N.Connections g.C.Clock g.N.Reader.Inlet g.N.Writer.Outlet c.args.terms.now 1 so_far.0 start new so_far.2)

@@ -2,6 +2,7 @@ use Rattle.std.proofs.Common.{inl, inr, refl}
 use Rattle.program.specs.declared.environment.Opening.TheVariants.{Created}
 use Rattle.program.proofs.OutcomeLemmas.{refused_by, refused_serving}
 use Rattle.program.proofs.EnvironmentLemmas.{serves_from}
+use Rattle.program.specs.Listening.{bound_site}
 use Rattle.program.proofs.starting.serve.Goals as goal
 
 pub returns-in-Err-clause-line : goal.returns-in-Err-clause-line
@@ -12,7 +13,7 @@ returns-in-Err-clause-serves g c = inr (c.in-Err.ensures.refused, (refl {a = c.a
 
 pub returns-clause-serves : goal.returns-clause-serves
 returns-clause-serves g c = inl (serves_from g.K.Keep g.F.Files g.N.Connections g.C.Clock g.N.Reader.Inlet g.N.Writer.Outlet
-    c.args.db.now c.args.bound c.args.terms.now c.args.count c.args.files.now c.open_one.new.files c.serve_opened.new.files
+    c.args.db.now (bound_site c.args.bound) c.args.terms.now c.args.count c.args.files.now c.open_one.new.files c.serve_opened.new.files
     c.args.network.now c.serve_opened.new.network c.args.clock.now c.serve_opened.new.clock c.in-Ok.keep c.serve_opened.result
     (g.O.Write.contents c.args.output.now) (g.O.Write.contents c.open_one.new.output) (g.O.Write.contents c.serve_opened.new.output)
     (g.E.ErrorStream.reported c.args.errors.now) (g.E.ErrorStream.reported c.open_one.new.errors) (g.E.ErrorStream.reported c.serve_opened.new.errors)

@@ -6,6 +6,7 @@ use Rattle.program.specs.declared.exits.Exit.TheVariants.{Down}
 use Rattle.program.specs.declared.environment.Opening.TheVariants.{Existing}
 use Rattle.program.proofs.OutcomeLemmas.{refused_by, refused_serving, said_behind}
 use Rattle.program.proofs.EnvironmentLemmas.{serves_checked, opens_sound, checks_file}
+use Rattle.program.specs.Listening.{bound_site}
 use Rattle.program.proofs.starting.serve_checked.Goals as goal
 
 pub returns-in-Err-clause-line : goal.returns-in-Err-clause-line
@@ -17,7 +18,7 @@ returns-then-check_first-clause-serves g c =
     let out = g.O.Write.contents in
     let unchanged = subst (λ (is_sound : Bool). ChecksFirst g.K.Keep g.F.Files Faults c.in-Ok.keep is_sound c.check_first.new.store (error_stream (err c.open_one.new.errors) (err c.check_first.new.errors))) c.if-check_first.true c.check_first.ensures in
     inl (inl (serves_checked g.K.Keep g.F.Files g.N.Connections g.C.Clock g.N.Reader.Inlet g.N.Writer.Outlet
-    c.args.db.now c.args.bound c.args.terms.now c.args.count c.args.files.now c.open_one.new.files c.serve_opened.new.files
+    c.args.db.now (bound_site c.args.bound) c.args.terms.now c.args.count c.args.files.now c.open_one.new.files c.serve_opened.new.files
     c.args.network.now c.serve_opened.new.network c.args.clock.now c.serve_opened.new.clock c.check_first.new.store c.serve_opened.result
     (out c.args.output.now) (out c.open_one.new.output) (out c.serve_opened.new.output)
     (err c.args.errors.now) (err c.check_first.new.errors) (err c.serve_opened.new.errors)

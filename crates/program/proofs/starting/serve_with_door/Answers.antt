@@ -1,11 +1,12 @@
 use Rattle.std.proofs.Common.{rules, refl, inl, inr}
+use Rattle.program.specs.Listening.{bound_site}
 use Rattle.program.proofs.starting.serve_with_door.Goals as goal
 
 pub returns-in-Ok-clause-line : goal.returns-in-Ok-clause-line
-returns-in-Ok-clause-line g c = inl (c.in-Ok.ensures.has, c.serve_as_asked.ensures.line)
+returns-in-Ok-clause-line g c = inl (c.in-Ok.ensures.has, c.start_at.ensures.line)
 
 pub returns-in-Ok-clause-serves : goal.returns-in-Ok-clause-serves
-returns-in-Ok-clause-serves g c = inl (c.in-Ok.door, c.in-Ok.ensures.is, c.bind-bound.result, c.bind-bound.new.self, c.bind-bound.ensures, c.serve_as_asked.ensures.serves)
+returns-in-Ok-clause-serves g c = inl (c.in-Ok.door, c.in-Ok.ensures.is, bound_site c.listen-bound.result, c.listen-bound.new.network, c.listen-bound.ensures, c.start_at.ensures.starts)
 
 pub returns-in-Err-Syntax-clause-line : goal.returns-in-Err-Syntax-clause-line
 returns-in-Err-Syntax-clause-line g c = inr (search rules, inl (search rules, search rules))
