@@ -255,8 +255,8 @@ def draw_post():
 
 # What the picture of a deployment names: each file must have these words.
 DEPLOYED = {
-    "docs/operating/nginx.conf": ["listen 443 ssl", "127.0.0.1:8090", "location /v1/", "location = /health"],
-    "docs/operating/custody.service": ["--port 8090", "--log", "--operator", "/var/lib/custody/custody.db"],
+    "docs/operating/nginx.conf": ["listen 443 ssl", "/run/custody/socket", "location /v1/", "location = /health"],
+    "docs/operating/custody.service": ["--socket /run/custody/socket", "--log", "--operator", "/var/lib/custody/custody.db"],
     "docs/operating/backup.sh": ["kill -STOP"],
     "docs/operating/backup-daily.sh": ["custody check", "rsync"],
     "docs/operating/runner.sh": ["terraform apply"],
@@ -280,7 +280,7 @@ def draw_deployment():
     drawn += part(10, 110, 144, 62, YELLOW, "Terraform", 'backend "http"', "token as user name")
     drawn += part(10, 212, 144, 62, YELLOW, "runner.sh", "takes a queued run,", "plans and applies")
     drawn += part(220, 110, 152, 78, BLUE, "nginx", "TLS; the user name", "becomes a bearer token;", "/v1/ and /health only")
-    drawn += part(506, 110, 190, 62, BLUE, "custody serve", "127.0.0.1:8090", "one connection at a time")
+    drawn += part(506, 110, 190, 62, BLUE, "custody serve", "/run/custody/socket", "one connection at a time")
     drawn += part(506, 30, 190, 46, GRAY, "journald", "the exchange log")
     drawn += part(220, 244, 152, 62, YELLOW, "operator", "organizations and tokens,", "as commands")
     drawn += part(506, 244, 190, 62, GREEN, "custody.db", "a SQLite file, and its WAL", "custody.db-wal")
@@ -297,7 +297,7 @@ def draw_deployment():
     drawn += [path([(372, 290), (506, 290)], "dash"), words(439, 308, "while the service", "small", "middle"), words(439, 323, "is stopped", "small", "middle")]
     drawn += [path([(601, 306), (601, 360)])]
     drawn += [path([(696, 384), (778, 384)]), words(739, 376, "rsync", "small", "middle")]
-    drawn.append(words(10, 446, "Yellow: who asks. Blue: programs. Green: files. Nobody outside the machine reaches /operator or the service's port.", "small"))
+    drawn.append(words(10, 446, "Yellow: who asks. Blue: programs. Green: files. Only members of the group custody reach the service's socket.", "small"))
     write("deployment", 950, 460, drawn)
 
 

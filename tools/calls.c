@@ -7,7 +7,7 @@
 // ENDS=NUMBER: kills the process, as by a signal, at the call of this number, from 1 on, that changes a regular file. The call is not
 // made.
 // TOLD=FILE: adds a line to FILE for each call that is made: `write NAME` for a write at a place or a cut, `sync NAME`, `said NAME` for
-// what is sent or printed. NAME is how the system names the descriptor, without its folders.
+// what is sent or printed, `listens MODE NAME` for a Unix socket that begins to listen, with the mode at its path. NAME is how the system names the descriptor, without its folders.
 // FAILS=FILE: each sync fails as long as FILE exists. With ONCE=NUMBER only the sync of this number fails, from 1 on, and removes FILE.
 // FULL=FILE: a write at a place finds no room on the disk as long as FILE exists.
 // REFUSED='CALL NUMBER': each CALL fails by this number of errno: `open` (of a database, to be written), `pwrite`, or `bind`.
@@ -24,6 +24,7 @@
 #include <sys/stat.h>
 #include <sys/syscall.h>
 #include <sys/types.h>
+#include <sys/un.h>
 #include <unistd.h>
 
 #define REAL(name) \
@@ -145,4 +146,17 @@ int fsync(int file) {
 int fdatasync(int file) {
   REAL(fdatasync);
   return sync_by(real, file);
+}
+
+int listen(int socket, int backlog) {
+  REAL(listen);
+  struct sockaddr_un at = {0};
+  socklen_t size = sizeof at - 1;
+  struct stat found;
+  if (!getsockname(socket, (struct sockaddr *)&at, &size) && at.sun_family == AF_UNIX && !stat(at.sun_path, &found)) {
+    char what[32];
+    snprintf(what, sizeof what, "listens %o", (unsigned)found.st_mode & 0777);
+    tell(what, socket);
+  }
+  return real(socket, backlog);
 }

@@ -122,9 +122,13 @@ class Peer(socketserver.BaseRequestHandler):
         self.send_to(self.server.to, request, link)
 
     def send_to(self, port, request, link):
+        """To a port, or to a Unix socket by its path."""
+        back = socket.socket(socket.AF_UNIX if isinstance(port, str) else socket.AF_INET)
+        back.settimeout(130)
         try:
-            back = socket.create_connection(("127.0.0.1", port), timeout=130)
+            back.connect(port if isinstance(port, str) else ("127.0.0.1", port))
         except OSError:
+            back.close()
             link.sendall(self.server.away)
             return
         with back:

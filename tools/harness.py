@@ -53,9 +53,12 @@ LOG_ALONE = b"custody: the file is missing or empty, and the -wal beside it may 
 LOG_STAYS = b"custody: the WAL could not be copied into the file: keep the file and its -wal together\n"
 NEW_FILE = b"custody: there was no file at the path; a new one was created\n"
 NO_FOLDER = b"custody: the folder of the --db file does not exist\n"
+NO_SOCKET = b"custody: something else than a socket stands at the path of --socket\n"
 PORT_TAKEN = b"custody: the port is in use\n"
 READ_FAILED = b"custody: connection %d: a read failed\n"
 SECRET_FORM = b"custody: the secret must be one line of 16 to 64 ASCII letters or digits\n"
+SOCKET = b"custody: could not listen at the socket: its folder must exist, and its path have 1 to 107 bytes\n"
+SOCKET_TAKEN = b"custody: another program answers at the socket\n"
 UNCHANGED = b"custody: out of memory or the store failed; no record was changed\n"
 UNFINISHED = b"custody: out of memory or a store failed before everything was copied: delete the new file and start again\n"
 UNLOGGED = b"custody: the exchange log could not be written, so the service stops\n"
@@ -73,7 +76,7 @@ BLAMES = re.compile(
 BLAMELESS = re.compile(
     rb"^custody: (?:another program has the file open|no permission to .*|the path does not lead to a file.*|the folder of the --.* file does not exist"
     rb"|there is no file at the path.*|the file is missing or empty.*|the file is a database without.*|a rollback journal lies.*|the file is damaged.*"
-    rb"|the file is not a database.*|the port is in use|could not listen on the port|the file's tables have faults.*)$",
+    rb"|the file is not a database.*|the port is in use|could not listen .*|another program answers at the socket|something else than a socket.*|the file's tables have faults.*)$",
     re.M,
 )
 REPLIED_503 = re.compile(rb"^custody: connection \d+: .*; replied 503$", re.M)
@@ -145,6 +148,10 @@ class Program:
         self.room.cleanup()
         self.own.cleanup()
 
+    def new_socket(self):
+        """A path of at most 107 bytes for a socket, where nothing is."""
+        return tempfile.mktemp(dir=self.own.name)
+
     def causes(self):
         """How many requests for memory were refused to it, and calls of files failed, so far."""
         return struct.unpack("=Q", self.count[:8])[0]
@@ -197,7 +204,8 @@ class Program:
 
 
 class Service:
-    """`serve` over a file, at a port of its own. It ends by its count (None: it has no count). Its `with` block kills it at the end.
+    """`serve` over a file, at a port of its own; or at a socket, if `port` is a path or SOCKET is in the environment. It ends by its
+    count (None: it has no count). Its `with` block kills it at the end.
 
     If `lines` names a file, standard output goes there. Standard input is the file `given`, otherwise a pipe that nobody closes.
     `Program.start` gets `how`. If DOOR is in the environment, the operator's door is open."""
@@ -206,11 +214,11 @@ class Service:
     patience, stays = PATIENCE, False
 
     def __init__(self, program, path, count, *words, port=None, lines=None, given=None, **how):
-        self.port, self.program, self.before = port or free_port(), program, program.causes()
+        self.port, self.program, self.before = port or free_address(program), program, program.causes()
         ends = ["--unlimited"] if count is None else ["--count", str(count)]
         if "DOOR" in os.environ and "--operator" not in words:
             words, given = (*words, "--operator"), secret_file()
-        words = ["serve", "--db", path, "--port", str(self.port), *ends, *words]
+        words = ["serve", "--db", path, *address(self.port), *ends, *words]
         self.input = contextlib.ExitStack()
         stream = self.input.enter_context(open_pipe()) if given is None else given
         with open(lines, "wb") if lines else contextlib.nullcontext(subprocess.PIPE) as output:
@@ -222,7 +230,7 @@ class Service:
             raise
 
     def begins(self, line):
-        said("the line of a service", line, b"listening 127.0.0.1:%d\n" % self.port)
+        said("the line of a service", line, listening(self.port))
 
     def __enter__(self):
         return self
@@ -266,6 +274,21 @@ def open_pipe():
     finally:
         os.close(reads)
         os.close(writes)
+
+
+def free_address(program):
+    """A free port, or the path of a socket if SOCKET is in the environment."""
+    return program.new_socket() if "SOCKET" in os.environ else free_port()
+
+
+def address(port):
+    """The words for a service at a port, or at a socket."""
+    return ["--socket", port] if isinstance(port, str) else ["--port", str(port)]
+
+
+def listening(port):
+    """The line of a service at a port, or at a socket."""
+    return b"listening %s\n" % (os.fsencode(port) if isinstance(port, str) else b"127.0.0.1:%d" % port)
 
 
 def line_of(stream):
@@ -395,16 +418,16 @@ def moment_of(came):
 
 
 def connected(port, patience=PATIENCE, buffer=None, resets=False):
-    """A connection to a service. `buffer` is the size of the peer's buffer for what it reads. If `resets`, closing resets the
-    connection, and then the system keeps nothing of it."""
-    stream = socket.socket()
+    """A connection to a service, at a port or at a socket. `buffer` is the size of the peer's buffer for what it reads. If `resets`,
+    closing resets the connection, and then the system keeps nothing of it."""
+    stream = socket.socket(socket.AF_UNIX if isinstance(port, str) else socket.AF_INET)
     stream.settimeout(patience)
     if buffer:
         stream.setsockopt(socket.SOL_SOCKET, socket.SO_RCVBUF, buffer)
     if resets:
         stream.setsockopt(socket.SOL_SOCKET, socket.SO_LINGER, struct.pack("ii", 1, 0))
     try:
-        stream.connect(("127.0.0.1", port))
+        stream.connect(port if isinstance(port, str) else ("127.0.0.1", port))
     except BaseException:
         stream.close()
         raise

@@ -24,7 +24,7 @@ import sys
 import threading
 import time
 
-from harness import Program, Service, Wrong, bytes_of, said
+from harness import Program, Service, Wrong, bytes_of, connected, said
 
 ORG, WS = "acme", "net"
 # The act of a request, as its line has it.
@@ -54,7 +54,8 @@ made = 0
 def ask(port, method, path, body=b"", secret=WRITER, field=None):
     global made
     made += 1
-    link = http.client.HTTPConnection("127.0.0.1", port, timeout=20)
+    link = http.client.HTTPConnection("127.0.0.1", timeout=20)
+    link.sock = connected(port, 20)
     try:
         head = {"Authorization": f"Bearer {ORG}.{secret}", **(field or {})}
         link.request(method, f"/v1/{ORG}{path}", body, head)

@@ -6,7 +6,8 @@
 No contract says what a socket, a timeout or the clock of the system does. Here `serve` is asked over 127.0.0.1, and its times are
 taken from a monotonic clock: who reaches it, when a peer is cut off, which moment it tells, that a peer that sends more than is
 taken reads its whole reply, how long it is waited for then, that one that stays holds up nobody, that one who comes while the
-file is opened waits, and that a service which is stopped and goes on serves. It prints a line for each thing that holds, and ends with status 1 at the first that doesn't.
+file is opened waits, and that a service which is stopped and goes on serves; and which sockets `--socket` makes. With SOCKET in the
+environment it is asked over a Unix socket, but for `address` and `again`. It prints a line for each thing that holds, and ends with status 1 at the first that doesn't.
 
 A look never fails since the machine is slow, but for two bounds: a cut-off comes at most SLACK seconds behind its time, and
 STAYING peers that stay take at most STAYED seconds more than as many that leave, the best of up to TRIES times. Where this
@@ -18,13 +19,14 @@ import os
 import select
 import signal
 import socket
+import stat
 import subprocess
 import sys
 import time
 
 import harness
-from harness import GET, MADE, PUT, READ_FAILED, SMALL_BUFFER, SOON, UNWRITTEN
-from harness import Program, Wrong, answered, connected, free_port, is_free, moment_of, open_pipe, ok, post, received, reply, said, undated, wait_until
+from harness import GET, LEFT_EARLY, MADE, NO_FOLDER, NO_SOCKET, PUT, READ_FAILED, SMALL_BUFFER, SOCKET, SOCKET_TAKEN, SOON, UNWRITTEN
+from harness import Program, Wrong, answered, connected, is_free, moment_of, open_pipe, ok, post, received, reply, said, undated, wait_until
 
 # Seconds after which all looks together are held for hanging; for one peer or one service they are SOON.
 LIMIT = 120
@@ -95,8 +97,8 @@ class Service(harness.Service):
 
     patience, stays = SOON, True
 
-    def __init__(self, program, count, *words, port=None):
-        super().__init__(program, "t.db", count, *words, port=port)
+    def __init__(self, program, count, *words, **how):
+        super().__init__(program, "t.db", count, *words, **how)
 
     def state(self):
         """The letter of the process: T where it is stopped."""
@@ -352,13 +354,44 @@ def look_at_again(program):
     print("right: a service is started again at its port at once")
 
 
+def look_at_socket(program):
+    """A socket lets its owner and group connect. It is replaced where nobody answers; nothing else at its path is touched."""
+    path = program.folder + "/socket"
+    serves = ["serve", "--db", "nowhere/t.db", "--count", "1", "--socket"]
+    with Service(program, 3, port=path) as service:
+        said("a socket", oct(os.stat(path).st_mode), oct(stat.S_IFSOCK | 0o660))
+        program.is_due("a socket that somebody answers at", [*serves, path], 3, b"refused down\n", SOCKET_TAKEN)
+        said("a GET at a socket", service.asked(GET) == ok(STATE), True)
+        said("a POST at a socket", service.asked(post(STATE)), ok())
+        service.ends(errors=LEFT_EARLY % 1)
+    left, told = os.stat(path).st_mtime_ns, program.own.name + "/told"
+    os.symlink(path, path + ".link")
+    env = dict(os.environ, LD_PRELOAD=harness.compiled("calls", program.own.name), TOLD=told)
+    with Service(program, 1, port="socket", env=env, under=["sh", "-c", 'umask 0 && exec "$@"', "sh"]) as service:
+        said("whether a socket that nobody answers at stays", os.stat(path).st_mtime_ns == left, False)
+        with open(told, encoding="utf-8") as lines:
+            said("its mode before anyone can connect", [line.split()[1] for line in lines if line.startswith("listens ")], ["660"])
+        service.port = path
+        said("a PUT at it", service.asked(PUT), ok(HELD))
+        service.ends()
+    os.mkfifo(path + ".pipe")
+    for other in (program.folder, program.folder + "/t.db", path + ".pipe", path + ".link"):
+        before = os.lstat(other)
+        program.is_due("something else than a socket", [*serves, other], 3, b"refused down\n", NO_SOCKET)
+        said("what it is", os.lstat(other)[:2], before[:2])
+    for other in (program.folder + "/nowhere/socket", "s" * 108, ""):
+        program.is_due("a socket that cannot be made", [*serves, other], 3, b"refused down\n", SOCKET)
+    program.is_due("a socket, and a file that is not opened", [*serves, path], 3, b"refused down\n", NO_FOLDER)
+    print("right: it has mode 0660 before anyone can connect, and is replaced where nobody answers; everything else is refused, and stays")
+
+
 def connected_early(port):
     """A connection to a service, as soon as one is made."""
     end = time.monotonic() + SOON
     while time.monotonic() < end:
         try:
             return connected(port, SOON)
-        except ConnectionRefusedError:
+        except (ConnectionRefusedError, FileNotFoundError):
             pass
     raise Wrong("no connection to a service is made")
 
@@ -377,8 +410,8 @@ def look_at_opening(program):
         service.ends()
     size = os.path.getsize(program.folder + "/t.db")
     for _ in range(TRIES):
-        port = free_port()
-        with open_pipe() as given, program.start(["serve", "--db", "t.db", "--port", str(port), "--count", "1"], given) as process:
+        port = harness.free_address(program)
+        with open_pipe() as given, program.start(["serve", "--db", "t.db", *harness.address(port), "--count", "1"], given) as process:
             try:
                 with connected_early(port) as peer:
                     process.send_signal(signal.SIGSTOP)
@@ -387,7 +420,7 @@ def look_at_opening(program):
                     peer.sendall(GET)
                     said("a peer that came while the file was opened", undated(received(peer)) == ok(state), True)
                 output, errors = process.communicate(timeout=SOON)
-                said("its service", (process.returncode, output, errors), (0, b"listening 127.0.0.1:%d\n" % port, b""))
+                said("its service", (process.returncode, output, errors), (0, harness.listening(port), b""))
             finally:
                 process.kill()
         if read < size:
@@ -425,6 +458,8 @@ def look_at_stops(program):
         service.ends()
 
 
+# Looks that are of ports alone.
+OF_PORTS = ["address", "again"]
 LOOKS = {
     "address": look_at_address,
     "clock": look_at_clock,
@@ -436,6 +471,7 @@ LOOKS = {
     "lingering": look_at_lingering,
     "refused": look_at_refused_peer,
     "again": look_at_again,
+    "socket": look_at_socket,
     "stops": look_at_stops,
     "opening": look_at_opening,
 }
@@ -466,7 +502,7 @@ def main(words):
         try:
             fill(program)
             for word, look in LOOKS.items():
-                if word in words[1:] or not words[1:]:
+                if word in words[1:] or not words[1:] and not ("SOCKET" in os.environ and word in OF_PORTS):
                     look(program)
         except (Wrong, OSError, subprocess.TimeoutExpired) as wrong:
             print("WRONG: %s: %s" % (word, wrong))

@@ -28,7 +28,7 @@ import urllib.parse
 import history
 import stories
 from harness import ANSWERED_503, DOWN, LEFT_EARLY, NEW_FILE, PATIENCE, READ_FAILED, SMALL_BUFFER, SMALL_FILES, UNLOGGED, UNPRINTED, UNWRITTEN
-from harness import Service, Wrong, answered, bytes_of, closed_pipe, connected, free_port, look_at, moment_of, received, said, undated, wait_until
+from harness import Service, Wrong, answered, bytes_of, closed_pipe, connected, free_port, listening, look_at, moment_of, received, said, undated, wait_until
 from model import ACTING, ACTIONS, AT, FIRST_KEPT, MOST_HEAD, MOST_ID, Custody, date_of, defined, line_of, row_of
 
 CONTINUE_UNWRITTEN = b"custody: connection %d: 100 Continue could not be sent\n"
@@ -629,10 +629,12 @@ def reset(port, sent):
         stream.sendall(sent)
 
 
+# How a request ends whose peer resets its connection. (No peer of a Unix socket can: there its end is read.)
+CLOSED = "ended" if "SOCKET" in os.environ else "read"
 # Peers that have reset their connection before it is accepted, and how each ends: what it sent is read.
 RESET = [
-    (b"", "read"),
-    (GET[:-1], "read"),
+    (b"", CLOSED),
+    (GET[:-1], CLOSED),
     (AWAITING[: AWAITING.index(b"\r\n\r\n") + 4], "continue"),
     (AWAITING, "continue"),
     (ask("W", "LOCK", "state/net", LOCK % "x1"), "write"),
@@ -643,7 +645,7 @@ RESET = [
     (GET, "write"),
     (b"GARBAGE\r\n\r\n", "write"),
 ]
-TOLD = {"read": READ_FAILED, "continue": CONTINUE_UNWRITTEN, "write": UNWRITTEN}
+TOLD = {"ended": LEFT_EARLY, "read": READ_FAILED, "continue": CONTINUE_UNWRITTEN, "write": UNWRITTEN}
 
 
 def due_of(custody, end, sent, first):
@@ -779,7 +781,7 @@ def look_at_filled(program):
         said("whether a further connection is refused", is_refused(service.port), True)
         said("how a service ends whose log is full", (service.process.wait(PATIENCE), service.process.stderr.read()), (3, UNLOGGED + UNPRINTED))
     *lines, front = bytes_of(path).splitlines(keepends=True)
-    said("the first line", lines[0], b"listening 127.0.0.1:%d\n" % service.port)
+    said("the first line", lines[0], listening(service.port))
     look_at_lines("a full file", b"".join(lines[1:]), dues[:-1], reader)
     whole = [line_of(len(dues), dues[-1].end, {**dues[-1].row, "at": at}) for at in range(first, now() + 1)]
     said("whether a front of the next line stands there", any(line.startswith(front) and line != front for line in whole), True)

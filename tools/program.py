@@ -14,7 +14,7 @@ import socket
 import subprocess
 import time
 
-from harness import LEFT_EARLY, MADE, NEW_FILE, NO_FOLDER, PATIENCE, PORT_TAKEN, SECRET_FORM, UNPRINTED, UNREAD
+from harness import LEFT_EARLY, MADE, NEW_FILE, NO_FOLDER, PATIENCE, PORT_TAKEN, SECRET_FORM, SOCKET, UNPRINTED, UNREAD
 from harness import GET, PUT, Service, Wrong, answered, closed_pipe, free_port, look_at, ok, post, request, said, undated
 
 # How many connections a service without a count answers here.
@@ -23,6 +23,9 @@ UNLIMITED = 1000
 FULL = "/dev/full"
 ENCODING = b"custody: an argument is not UTF-8\n"
 ONE_OF = b"custody: serve needs either --count N or --unlimited\n"
+PORT_OR_SOCKET = b"custody: serve needs either --port P or --socket PATH\n"
+# A socket's path may have one byte less than the system's `sun_path`.
+LONGEST_PATH = 107
 STATE = b'{"version":4,"serial":1,"lineage":"a1","x":"HTTP/1.1 503 is here"}'
 
 
@@ -51,6 +54,21 @@ def look_at_words(program):
     serves = ["serve", "--db", "t.db", "--port", "8090"]
     program.is_due("a service without a count", serves, 2, b"refused usage\n", ONE_OF)
     program.is_due("a service with a count and without one", [*serves, "--count", "1", "--unlimited"], 2, b"refused usage\n", ONE_OF)
+    counted = ["serve", "--db", "t.db", "--count", "1"]
+    program.is_due("a service without a port and a socket", counted, 2, b"refused usage\n", PORT_OR_SOCKET)
+    program.is_due("a service with both", [*counted, "--port", "8090", "--socket", "s"], 2, b"refused usage\n", PORT_OR_SOCKET)
+    program.is_due("a socket whose path isn't UTF-8", [*map(os.fsencode, counted), b"--socket", b"s\xff"], 2, b"refused usage\n", ENCODING)
+    for what, path in [("no", ""), ("too long a", "s" * (LONGEST_PATH + 1))]:
+        program.is_due("a socket with %s path" % what, [*counted, "--socket", path], 3, b"refused down\n", SOCKET)
+    with Service(program, "t.db", 1, port="s" * LONGEST_PATH) as service:
+        # (a script elsewhere reaches it by a shorter path)
+        os.symlink(service.port, program.folder + "/s")
+        service.port = program.folder + "/s"
+        said("whether a socket with the longest path answers", service.asked(GET)[:13], b"HTTP/1.1 404 ")
+        service.ends()
+    for name in ["s", "s" * LONGEST_PATH]:
+        os.remove("%s/%s" % (program.folder, name))
+    print("right: a socket's path may have %d bytes" % LONGEST_PATH)
     said("the mode of a new file", os.stat(program.folder + "/t.db").st_mode & 0o777, 0o600)
     if sorted(os.listdir(program.folder)) != ["t.db", "t.db-wal"]:
         raise Wrong("it left %s" % os.listdir(program.folder))

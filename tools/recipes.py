@@ -121,7 +121,7 @@ class Unit:
     """A unit, by the lines of its file."""
 
     def __init__(self, name):
-        self.name, self.process, self.restarts, self.failed = name, None, 0, False
+        self.name, self.process, self.restarts, self.failed, self.runs = name, None, 0, False, None
         self.lock = threading.RLock()
 
     def settings(self):
@@ -147,6 +147,11 @@ class Unit:
         how = {"cwd": "/", "env": env, "umask": int(only("UMask", "0022"), 8), "start_new_session": True}
         if user:
             how.update(user=user, group=only("Group", user), extra_groups=[])
+        for folder in settings.get("RuntimeDirectory", []):
+            self.runs = "/run/" + folder
+            os.makedirs(self.runs, exist_ok=True)
+            os.chmod(self.runs, int(only("RuntimeDirectoryMode", "0755"), 8))
+            shutil.chown(self.runs, user, only("Group", user))
         with open(given.removeprefix("file:"), "rb") as reads, open("%s/%s" % (JOURNAL, self.name), "ab") as lines:
             return subprocess.Popen(words, stdin=reads, stdout=lines, stderr=lines, **how)
 
@@ -184,6 +189,8 @@ class Unit:
         if process:
             process.terminate()
             process.wait()
+            if self.runs:
+                shutil.rmtree(self.runs)
 
     def show(self, what):
         return {"MainPID": self.process.pid if self.process else 0, "NRestarts": self.restarts}[what]
@@ -270,7 +277,8 @@ class Routed(Peer):
         if place == "moving":
             link.sendall(self.server.away)
         else:
-            self.send_to(int(place.partition(":")[2]), request, link)
+            kind, _, at = place.partition(":")
+            self.send_to(at if kind == "unix" else int(at), request, link)
 
 
 class Asked(socketserver.StreamRequestHandler):
@@ -539,7 +547,7 @@ class Work(threading.Thread):
 # ----------------------------------------------------------------------------------------------------
 
 COUNTS = r"^ok\norganizations \d+ workspaces \d+ versions \d+ runs \d+ newest \d+$"
-LISTENS = "listening 127.0.0.1:8090"
+SOCKET = "/run/custody/socket"
 LOCK = '{"ID":"5f2c","Operation":"OperationTypeApply","Who":"ann@laptop","Created":"2026-01-31T04:00:00Z"}'
 
 
@@ -567,14 +575,16 @@ def readme():
 
 
 def answers(port):
-    with socket.socket() as link:
-        return link.connect_ex(("127.0.0.1", port)) == 0
+    """Whether somebody listens at a port, or at a socket."""
+    is_path = isinstance(port, str)
+    with socket.socket(socket.AF_UNIX if is_path else socket.AF_INET) as link:
+        return link.connect_ex(port if is_path else ("127.0.0.1", port)) == 0
 
 
 def serves(*ports):
     """Waits until a service that was started listens."""
-    for port in ports or [8090]:
-        wait_until(lambda: answers(port), "nobody listens at %d" % port)
+    for port in ports or [SOCKET]:
+        wait_until(lambda: answers(port), "nobody listens at %s" % port)
 
 
 def operating():
@@ -616,6 +626,7 @@ def installs(page, shell):
     shell.runs(page, "apt-get install nginx")
     shell.runs(page, ". /usr/share/custody")
     shell.runs(page, "new_operator\n", ["^ok$", "^ok$", "^ok$", '"name":"net"'])
+    reaches_the_socket(shell)
     shell.does("echo 127.0.0.1 RUNNER >> /etc/hosts; %s; cmp /room/custody.token /root/acme.ci" % page.inline("ssh RUNNER 'umask 077; cat > custody.token' < /root/acme.ci").strip())
     for path in glob.glob("/root/acme.*") + glob.glob("/root/operator*"):
         said("the mode of " + path, os.stat(path).st_mode & 0o777, 0o600)
@@ -628,6 +639,18 @@ def installs(page, shell):
             with open(path, "rb") as file, open("/root/acme.ci", "rb") as secret:
                 said("the token in " + path, secret.read().strip() in file.read(), False)
     shell.does("cd " + REPOSITORY)
+
+
+def reaches_the_socket(shell):
+    """nginx's user and the service's reach the socket, and another user doesn't, nor takes it while the service is stopped."""
+    asks = "runuser -u %s -- curl -sS --noproxy '*' --unix-socket " + SOCKET + " http://localhost/v1/health"
+    for user in ["www-data", "custody"]:
+        shell.does(asks % user, ["no-route"])
+    shell.does(asks % "nobody", ["Couldn't connect"], ["7 "])
+    said("the mode of the socket", oct(os.stat(SOCKET).st_mode & 0o777), "0o660")
+    said("that of its folder", oct(os.stat(os.path.dirname(SOCKET)).st_mode & 0o777), "0o750")
+    shell.does("systemctl stop custody; runuser -u nobody -- mkdir /run/custody; systemctl start custody", [], ["1 "])
+    serves()
 
 
 def shows_no_secret(shell):
@@ -717,7 +740,7 @@ def operators(page, shell):
     shell.does("cp /root/operator.curl /room/former.curl")
     shell.runs(page, "new_operator && systemctl restart custody")
     serves()
-    shell.does('curl -sS --noproxy "*" -K /room/former.curl --data-binary org-list http://127.0.0.1:8090/operator', ["bad-token"])
+    shell.does('curl -sS --noproxy "*" -K /room/former.curl --data-binary org-list --unix-socket %s http://localhost/operator' % SOCKET, ["bad-token"])
     shell.runs(page, "exchanges | jq -ac 'select(.operator) ", [r'^\["20.*Z",200,"add token","acme","ci-3"\]$', r'^\["20.*Z",401,', "^acme:$", "^root admin - -$"])
 
 
@@ -766,10 +789,10 @@ def backups(page, shell):
     shell.does("touch /stuck; %s; rm /stuck" % page.block(restore).strip(), [COUNTS, "Failed to stop"], ["5 "])
     shell.does(page.block(restore).replace("restore.sh custody ", "restore.sh custdoy "), ["custdoy"], ["1 "])
     shell.does("as_custody serve --db /var/lib/custody/other.db --port 8099 --unlimited & sleep 1; echo", ["listening"])
-    shell.does("mkdir -p /etc/custody /var/lib/custody-other; ln -s /var/lib/custody/other.db /var/lib/custody-other/custody.db")
+    shell.does("mkdir -p /var/lib/custody-other; ln -s /var/lib/custody/other.db /var/lib/custody-other/custody.db")
     shell.does("/usr/share/custody/restore.sh custody@other /root/backup-2026-01-31-040000", [COUNTS, "a process has /var/lib/custody/other.db open: nothing was moved"], ["1 "])
-    # (a link is followed, once nobody has its file open; there is no unit to start)
-    shell.does("kill $(pgrep -f 'db /var/lib/custody/other.db'); wait; /usr/share/custody/restore.sh custody@other /root/backup-2026-01-31-040000", [COUNTS], ["1 "])
+    # (a link is followed, once nobody has its file open)
+    shell.does("kill $(pgrep -f 'db /var/lib/custody/other.db'); wait; /usr/share/custody/restore.sh custody@other /root/backup-2026-01-31-040000; systemctl stop custody@other", [COUNTS])
     shell.does("as_custody check --db /var/lib/custody-other/custody.db; cmp /var/lib/custody/other.db /var/lib/custody-other/custody.db; ls /var/lib/custody/lost-*/", [COUNTS, "^other.db$"])
     shell.does("rm -r /var/lib/custody-other /var/lib/custody/other.db* /var/lib/custody/lost-*")
     # (nor for a copy with a fault)
@@ -869,7 +892,7 @@ def runners():
         shell.runs(page, 'curl -sS -K /root/acme.ci.curl "$CUSTODY/runs/net/1"', ['"status":"planned"', '"status":"discarded"'])
         # (a runner's token ends during its apply)
         shell.does((anew % " -d '{\"auto_apply\":true}'") + "new_token acme brief write")
-        revoke = "curl -sS -K /root/operator.curl --data-binary 'token-revoke acme brief' http://127.0.0.1:8090/operator"
+        revoke = "curl -sS -K /root/operator.curl --data-binary 'token-revoke acme brief' --unix-socket %s http://localhost/operator" % SOCKET
         configures(CONFIGURATION, "brief", apply=revoke)
         shell.does('TOKEN="acme.$(cat /root/acme.brief)" runner.sh net job-20', ["run-1: "], ["1 "])
         said("whether errored.tfstate is there", os.path.exists(CONFIGURATION + "/errored.tfstate"), True)
@@ -921,7 +944,7 @@ def growing():
     with Shell(first=variables()) as shell, Shell(CONFIGURATION, variables()) as other:
         shell.does("rm /root/beta.*; echo org-add beta | operator; new_token beta root admin; curl -sS -K /root/beta.root.curl -X PUT %s/workspaces/net" % beta, ["ok", "ok", "net"])
         shell.does("curl -sS -K /root/beta.root.curl -X LOCK -d '%s' %s/state/net" % (LOCK, beta))
-        shell.runs(page, "install -d -m 755 /etc/custody")
+        shell.runs(page, "install -d -m 700 -o custody")
         shell.does("systemctl start custody@beta", ["Assertion failed"], ["1 "])
         maps(page, "moving")
         shell.does("nginx -s reload; curl -sS -i -K /root/beta.root.curl %s/workspaces/net" % beta, ["503", "Retry-After: 15"])
@@ -936,13 +959,13 @@ def growing():
         shell.runs(page, moves, ["^ok$", "^ok$"])
         time.sleep(2)
         shell.does(page.inline("systemctl start custody custody@beta"))
-        serves(8090, 8091)
-        maps(page, "127.0.0.1:8091")
+        serves(SOCKET, "/run/custody-beta/socket")
+        maps(page, "unix:/run/custody-beta/socket")
         shell.does("nginx -s reload\n" + look, ['"holder":"5f2c"'])
         shell.does("curl -sS -K /root/beta.root.curl -X UNLOCK -d '{\"ID\":\"5f2c\"}' %s/state/net\n" % beta + look, ['"holder":null'])
         other.is_right("a Terraform during the move", ["Apply complete!"])
-        operator = page.inline("PORT=8091 operator").strip()
-        shell.does("PORT=8091 new_token beta ci write; echo token-list beta | %s; echo token-list beta | operator" % operator, ["ok", "^ci write", "^root admin - -$", "refused absent"], ["22 "])
+        operator = page.inline("SOCKET=/run/custody-beta/socket operator").strip()
+        shell.does("SOCKET=/run/custody-beta/socket new_token beta ci write; echo token-list beta | %s; echo token-list beta | operator" % operator, ["ok", "^ci write", "^root admin - -$", "refused absent"], ["22 "])
         small = "cd /var/lib/custody && systemctl stop custody"
         counts = re.findall(r"^organizations .*", shell.runs(page, small, [COUNTS, "^ok$", COUNTS]), re.M)
         said("both second lines", counts[0], counts[1])
