@@ -14,9 +14,17 @@ new_operator() {
         mv /root/operator.new /root/operator
 }
 
-# Sends the command on standard input to the operator's door of the service at PORT (8090), and never to a proxy.
+# Sends the command on standard input to the operator's door of the service at SOCKET (/run/custody/socket), or at PORT if that is set, and
+# never to a proxy. A service that starts has a minute to make its socket.
 operator() {
-    curl -sS --noproxy '*' --fail-with-body --retry 6 --retry-connrefused -K /root/operator.curl --data-binary @- "http://127.0.0.1:${PORT:-8090}/operator"
+    local socket=${SOCKET:-/run/custody/socket} left=60
+    if [ "${PORT:-}" ]; then
+        set -- "http://127.0.0.1:$PORT/operator"
+    else
+        set -- --unix-socket "$socket" http://localhost/operator
+        until [ -S "$socket" ] || [ $((left -= 1)) -lt 0 ]; do sleep 1; done
+    fi
+    curl -sS --noproxy '*' --fail-with-body --retry 6 --retry-connrefused -K /root/operator.curl --data-binary @- "$@"
 }
 
 # ORG NAME: leaves a new secret in /root/ORG.NAME, and curl's header with it in /root/ORG.NAME.curl.
