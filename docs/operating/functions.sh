@@ -6,25 +6,30 @@ as_custody() { runuser -u custody -- custody "$@"; }
 # FILE: writes a new secret to a new file that only its owner may read.
 new_secret() { (umask 077; set -C; echo "$(head -c 24 /dev/urandom | od -An -v -tx1 | tr -d ' \n')" > "$1"); }
 
-# Makes the operator's secret, or replaces it. Each service takes the new one at its next start.
+# [ORG]: makes the operator's secret, or replaces it: of the one service, or of the organization's own. A service takes it at its next start.
 new_operator() {
-    rm -f /root/operator.new
-    new_secret /root/operator.new &&
-        (umask 077; echo "header = \"Authorization: Operator $(cat /root/operator.new)\"" > /root/operator.curl) &&
-        mv /root/operator.new /root/operator
+    local file=/root/operator
+    [ -z "${1-}" ] || { file=/root/operators/$1; install -d -m 700 /root/operators; }
+    rm -f "$file.new"
+    new_secret "$file.new" &&
+        (umask 077; echo "header = \"Authorization: Operator $(cat "$file.new")\"" > "$file.curl") &&
+        mv "$file.new" "$file"
 }
 
-# Sends the command on standard input to the operator's door of the service at SOCKET (/run/custody/socket), or at PORT if that is set, and
-# never to a proxy. A service that starts has a minute to make its socket.
+# [ORG]: sends the command on standard input to an operator's door, and never to a proxy: of the organization's own service if it has
+# one, otherwise of the one at SOCKET (/run/custody/socket), or at PORT if that is set. A service that starts has a minute to make its socket.
 operator() {
-    local socket=${SOCKET:-/run/custody/socket} left=60
-    if [ "${PORT:-}" ]; then
-        set -- "http://127.0.0.1:$PORT/operator"
+    local socket=${SOCKET:-/run/custody/socket} port=${PORT:-} secret=/root/operator left=60
+    if [ "${1-}" ] && [ -e "/root/operators/$1" ]; then
+        socket=/run/custody/$1/socket port= secret=/root/operators/$1
+    fi
+    if [ "$port" ]; then
+        set -- "http://127.0.0.1:$port/operator"
     else
         set -- --unix-socket "$socket" http://localhost/operator
         until [ -S "$socket" ] || [ $((left -= 1)) -lt 0 ]; do sleep 1; done
     fi
-    curl -sS --noproxy '*' --fail-with-body --retry 6 --retry-connrefused -K /root/operator.curl --data-binary @- "$@"
+    curl -sS --noproxy '*' --fail-with-body --retry 6 --retry-connrefused -K "$secret.curl" --data-binary @- "$@"
 }
 
 # ORG NAME: leaves a new secret in /root/ORG.NAME, and curl's header with it in /root/ORG.NAME.curl.
@@ -46,7 +51,7 @@ new_token() {
     done
     token_files "$org" "$name" || return
     status=0
-    echo "token-add $org $name $role" "$(cat "/root/$org.$name")" "$@" | operator || status=$?
+    echo "token-add $org $name $role" "$(cat "/root/$org.$name")" "$@" | operator "$org" || status=$?
     case $status in
         0) ;;
         7 | 22) rm -f "/root/$org.$name" "/root/$org.$name.curl" ;;
@@ -61,9 +66,9 @@ new_teams() {
     local team answer
     while read -r team || [ "$team" ]; do
         [ "$team" ] || continue
-        answer=$(echo "org-add $team" | operator 2> /dev/null)
+        answer=$(echo "org-add $team" | operator "$team" 2> /dev/null)
         case $answer in ok | 'refused exists') ;; *) echo "$team is not added: ${answer:-no answer}" >&2; return 1 ;; esac
-        answer=$(echo "token-list $team" | operator) || { echo "the tokens of $team are not known: $answer" >&2; return 1; }
+        answer=$(echo "token-list $team" | operator "$team") || { echo "the tokens of $team are not known: $answer" >&2; return 1; }
         if printf '%s\n' "$answer" | grep -q '^root '; then
             [ -s "/root/$team.root" ] && continue
             echo "$team has the token root, but /root/$team.root is missing: revoke it" >&2
@@ -85,5 +90,121 @@ empty_organization() {
     done
 }
 
-# Prints the lines of the exchange logs of all services; the words are those of journalctl.
-exchanges() { journalctl --namespace=custody -o cat -u custody -u 'custody@*' "$@" | grep --line-buffered '^{'; }
+# [ORG]: prints the lines of the exchange logs of all services, or those that name ORG; the other words are those of journalctl.
+exchanges() {
+    case ${1-} in
+        '' | -*) set -- '' -u 'custody@*' "$@" ;;
+        *) local org=$1; shift; set -- ".*\"organization\":\"$org\"" -u custody@none -u "custody@$org" "$@" ;;
+    esac
+    local line=$1; shift
+    journalctl --namespace=custody -o cat -u custody "$@" | grep --line-buffered "^{$line"
+}
+
+# ---- A service for each organization (GROWING.md). nginx knows an organization by its file in /etc/custody/organizations.
+
+# Prints the organizations that have a service of their own.
+organizations() { ls /etc/custody/organizations | grep -vx none; }
+
+# CMD ..: runs CMD .. ORG for each of them. Where one fails, it goes on, and ends with status 1.
+each_organization() {
+    local org status=0
+    for org in $(organizations); do
+        "$@" "$org" || { echo "$* $org: status $?" >&2; status=1; }
+    done
+    return $status
+}
+
+# ORG: prints the line of its own service's list; starts a checked copy of its file; says whether its service answers.
+list_organization() { echo org-list | operator "$1"; }
+back_up_organization() { systemctl start "custody-backup@$1"; }
+is_alive() { [ "$(curl -sS -m 10 -o /dev/null -w '%{http_code}' --unix-socket "/run/custody/$1/socket" http://localhost/v1/health)" = 404 ]; }
+
+# ORG: the line by which nginx chooses its socket. (In a query each letter may be percent-encoded.) That of `none` is for all other names.
+front_line() {
+    local key=default
+    [ "$1" = none ] || key="\"~^$(printf '%s.' "$1" | od -An -v -tx1 | tr -d '\n' | sed 's/ \(..\)/(?:\\x\1|%(?i:\1))/g')\""
+    echo "$key unix:/run/custody/$1/socket;"
+}
+
+# Lets nginx, if it is here, read its files again. Returns once no process of it goes by the former ones: each ends with its last request.
+reload_front() {
+    local pid old tries=0
+    command -v nginx > /dev/null || return 0
+    old=$(pgrep -P "$(cat /run/nginx.pid)") || :
+    nginx -t -q && systemctl reload nginx || return
+    for pid in $old; do
+        while [ -e "/proc/$pid" ]; do
+            tries=$((tries + 1))
+            [ "$tries" -lt 1500 ] || { echo "a request of before the reload still runs" >&2; return 1; }
+            sleep 0.2
+        done
+    done
+}
+
+# ORG: lets nginx choose the organization's own service from now on. While that is not running, its requests get 503.
+to_own_service() {
+    local folder=/etc/custody/organizations
+    install -d -m 755 "$folder" && front_line "$1" > "$folder/.$1" && mv "$folder/.$1" "$folder/$1" || return
+    # (with a configuration of before, the requests would go on to the one service)
+    nginx -T 2> /dev/null | grep -q "^# configuration file $folder/$1:" || { echo "nginx does not read $folder/$1: install its newest custody.conf" >&2; return 1; }
+    reload_front
+}
+
+# ORG: starts its own service, now and at each boot, and waits until it answers.
+start_service() {
+    local tries=0
+    [ -s "/root/operators/$1" ] || new_operator "$1" || return
+    systemctl enable --quiet --now "custody@$1" || return
+    until is_alive "$1" 2> /dev/null; do
+        tries=$((tries + 1))
+        [ "$tries" -lt 300 ] || { echo "custody@$1 does not answer" >&2; return 1; }
+        sleep 0.2
+    done
+    [ ! -e /etc/default/custody-backup ] || systemctl enable --quiet --now "custody-backup@$1.timer"
+}
+
+# ORG [LIMIT]: adds an organization with a service of its own, and its admin's token `root`. It can be run again. `none` is no
+# organization, but the service, with an empty file, of everything that names none of the others.
+add_organization() {
+    local org=$1 file=/var/lib/custody/$1/custody.db answer
+    case $org in [!a-z]* | *[!a-z0-9-]* | '') echo "not a name: $org" >&2; return 2 ;; esac
+    [ "${#org}" -le 40 ] || { echo "a name has at most 40 letters: $org" >&2; return 2; }
+    if [ -e /var/lib/custody/custody.db ]; then
+        answer=$(echo org-list | operator) || { echo "what the one service has is not known: $answer" >&2; return 1; }
+        if [ "$org" = none ] && [ "$answer" ]; then
+            echo "the one service has organizations, and would get no more requests: apart.sh moves them" >&2
+            return 1
+        fi
+        ! printf '%s\n' "$answer" | grep -q "^$org " || { echo "the one service has $org: apart.sh moves it" >&2; return 1; }
+    fi
+    if [ ! -e "$file" ]; then
+        install -d -m 700 -o custody -g custody "${file%/*}" && runuser -u custody -- touch "$file" || return
+    fi
+    start_service "$org" || return
+    if [ "$org" != none ]; then
+        answer=$(echo "org-add $*" | operator "$org" 2> /dev/null)
+        case $answer in ok | 'refused exists') ;; *) echo "$org is not added: ${answer:-no answer}" >&2; return 1 ;; esac
+        answer=$(echo "token-list $org" | operator "$org") || return
+        if ! printf '%s\n' "$answer" | grep -q '^root '; then
+            rm -f "/root/$org.root" "/root/$org.root.curl"
+            new_token "$org" root admin > /dev/null || return
+        fi
+    fi
+    to_own_service "$org"
+}
+
+# ORG [force]: removes an organization that has a service of its own, with its file. Its backups stay. It can be run again. Ends while
+# a lock holds or a run is open, unless `force` is added.
+remove_organization() {
+    local org=$1 answer
+    case $org in none | *[!a-z0-9-]* | '') echo "not the name of an organization: $org" >&2; return 2 ;; esac
+    [ -e "/root/operators/$org" ] || { echo "$org has no service of its own" >&2; return 1; }
+    # (neither: a run before has removed it, and ended early)
+    if [ -e "/etc/custody/organizations/$org" ] || systemctl is-active -q "custody@$org"; then
+        answer=$(echo "org-remove $*" | operator "$org" 2> /dev/null)
+        case $answer in ok | 'refused absent') ;; *) echo "$org is not removed: ${answer:-no answer}" >&2; return 1 ;; esac
+    fi
+    rm -f "/etc/custody/organizations/$org" && reload_front || return
+    systemctl disable --quiet --now "custody@$org" "custody-backup@$org.timer" &&
+        rm -rf "/var/lib/custody/$org" && rm -f "/root/operators/$org" "/root/operators/$org.curl"
+}

@@ -5,7 +5,7 @@
 # there go to a folder whose name is printed.
 set -eu
 service=$1 from=$2
-file=$(realpath -m "/var/lib/$(echo "$service" | tr @ -)/custody.db")     # custody follows symbolic links, too
+file=$(realpath -m "/var/lib/$(echo "$service" | tr @ /)/custody.db")     # custody follows symbolic links, too
 home=$(dirname "$file") now=$(date -u +%F-%H%M%S)
 new=$home/new-$now lost=$home/lost-$now
 umask 077
