@@ -148,10 +148,11 @@ class Unit:
         if user:
             how.update(user=user, group=only("Group", user), extra_groups=[])
         for folder in settings.get("RuntimeDirectory", []):
-            self.runs = "/run/" + folder
-            os.makedirs(self.runs, exist_ok=True)
-            os.chmod(self.runs, int(only("RuntimeDirectoryMode", "0755"), 8))
-            shutil.chown(self.runs, user, only("Group", user))
+            place = "/run/" + folder
+            self.runs = place if only("RuntimeDirectoryPreserve", "no") != "yes" else None
+            os.makedirs(place, exist_ok=True)
+            os.chmod(place, int(only("RuntimeDirectoryMode", "0755"), 8))
+            shutil.chown(place, user, only("Group", user))
         with open(given.removeprefix("file:"), "rb") as reads, open("%s/%s" % (JOURNAL, self.name), "ab") as lines:
             return subprocess.Popen(words, stdin=reads, stdout=lines, stderr=lines, **how)
 
@@ -208,15 +209,26 @@ class Machine:
     def asked(self, program, words):
         """The status and the output of a command."""
         match program, words:
-            case "nginx", ["-t"]:
+            case "nginx", ["-T"]:
+                return 0, "".join("# configuration file %s:\n" % path for path in glob.glob("/etc/custody/organizations/*"))
+            case "nginx", ["-t"] | ["-t", "-q"]:
                 return 0, ""
             case ("nginx", ["-s", "reload"]) | ("systemctl", ["reload", "nginx"]):
                 return self.reload()
             case "systemctl", ["daemon-reload"]:
                 return self.verifies()
-            case "systemctl", ["enable", "--now", name] if name.endswith(".timer"):
+            case "systemctl", ["enable", "--now", name] | ["enable", "--quiet", "--now", name] if name.endswith(".timer"):
                 return (0 if os.path.exists(unit_file(re.sub(r"@.*\.", "@.", name))) else 1), ""
-            case "systemctl", ["start", *names] | ["enable", "--now", *names]:
+            case "systemctl", ["disable", "--quiet", "--now", *names]:
+                for name in names:
+                    self.unit(name).stop()
+                return 0, ""
+            case "systemctl", ["is-active", "-q", name]:
+                return (0 if self.unit(name).process else 3), ""
+            case "systemctl", ["disable", "--now", name]:
+                self.unit(name).stop()
+                return 0, ""
+            case "systemctl", ["start", *names] | ["enable", "--now", *names] | ["enable", "--quiet", "--now", *names]:
                 done = [self.unit(name).start() for name in names]
                 return max(status for status, _ in done), "".join(text for _, text in done)
             case "systemctl", ["stop", *names]:
@@ -250,13 +262,21 @@ class Machine:
             self.front.context = ssl.SSLContext(ssl.PROTOCOL_TLS_SERVER)
             self.front.context.load_cert_chain(*(re.search(r"^ *%s +(\S+);" % key, text, re.M)[1] for key in ("ssl_certificate", "ssl_certificate_key")))
             threading.Thread(target=self.front.serve_forever, daemon=True).start()
-        lines = re.search(r"^map \$uri \$custody \{\n(.*?)^\}", text, re.M | re.S)[1]
-        self.front.places = re.findall(r"^ *(\S+) +(\S+);", lines, re.M)
+        with open("/run/nginx.pid", "w", encoding="ascii") as file:
+            file.write("4194304\n")     # (no process has it: there are no workers to wait for)
+        lines = "".join(map(text_of, sorted(glob.glob("/etc/custody/organizations/*"))))
+        self.front.places = re.findall(r'^"?(\S+?)"? +(\S+);', lines, re.M)
+        self.front.one = re.search(r'^ *"" +(\S+);', text, re.M)[1]
         return 0, ""
 
     def end(self):
         for unit in self.units.values():
             unit.stop()
+
+
+def text_of(path):
+    with open(path, encoding="utf-8") as file:
+        return file.read()
 
 
 class NginxFront(Front):
@@ -265,20 +285,19 @@ class NginxFront(Front):
 
 
 class Routed(Peer):
-    """A request to `/v1/` goes where the map of nginx.conf says."""
+    """A request to `/v1/` goes where the lines of the organizations say of its token (fronts.py looks at the maps of nginx.conf)."""
 
     def send_on(self, request, link):
         path = request.split(b" ", 2)[1].decode("latin-1").partition("?")[0]
         if not path.startswith("/v1/"):
             link.sendall(self.server.absent)
             return
+        token = re.search(rb"^authorization: bearer +(\S*)|[?&]access_token=([^& ]*)", request.partition(b"\r\n\r\n")[0], re.I | re.M)
+        name = (token[1] or token[2] or b"").decode("latin-1") if token else ""
         places = self.server.places
-        place = next((to for key, to in places if key.startswith("~") and re.search(key[1:], path)), dict(places)["default"])
-        if place == "moving":
-            link.sendall(self.server.away)
-        else:
-            kind, _, at = place.partition(":")
-            self.send_to(at if kind == "unix" else int(at), request, link)
+        place = next((to for key, to in places if key.startswith("~") and re.search(key[1:], name)), dict(places).get("default", self.server.one))
+        kind, _, at = place.partition(":")
+        self.send_to(at if kind == "unix" else int(at), request, link)
 
 
 class Asked(socketserver.StreamRequestHandler):
@@ -789,12 +808,12 @@ def backups(page, shell):
     shell.does("touch /stuck; %s; rm /stuck" % page.block(restore).strip(), [COUNTS, "Failed to stop"], ["5 "])
     shell.does(page.block(restore).replace("restore.sh custody ", "restore.sh custdoy "), ["custdoy"], ["1 "])
     shell.does("as_custody serve --db /var/lib/custody/other.db --port 8099 --unlimited & sleep 1; echo", ["listening"])
-    shell.does("mkdir -p /var/lib/custody-other; ln -s /var/lib/custody/other.db /var/lib/custody-other/custody.db")
+    shell.does("mkdir -p /var/lib/custody/other; ln -s /var/lib/custody/other.db /var/lib/custody/other/custody.db")
     shell.does("/usr/share/custody/restore.sh custody@other /root/backup-2026-01-31-040000", [COUNTS, "a process has /var/lib/custody/other.db open: nothing was moved"], ["1 "])
-    # (a link is followed, once nobody has its file open)
-    shell.does("kill $(pgrep -f 'db /var/lib/custody/other.db'); wait; /usr/share/custody/restore.sh custody@other /root/backup-2026-01-31-040000; systemctl stop custody@other", [COUNTS])
-    shell.does("as_custody check --db /var/lib/custody-other/custody.db; cmp /var/lib/custody/other.db /var/lib/custody-other/custody.db; ls /var/lib/custody/lost-*/", [COUNTS, "^other.db$"])
-    shell.does("rm -r /var/lib/custody-other /var/lib/custody/other.db* /var/lib/custody/lost-*")
+    # (a link is followed, once nobody has its file open; there is no unit to start)
+    shell.does("kill $(pgrep -f 'db /var/lib/custody/other.db'); wait; /usr/share/custody/restore.sh custody@other /root/backup-2026-01-31-040000", [COUNTS], ["1 "])
+    shell.does("as_custody check --db /var/lib/custody/other/custody.db; cmp /var/lib/custody/other.db /var/lib/custody/other/custody.db; ls /var/lib/custody/lost-*/", [COUNTS, "^other.db$"])
+    shell.does("rm -r /var/lib/custody/other /var/lib/custody/other.db* /var/lib/custody/lost-*")
     # (nor for a copy with a fault)
     shell.does("cp -rp /root/backup-2026-01-31-040000 /root/bad; sqlite3 /root/bad/custody.db 'DELETE FROM edition' || true; /usr/share/custody/restore.sh custody /root/bad", ["refused|fault"], ["[13] "])
     said("the files after restores that end", shell.does(files), place)
@@ -942,37 +961,56 @@ def growing():
     look = 'curl -sS -K /root/beta.root.curl "%s/workspaces/net"\n' % beta
     acme = 'curl -sS -K /root/acme.ci.curl "$CUSTODY/workspaces/net"\n'
     with Shell(first=variables()) as shell, Shell(CONFIGURATION, variables()) as other:
-        shell.does("rm /root/beta.*; echo org-add beta | operator; new_token beta root admin; curl -sS -K /root/beta.root.curl -X PUT %s/workspaces/net" % beta, ["ok", "ok", "net"])
-        shell.does("curl -sS -K /root/beta.root.curl -X LOCK -d '%s' %s/state/net" % (LOCK, beta))
-        shell.runs(page, "install -d -m 700 -o custody")
-        shell.does("systemctl start custody@beta", ["Assertion failed"], ["1 "])
-        maps(page, "moving")
-        shell.does("nginx -s reload; curl -sS -i -K /root/beta.root.curl %s/workspaces/net" % beta, ["503", "Retry-After: 15"])
-        shell.does(acme, ['"name":"net"'])
-        # (a copy that is refused removes nothing)
-        shell.does("as_custody org-add --db /var/lib/custody-beta/custody.db beta", ["^ok$"])
-        moves = "cd /var/lib && systemctl stop custody"
-        said("a move to a file that has beta", shell.runs(page, moves, ["^refused exists$"], ["1 "]), "refused exists\n")
-        shell.does("rm /var/lib/custody-beta/custody.db*; as_custody org-list --db /var/lib/custody/custody.db", ["^beta 1 200$"])
-        # (a Terraform that comes meanwhile waits)
-        other.begins("terraform apply -auto-approve -var value=moved")
-        shell.runs(page, moves, ["^ok$", "^ok$"])
-        time.sleep(2)
-        shell.does(page.inline("systemctl start custody custody@beta"))
-        serves(SOCKET, "/run/custody-beta/socket")
-        maps(page, "unix:/run/custody-beta/socket")
-        shell.does("nginx -s reload\n" + look, ['"holder":"5f2c"'])
-        shell.does("curl -sS -K /root/beta.root.curl -X UNLOCK -d '{\"ID\":\"5f2c\"}' %s/state/net\n" % beta + look, ['"holder":null'])
-        other.is_right("a Terraform during the move", ["Apply complete!"])
-        operator = page.inline("SOCKET=/run/custody-beta/socket operator").strip()
-        shell.does("SOCKET=/run/custody-beta/socket new_token beta ci write; echo token-list beta | %s; echo token-list beta | operator" % operator, ["ok", "^ci write", "^root admin - -$", "refused absent"], ["22 "])
-        small = "cd /var/lib/custody && systemctl stop custody"
+        small = "cd /var/lib/custody && systemctl stop custody &&\n"
         counts = re.findall(r"^organizations .*", shell.runs(page, small, [COUNTS, "^ok$", COUNTS]), re.M)
         said("both second lines", counts[0], counts[1])
         serves()
-        shell.does(acme, ['"name":"net"'])
+        shell.does(acme + "rm -r /var/lib/custody/.small", ['"name":"net"'])
         standby(page, shell, acme)
+        moves(page, shell, beta, look)
+        shell.does("for n in $(seq 2 19); do echo org-remove team-$n force | operator; done")
+        # (a Terraform that comes meanwhile waits)
+        other.begins("terraform apply -auto-approve -var value=moved")
+        shell.does("add_organization none", ["the one service has organizations"], ["1 "])
+        shell.runs(page, "/usr/share/custody/apart.sh", ["^acme has its own service$", "^the file of the one service, without organizations, is in "])
+        other.is_right("a Terraform during the move", ["Apply complete!"])
+        shell.does(acme + look, ['"name":"net"', '"name":"net"'])
+        said("whether the one service has a file", os.path.exists("/var/lib/custody/custody.db"), False)
+        shell.runs(page, "/usr/share/custody/apart.sh")
+        block = ". /usr/share/custody/functions.sh\nadd_organization none"
+        shell.runs(page, block)
+        shell.does("organizations; new_token beta ci write; echo token-list beta | operator beta", ["^acme$", "^ok$", "^ci write", "^root admin - -$"])
+        shell.runs(page, "each_organization list_organization", ["^acme [0-9]+ 300$", "^beta 1 200$"])
+        shell.does("exchanges beta | tail -n 1", ['"organization":"beta"'])
+        shell.runs(page, "each_organization back_up_organization")
+        shell.does("ls /srv/custody/custody-acme/*/ /srv/custody/custody-beta/*/", ["^check$", "^custody.db$", "^check$", "^custody.db$"])
+        shell.does("rm /root/beta.ci*; curl -sS -K /root/beta.root.curl -X LOCK -d '%s' %s/state/net" % (LOCK, beta))
+        shell.runs(page, "remove_organization beta", ["^beta is not removed: refused in-use$"], ["1 "])
+        shell.does("curl -sS -K /root/beta.root.curl -X UNLOCK %s/state/net" % beta)
+        shell.runs(page, "remove_organization beta")
+        shell.does(look, ["bad-token"])
+        said("the folder of beta", os.path.exists("/var/lib/custody/beta"), False)
+        shell.runs(page, block)
+        shell.does("echo org-list | operator beta", ["^beta 0 200$"])
     return page.done()
+
+
+def moves(page, shell, beta, look):
+    """beta moves by hand, under a lock."""
+    shell.does("rm -f /root/beta.*; echo org-add beta | operator; new_token beta root admin; curl -sS -K /root/beta.root.curl -X PUT %s/workspaces/net" % beta, ["ok", "ok", "net"])
+    shell.does("curl -sS -K /root/beta.root.curl -X LOCK -d '%s' %s/state/net" % (LOCK, beta))
+    shell.does("systemctl start custody@beta", ["Assertion failed"], ["1 "])
+    shell.does("add_organization beta", ["the one service has beta"], ["1 "])
+    start = "cd /var/lib/custody && systemctl stop custody && install"
+    # (a copy that is refused removes nothing)
+    shell.does("install -d -m 700 -o custody -g custody /var/lib/custody/beta; as_custody org-add --db /var/lib/custody/beta/custody.db beta", ["^ok$"])
+    said("a move to a file that has beta", shell.runs(page, start, ["^refused exists$"], ["1 "]), "refused exists\n")
+    shell.does("rm /var/lib/custody/beta/custody.db*; as_custody org-list --db /var/lib/custody/custody.db", ["^beta 1 200$"])
+    shell.runs(page, start, ["^ok$", "^ok$"])
+    serves(SOCKET, "/run/custody/beta/socket")
+    shell.does(look, ['"holder":"5f2c"'])
+    shell.does("curl -sS -K /root/beta.root.curl -X UNLOCK -d '{\"ID\":\"5f2c\"}' %s/state/net\n" % beta + look, ['"holder":null'])
+    shell.does("systemctl stop custody@beta; curl -sS -i -K /root/beta.root.curl %s/workspaces/net; systemctl start custody@beta" % beta, ["503", "Retry-After: 15"])
 
 
 def standby(page, shell, look):
@@ -986,21 +1024,6 @@ def standby(page, shell, look):
     shell.runs(page, "/usr/share/custody/restore.sh custody /srv/custody-standby", [COUNTS])
     serves()
     said("what is served from a copy", shell.does(look), before)
-    # (a team's daily copy)
-    shell.does("systemctl start custody-backup@beta; ls /srv/custody/custody-beta/*/", ["^check$", "^custody.db$"])
-    shell.does("systemctl enable --now %s" % page.inline("custody-backup@beta.timer"))
-
-
-def maps(page, place):
-    """Writes the page's map, with this place for beta."""
-    block = re.search(r"^```nginx\n(.*?)^```$", page.text, re.M | re.S)[1]
-    path = "/etc/nginx/conf.d/custody.conf"
-    with open(path, encoding="utf-8") as file:
-        text = file.read()
-    key = "~^/v1/beta/"
-    block = re.sub(r"(%s +)\S+;" % re.escape(key), lambda found: found[1] + place + ";", block)
-    with open(path, "w", encoding="utf-8") as file:
-        file.write(re.sub(r"^map \$uri \$custody \{\n.*?^\}\n", lambda _: block, text, flags=re.M | re.S))
 
 
 # ----------------------------------------------------------------------------------------------------
