@@ -6,7 +6,8 @@
 A service answers each kind of exchange some times under callgrind, after a few that warm it up. A row of markdown has the
 instructions of one, in thousands, and of these in a hundred: the file's pages, their sums, and the log; SQL's statements;
 SHA-256 (that of `lanes` is inlined into the function that asks for it); messages and documents; our own code; the library of Rattle, for whichever of these. What the C library does
-(copies, memory) is its caller's; what the system does isn't counted.
+(copies, memory) is its caller's; what the system does isn't counted. Long copies and fills are made without `rep movsb` and
+`rep stosb`, of which callgrind would count each byte as an instruction.
 """
 import argparse
 import os
@@ -20,6 +21,8 @@ import exchanges
 FILE = ("sqlite_wal", "sqlite_pool", "sqlite_pager", "sqlite_pages", "sqlite_store", "sqlite_std_file", "sqlite_disk", "core::hash::sip")
 PARTS = {"file and log": FILE, "SQL": ("sqlite",), "SHA-256": ("sha2", "lanes", "texts::ahead::Ahead::key"), "HTTP, JSON": ("http", "json", "serde_json", "fast_float", "itoa", "matchit", "form_urlencoded", "base64")}
 ROW = re.compile(r"^ *([\d,]+) \([ \d.]+%\) +([<*]) +(\S+)")
+# The bytes from which on the C library copies and fills by `rep`: never.
+TUNABLES = "glibc.cpu.x86_rep_movsb_threshold=2000000000:glibc.cpu.x86_rep_stosb_threshold=2000000000"
 # how often each exchange is made
 TURNS = {"large": 2, "small": 20}
 
@@ -115,6 +118,7 @@ def main():
     words.add_argument("--program", default=exchanges.PROGRAM)
     asked = words.parse_args()
     exchanges.PROGRAM = asked.program
+    os.environ["GLIBC_TUNABLES"] = TUNABLES
     with tempfile.TemporaryDirectory(dir=asked.folder) as inner:
         path, out = f"{inner}/custody.db", f"{inner}/shares.out"
         exchanges.admin(path, "org-add", "acme")

@@ -11,7 +11,7 @@ GET comes right behind the POST. All servers stand on one processor, this script
 Sizes are in bytes. Each has turns in which all pages are new, and turns in which the serial alone differs; N of them (20), of
 small states 16 times as many. With --before 100 so many states are posted first, and a version goes with each that counts.
 
-Prints a row of markdown a server: median, mean and 95 of 100 in microseconds, and the first server's over its own of median,
+Prints a row of markdown a server: median, mean, 95 of 100 and the worst in microseconds, and the first server's over its own of median,
 mean and processor time. Ends with status 1 where a reply was wrong. Nothing else should run meanwhile.
 """
 import argparse
@@ -120,7 +120,7 @@ def row(request, side, one):
     """What a server took for a request, and the first one's over it."""
     times = sorted(side.times[request])
     median, mean = statistics.median(times), statistics.fmean(times)
-    cells = [f"{median:,.0f}", f"{mean:,.0f}", f"{times[len(times) * 95 // 100]:,.0f}"]
+    cells = [f"{median:,.0f}", f"{mean:,.0f}", f"{times[len(times) * 95 // 100]:,.0f}", f"{times[-1]:,.0f}"]
     ratios = (statistics.median(one.times[request]) / median, statistics.fmean(one.times[request]) / mean,
               statistics.fmean(one.spent[request]) / statistics.fmean(side.spent[request]))
     return " | ".join([*cells, *(f"{it:.2f}" for it in ratios)])
@@ -141,7 +141,7 @@ def main():
         for place, server in enumerate(asked.servers):
             sides.append(Side(server, folder, place))
         load.pin([side.process.pid for side in sides])
-        print("| Request | server | median | mean | 95 of 100 | median over it | mean | processor |\n|---|---|---:|---:|---:|---:|---:|---:|")
+        print("| Request | server | median | mean | 95 of 100 | worst | median over it | mean | processor |\n|---|---|---:|---:|---:|---:|---:|---:|---:|")
         for size in map(int, asked.sizes.split(",")):
             turns = asked.turns * (16 if size < SMALL else 1)
             for changed, kind in ((True, "each page new"), (False, "the serial alone differs")):
