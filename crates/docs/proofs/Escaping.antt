@@ -3,7 +3,7 @@ use lib.Utf8.{encode}
 use Rattle.std.proofs.Common.{◌≡◌, refl, sym, ap, ◌∙◌, subst, arith, ℕ, zero, suc, ◌+◌, ◌-◌, ◌*◌, ◌<◌, ◌≤◌, ◌==◌, ◌%◌, ◌/◌, ◌||◌, ◌⊎◌, inl, inr, List, [], ◌∷◌, ◌++◌, append_assoc, append-nil, get_or, take, drop, take-append-drop, length, Bool, true, false, cond, nat_lt, nat_le, eqb-true, ne_eqb, leb-true, le-ltb, lt-ltb, ltb-true, ◌&&◌}
 use Rattle.std.proofs.lemmas.Bool.{eqb-false, and_parts, lt-leb, cases_eq, false≢true, agree_below, agree_below_at}
 use Rattle.std.specs.Prelude.{⊤}
-use Rattle.std.specs.List.{AllByRecursion}
+use Rattle.std.specs.List.{AllByRecursion, list_all}
 use Rattle.std.specs.Char.{digit_char, encode_utf8}
 use Rattle.std.specs.Int.{is_in_range}
 use Rattle.docs.specs.Escapes.{acts, NothingActs, is_tail, code_of, acting, behind_first, unicode_escape, escaped_from, escaped}
@@ -173,10 +173,12 @@ unfolding escaped_from
 escaped_end skip out left none = sym (append-nil out) ∙ rw none
 
 -- bytes below DEL stay
-pub plain_stays : (text : List ℕ) → AllByRecursion (λ b. b < 127) text → text ≡ escaped text
+pub plain_stays : (text : List ℕ) → list_all (λ b. nat_lt b 127) text ≡ true → text ≡ escaped text
 unfolding escaped_from
 plain_stays [] plain = refl
-plain_stays (a ∷ rest) plain = rw (none_acts a (get_or rest 0 0) (get_or rest 1 0) plain.0) (ap (λ xs. a ∷ xs) (plain_stays rest plain.1))
+plain_stays (a ∷ rest) plain =
+    let parts = and_parts _ _ plain in
+    rw (none_acts a (get_or rest 0 0) (get_or rest 1 0) (ltb-true a 127 parts.0)) (ap (λ xs. a ∷ xs) (plain_stays rest parts.1))
 
 -- ASCII that stands behind a text is in no character of it
 pub joined : (k : ℕ) (t : List ℕ) (y : ℕ) (ys : List ℕ) → y < 128 → k ≤ length t → escaped_from k (t ++ y ∷ ys) ≡ escaped_from k t ++ escaped (y ∷ ys)
@@ -277,7 +279,7 @@ none_first (a ∷ before) text none = none_first before text none.1
 pub escaped_safe : (text : List ℕ) → NothingActs (escaped text ++ 10 ∷ [])
 unfolding escaped_from
 escaped_safe text c before after is e =
-    let feed : escaped (10 ∷ []) ≡ 10 ∷ [] = sym (plain_stays (10 ∷ []) (omega arith, tt)) in
+    let feed : escaped (10 ∷ []) ≡ 10 ∷ [] = sym (plain_stays (10 ∷ []) refl) in
     let whole = joined 0 text 10 [] (omega arith) (omega arith) ∙ ap (λ (xs : List ℕ). escaped text ++ xs) feed ∙ e in
     false≢true (subst (λ n. acts n ≡ true) (sym (acts_found c is after) ∙ none_first before (encode_utf8 c ++ after) (subst NoneBegins whole (none_begins 0 (text ++ 10 ∷ [])))) is)
 

@@ -1,7 +1,6 @@
 //! Escapes of what acts on a terminal, in a text of JSON that is put together.
-ghost use Rattle.std.specs.Prelude.{◌≡◌, ◌<◌, ℕ, List, ◌∷◌, ◌++◌, get_or, IfOk, OnOk};
-ghost use Rattle.std.specs.Bool.{OnTrue};
-ghost use Rattle.std.specs.List.{AllByRecursion};
+ghost use Rattle.std.specs.Prelude.{◌≡◌, ◌<◌, ℕ, List, ◌∷◌, ◌++◌, nat_lt, get_or, IfOk, OnOk};
+ghost use Rattle.std.specs.List.{list_all};
 ghost use Rattle.std.specs.Char.{digit_char};
 ghost use Rattle.std.specs.Int.{is_in_range};
 ghost use Rattle.docs.specs.Escapes.{acts, is_tail, code_of, acting, behind_first, unicode_escape, escaped_from, escaped};
@@ -25,14 +24,9 @@ pub(crate) fn escape_acting(alloc: Global, text: Vec<u8>) -> Result<Vec<u8>, All
 
 // Whether each byte is a character of ASCII other than DEL.
 fn is_shown(text: &[u8]) -> bool
-    ensures { OnTrue result (AllByRecursion (λ b. b < 127) text.now) }
+    ensures { result ≡ list_all (λ b. nat_lt b 127) text.now }
 {
-    for byte in text {
-        if *byte >= 127 {
-            return false;
-        }
-    }
-    true
+    text.iter().all(|byte| *byte < 127)
 }
 
 fn put_escaped(out: &mut Vec<u8>, text: &[u8]) -> Result<(), AllocError>

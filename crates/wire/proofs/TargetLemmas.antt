@@ -1,29 +1,10 @@
 -- A host ends between characters.
-use Rattle.std.proofs.Common.{◌≡◌, ℕ, suc, ◌+◌, ◌-◌, ◌<◌, ◌≤◌, List, [], ◌∷◌, length, drop, get_or, Bool, true, false, not, cond, ◌||◌, ◌==◌, refl, sym, ap, ◌∙◌, arith}
+use Rattle.std.proofs.Common.{◌≡◌, ℕ, ◌+◌, ◌-◌, ◌<◌, ◌≤◌, List, length, drop, get_or, Bool, true, false, not, ◌||◌, ◌==◌, refl, sym, ap, ◌∙◌, arith}
 use Rattle.std.proofs.lemmas.Bool.{eqb-true}
 use Rattle.std.proofs.lemmas.List.{get_or-drop, length-drop}
+use Rattle.std.proofs.lemmas.List.Sums.{passes_at_first, prefix_len-le-length}
 use Rattle.std.specs.List.{position_or_len}
 use Rattle.wire.specs.Targets.{ends_host}
-
-pub position_bound : (p : ℕ → Bool) (xs : List ℕ) → position_or_len p xs ≤ length xs
-position_bound p [] = omega arith
-position_bound p (x ∷ xs) = by_test (p x) (position_bound p xs)
-  where
-    by_test : (b : Bool) → position_or_len p xs ≤ length xs → cond (not b) (1 + position_or_len p xs) 0 ≤ length (x ∷ xs)
-    by_test true h = omega arith
-    by_test false h = omega arith
-
-pub position_passes : (p : ℕ → Bool) (xs : List ℕ) → position_or_len p xs < length xs → p (get_or xs (position_or_len p xs) 0) ≡ true
-position_passes p [] h = absurd (omega arith)
-position_passes p (x ∷ xs) h = by_test (p x) refl (λ k. position_passes p xs k) h
-  where
-    by_test : (b : Bool) → p x ≡ b → (position_or_len p xs < length xs → p (get_or xs (position_or_len p xs) 0) ≡ true)
-        → cond (not b) (1 + position_or_len p xs) 0 < length (x ∷ xs)
-        → p (get_or (x ∷ xs) (cond (not b) (1 + position_or_len p xs) 0) 0) ≡ true
-    by_test true e ih h = e
-    by_test false e ih h =
-        let shift : 1 + position_or_len p xs ≡ suc (position_or_len p xs) = omega arith in
-        rw shift (ih (omega (arith, h)))
 
 ends_small : (b : ℕ) → ends_host b ≡ true → b < 128
 ends_small b e = by_slash (b == 47) refl
@@ -36,12 +17,12 @@ pub host_end : (target : List ℕ) (n : ℕ) → n ≡ position_or_len ends_host
     → (7 + n ≤ length target) × (7 + n < length target → 128 ≤ get_or target (7 + n) 0 → 192 ≤ get_or target (7 + n) 0)
 host_end target n e long =
     let len : length (drop 7 target) ≡ length target - 7 = length-drop 7 target in
-    let bound : n ≤ length (drop 7 target) = rw e (position_bound ends_host (drop 7 target)) in (
+    let bound : n ≤ length (drop 7 target) = rw e (prefix_len-le-length (λ b. not (ends_host b)) (drop 7 target)) in (
       omega arith,
       λ inside high.
           let h : position_or_len ends_host (drop 7 target) < length (drop 7 target) = omega arith in
           let small : get_or (drop 7 target) (position_or_len ends_host (drop 7 target)) 0 < 128 =
-          ends_small _ (position_passes ends_host (drop 7 target) h) in
+          ends_small _ (passes_at_first ends_host (drop 7 target) 0 h) in
           let same : get_or (drop 7 target) n 0 ≡ get_or target (7 + n) 0 = get_or-drop 7 target n 0 in
           let small2 : get_or (drop 7 target) n 0 < 128 = rw e small in
           absurd (omega (arith, same, small2, high)),

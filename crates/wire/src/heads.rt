@@ -1,6 +1,6 @@
 //! The head of a request: reading it up to its end however it is cut (each byte is looked at once), the fields in it by their names, and its
 //! target, a path and a query after `http://` and a host or without them.
-ghost use Rattle.std.specs.Prelude.{◌≡◌, ◌↔◌, ◌≤◌, ◌+◌, ℕ, List, ◌∷◌, ◌++◌, length, false, true, IfSome, IsErrOf, count_by, ◌<◌, Some, None, IsTrue};
+ghost use Rattle.std.specs.Prelude.{◌≡◌, ◌↔◌, ◌≤◌, ◌+◌, ℕ, List, ◌∷◌, ◌++◌, length, false, true, IfSome, IsErrOf, count_by, find, ◌<◌, Some, None, IsTrue};
 ghost use Rattle.std.specs.Io.KnownBytes.{Consumes};
 ghost use Rattle.std.specs.Option.{option_copied};
 ghost use Rattle.std.specs.Str.{str_eq_ignore_ascii_case};
@@ -8,14 +8,14 @@ ghost use Rattle.std.specs.List.{position_or_len};
 ghost use Rattle.httparse.specs.Spans.{header_bytes, IsHeaderWithin};
 ghost use Rattle.wire.specs.Heads.{is_break, is_feed, feeds_of};
 ghost use Rattle.wire.specs.Inner.Positions.{len_from, len_after, len_past, Finds};
-ghost use Rattle.wire.specs.Fields.{field_values, is_named, has_field, stands_twice, value_of, has_value, is_field};
-ghost use Rattle.wire.specs.Inner.Spans.{fields_at, AreWithin, LooksUp};
+ghost use Rattle.wire.specs.Fields.{is_named, has_field, stands_twice, value_of, has_value, is_field};
+ghost use Rattle.wire.specs.Inner.Spans.{fields_at, AreWithin};
 ghost use Rattle.wire.specs.Targets.{begins_with_slash, begins_with_scheme, ends_host, origin_of, or_root, path_of, query_of};
 
 use crate::devices::Inlet;
 use crate::messages::WireFault;
 use basis::{Bytes, Refusal};
-use httparse::spans::{HeaderSpan, Span};
+use httparse::spans::HeaderSpan;
 use std::alloc::Global;
 
 /// The most bytes of a head, with its empty line.
@@ -132,28 +132,11 @@ fn is_break(byte: u8) -> bool
     byte == b'\n' || byte == b'\r'
 }
 
-/// Whether no field has a name, or one, or more.
-#[derive(Clone, Copy)]
-pub enum Lookup {
-    Absent,
-    Once(Span),
-    Again,
-}
-
-fn look_up(head: &[u8], fields: &[HeaderSpan], name: &[u8]) -> Lookup
+fn first_named<'f>(head: &[u8], fields: &'f [HeaderSpan], name: &[u8]) -> Option<&'f HeaderSpan>
     requires { AreWithin head.now fields.now }
-    ensures { LooksUp head.now (field_values name.now (fields_at head.now fields.now)) result }
+    ensures { option_copied result ≡ find (λ field. is_named name.now (header_bytes head.now field)) fields.now }
 {
-    let mut found = Lookup::Absent;
-    for field in fields {
-        if is_named(head, *field, name) {
-            found = match found {
-                Lookup::Absent => Lookup::Once(field.value),
-                _ => Lookup::Again,
-            };
-        }
-    }
-    found
+    fields.iter().find(|field| is_named(head, **field, name))
 }
 
 /// The value of the only field of a name.
@@ -161,9 +144,12 @@ pub fn value<'b>(head: &'b [u8], fields: &[HeaderSpan], name: &[u8]) -> Option<&
     requires { AreWithin head.now fields.now }
     ensures { option_copied result ≡ value_of name.now (fields_at head.now fields.now) }
 {
-    match look_up(head, fields, name) {
-        Lookup::Once(span) => Some(span.of(head)),
-        _ => None,
+    if stands_twice(head, fields, name) {
+        return None;
+    }
+    match first_named(head, fields, name) {
+        Some(field) => Some(field.value.of(head)),
+        None => None,
     }
 }
 
@@ -171,20 +157,19 @@ pub fn is_there(head: &[u8], fields: &[HeaderSpan], name: &[u8]) -> bool
     requires { AreWithin head.now fields.now }
     ensures { result ≡ has_field name.now (fields_at head.now fields.now) }
 {
-    match look_up(head, fields, name) {
-        Lookup::Absent => false,
-        _ => true,
-    }
+    fields.iter().any(|field| is_named(head, *field, name))
 }
 
+#[tactic(auto, using(crate::proofs::FieldLemmas::count_at))]
 pub fn stands_twice(head: &[u8], fields: &[HeaderSpan], name: &[u8]) -> bool
     requires { AreWithin head.now fields.now }
     ensures { result ≡ stands_twice name.now (fields_at head.now fields.now) }
 {
-    match look_up(head, fields, name) {
-        Lookup::Again => true,
-        _ => false,
-    }
+    fields
+        .iter()
+        .filter(|field| is_named(head, **field, name))
+        .count()
+        > 1
 }
 
 /// Whether a field of a name has this value, in any case.
@@ -192,13 +177,9 @@ pub fn has_value(head: &[u8], fields: &[HeaderSpan], name: &[u8], wanted: &[u8])
     requires { AreWithin head.now fields.now }
     ensures { result ≡ has_value name.now wanted.now (fields_at head.now fields.now) }
 {
-    let mut found = false;
-    for field in fields {
-        if is_field(head, *field, name, wanted) {
-            found = true;
-        }
-    }
-    found
+    fields
+        .iter()
+        .any(|field| is_field(head, *field, name, wanted))
 }
 
 // Whether the field has the name and the value.

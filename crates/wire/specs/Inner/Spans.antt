@@ -1,10 +1,8 @@
 -- What spans of a head cover, and what the functions over them answer.
-use Rattle.std.specs.Prelude.{◌≡◌, ℕ, ◌<◌, List, [], ◌∷◌, length, map, All, Option, Some, None, cond, min, Result, Ok, Err, ⊤}
+use Rattle.std.specs.Prelude.{◌≡◌, ℕ, List, length, map, All, Option, Some, None, cond, min, Result, Ok, Err, ⊤}
 use Rattle.std.specs.Str.Parse.{digits_value}
 use Rattle.httparse.specs.declared.spans.HeaderSpan.{HeaderSpan}
-use Rattle.httparse.specs.Spans.{span_bytes, header_bytes, IsWithin, IsHeaderWithin}
-use Rattle.wire.specs.declared.heads.Lookup.{Lookup}
-use Rattle.wire.specs.declared.heads.Lookup.TheVariants.{Absent, Once, Again}
+use Rattle.httparse.specs.Spans.{header_bytes, IsHeaderWithin}
 use Rattle.wire.specs.declared.framing.Frame.{Frame}
 use Rattle.wire.specs.declared.framing.Length.{Length}
 use Rattle.wire.specs.declared.framing.Length.TheVariants.{Refuses, Of}
@@ -20,12 +18,6 @@ fields_at head spans = map (header_bytes head) spans
 -- the spans lie in the head
 abbrev pub AreWithin : List ℕ → List HeaderSpan → Type 0
 AreWithin head spans = All (IsHeaderWithin (length head)) spans
-
--- no value, one, or more
-abbrev pub LooksUp : List ℕ → List (List ℕ) → Lookup → Type 0
-LooksUp head values Absent = values ≡ []
-LooksUp head values (Once span) = (values ≡ span_bytes head span ∷ []) × IsWithin (length head) span
-LooksUp head values Again = 1 < length values
 
 -- the number that a length's digits write, or the cap where it is above
 abbrev pub capped_length : ℕ → List ℕ → Option ℕ
