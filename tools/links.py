@@ -36,6 +36,12 @@ IDLE = 2
 MOST = 4
 FAR = 30
 
+# Seconds after its reply in which a refused peer that goes on sending is read.
+LINGER_MOST = 5
+
+# Seconds for which a service is paused, which are more than the time of a call that waits.
+LONG_PAUSE = IDLE + 1
+
 # The same for a peer that doesn't read. A call that wrote a part before it waited has let something through, and buffers
 # grow at first: so a few calls wait, one behind the other.
 UNREAD_IDLE = 1
@@ -105,10 +111,11 @@ class Service(harness.Service):
         with open("/proc/%d/stat" % self.process.pid) as file:
             return file.read().rpartition(")")[2].split()[0]
 
-    def stop_and_go(self):
+    def stop_and_go(self, meanwhile=lambda: None):
         """It is stopped, and goes on: a call of the system that waits with a timeout is interrupted by that."""
         self.process.send_signal(signal.SIGSTOP)
         wait_until(lambda: self.state() == "T", "a service doesn't stop")
+        meanwhile()
         self.process.send_signal(signal.SIGCONT)
         wait_until(lambda: self.state() != "T", "a service doesn't go on")
 
@@ -305,6 +312,14 @@ def look_at_lingering(program):
             served_behind("a peer that trickles behind its 413", later, begun, MOST, lambda: trickle(peer))
             said("the one behind it", undated(received(later)) == ok(HELD), True)
         service.ends()
+    with Service(program, 2, "--idle", str(FAR), "--most", str(FAR)) as service:
+        with service.peer() as peer, service.peer() as later:
+            begun = time.monotonic()
+            peer.sendall(LONG_HEAD)
+            later.sendall(PUT)
+            served_behind("a peer whose connection may last longer", later, begun, LINGER_MOST, lambda: trickle(peer))
+            said("the one behind it", undated(received(later)) == ok(HELD), True)
+        service.ends()
 
 
 def is_told_at_once(service, peer, later, begun):
@@ -455,6 +470,19 @@ def look_at_stops(program):
                 service.stop_and_go()
             said("a reply that goes out around stops", undated(received(peer)) == ok(STATE), True)
         print("right: and one that is stopped while a reply goes out writes it whole")
+        service.ends()
+    with Service(program, 1, "--idle", str(IDLE), "--most", str(FAR)) as service:
+        with service.peer() as peer:
+            peer.sendall(GET[:-1])
+            time.sleep(SETTLED)
+
+            def ends_its_request():
+                peer.sendall(GET[-1:])
+                time.sleep(LONG_PAUSE)
+
+            service.stop_and_go(ends_its_request)
+            said("a request whose end came in a long pause", undated(received(peer)) == ok(STATE), True)
+        print("right: and one that is stopped for longer than a call may wait answers what came meanwhile")
         service.ends()
 
 

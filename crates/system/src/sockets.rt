@@ -22,6 +22,9 @@ use wire::{FromRead, Inlet, Outlet, ToWrite};
 /// How long a peer may take for its next byte once its reply is written, in seconds.
 pub const LINGER_SECONDS: u64 = 1;
 
+/// How long a peer may take for all that it still sends once its reply is written, in seconds.
+pub const LINGER_MOST_SECONDS: u64 = 5;
+
 /// The most reads of what a peer still sends once its reply is written.
 pub const LINGER_READS: u32 = 8_192;
 
@@ -129,7 +132,10 @@ fn listen_at(rt: &HostRuntime, path: &str, mode: u32) -> io::Result<UnixListener
 // Lets the peer read its reply: what it still sends is read and dropped, within bounds, since a connection
 // that is closed over unread bytes is reset (RFC 9112, section 9.6).
 fn linger<H: Half + Drop>(stream: &mut Timed<'_, H>) -> io::Result<()> {
-    stream.end_writing(Duration::from_secs(LINGER_SECONDS))?;
+    stream.end_writing(
+        Duration::from_secs(LINGER_SECONDS),
+        Duration::from_secs(LINGER_MOST_SECONDS),
+    )?;
     let mut dropped = [0u8; 4096];
     for _ in 0..LINGER_READS {
         if stream.read(&mut dropped)? == 0 {

@@ -17,6 +17,9 @@ const MOST_INTERRUPTIONS: u32 = 1_000_000;
 /// The most bytes that one call writes. A Unix socket takes a longer text in pieces, and may wait for the timeout before each.
 const MOST_WRITTEN: usize = 32_768;
 
+/// How long a call waits that was interrupted and has no time left. What came during a pause of the process is there at once.
+const LAST_WAIT: Duration = Duration::from_millis(1);
+
 /// One side of a socket: what is assumed of the calls that read and write it. All else is proved for every half. The program names
 /// `SystemHalf`, which knows no bytes, because no contract says what the system's calls give and take.
 pub trait Half {
@@ -90,7 +93,8 @@ impl Half for SystemHalf {
 }
 
 /// One side of a connection. Each read or write fails if it makes no progress within its timeout, or before the connection's
-/// deadline. A call that a signal interrupts (a process that is stopped and continued) is retried for the rest of its time.
+/// deadline. A call that a signal interrupts (a process that is stopped and continued) is retried for the rest of its time, and
+/// at least once, so that a pause breaks no connection whose bytes have come.
 #[derive(Drop)]
 pub struct Timed<'a, H: Half + Drop> {
     rt: &'a HostRuntime,
@@ -146,6 +150,12 @@ impl<'a, H: Half + Drop> Timed<'a, H> {
         Ok(left)
     }
 
+    // How long a call that began at a moment may wait once it was interrupted.
+    fn left_again(&self, begun: Instant) -> io::Result<Duration> {
+        let now = Instant::now(self.rt)?;
+        Ok(self.left(begun, now).unwrap_or(LAST_WAIT))
+    }
+
     // Lets reads wait for so long.
     fn let_read(&mut self, wait: Duration) -> io::Result<()>
         ensures { self.new.half ≡ self.old.half }
@@ -186,9 +196,13 @@ impl<'a, H: Half + Drop> Timed<'a, H> {
         }
     }
 
-    /// Shuts down writing. From now on a read waits at most `idle`.
-    pub fn end_writing(&mut self, idle: Duration) -> io::Result<()> {
+    /// Shuts down writing. From now on a read waits at most `idle`, and all reads together at most `most`.
+    pub fn end_writing(&mut self, idle: Duration, most: Duration) -> io::Result<()> {
+        let Some(end) = Instant::now(self.rt)?.checked_add(most) else {
+            return Err(io::Error::from(ErrorKind::InvalidData));
+        };
         self.idle = idle;
+        self.end = self.end.min(end);
         self.half.stream().shutdown(Shutdown::Write)
     }
 }
@@ -198,9 +212,9 @@ impl<H: Half + Drop> Read for Timed<'_, H> {
 
     fn read(&mut self, buf: &mut [u8]) -> io::Result<usize> {
         let begun = Instant::now(self.rt)?;
-        let mut now = begun;
+        let mut wait = self.left(begun, begun)?;
         'tries: for _ in 0..MOST_INTERRUPTIONS {
-            self.let_read(self.left(begun, now)?)?;
+            self.let_read(wait)?;
             match self.half.read(buf) {
                 Ok(count) => {
                     self.is_filled = count == buf.len();
@@ -209,7 +223,7 @@ impl<H: Half + Drop> Read for Timed<'_, H> {
                 Err(error) if error.kind() == ErrorKind::Interrupted => {}
                 Err(error) => return Err(error),
             }
-            now = Instant::now(self.rt)?;
+            wait = self.left_again(begun)?;
         }
         Err(io::Error::from(ErrorKind::Interrupted))
     }
@@ -220,14 +234,14 @@ impl<H: Half + Drop> Write for Timed<'_, H> {
 
     fn write(&mut self, buf: &[u8]) -> io::Result<usize> {
         let begun = Instant::now(self.rt)?;
-        let mut now = begun;
+        let mut wait = self.left(begun, begun)?;
         'tries: for _ in 0..MOST_INTERRUPTIONS {
-            self.let_write(self.left(begun, now)?)?;
+            self.let_write(wait)?;
             match self.half.write(buf) {
                 Err(error) if error.kind() == ErrorKind::Interrupted => {}
                 answer => return answer,
             }
-            now = Instant::now(self.rt)?;
+            wait = self.left_again(begun)?;
         }
         Err(io::Error::from(ErrorKind::Interrupted))
     }
