@@ -1,6 +1,8 @@
 //! The command `admin`: a file is opened once, and the operator's commands on standard input are carried out on it.
-ghost use Rattle.std.specs.Prelude.{◌⊎◌, IfOk, IfSome};
+ghost use Rattle.std.specs.Prelude.{◌⊎◌, IfOk, OnOk, IfSome};
+ghost use Rattle.std.specs.Io.KnownBytes.{IsAtEnd};
 ghost use Rattle.program.specs.Batches.{AreCommands};
+ghost use Rattle.program.specs.Inputs.{ReadsAll};
 ghost use Rattle.program.specs.Outcomes.{stream, error_stream, EndsBatch, AnswersBatch, CarriesEach, CarriesLines, CarriesAll, CarriesAllAt, RefusesToOpen, opening_of};
 
 use crate::batches::{Batch, read_batch};
@@ -90,7 +92,8 @@ fn carry_all<K: Keep, F: Files<K>, O: Write, E: ErrorStream>(
 
 // Reads the commands on the lines of the input.
 fn input_batch<I: Read>(alloc: Global, input: &mut I) -> Result<Batch, Down>
-    ensures { IfOk result (λ batch. IfSome (I.remaining input.old) (λ bytes. AreCommands bytes batch.commands.items batch.is_bad)) }
+    ensures commands { IfOk result (λ batch. IfSome (I.remaining input.old) (λ bytes. AreCommands bytes batch.commands.items batch.is_bad)) }
+    ensures end { OnOk result (IsAtEnd (I.remaining input.new)) }
 {
     let bytes = read_all(alloc, input)?;
     read_batch(alloc, bytes.as_slice())
@@ -108,6 +111,7 @@ pub fn read_and_carry<K: Keep, F: Files<K>, I: Read, O: Write, E: ErrorStream>(
 ) -> Exit
     ensures line { AnswersBatch (I.remaining input.old) result (stream (O.contents output.old) (O.contents output.new)) (error_stream (E.reported errors.old) (E.reported errors.new)) }
     ensures carries { CarriesAllAt K.Keep F.Files db.now (I.remaining input.old) files.old files.new result (stream (O.contents output.old) (O.contents output.new)) (error_stream (E.reported errors.old) (E.reported errors.new)) }
+    ensures input { ReadsAll (I.remaining input.new) result (stream (O.contents output.old) (O.contents output.new)) (error_stream (E.reported errors.old) (E.reported errors.new)) }
 {
     let Ok(batch) = input_batch(alloc, input) else {
         return refuse(output, errors, Cause::Input);

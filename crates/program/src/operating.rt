@@ -1,8 +1,10 @@
 //! Operator's commands on the database of a file.
 ghost use Rattle.std.specs.Prelude.{◌≡◌, ◌⊎◌, ◌<◌, IfOk, OnOk, OnErr, IsErrOf, length};
 ghost use Rattle.program.specs.declared.reasons.Cause.{Cause as AnyCause};
+ghost use Rattle.std.specs.Io.KnownBytes.{IsAtEnd};
 ghost use Rattle.command_line.specs.Orders.{with_secret};
 ghost use Rattle.machine.specs.StoreCalls.{Unchanged, Lasts};
+ghost use Rattle.program.specs.Inputs.{ReadsAll};
 ghost use Rattle.program.specs.Streams.{Reports};
 ghost use Rattle.program.specs.Outcomes.{stream, error_stream, AnswersLine, ReportsAnswer, IsOperated, AnswersCommand, HasSecret, HasNoSecret, IsSecretOf, AddsToken, OperatesAt, AddsTokenAt, ReportsCause, opening_of, FailsAs, HasFailed};
 ghost use Rattle.program.specs.Inner.Outcomes.{IsSaidWhy};
@@ -184,6 +186,8 @@ pub fn input_secret<I: Read>(alloc: Global, input: &mut I) -> Result<Secret, Unf
     ensures is { IfOk result (λ secret. IsSecretOf (I.remaining input.old) secret) }
     ensures has { OnOk result (HasSecret (I.remaining input.old)) }
     ensures syntax { IsErrOf result Unfit.Syntax → HasNoSecret (I.remaining input.old) }
+    ensures end { OnOk result (IsAtEnd (I.remaining input.new)) }
+    ensures end_syntax { IsErrOf result Unfit.Syntax → IsAtEnd (I.remaining input.new) }
 {
     match read_all(alloc, input) {
         Ok(bytes) => read_secret(alloc, bytes.as_slice()),
@@ -202,6 +206,7 @@ pub fn read_and_add<K: Keep, F: Files<K>, I: Read, O: Write, E: ErrorStream>(
 ) -> Exit
     ensures line { AddsToken (I.remaining input.old) result (stream (O.contents output.old) (O.contents output.new)) (error_stream (E.reported errors.old) (E.reported errors.new)) }
     ensures adds { AddsTokenAt K.Keep F.Files db.now (with_secret token) (I.remaining input.old) files.old files.new result (stream (O.contents output.old) (O.contents output.new)) (error_stream (E.reported errors.old) (E.reported errors.new)) }
+    ensures input { ReadsAll (I.remaining input.new) result (stream (O.contents output.old) (O.contents output.new)) (error_stream (E.reported errors.old) (E.reported errors.new)) }
 {
     match input_secret(alloc, input) {
         Ok(secret) => add_token(alloc, files, db, token, secret, output, errors),

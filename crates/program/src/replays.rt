@@ -1,8 +1,9 @@
 //! The command `replay`: frames from one stream, replies to another.
 ghost use Rattle.std.specs.Prelude.{◌≡◌, ◌⊎◌, ℕ, List, None, IfSome, IfOk, OnOk};
-ghost use Rattle.std.specs.Io.KnownBytes.{Appends};
+ghost use Rattle.std.specs.Io.KnownBytes.{Appends, IsAtEnd};
 ghost use Rattle.program.specs.Replies.{printed, bad_frame_text, AreReplies, AnswersFrames};
 ghost use Rattle.program.specs.Exits.{status_of};
+ghost use Rattle.program.specs.Inputs.{ReadsAll};
 ghost use Rattle.program.specs.Outcomes.{stream, error_stream, ReplaysFrames};
 ghost use Rattle.program.specs.Streams.{GetsAll};
 ghost use Rattle.program.specs.declared.exits.Exit.{Exit};
@@ -40,7 +41,8 @@ pub fn replay_over<K: Keep>(alloc: Global, keep: K, steps: &[Step]) -> (Result<V
 
 /// Everything left in a stream.
 pub fn read_all<I: Read>(alloc: Global, input: &mut I) -> Result<Vec<u8>, Down>
-    ensures { IfOk result (λ bytes. IfSome (I.remaining input.old) (λ known. bytes.items ≡ known)) }
+    ensures bytes { IfOk result (λ bytes. IfSome (I.remaining input.old) (λ known. bytes.items ≡ known)) }
+    ensures end { OnOk result (IsAtEnd (I.remaining input.new)) }
 {
     let mut bytes = Vec::new(alloc);
     match input.read_to_end(&mut bytes) {
@@ -67,7 +69,8 @@ fn answer_input<K: Keep, F: Files<K>, I: Read>(
     files: &F,
     input: &mut I,
 ) -> Result<Replay, Down>
-    ensures { IfOk result (λ replay. IfSome (I.remaining input.old) (λ bytes. AnswersFrames bytes replay.replies.items replay.bad_frame)) }
+    ensures answers { IfOk result (λ replay. IfSome (I.remaining input.old) (λ bytes. AnswersFrames bytes replay.replies.items replay.bad_frame)) }
+    ensures end { OnOk result (IsAtEnd (I.remaining input.new)) }
 {
     let bytes = read_all(alloc, input)?;
     answer::<K, F>(alloc, files, bytes.as_slice())
@@ -101,7 +104,8 @@ pub fn replay_frames<K: Keep, F: Files<K>, I: Read, O: Write, E: ErrorStream>(
     output: &mut O,
     errors: &mut E,
 ) -> Exit
-    ensures { ReplaysFrames (I.remaining input.old) result (stream (O.contents output.old) (O.contents output.new)) (error_stream (E.reported errors.old) (E.reported errors.new)) }
+    ensures replays { ReplaysFrames (I.remaining input.old) result (stream (O.contents output.old) (O.contents output.new)) (error_stream (E.reported errors.old) (E.reported errors.new)) }
+    ensures input { ReadsAll (I.remaining input.new) result (stream (O.contents output.old) (O.contents output.new)) (error_stream (E.reported errors.old) (E.reported errors.new)) }
 {
     let Ok(replay) = answer_input::<K, F, I>(alloc, files, input) else {
         return refuse(output, errors, Cause::Input);

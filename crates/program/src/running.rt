@@ -3,7 +3,7 @@ ghost use Rattle.std.specs.Prelude.{◌≡◌, ◌<◌, ℕ, List, length, Optio
 ghost use Rattle.program.specs.Exits.{status_of};
 ghost use Rattle.command_line.specs.Orders.{said_by};
 ghost use Rattle.command_line.specs.Words.{words_bytes, IsWhy, AskForHelp, AreNoCommand};
-ghost use Rattle.program.specs.Inputs.{LeavesInput, LeavesInputFor};
+ghost use Rattle.program.specs.Inputs.{LeavesInput, LeavesInputFor, LeavesInputAt};
 ghost use Rattle.program.specs.Outcomes.{stream, error_stream, Does, ReportsVersion, RefusesWords, environment, Leaves, Runs, RunsOver, ReportsEnd};
 ghost use Rattle.program.specs.declared.exits.Exit.{Exit};
 
@@ -49,7 +49,7 @@ fn run_order<K: Keep, F: Files<K>, N: Connections, C: Clock, I: Read, O: Write, 
 ) -> Exit
     ensures does { Does F.newest (said_by order.entry) (I.remaining input.old) result (stream (O.contents output.old) (O.contents output.new)) (error_stream (E.reported errors.old) (E.reported errors.new)) }
     ensures leaves { Leaves K.Keep F.Files N.Connections C.Clock N.Reader.Inlet N.Writer.Outlet (said_by order.entry) (I.remaining input.old) (environment files.old network.old clock.old) (environment files.new network.new clock.new) result (stream (O.contents output.old) (O.contents output.new)) (error_stream (E.reported errors.old) (E.reported errors.new)) }
-    ensures input { LeavesInput (said_by order.entry) (I.remaining input.old) (I.remaining input.new) }
+    ensures input { LeavesInput (said_by order.entry) (I.remaining input.old) (I.remaining input.new) result (stream (O.contents output.old) (O.contents output.new)) (error_stream (E.reported errors.old) (E.reported errors.new)) }
 {
     match order {
         Order::Carry { db, command } => carry_out(alloc, files, db, &command, output, errors),
@@ -114,7 +114,7 @@ fn run<K: Keep, F: Files<K>, N: Connections, C: Clock, I: Read, O: Write, E: Err
     errors: &mut E,
 ) -> Exit
     ensures runs { RunsOver K.Keep F.Files N.Connections C.Clock N.Reader.Inlet N.Writer.Outlet (words_bytes words.now) (I.remaining input.old) (environment files.old network.old clock.old) (environment files.new network.new clock.new) result (stream (O.contents output.old) (O.contents output.new)) (error_stream (E.reported errors.old) (E.reported errors.new)) }
-    ensures input { LeavesInputFor (words_bytes words.now) (I.remaining input.old) (I.remaining input.new) }
+    ensures input { LeavesInputFor (words_bytes words.now) (I.remaining input.old) (I.remaining input.new) result (stream (O.contents output.old) (O.contents output.new)) (error_stream (E.reported errors.old) (E.reported errors.new)) }
 {
     match read_words(alloc, words) {
         Ok(order) => run_order(alloc, files, network, clock, order, input, output, errors),
@@ -143,7 +143,7 @@ pub fn run_words<K: Keep, F: Files<K>, N: Connections, C: Clock, I: Read, O: Wri
     errors: &mut E,
 ) -> u8
     ensures runs { (exit : Exit) × (result ≡ status_of exit) × Runs K.Keep F.Files N.Connections C.Clock N.Reader.Inlet N.Writer.Outlet (words_bytes words.now) (I.remaining input.old) (environment files.old network.old clock.old) (environment files.new network.new clock.new) exit (stream (O.contents output.old) (O.contents output.new)) (error_stream (E.reported errors.old) (E.reported errors.new)) }
-    ensures input { LeavesInputFor (words_bytes words.now) (I.remaining input.old) (I.remaining input.new) }
+    ensures input { LeavesInputAt (words_bytes words.now) result (I.remaining input.old) (I.remaining input.new) (stream (O.contents output.old) (O.contents output.new)) (error_stream (E.reported errors.old) (E.reported errors.new)) }
 {
     let exit = run(alloc, files, network, clock, words, input, output, errors);
     report_end(errors, exit);

@@ -1,10 +1,11 @@
 //! The command `serve`: a file is opened, connections are answered from it, and it is closed.
 ghost use Rattle.std.specs.Prelude.{◌≡◌, ◌≢◌, ◌⊎◌, true, IfOk, OnOk, OnErr, IsErrOf};
+ghost use Rattle.std.specs.Io.KnownBytes.{IsAtEnd};
 ghost use Rattle.command_line.specs.Orders.{site_of};
 ghost use Rattle.machine.specs.StoreCalls.{Lasts};
 ghost use Rattle.program.specs.Listening.{bound_site};
 ghost use Rattle.program.specs.Outcomes.{stream, error_stream, IsSaid, ServesAt, ServesFrom, ServesChecked, ServesAsAsked, RefusesUnsound, RefusesToOpen, environment, IsAlone, SaysServed, HasNoSecret, IsDoor, HasDoor, ServesBehind, StartsAt, ServesWithDoor};
-ghost use Rattle.program.specs.Inputs.{LeavesUnless};
+ghost use Rattle.program.specs.Inputs.{IsReadIf, ReadsAllIf};
 ghost use Rattle.program.specs.Inner.Outcomes.{ServesOpened};
 ghost use Rattle.program.specs.Serving.{Listens, Serves, ServesBound, state, AnswersBound};
 
@@ -223,6 +224,8 @@ fn open_door<I: Read>(alloc: Global, input: &mut I) -> Result<Door, Unfit>
     ensures is { IfOk result (IsDoor true (I.remaining input.old)) }
     ensures has { OnOk result (HasDoor true (I.remaining input.old)) }
     ensures syntax { IsErrOf result Unfit.Syntax → HasNoSecret (I.remaining input.old) }
+    ensures end { OnOk result (IsAtEnd (I.remaining input.new)) }
+    ensures end_syntax { IsErrOf result Unfit.Syntax → IsAtEnd (I.remaining input.new) }
 {
     let secret = input_secret(alloc, input)?;
     Ok(Door::opened_by(&secret))
@@ -234,7 +237,8 @@ fn read_door<I: Read>(alloc: Global, operates: bool, input: &mut I) -> Result<Do
     ensures has { OnOk result (HasDoor operates (I.remaining input.old)) }
     ensures asked { OnErr result (operates ≡ true) }
     ensures syntax { IsErrOf result Unfit.Syntax → HasNoSecret (I.remaining input.old) }
-    ensures input { LeavesUnless operates (I.remaining input.old) (I.remaining input.new) }
+    ensures input { OnOk result (IsReadIf operates (I.remaining input.old) (I.remaining input.new)) }
+    ensures input_syntax { IsErrOf result Unfit.Syntax → IsReadIf operates (I.remaining input.old) (I.remaining input.new) }
 {
     if operates {
         open_door(alloc, input)
@@ -272,7 +276,7 @@ pub fn serve_with_door<
 ) -> Exit
     ensures line { ServesBehind operates logs (I.remaining input.old) result (stream (O.contents output.old) (O.contents output.new)) (error_stream (E.reported errors.old) (E.reported errors.new)) }
     ensures serves { ServesWithDoor K.Keep F.Files N.Connections C.Clock N.Reader.Inlet N.Writer.Outlet operates checks db.now (site_of address.entry) timeouts logs count (I.remaining input.old) (environment files.old network.old clock.old) (environment files.new network.new clock.new) result (stream (O.contents output.old) (O.contents output.new)) (error_stream (E.reported errors.old) (E.reported errors.new)) }
-    ensures input { LeavesUnless operates (I.remaining input.old) (I.remaining input.new) }
+    ensures input { ReadsAllIf operates (I.remaining input.old) (I.remaining input.new) result (stream (O.contents output.old) (O.contents output.new)) (error_stream (E.reported errors.old) (E.reported errors.new)) }
 {
     match read_door(alloc, operates, input) {
         Ok(door) => {

@@ -24,6 +24,8 @@ pub const RETENTIONS: usize = 7;
 
 pub const NUMBERS: usize = 8;
 
+pub const TOKENS: usize = 9;
+
 const OF_WORKSPACE: &[&str] = &[
     "SELECT auto, kind, lock_id, lock_text, run, released, next_version, next_run FROM ws WHERE org = ?1 AND name = ?2",
     "SELECT keep FROM keeping WHERE org = ?1 AND ws = ?2",
@@ -37,6 +39,7 @@ const OF_ORGANIZATION: &[&str] = &[
     "SELECT name, auto, kind, lock_id, run FROM ws WHERE org = ?1",
     "SELECT ws, keep FROM keeping WHERE org = ?1",
     "SELECT ws, number FROM version WHERE org = ?1",
+    "SELECT token.role, token.digest, token.name, bound.until, bound.prefix FROM token LEFT JOIN bound ON bound.org = ?1 AND bound.name = token.name WHERE token.org = ?1",
 ];
 
 /// The rows of a workspace and of its organization, table by table.

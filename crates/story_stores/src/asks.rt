@@ -63,6 +63,14 @@ fn push_runs(acts: &mut Vec<Act>, last: u64) -> Result<(), Down> {
     push_reports(acts, last)
 }
 
+/// Creates a workspace, or sets its settings.
+pub fn making() -> Act {
+    Act::PutWorkspace(SettingsAsk {
+        runs: RunSettings { auto_apply: true },
+        retention: None,
+    })
+}
+
 fn push_settings(acts: &mut Vec<Act>) -> Result<(), Down> {
     for kept in KEPT {
         acts.push(Act::PutWorkspace(SettingsAsk {

@@ -1,15 +1,20 @@
-//! What a store over tables says by its queries of the workspace that a request names, compared with what is found in all rows:
-//! before acts of each kind, text by text and list by list, after each of a story's own steps that may have changed it.
-use crate::all_rows::{AllRows, ORGANIZATION, RUNS, VERSIONS, greatest, read_all_rows, row_of};
-use crate::asks::{acts_on, numbers_about};
+//! What a store over tables says by its queries of the workspace that a request names, or of the organization that a command
+//! names, compared with what is found in all rows: before acts of each kind, text by text and list by list, after each of a
+//! story's own steps that may have changed it. The rows are those of a second store that takes the same steps. So the first one
+//! is never closed, and answers from what its changes left in its memory.
+use crate::all_rows::{
+    AllRows, NAMES, ORGANIZATION, RUNS, VERSIONS, greatest, read_all_rows, row_of, text_at,
+};
+use crate::asks::{acts_on, making, numbers_about};
+use crate::callers::{Digest, add_digests, are_callers};
 use crate::keys::FirstByte;
 use crate::listed::{are_runs, are_versions, are_workspaces};
-use crate::parts::difference;
+use crate::parts::{difference, is_unmade};
 use crate::ways::{Sql, TablesBy, reopened};
 use basis::{Down, Number, OrgName, WsName, WsPrefix};
 use machine::{Act, Keep};
 use pages::PageKey;
-use serve::Step;
+use serve::{Admin, Step};
 use sqlite::Alter;
 use std::alloc::Global;
 use story_runner::devices::ALL;
@@ -24,6 +29,12 @@ const WAY: &str = "all rows and the queries, asked before each act";
 
 /// How steps are taken.
 const EACH: Way = Way::Exchange(ALL);
+
+/// The name of a workspace that no story makes.
+const NO_WORKSPACE: &str = "none-has-this-name";
+
+/// The path of the operator's door.
+const DOOR: &str = "/operator";
 
 /// A workspace of an organization.
 #[derive(Drop)]
@@ -62,17 +73,66 @@ fn named_in(alloc: Global, line: usize, bytes: &[u8]) -> Option<Named> {
     Some(Named { line, org, ws })
 }
 
+// No workspace of an organization.
+fn none_of(alloc: Global, line: usize, org: &str) -> Option<Named> {
+    let org = OrgName::read(alloc, org).ok()?;
+    let ws = WsName::read(alloc, NO_WORKSPACE).ok()?;
+    Some(Named { line, org, ws })
+}
+
+// The organization that a command names.
+fn org_of(command: &Admin) -> Option<&str> {
+    match command {
+        Admin::OrgAdd { org, .. } => Some(org.as_str()),
+        Admin::OrgLimit { org, .. } => Some(org.as_str()),
+        Admin::OrgRemove { org, .. } => Some(org.as_str()),
+        Admin::OrgList => None,
+        Admin::TokenAdd { org, .. } => Some(org.as_str()),
+        Admin::TokenList { org } => Some(org.as_str()),
+        Admin::TokenRevoke { org, .. } => Some(org.as_str()),
+    }
+}
+
+// A text up to a character, if it has it.
+fn front_of(text: &str, end: char) -> &str {
+    match text.split_once(end) {
+        Some((front, _)) => front,
+        None => text,
+    }
+}
+
+// The word after the first one of a command at the operator's door: it names an organization.
+fn org_at_door(bytes: &[u8]) -> Option<&str> {
+    if path_in(bytes)? != DOOR {
+        return None;
+    }
+    let text = str::from_utf8(bytes).ok()?;
+    let (_, words) = text.split_once("\r\n\r\n")?;
+    let (_, words) = words.split_once(' ')?;
+    let line = front_of(words, '\n');
+    Some(front_of(line, ' '))
+}
+
 // Whether a request was accepted and may have changed something.
 fn may_change(sent: &[u8], due: &[u8]) -> bool {
     let is_accepted = due.starts_with(b"HTTP/1.1 200 ") || due.starts_with(b"HTTP/1.1 100 ");
     is_accepted && !sent.starts_with(b"GET ")
 }
 
-// The workspace that a step names, if the step may have changed it.
+// The workspace that a request names; of a command at the door, none of the organization that it names.
+fn named_by(alloc: Global, line: usize, bytes: &[u8]) -> Option<Named> {
+    match org_at_door(bytes) {
+        Some(org) => none_of(alloc, line, org),
+        None => named_in(alloc, line, bytes),
+    }
+}
+
+// What a step names, if the step may have changed it.
 fn changed_by(alloc: Global, play: &Play, index: usize) -> Option<Named> {
     match (play.steps.get(index)?, play.due.get(index)?) {
         (Step::Request { bytes, .. }, due) if may_change(bytes.as_slice(), due.bytes.as_slice()) =>
-            { named_in(alloc, due.line, bytes.as_slice()) }
+            { named_by(alloc, due.line, bytes.as_slice()) }
+        (Step::Command { command, .. }, due) => none_of(alloc, due.line, org_of(command)?),
         _ => None,
     }
 }
@@ -222,6 +282,26 @@ fn compare_lists<K: Keep>(
     Err(Failure::refused(named.line, why))
 }
 
+// What a store says before a further workspace is created: how many there are, which it may remember, and the limit.
+fn compare_room<K: Keep>(
+    alloc: Global,
+    keep: &mut K,
+    named: &Named,
+    all_rows: &AllRows,
+) -> Result<(), Failure> {
+    let Ok(ws) = WsName::read(alloc, NO_WORKSPACE) else {
+        return Err(Failure::from(Down));
+    };
+    let unit = keep.unit(alloc, &named.org, &ws, &making())?;
+    if is_unmade(all_rows, &unit) {
+        return Ok(());
+    }
+    Err(Failure::refused(
+        named.line,
+        "the count or the limit of workspaces differs from the rows",
+    ))
+}
+
 // All that a store says of a workspace, if its organization exists.
 fn compare_all<K: Keep>(
     alloc: Global,
@@ -232,49 +312,137 @@ fn compare_all<K: Keep>(
     if all_rows.rows(ORGANIZATION).is_empty() {
         return Ok(());
     }
+    compare_room(alloc, keep, named, all_rows)?;
     let acts = acts_on(alloc, all_rows)?;
     compare_acts(alloc, keep, named, all_rows, acts.as_slice())?;
     compare_lists(alloc, keep, named, all_rows)
 }
 
-// Compares a store with rows that were read of it, and gives it back.
-fn compared_with<K: Keep + Drop>(
-    alloc: Global,
-    keep: K,
-    named: &Named,
-    all_rows: &AllRows,
-) -> Result<K, Failure> {
-    let mut keep = keep;
-    compare_all(alloc, &mut keep, named, all_rows)?;
-    Ok(keep)
-}
-
-// Reads all rows of a workspace, and compares the store with them.
-fn compared<S: Alter + Drop, K: PageKey>(
+// All rows of a workspace in a store, which is closed, opened again and given back.
+fn rows_of<S: Alter + Drop, K: PageKey>(
     alloc: Global,
     keep: SqlKeep<S, K>,
     named: &Named,
-) -> Result<SqlKeep<S, K>, Failure> {
+) -> Result<(SqlKeep<S, K>, AllRows), Failure> {
     let (line, org, ws) = (named.line, named.org.as_str(), named.ws.as_str());
     let mut conn = keep.close();
     let read = read_all_rows(alloc, line, &mut conn, org, ws);
     let keep = reopened(line, conn)?;
     match read {
-        Ok(all_rows) => compared_with(alloc, keep, named, &all_rows),
+        Ok(all_rows) => Ok((keep, all_rows)),
         Err(failure) => Err(failure),
     }
 }
 
+// The first workspace of the same organization.
+fn first_of(alloc: Global, named: &Named, all_rows: &AllRows) -> Option<Named> {
+    let row = all_rows.rows(NAMES).first()?;
+    let ws = WsName::read(alloc, str::from_utf8(text_at(row, 0)?).ok()?).ok()?;
+    let org = OrgName::read(alloc, named.org.as_str()).ok()?;
+    Some(Named {
+        line: named.line,
+        org,
+        ws,
+    })
+}
+
+// The first workspace of the same organization, if the named one does not exist.
+fn other_than(alloc: Global, named: &Named, all_rows: &AllRows) -> Option<Named> {
+    match all_rows.workspace() {
+        Some(_) => None,
+        None => first_of(alloc, named, all_rows),
+    }
+}
+
+/// A store that is never closed, and one that took the same steps, whose rows are read; with the digests of all tokens that these
+/// had.
+#[derive(Drop)]
+struct Pair<K> {
+    open: K,
+    read: K,
+    digests: Vec<Digest>,
+}
+
+// Compares the tokens that a store finds, also by the digests of those that are gone.
+fn compare_callers<K: Keep>(
+    alloc: Global,
+    keep: &mut K,
+    named: &Named,
+    all_rows: &AllRows,
+    digests: &mut Vec<Digest>,
+) -> Result<(), Failure> {
+    add_digests(digests, all_rows)?;
+    if are_callers(alloc, keep, &named.org, all_rows, digests)? {
+        return Ok(());
+    }
+    Err(Failure::refused(named.line, "a token differs from the rows"))
+}
+
+// Compares the open store with the rows of the other one. If the named workspace does not exist, so is the first one that does.
+fn compared<S: Alter + Drop, K: PageKey>(
+    alloc: Global,
+    pair: Pair<SqlKeep<S, K>>,
+    named: &Named,
+) -> Result<Pair<SqlKeep<S, K>>, Failure> {
+    let Pair {
+        open,
+        read,
+        digests,
+    } = pair;
+    let (mut open, mut digests) = (open, digests);
+    let (read, all_rows) = rows_of(alloc, read, named)?;
+    compare_callers(alloc, &mut open, named, &all_rows, &mut digests)?;
+    compare_all(alloc, &mut open, named, &all_rows)?;
+    match other_than(alloc, named, &all_rows) {
+        Some(other) => {
+            let (read, all_rows) = rows_of(alloc, read, &other)?;
+            compare_all(alloc, &mut open, &other, &all_rows)?;
+            Ok(Pair {
+                open,
+                read,
+                digests,
+            })
+        }
+        None => Ok(Pair {
+            open,
+            read,
+            digests,
+        }),
+    }
+}
+
+// Takes steps over both.
+fn both_taken<K: Keep + Drop>(
+    alloc: Global,
+    pair: Pair<K>,
+    play: &Play,
+    from: usize,
+    to: usize,
+) -> Result<Pair<K>, Failure> {
+    let Pair {
+        open,
+        read,
+        digests,
+    } = pair;
+    let open = taken_to(alloc, open, EACH, play, from, to)?;
+    let read = taken_to(alloc, read, EACH, play, from, to)?;
+    Ok(Pair {
+        open,
+        read,
+        digests,
+    })
+}
+
 fn compare_behind_each<S: Alter + Drop, K: PageKey>(
     alloc: Global,
-    keep: SqlKeep<S, K>,
+    pair: Pair<SqlKeep<S, K>>,
     play: &Play,
 ) -> Result<(), Failure> {
-    let mut keep = taken_to(alloc, keep, EACH, play, 0, play.own)?;
+    let mut pair = both_taken(alloc, pair, play, 0, play.own)?;
     for index in play.own..play.steps.len() {
-        keep = taken_to(alloc, keep, EACH, play, index, index.saturating_add(1))?;
+        pair = both_taken(alloc, pair, play, index, index.saturating_add(1))?;
         if let Some(named) = changed_by(alloc, play, index) {
-            keep = compared(alloc, keep, &named)?;
+            pair = compared(alloc, pair, &named)?;
         }
     }
     Ok(())
@@ -283,8 +451,15 @@ fn compare_behind_each<S: Alter + Drop, K: PageKey>(
 /// Takes a story's steps over tables whose pages have their first byte as their key, and compares what the store says with all
 /// rows, after each of the story's own steps that may have changed some.
 pub fn run_beside(alloc: Global, play: &Play) -> Result<(), Failure> {
-    let keep: TablesBy<FirstByte> = Sql.made(alloc)?;
-    match compare_behind_each(alloc, keep, play) {
+    let open: TablesBy<FirstByte> = Sql.made(alloc)?;
+    let read: TablesBy<FirstByte> = Sql.made(alloc)?;
+    let digests = Vec::new(alloc);
+    let pair = Pair {
+        open,
+        read,
+        digests,
+    };
+    match compare_behind_each(alloc, pair, play) {
         Ok(()) => Ok(()),
         Err(failure) => Err(failure.on(WAY)),
     }

@@ -4,6 +4,7 @@
 mod all_rows;
 mod asks;
 pub mod beside;
+mod callers;
 pub mod cuts;
 mod images;
 pub mod kept;

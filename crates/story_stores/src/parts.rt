@@ -302,6 +302,14 @@ fn has_room(all_rows: &AllRows, is_needed: bool, workspaces: usize, limit: Limit
     }
 }
 
+/// Whether a store says of a workspace that does not exist, before it is created, what the rows of its organization say.
+pub fn is_unmade(all_rows: &AllRows, unit: &Unit) -> bool {
+    match unit {
+        Unit::Absent { workspaces, limit } => has_room(all_rows, true, *workspaces, *limit),
+        Unit::Present(_) => false,
+    }
+}
+
 /// What a store reports before an act differently from the rows.
 pub fn difference(all_rows: &AllRows, needs: &Needs<'_>, unit: &Unit) -> Option<&'static str> {
     match (all_rows.workspace(), unit) {

@@ -2,7 +2,7 @@
 ghost use Rattle.std.specs.Prelude.{◌≡◌};
 ghost use Rattle.program.specs.Exits.{status_of};
 ghost use Rattle.statements.specs.declared.making.TheConstants.{SCHEMA_VERSION};
-ghost use Rattle.program.specs.Inputs.{LeavesInputFor};
+ghost use Rattle.program.specs.Inputs.{LeavesInputAt};
 ghost use Rattle.program.specs.Outcomes.{stream, error_stream, Prints};
 ghost use Rattle.command_line.specs.Words.{words_bytes};
 ghost use Rattle.program.specs.declared.exits.Exit.{Exit};
@@ -28,7 +28,7 @@ fn run_over<K: Keep, F: Files<K>, I: Read, O: Write, E: ErrorStream>(
     errors: &mut E,
 ) -> u8
     ensures prints { (exit : Exit) × (result ≡ status_of exit) × Prints F.newest (words_bytes words.now) (I.remaining input.old) exit (stream (O.contents output.old) (O.contents output.new)) (error_stream (E.reported errors.old) (E.reported errors.new)) }
-    ensures input { LeavesInputFor (words_bytes words.now) (I.remaining input.old) (I.remaining input.new) }
+    ensures input { LeavesInputAt (words_bytes words.now) result (I.remaining input.old) (I.remaining input.new) (stream (O.contents output.old) (O.contents output.new)) (error_stream (E.reported errors.old) (E.reported errors.new)) }
 {
     let mut network = TcpSockets::new(rt);
     let mut clock = SystemClock::new(rt);
@@ -54,7 +54,7 @@ fn run_from<S: Start, I: Read, O: Write, E: ErrorStream>(
     errors: &mut E,
 ) -> u8
     ensures prints { (exit : Exit) × (result ≡ status_of exit) × Prints SCHEMA_VERSION (words_bytes words.now) (I.remaining input.old) exit (stream (O.contents output.old) (O.contents output.new)) (error_stream (E.reported errors.old) (E.reported errors.new)) }
-    ensures input { LeavesInputFor (words_bytes words.now) (I.remaining input.old) (I.remaining input.new) }
+    ensures input { LeavesInputAt (words_bytes words.now) result (I.remaining input.old) (I.remaining input.new) (stream (O.contents output.old) (O.contents output.new)) (error_stream (E.reported errors.old) (E.reported errors.new)) }
 {
     let mut files = DiskFiles::new(rt, start, other);
     run_over(rt, &mut files, words, input, output, errors)
@@ -69,7 +69,7 @@ pub fn run_here<I: Read, O: Write, E: ErrorStream>(
     errors: &mut E,
 ) -> u8
     ensures prints { (exit : Exit) × (result ≡ status_of exit) × Prints SCHEMA_VERSION (words_bytes words.now) (I.remaining input.old) exit (stream (O.contents output.old) (O.contents output.new)) (error_stream (E.reported errors.old) (E.reported errors.new)) }
-    ensures input { LeavesInputFor (words_bytes words.now) (I.remaining input.old) (I.remaining input.new) }
+    ensures input { LeavesInputAt (words_bytes words.now) result (I.remaining input.old) (I.remaining input.new) (stream (O.contents output.old) (O.contents output.new)) (error_stream (E.reported errors.old) (E.reported errors.new)) }
 {
     run_from(rt, Unknown, Unknown, words, input, output, errors)
 }

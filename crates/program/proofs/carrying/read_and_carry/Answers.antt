@@ -17,7 +17,7 @@ returns-then-batch-clause-line g c =
     let counted : c.len.result ≡ length commands = search rules in
     let reported = subst (λ (n : ℕ). Reports (err c.args.errors.now) (err c.report_at.new.errors) (bad_line_text (n + 1))) counted c.report_at.ensures in
     said (λ (e : Exit). AnswersBatch input e (stream (out c.args.output.now) (out c.say.new.output)) (error_stream (err c.args.errors.now) (err c.report_at.new.errors))) Usage c.say.result _ _
-    (λ h. (h, commands, batch_known input commands c.in-Ok.batch.is_bad true c.if-batch.true c.in-Ok.ensures, reported)) tt c.say.ensures
+    (λ h. (h, commands, batch_known input commands c.in-Ok.batch.is_bad true c.if-batch.true c.in-Ok.ensures.commands, reported)) tt c.say.ensures
 
 pub returns-then-batch-clause-carries : goal.returns-then-batch-clause-carries
 returns-then-batch-clause-carries g c =
@@ -26,4 +26,7 @@ returns-then-batch-clause-carries g c =
     let commands = c.in-Ok.batch.commands.items in
     let counted : c.len.result ≡ length commands = search rules in
     let reported = subst (λ (n : ℕ). Reports (err c.args.errors.now) (err c.report_at.new.errors) (bad_line_text (n + 1))) counted c.report_at.ensures in
-    inr (refl, inl (commands, batch_known input commands c.in-Ok.batch.is_bad true c.if-batch.true c.in-Ok.ensures, c.say.ensures, reported))
+    inr (refl, inl (commands, batch_known input commands c.in-Ok.batch.is_bad true c.if-batch.true c.in-Ok.ensures.commands, c.say.ensures, reported))
+
+pub returns-in_default-clause-input : goal.returns-in_default-clause-input
+returns-in_default-clause-input g c = inr (c.refuse.ensures.said, c.refuse.ensures.why)

@@ -1,5 +1,6 @@
-use Rattle.std.proofs.Common.{rules, refl, inl, inr}
+use Rattle.std.proofs.Common.{◌≡◌, true, rules, refl, inl, inr}
 use Rattle.program.specs.Listening.{bound_site}
+use Rattle.program.proofs.InputLemmas.{read_if}
 use Rattle.program.proofs.starting.serve_with_door.Goals as goal
 
 pub returns-in-Ok-clause-line : goal.returns-in-Ok-clause-line
@@ -19,3 +20,14 @@ returns-in-Err-Down-clause-line g c = inr (search rules, inr (search rules))
 
 pub returns-in-Err-Down-clause-serves : goal.returns-in-Err-Down-clause-serves
 returns-in-Err-Down-clause-serves g c = inr (search rules, refl, inr (search rules, c.refuse.ensures.why))
+
+pub returns-in-Ok-clause-input : goal.returns-in-Ok-clause-input
+returns-in-Ok-clause-input g c = read_if c.args.operates _ _ _ _ _ (search rules)
+
+pub returns-in-Err-Syntax-clause-input : goal.returns-in-Err-Syntax-clause-input
+returns-in-Err-Syntax-clause-input g c = read_if c.args.operates _ _ _ _ _ (search rules)
+
+pub returns-in-Err-Down-clause-input : goal.returns-in-Err-Down-clause-input
+returns-in-Err-Down-clause-input g c =
+    let asked : c.args.operates ≡ true = search rules in
+    rw asked (inr (c.refuse.ensures.said, c.refuse.ensures.why))
