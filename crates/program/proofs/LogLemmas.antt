@@ -12,8 +12,8 @@ use Rattle.wire.specs.declared.devices.Inlet as inlet
 use Rattle.wire.specs.declared.devices.Outlet as outlet
 use Rattle.serve.specs.Asks.{Ask, silent, refused, requests, commands, owner_of}
 use Rattle.docs.specs.Bodies.{error_text}
-use Rattle.serve.specs.Doors.{reported_row, turned_row, unserved_row, IsReportedAtDoor, ExchangesWith}
-use Rattle.serve.specs.Exchanges.{Exchanges, IsAnswered, ChangesAsLogged}
+use Rattle.serve.specs.AtDoor.{reported_row, turned_row, unserved_row, IsReportedAtDoor}
+use Rattle.serve.specs.Exchanges.{IsAnswered, IsAnsweredWith, Exchanges, ChangesAsLogged}
 use Rattle.serve.specs.declared.doors.Door.{Door}
 use Rattle.serve.specs.declared.doors.Door.TheVariants.{Closed, Open}
 use Rattle.serve.specs.Logs.{silent_row, with_answer, request_row, row_of_ask}
@@ -68,29 +68,25 @@ answered_row : (now : ℕ) (received : List ℕ) (old new : List ℕ → Option 
 answered_row now received old new awaited text row false served = served_row (record_for old (owner_of served.ask)) served.ask awaited now served.answer row served.said served.logged
 answered_row now received old new awaited text row true down = (down.1.reported, down.1.reports)
 
-exchange_row : {T : Type 0} (now : ℕ) (received : List ℕ) (left : Option (List ℕ)) (old new : List ℕ → Option Organization) (before after : Option (List ℕ)) (is_down : Bool) (row : Option LogRow) (res : Result T LinkFault)
-    → Exchanges now received left old new before after is_down row res → (reported : LogRow) × (row ≡ Some reported)
-exchange_row now received left old new before after is_down row (Ok done) reported = answered_row now received old new reported.0 reported.1 row is_down reported.2
-exchange_row now received left old new before after is_down row (Err Ended) reported = (silent_row now, reported.1)
-exchange_row now received left old new before after is_down row (Err Read) reported = (silent_row now, reported.1)
-exchange_row now received left old new before after is_down row (Err Continue) reported = (silent_row now, reported.1)
-exchange_row now received left old new before after is_down row (Err Write) reported = answered_row now received old new reported.0 (reported.1 ++ reported.2) row is_down reported.4
-
 reported_row_there : (digest : List ℕ) (now : ℕ) (message : Message) (old new : List ℕ → Option Organization) (text : List ℕ) (row : Option LogRow) (is_down : Bool)
     → IsReportedAtDoor digest now message old new text row is_down → (reported : LogRow) × (row ≡ Some reported)
 reported_row_there digest now message old new text row false (inl done) = (reported_row now done.command done.answer, done.logged)
 reported_row_there digest now message old new text row false (inr away) = (turned_row now (refused_answer away.refusal (error_text away.refusal) (is_head message)), away.logged)
 reported_row_there digest now message old new text row true down = (unserved_row now down.command, down.logged)
 
+answered_row_with : (door : Door) (now : ℕ) (received : List ℕ) (old new : List ℕ → Option Organization) (awaited : Bool) (text : List ℕ) (row : Option LogRow) (is_down : Bool)
+    → IsAnsweredWith door now received old new awaited text row is_down → (reported : LogRow) × (row ≡ Some reported)
+answered_row_with Closed now received old new awaited text row is_down h = answered_row now received old new awaited text row is_down h
+answered_row_with (Open digest) now received old new awaited text row is_down (inl h) = answered_row now received old new awaited text row is_down h.1
+answered_row_with (Open digest) now received old new awaited text row is_down (inr h) = reported_row_there digest now h.0 old new text row is_down h.2
+
 row_there : {T : Type 0} (door : Door) (now : ℕ) (received : List ℕ) (left : Option (List ℕ)) (old new : List ℕ → Option Organization) (before after : Option (List ℕ)) (is_down : Bool) (row : Option LogRow) (res : Result T LinkFault)
-    → ExchangesWith door now received left old new before after is_down row res → (reported : LogRow) × (row ≡ Some reported)
-row_there Closed now received left old new before after is_down row res reported = exchange_row now received left old new before after is_down row res reported
-row_there (Open digest) now received left old new before after is_down row res (inl reported) = exchange_row now received left old new before after is_down row res reported.1
-row_there (Open digest) now received left old new before after is_down row (Ok done) (inr reported) = reported_row_there digest now reported.0 old new reported.3.0 row is_down reported.3.1
-row_there (Open digest) now received left old new before after is_down row (Err Write) (inr reported) = reported_row_there digest now reported.0 old new (reported.3.0 ++ reported.3.1) row is_down reported.3.3
-row_there (Open digest) now received left old new before after is_down row (Err Ended) (inr reported) = absurd reported.3
-row_there (Open digest) now received left old new before after is_down row (Err Read) (inr reported) = absurd reported.3
-row_there (Open digest) now received left old new before after is_down row (Err Continue) (inr reported) = absurd reported.3
+    → Exchanges door now received left old new before after is_down row res → (reported : LogRow) × (row ≡ Some reported)
+row_there door now received left old new before after is_down row (Ok done) reported = answered_row_with door now received old new reported.0 reported.1 row is_down reported.2
+row_there door now received left old new before after is_down row (Err Ended) reported = (silent_row now, reported.1)
+row_there door now received left old new before after is_down row (Err Read) reported = (silent_row now, reported.1)
+row_there door now received left old new before after is_down row (Err Continue) reported = (silent_row now, reported.1)
+row_there door now received left old new before after is_down row (Err Write) reported = answered_row_with door now received old new reported.0 (reported.1 ++ reported.2) row is_down reported.4
 
 module _ {K N R W : Type 0} (k : keep.Ghosts K) (n : connections.Ghosts N R W) (i : inlet.Ghosts R) (o : outlet.Ghosts W) where
   line_of : (terms : Terms) → terms.logs ≡ true → (connection at : ℕ) (is_down : Bool) (reader : R) (writer : W) (network network' : N) (store store' : K) (errors errors' : Reported) (output output' : Option (List ℕ))

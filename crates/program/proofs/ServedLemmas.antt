@@ -8,13 +8,12 @@ use Rattle.machine.specs.declared.keeps.Keep as keep
 use Rattle.machine.specs.declared.records.Organization.{Organization}
 use Rattle.wire.specs.declared.devices.Inlet as inlet
 use Rattle.wire.specs.declared.devices.Outlet as outlet
-use Rattle.serve.specs.Doors.{ExchangesWith}
 use Rattle.serve.specs.Exchanges.{Exchanges, ChangesAsLogged}
+use Rattle.serve.specs.Laws.{HasNoReply}
 use Rattle.serve.specs.Logs.{silent_row}
 use Rattle.serve.specs.Service.{Stays}
-use Rattle.serve.specs.Served.{Exchange, HasNoReply, IsServed, AreServed}
+use Rattle.serve.specs.Served.{Exchange, IsServed, AreServed}
 use Rattle.serve.specs.declared.doors.Door.{Door}
-use Rattle.serve.specs.declared.doors.Door.TheVariants.{Closed, Open}
 use Rattle.serve.specs.declared.exchanges.LinkFault.{LinkFault}
 use Rattle.serve.specs.declared.exchanges.LinkFault.TheVariants.{Ended, Read, Continue, Write}
 use Rattle.serve.proofs.ServedLemmas.{exchanges_are_served, served_in_turn, services_are_as_promised}
@@ -36,31 +35,17 @@ silent at old new row is changes org =
     let told : ChangesAsLogged (silent_row at) old new = subst (λ (r : Option LogRow). IfSome r (λ reported. ChangesAsLogged reported old new)) is changes in
     told.others org (λ e. let none : ⊥ = cc in none)
 
-silent_exchange : {T : Type 0} (at : ℕ) (received : List ℕ) (left : Option (List ℕ)) (old new : List ℕ → Option Organization) (before after : Option (List ℕ)) (is_down : Bool) (row : Option LogRow) (res : Result T LinkFault)
-    → Exchanges at received left old new before after is_down row res → HasNoReply res → row ≡ Some (silent_row at)
-silent_exchange at received left old new before after is_down row (Ok done) h (inl e) = absurd (let none : ⊥ = cc in none)
-silent_exchange at received left old new before after is_down row (Ok done) h (inr (inl e)) = absurd (let none : ⊥ = cc in none)
-silent_exchange at received left old new before after is_down row (Ok done) h (inr (inr e)) = absurd (let none : ⊥ = cc in none)
-silent_exchange at received left old new before after is_down row (Err Write) h (inl e) = absurd (let none : ⊥ = cc in none)
-silent_exchange at received left old new before after is_down row (Err Write) h (inr (inl e)) = absurd (let none : ⊥ = cc in none)
-silent_exchange at received left old new before after is_down row (Err Write) h (inr (inr e)) = absurd (let none : ⊥ = cc in none)
-silent_exchange at received left old new before after is_down row (Err Ended) h none = h.1
-silent_exchange at received left old new before after is_down row (Err Read) h none = h.1
-silent_exchange at received left old new before after is_down row (Err Continue) h none = h.1
-
-silent_with : {T : Type 0} (door : Door) (at : ℕ) (received : List ℕ) (left : Option (List ℕ)) (old new : List ℕ → Option Organization) (before after : Option (List ℕ)) (is_down : Bool) (row : Option LogRow) (res : Result T LinkFault)
-    → ExchangesWith door at received left old new before after is_down row res → HasNoReply res → row ≡ Some (silent_row at)
-silent_with Closed at received left old new before after is_down row res h none = silent_exchange at received left old new before after is_down row res h none
-silent_with (Open digest) at received left old new before after is_down row res (inl h) none = silent_exchange at received left old new before after is_down row res h.1 none
-silent_with (Open digest) at received left old new before after is_down row (Ok done) (inr h) (inl e) = absurd (let none : ⊥ = cc in none)
-silent_with (Open digest) at received left old new before after is_down row (Ok done) (inr h) (inr (inl e)) = absurd (let none : ⊥ = cc in none)
-silent_with (Open digest) at received left old new before after is_down row (Ok done) (inr h) (inr (inr e)) = absurd (let none : ⊥ = cc in none)
-silent_with (Open digest) at received left old new before after is_down row (Err Write) (inr h) (inl e) = absurd (let none : ⊥ = cc in none)
-silent_with (Open digest) at received left old new before after is_down row (Err Write) (inr h) (inr (inl e)) = absurd (let none : ⊥ = cc in none)
-silent_with (Open digest) at received left old new before after is_down row (Err Write) (inr h) (inr (inr e)) = absurd (let none : ⊥ = cc in none)
-silent_with (Open digest) at received left old new before after is_down row (Err Ended) (inr h) none = absurd h.3
-silent_with (Open digest) at received left old new before after is_down row (Err Read) (inr h) none = absurd h.3
-silent_with (Open digest) at received left old new before after is_down row (Err Continue) (inr h) none = absurd h.3
+silent_exchange : {T : Type 0} (door : Door) (at : ℕ) (received : List ℕ) (left : Option (List ℕ)) (old new : List ℕ → Option Organization) (before after : Option (List ℕ)) (is_down : Bool) (row : Option LogRow) (res : Result T LinkFault)
+    → Exchanges door at received left old new before after is_down row res → HasNoReply res → row ≡ Some (silent_row at)
+silent_exchange door at received left old new before after is_down row (Ok done) h (inl e) = absurd (let none : ⊥ = cc in none)
+silent_exchange door at received left old new before after is_down row (Ok done) h (inr (inl e)) = absurd (let none : ⊥ = cc in none)
+silent_exchange door at received left old new before after is_down row (Ok done) h (inr (inr e)) = absurd (let none : ⊥ = cc in none)
+silent_exchange door at received left old new before after is_down row (Err Write) h (inl e) = absurd (let none : ⊥ = cc in none)
+silent_exchange door at received left old new before after is_down row (Err Write) h (inr (inl e)) = absurd (let none : ⊥ = cc in none)
+silent_exchange door at received left old new before after is_down row (Err Write) h (inr (inr e)) = absurd (let none : ⊥ = cc in none)
+silent_exchange door at received left old new before after is_down row (Err Ended) h none = h.1
+silent_exchange door at received left old new before after is_down row (Err Read) h none = h.1
+silent_exchange door at received left old new before after is_down row (Err Continue) h none = h.1
 
 module _ {K F N C R W : Type 0} (k : keep.Ghosts K) (f : files.Ghosts F K) (n : connections.Ghosts N R W) (c : clock.Ghosts C) (i : inlet.Ghosts R) (o : outlet.Ghosts W) where
   -- an exchange of a connection that was answered at its moment
@@ -80,7 +65,7 @@ module _ {K F N C R W : Type 0} (k : keep.Ghosts K) (f : files.Ghosts F K) (n : 
       let exchanged = one.exchanges before sound in
       let stays : HasNoReply one.result → Stays (k.rows old.store) (k.rows next.store) = λ none.
       silent at (k.rows old.store) (k.rows next.store) one.row
-      (silent_with terms.door at exchanged.0 (i.left one.read) (k.rows old.store) (k.rows next.store) (o.written next.answers.writer) (o.written one.written) next.is_down one.row one.result exchanged.2 none) (one.changes before sound) in
+      (silent_exchange terms.door at exchanged.0 (i.left one.read) (k.rows old.store) (k.rows next.store) (o.written next.answers.writer) (o.written one.written) next.is_down one.row one.result exchanged.2 none) (one.changes before sound) in
       let found = exchanges_are_served terms.door at exchanged.0 (i.left one.read) (k.rows old.store) (k.rows next.store) (o.written next.answers.writer) (o.written one.written) next.is_down one.row one.result one.timely exchanged.2 stays in
       let rows : k.rows new.store ≡ k.rows next.store = after_reply_rows k f next.is_down next.store is_shut new.store next.after_reply clean (one.lasts.kept before sound) in (
         found.0,

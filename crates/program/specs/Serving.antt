@@ -8,8 +8,7 @@ use Rattle.machine.specs.declared.records.Organization.{Organization}
 use Rattle.machine.specs.Ranges.{IsMoment}
 use Rattle.machine.specs.StoreCalls.{Unchanged, Lasts}
 use Rattle.serve.specs.declared.exchanges.LinkFault.{LinkFault}
-use Rattle.serve.specs.Doors.{ExchangesWith}
-use Rattle.serve.specs.Exchanges.{ChangesAsLogged}
+use Rattle.serve.specs.Exchanges.{Exchanges, ChangesAsLogged}
 use Rattle.serve.specs.declared.doors.Door.{Door}
 use Rattle.serve.specs.Served.{Exchange, IsServed, AreServed}
 use Rattle.serve.specs.Promises.{IsAsPromised}
@@ -82,7 +81,7 @@ module _ {K N R W : Type 0} (k : keep.Ghosts K) (n : connections.Ghosts N R W) (
     pub timely : IsMoment at
     pub lasts : Lasts k.clean k.sound k.keyed k.shielded store store'
     pub exchanges : k.clean store' → k.sound store → (received : List ℕ) × Consumes (i.left reader) (i.left read) received
-        × ExchangesWith terms.door at received (i.left read) (k.rows store) (k.rows store') (o.written writer) (o.written written) is_down row result
+        × Exchanges terms.door at received (i.left read) (k.rows store) (k.rows store') (o.written writer) (o.written written) is_down row result
     pub changes : k.clean store' → k.sound store → IfSome row (λ reported. ChangesAsLogged reported (k.rows store) (k.rows store'))
     pub lines : GetsConnectionLines connection is_down result errors errors'
     pub logged : Logs terms.logs is_logged (row_text connection result row) output output'

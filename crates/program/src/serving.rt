@@ -4,8 +4,7 @@ ghost use Rattle.std.specs.Prelude.{◌≡◌, ◌++◌, ℕ, List, Ok, Some, If
 ghost use Rattle.std.specs.Io.KnownBytes.{Appends, Consumes};
 ghost use Rattle.command_line.specs.Orders.{site_of};
 ghost use Rattle.machine.specs.StoreCalls.{Lasts};
-ghost use Rattle.serve.specs.Doors.{ExchangesWith};
-ghost use Rattle.serve.specs.Exchanges.{ChangesAsLogged};
+ghost use Rattle.serve.specs.Exchanges.{Exchanges, ChangesAsLogged};
 ghost use Rattle.program.specs.Errors.{GetsConnectionLines, fault_text, down_line, fault_line};
 ghost use Rattle.program.specs.Serving.{listening_line, ListensAt, state, AcceptsNone, AnswersOne, Answers, AfterReply, AnswersNext, EndsEarly, AnswersCount, ServesCount, Serves, LogReportsChanges, LoopsAreServed};
 ghost use Rattle.program.specs.Streams.{ReportsBy};
@@ -112,7 +111,7 @@ fn exchange_one<K: Keep, I: Inlet, O: Outlet>(
     requires writes { O.broken outlet.old ≡ false }
     ensures lasts { Lasts K.clean K.sound K.keyed K.shielded service.old.keep service.new.keep }
     ensures reported { K.clean service.new.keep → K.sound service.old.keep → (received : List ℕ) × Consumes (I.left inlet.old) (I.left inlet.new) received
-        × ExchangesWith door.now now received (I.left inlet.new) (K.rows service.old.keep) (K.rows service.new.keep) (O.written outlet.old) (O.written outlet.new) service.new.was_down service.new.row result }
+        × Exchanges door.now now received (I.left inlet.new) (K.rows service.old.keep) (K.rows service.new.keep) (O.written outlet.old) (O.written outlet.new) service.new.was_down service.new.row result }
     ensures changes { K.clean service.new.keep → K.sound service.old.keep → IfSome service.new.row (λ row. ChangesAsLogged row (K.rows service.old.keep) (K.rows service.new.keep)) }
     ensures timely { IsMoment now }
 {

@@ -5,7 +5,7 @@ use Rattle.basis.specs.Checks.{or_refused, and_then}
 use Rattle.basis.specs.Names.{is_org_name, is_ws_name}
 use Rattle.basis.specs.Numbers.{number_of}
 use Rattle.basis.specs.declared.refusals.Refusal.{Refusal}
-use Rattle.basis.specs.declared.refusals.Refusal.TheVariants.{NoRoute, NoMethod, BadQuery}
+use Rattle.basis.specs.declared.refusals.Refusal.TheVariants.{NoRoute, NoMethod, BadQuery, NotFound}
 use Rattle.basis.specs.declared.runs.RunAction.{RunAction}
 use Rattle.machine.specs.declared.records.Organization.{Organization}
 use Rattle.route.specs.Acts.{listing_act, workspace_act, state_act, runs_act, posted, act_at, allow_of, act_read}
@@ -30,10 +30,10 @@ use Rattle.serve.specs.declared.steps.Step.{Step}
 use Rattle.serve.specs.declared.steps.Step.TheVariants.{Request}
 use Rattle.serve.specs.Asks.{Ask, requests, organization}
 use Rattle.serve.specs.Laws.{renamed}
-use Rattle.serve.specs.Steps.{Said, Answered as StepAnswered, replies, request_step, step, own_said, own_record}
+use Rattle.serve.specs.Steps.{Said, Answered as StepAnswered, replies, refusing, request_step, step, own_said, own_record}
 use Rattle.serve.specs.Service.{Asks, IsAsked, AreAsked, IsSaidText, AreTexts, asked_by, ask_of, is_own, with_own, own_asks, replies_at, same_owner}
 use Rattle.serve.specs.Runs.{IsOwnMachine}
-use Rattle.serve.specs.AbsentForms.{IsFormOf, AnsweredRequest, record_before, RepliesAreThoseOfAbsentForms, OutOfReachRepliesNotFound, RepliesOutsideThePrefixAreThoseOfAbsentForms, RepliesOutsideThePrefixAreNotFound}
+use Rattle.serve.specs.AbsentForms.{IsFormOf, AnsweredRequest, record_before, LooksAbsent, RepliesLookAbsent}
 use Rattle.serve.proofs.CheckLemmas.{after_ok, passed}
 use Rattle.serve.proofs.LawLemmas.{out_of_reach_is_not_found, out_of_reach_is_as_absent, outside_the_prefix_is_not_found, outside_the_prefix_is_as_absent}
 use Rattle.serve.proofs.RunLemmas.{asked_one, orgs_given}
@@ -304,42 +304,33 @@ reply_at steps rows rows' texts asked are own a =
     text_at a.asked.caller (rows a.asked.caller) steps asked texts a.index (Request a.at a.bytes) a.text a.earlier (requests a.at a.awaited a.asked a.content_md5 a.body) are (own a.asked.caller).own_replies a.came a.replied a.came_earlier a.asks
     (own_request a.asked.caller)
 
--- where the machine answers the form of a request as it does the request, the reply is that to the form
-as_to_form : (steps : List Step) (rows rows' : List ℕ → Option Organization) (texts : List (List ℕ)) (asked : List Ask) → AreAsked steps asked → ((org : List ℕ) → IsOwnMachine org asked rows rows' texts)
-    → (a : AnsweredRequest steps texts) (other org ws : List ℕ) (ask : Ask) → IsFormOf a.bytes other org ws → Asks a.at other ask
-    → request_step (record_before rows a.asked.caller a.earlier) a.at a.asked a.content_md5 a.body
-    ≡ request_step (record_before rows a.asked.caller a.earlier) a.at (record a.asked { org = org; act = renamed a.asked.act ws }) a.content_md5 a.body
-    → IsSaidText (step (record_before rows a.asked.caller a.earlier) ask).answer a.text
-as_to_form steps rows rows' texts asked are own a other org ws ask form asks_it same =
-    let r : Option Organization = record_before rows a.asked.caller a.earlier in
-    let is : ask ≡ requests a.at a.awaited (record a.asked { org = org; act = renamed a.asked.act ws }) a.content_md5 a.body = form_asks a.at a.bytes other org ws a.awaited a.asked a.content_md5 a.body ask a.asks form asks_it in
-    let alike : (step r (requests a.at a.awaited a.asked a.content_md5 a.body)).answer ≡ (step r (requests a.at a.awaited (record a.asked { org = org; act = renamed a.asked.act ws }) a.content_md5 a.body)).answer =
-    ap (λ (d : StepAnswered). replies a.awaited a.at d.answer) same in
-    subst (λ (said : Said). IsSaidText said a.text) (alike ∙ ap (λ (x : Ask). (step r x).answer) (sym is)) (reply_at steps rows rows' texts asked are own a)
+-- what is told to a request, by what the machine answers it
+module _ (r : Option Organization) (at : ℕ) (awaited : Bool) (bytes : List ℕ) (asked : Asked) (content_md5 : Option (List ℕ)) (body : List ℕ) (Tells : Said → Type 0)
+    (asks_it : Asks at bytes (requests at awaited asked content_md5 body)) (told : Tells (step r (requests at awaited asked content_md5 body)).answer) where
+  told_as : (done : StepAnswered) → request_step r at asked content_md5 body ≡ done → Tells (replies awaited at done.answer)
+  told_as done same = subst (λ (d : StepAnswered). Tells (replies awaited at d.answer)) same told
 
-pub absent_forms : (steps : List Step) (rows rows' : List ℕ → Option Organization) (texts : List (List ℕ)) (asked : List Ask) → AreAsked steps asked → ((org : List ℕ) → IsOwnMachine org asked rows rows' texts)
-    → RepliesAreThoseOfAbsentForms steps rows texts
-absent_forms steps rows rows' texts asked are own a other org ws ask out needs lacks form asks_it =
-    as_to_form steps rows rows' texts asked are own a other org ws ask form asks_it
-    (out_of_reach_is_as_absent (record_before rows a.asked.caller a.earlier) a.at a.asked a.content_md5 a.body org ws out needs lacks)
+  -- where the machine answers the form of a request as it does the request, that is told which it says to the form
+  told_to_form : (other org ws : List ℕ) (ask : Ask) → IsFormOf bytes other org ws → Asks at other ask
+      → request_step r at asked content_md5 body ≡ request_step r at (record asked { org = org; act = renamed asked.act ws }) content_md5 body → Tells (step r ask).answer
+  told_to_form other org ws ask form form_asks_it same =
+      let is : ask ≡ requests at awaited (record asked { org = org; act = renamed asked.act ws }) content_md5 body = form_asks at bytes other org ws awaited asked content_md5 body ask asks_it form form_asks_it in
+      subst (λ (x : Ask). Tells (step r x).answer) (sym is) (told_as (request_step r at (record asked { org = org; act = renamed asked.act ws }) content_md5 body) same)
 
-pub out_of_reach : (steps : List Step) (rows rows' : List ℕ → Option Organization) (texts : List (List ℕ)) (asked : List Ask) → AreAsked steps asked → ((org : List ℕ) → IsOwnMachine org asked rows rows' texts)
-    → OutOfReachRepliesNotFound steps rows texts
-out_of_reach steps rows rows' texts asked are own a token out known may =
-    let r : Option Organization = record_before rows a.asked.caller a.earlier in
-    subst (λ (d : StepAnswered). IsSaidText (replies a.awaited a.at d.answer) a.text) (out_of_reach_is_not_found r a.at a.asked a.content_md5 a.body token out known may) (reply_at steps rows rows' texts asked are own a)
+  pub looks_absent : LooksAbsent r at awaited bytes asked Tells
+  looks_absent = record {
+    absent_forms = λ out other org ws ask needs lacks form is. told_to_form other org ws ask form is (out_of_reach_is_as_absent r at asked content_md5 body org ws out needs lacks);
+    out_of_reach = λ token out known may. told_as (refusing NotFound r) (out_of_reach_is_not_found r at asked content_md5 body token out known may);
+    outside_the_prefix = λ token known outside other org ws ask needs lacks form is.
+        told_to_form other org ws ask form is (outside_the_prefix_is_as_absent r at asked content_md5 body org ws token known outside needs lacks);
+    not_admitted = λ token known outside may. told_as (refusing NotFound r) (outside_the_prefix_is_not_found r at asked content_md5 body token known outside may);
+  }
 
-pub outside_the_prefix : (steps : List Step) (rows rows' : List ℕ → Option Organization) (texts : List (List ℕ)) (asked : List Ask) → AreAsked steps asked → ((org : List ℕ) → IsOwnMachine org asked rows rows' texts)
-    → RepliesOutsideThePrefixAreThoseOfAbsentForms steps rows texts
-outside_the_prefix steps rows rows' texts asked are own a token other org ws ask known outside needs lacks form asks_it =
-    as_to_form steps rows rows' texts asked are own a other org ws ask form asks_it
-    (outside_the_prefix_is_as_absent (record_before rows a.asked.caller a.earlier) a.at a.asked a.content_md5 a.body org ws token known outside needs lacks)
-
-pub not_admitted : (steps : List Step) (rows rows' : List ℕ → Option Organization) (texts : List (List ℕ)) (asked : List Ask) → AreAsked steps asked → ((org : List ℕ) → IsOwnMachine org asked rows rows' texts)
-    → RepliesOutsideThePrefixAreNotFound steps rows texts
-not_admitted steps rows rows' texts asked are own a token known outside may =
-    let r : Option Organization = record_before rows a.asked.caller a.earlier in
-    subst (λ (d : StepAnswered). IsSaidText (replies a.awaited a.at d.answer) a.text) (outside_the_prefix_is_not_found r a.at a.asked a.content_md5 a.body token known outside may) (reply_at steps rows rows' texts asked are own a)
+-- each reply of a run
+pub replies_look_absent : (steps : List Step) (rows rows' : List ℕ → Option Organization) (texts : List (List ℕ)) (asked : List Ask) → AreAsked steps asked → ((org : List ℕ) → IsOwnMachine org asked rows rows' texts)
+    → RepliesLookAbsent steps rows texts
+replies_look_absent steps rows rows' texts asked are own a =
+    looks_absent (record_before rows a.asked.caller a.earlier) a.at a.awaited a.bytes a.asked a.content_md5 a.body (λ said. IsSaidText said a.text) a.asks (reply_at steps rows rows' texts asked are own a)
 
 -- of a whole run that was answered
 pub each_reply : {E : Type 0} (Law : List (List ℕ) → Type 0) (steps : List Step) (taken : ℕ) (old new : List ℕ → Option Organization) (res : Result (Vec (List ℕ) Global) E)

@@ -13,7 +13,7 @@ use Rattle.serve.specs.declared.steps.Admin.{Admin}
 use Rattle.serve.specs.declared.steps.Admin.TheVariants.{OrgAdd, OrgLimit, OrgRemove, OrgList, TokenAdd, TokenList, TokenRevoke}
 use Rattle.serve.specs.Apart.{Passed, asks_of, asks_to, answers_of, org_named, IsServiceOf, ChoosesByName, AreDivided, ListsThemAll, AreAlike, AnswersInTurn, ReplaysAnswerInTurn, ServicesApartAreOne, Sent, exchanges_of, with_passed, passed_in, ServedApartAreOne, StrangersHaveBadTokens, FrontsByPathAnswerOtherwise}
 use Rattle.serve.specs.Asks.{Ask, silent, refused, requests, commands, Owner, organization, unattributed, operator, owner_of}
-use Rattle.serve.specs.Doors.{org_commanded}
+use Rattle.serve.specs.AtDoor.{org_commanded}
 use Rattle.serve.specs.Runs.{AreOwnReplies}
 use Rattle.serve.specs.Served.{Exchange, IsReportText, IsToldText, IsToldBy, IsFrontOf, IsServedBy, AreServed, with_carried, with_ask, asked_in, carried_in, WroteAlike}
 use Rattle.serve.specs.Service.{token_list_text, IsSaidText, AreTexts, IsListed, Stays, said_to, is_own, same_owner, with_own, own_asks, replies_at, record_for, after_ask, records_after}

@@ -32,12 +32,13 @@ use Rattle.wire.specs.declared.messages.WireFault.TheVariants.{Refused, Down, En
 use Rattle.wire.proofs.ReadingLemmas.{reads_one}
 use Rattle.wire.proofs.ReplyLemmas.{one_reply}
 use Rattle.serve.specs.Asks.{commands, organization}
-use Rattle.serve.specs.Doors.{command_asked, commanded, act_commanded, org_commanded, token_commanded, reported_row, turned_row, unserved_row, IsReportedAtDoor, ComeNotToDoor, PassesDoor, ExchangesOpen, ExchangesWith, BringsSecret, OnlyTheSecretOpens, refusal_without, IsToldNothing, WithoutTheSecret, WrongSecretsAreAlike, AddedSecretsAreNotLogged}
-use Rattle.serve.specs.Exchanges.{Exchanges, ChangesAtMostOne, OfNamed, Makes, ComesAsLogged, ChangesAsLogged}
+use Rattle.serve.specs.Doors.{command_asked, commanded, ComeNotToDoor, BringsSecret}
+use Rattle.serve.specs.AtDoor.{act_commanded, org_commanded, token_commanded, reported_row, turned_row, unserved_row, IsReportedAtDoor, OnlyTheSecretOpens, refusal_without, IsToldNothing, WithoutTheSecret, WrongSecretsAreAlike, AddedSecretsAreNotLogged}
+use Rattle.serve.specs.Exchanges.{PassesDoor, IsAnsweredWith, Exchanges, ChangesAtMostOne, OfNamed, Makes, ComesAsLogged, ChangesAsLogged}
 use Rattle.serve.specs.Logs.{operator_row, unavailable_row}
 use Rattle.serve.specs.Service.{is_head, is_own, after_ask, Carries, Stays, IsAdminAnswer, reported_refusal}
 use Rattle.serve.specs.Steps.{command_step}
-use Rattle.serve.specs.Inner.Doors.{Operates, TurnsAway, OperatesOrNot, AnswersOpen, ReadsElsewhere}
+use Rattle.serve.specs.Inner.Doors.{Operates, TurnsAway, OperatesOrNot, ReadsElsewhere}
 use Rattle.serve.specs.Inner.Replying.{AnswersTo}
 use Rattle.serve.specs.Inner.Taking.{IsCarriedOut}
 use Rattle.serve.specs.declared.commands.CommandReport.{CommandReport}
@@ -48,7 +49,7 @@ use Rattle.serve.specs.declared.exchanges.LinkFault.{LinkFault}
 use Rattle.serve.specs.declared.exchanges.LinkFault.TheVariants.{Ended as LinkEnded, Read as LinkRead, Continue as LinkContinue, Write as LinkWrite}
 use Rattle.serve.specs.declared.steps.Admin.{Admin}
 use Rattle.serve.specs.declared.steps.Admin.TheVariants.{OrgAdd, OrgLimit, OrgRemove, OrgList, TokenAdd, TokenList, TokenRevoke}
-use Rattle.serve.proofs.ExchangeLemmas.{MakesNothing, EndsBefore, exchanged_one, exchanged_logged, carried_one, stayed_one, stayed_logged}
+use Rattle.serve.proofs.ExchangeLemmas.{MakesNothing, EndsBefore, answered_one, any_reported, silent_logged, carried_one, stayed_one, stayed_logged}
 use Rattle.serve.proofs.LawLemmas.{command_leaves}
 use Rattle.serve.proofs.RemovalLemmas.{Comes, command_comes}
 use Rattle.serve.proofs.LoggedChanges.{keeps_same, none_starts}
@@ -93,45 +94,52 @@ away_or_unnamed : (now : ℕ) (received : List ℕ) (read : Result Message WireF
 away_or_unnamed now received read row unread (inl away) = inl away
 away_or_unnamed now received read row unread (inr down) = inr (unread down)
 
-passes : {T : Type 0} (now : ℕ) (received : List ℕ) (is_down : Bool) (row : Option LogRow) (result : Result T LinkFault) → (is_down ≡ false → (result ≡ Err LinkContinue → ⊥) → ComeNotToDoor received)
-    → (is_down ≡ true → ComeNotToDoor received ⊎ (row ≡ Some (unavailable_row now))) → PassesDoor now received is_down row result
-passes now received false row (Ok done) h down = h refl (λ e. let none : ⊥ = cc in none)
-passes now received false row (Err LinkWrite) h down = h refl (λ e. let none : ⊥ = cc in none)
-passes now received false row (Err LinkEnded) h down = tt
-passes now received false row (Err LinkRead) h down = tt
-passes now received false row (Err LinkContinue) h down = tt
-passes now received true row result h down = down refl
+passes : (now : ℕ) (received : List ℕ) (row : Option LogRow) (is_down : Bool) → (is_down ≡ false → ComeNotToDoor received)
+    → (is_down ≡ true → ComeNotToDoor received ⊎ (row ≡ Some (unavailable_row now))) → PassesDoor now received row is_down
+passes now received row false h down = h refl
+passes now received row true h down = down refl
+
+-- an exchange without a door is one with the open door, if what was answered passes by it
+by_the_door : {T : Type 0} (digest : List ℕ) (now : ℕ) (received : List ℕ) (left : Option (List ℕ)) (old new : List ℕ → Option Organization) (a c : Option (List ℕ)) (is_down : Bool) (row : Option LogRow) (result : Result T LinkFault)
+    → (is_down ≡ false → (result ≡ Err LinkContinue → ⊥) → ComeNotToDoor received) → (is_down ≡ true → ComeNotToDoor received ⊎ (row ≡ Some (unavailable_row now)))
+    → Exchanges Closed now received left old new a c is_down row result → Exchanges (Open digest) now received left old new a c is_down row result
+by_the_door digest now received left old new a c is_down row (Ok done) away down h =
+    (h.0, h.1, inl (passes now received row is_down (λ up. away up (λ e. let none : ⊥ = cc in none)) down, h.2), h.3)
+by_the_door digest now received left old new a c is_down row (Err LinkWrite) away down h =
+    (h.0, h.1, h.2, h.3, inl (passes now received row is_down (λ up. away up (λ e. let none : ⊥ = cc in none)) down, h.4), h.5)
+by_the_door digest now received left old new a c is_down row (Err LinkEnded) away down h = h
+by_the_door digest now received left old new a c is_down row (Err LinkRead) away down h = h
+by_the_door digest now received left old new a c is_down row (Err LinkContinue) away down h = h
 
 -- what was read elsewhere is answered as before
 pub passed : {T : Type 0} (digest : List ℕ) (now : ℕ) (read : Result Message WireFault) (old new : List ℕ → Option Organization) (b c : Option (List ℕ)) (is_down : Bool) (row : Option LogRow) (result : Result T LinkFault)
     → ReadsElsewhere read → (IsErrOf read Down → is_down ≡ true) → (IsErrOf read Down → row ≡ Some (unavailable_row now)) → (IsErrOf read Continue → IsErrOf result LinkContinue)
-    → AnswersTo now read old new b c is_down row result → AnswersOpen digest now read old new b c is_down row result
+    → AnswersTo Closed now read old new b c is_down row result → AnswersTo (Open digest) now read old new b c is_down row result
 passed {T = T} digest now read old new b c is_down row result away down unread continued answers received left before reported =
     let exchanges = answers received left before reported in
     let taken : is_down ≡ true → read ≡ Err Continue → ⊥ = λ up e.
-    both_ways is_down (subst (λ (r : Result T LinkFault). Exchanges now received left old new before c is_down row r) (continued e) exchanges).0 up in
-    inl (
-      passes now received is_down row result (λ up written. elsewhere received left before b read away
-          (λ e. both_ways is_down up (down e))
-          (λ e. written (continued e)) reported)
-          (λ up. away_or_unnamed now received read row unread (away_or_down received left before b read away (taken up) reported)),
-      exchanges,
-    )
+    both_ways is_down (subst (λ (r : Result T LinkFault). Exchanges Closed now received left old new before c is_down row r) (continued e) exchanges).0 up in
+    by_the_door digest now received left old new before c is_down row result
+    (λ up written. elsewhere received left before b read away
+    (λ e. both_ways is_down up (down e))
+    (λ e. written (continued e)) reported)
+    (λ up. away_or_unnamed now received read row unread (away_or_down received left before b read away (taken up) reported)) exchanges
 
 -- a message at the door is answered there
 pub at_door : {T : Type 0} (digest : List ℕ) (now : ℕ) (message : Message) (old new : List ℕ → Option Organization) (b c : Option (List ℕ)) (is_down : Bool) (row : Option LogRow) (text : List ℕ) (result : Result T LinkFault)
     → is_at_door message ≡ true → IsReportedAtDoor digest now message old new text row is_down → Writes b c text result → IfErr result (λ fault. fault ≡ LinkWrite)
-    → AnswersOpen digest now (Ok message) old new b c is_down row result
+    → AnswersTo (Open digest) now (Ok message) old new b c is_down row result
 at_door digest now message old new b c is_down row text (Ok done) comes is writes fault received left before reported =
-    inr (message, reported.0, record { reads = reported.1; at_door = comes }, (text, is, Appends-trans before b c (continue_if reported.0) text reported.2 writes))
+    (reported.0, text, inr (message, record { reads = reported.1; at_door = comes }, is), Appends-trans before b c (continue_if reported.0) text reported.2 writes)
 at_door {T = T} digest now message old new b c is_down row text (Err e) comes is writes fault received left before reported =
-    subst (λ (f : LinkFault). ExchangesOpen digest now received left old new before c is_down row {T = T} (Err f)) (sym fault)
-    (inr (
-      message,
+    subst (λ (f : LinkFault). Exchanges (Open digest) now received left old new before c is_down row {T = T} (Err f)) (sym fault) (
       reported.0,
-      record { reads = reported.1; at_door = comes },
-      (writes.0, writes.1, writes.2, subst (λ (x : List ℕ). IsReportedAtDoor digest now message old new x row is_down) writes.3 is, Appends-trans before b c (continue_if reported.0) writes.0 reported.2 writes.4),
-    ))
+      writes.0,
+      writes.1,
+      writes.2,
+      inr (message, record { reads = reported.1; at_door = comes }, subst (λ (x : List ℕ). IsReportedAtDoor digest now message old new x row is_down) writes.3 is),
+      Appends-trans before b c (continue_if reported.0) writes.0 reported.2 writes.4,
+    )
 
 -- ---- what is told
 
@@ -298,29 +306,42 @@ one_at_door digest now message old new text row false (inl done) = carried_one (
 one_at_door digest now message old new text row false (inr away) = stayed_one old new away.stays
 one_at_door digest now message old new text row true down = stayed_one old new down.stays
 
-pub open_one : {T : Type 0} (digest : List ℕ) (left : Option (List ℕ)) (now : ℕ) (received : List ℕ) (old new : List ℕ → Option Organization) (a c : Option (List ℕ)) (is_down : Bool) (row : Option LogRow) (result : Result T LinkFault)
-    → ExchangesOpen digest now received left old new a c is_down row result → (EndsBefore result → Stays old new) → ChangesAtMostOne old new
-open_one digest left now received old new a c is_down row result (inl h) stays = exchanged_one left now received old new a c is_down row result h.1 stays
-open_one digest left now received old new a c is_down row (Ok done) (inr h) stays = one_at_door digest now h.0 old new h.3.0 row is_down h.3.1
-open_one digest left now received old new a c is_down row (Err LinkWrite) (inr h) stays = one_at_door digest now h.0 old new (h.3.0 ++ h.3.1) row is_down h.3.3
-open_one digest left now received old new a c is_down row (Err LinkEnded) (inr h) stays = absurd h.3
-open_one digest left now received old new a c is_down row (Err LinkRead) (inr h) stays = absurd h.3
-open_one digest left now received old new a c is_down row (Err LinkContinue) (inr h) stays = absurd h.3
+-- with a door or without, at most one record changes
+answered_one_with : (door : Door) (now : ℕ) (received : List ℕ) (old new : List ℕ → Option Organization) (awaited : Bool) (text : List ℕ) (row : Option LogRow) (is_down : Bool)
+    → IsAnsweredWith door now received old new awaited text row is_down → ChangesAtMostOne old new
+answered_one_with Closed now received old new awaited text row is_down h = answered_one now received old new awaited text row is_down h
+answered_one_with (Open digest) now received old new awaited text row is_down (inl h) = answered_one now received old new awaited text row is_down h.1
+answered_one_with (Open digest) now received old new awaited text row is_down (inr h) = one_at_door digest now h.0 old new text row is_down h.2
 
-pub open_reported : {T : Type 0} (digest : List ℕ) (left : Option (List ℕ)) (now : ℕ) (received : List ℕ) (old new : List ℕ → Option Organization) (a c : Option (List ℕ)) (is_down : Bool) (row : Option LogRow) (result : Result T LinkFault)
-    → AreLawful old → ExchangesOpen digest now received left old new a c is_down row result → (EndsBefore result → Stays old new) → IfSome row (λ reported. ChangesAsLogged reported old new)
-open_reported digest left now received old new a c is_down row result lawful (inl h) stays = exchanged_logged left now received old new a c is_down row result lawful h.1 stays
-open_reported digest left now received old new a c is_down row (Ok done) lawful (inr h) stays = changed_at_door digest now h.0 old new h.3.0 row is_down h.3.1
-open_reported digest left now received old new a c is_down row (Err LinkWrite) lawful (inr h) stays = changed_at_door digest now h.0 old new (h.3.0 ++ h.3.1) row is_down h.3.3
-open_reported digest left now received old new a c is_down row (Err LinkEnded) lawful (inr h) stays = absurd h.3
-open_reported digest left now received old new a c is_down row (Err LinkRead) lawful (inr h) stays = absurd h.3
-open_reported digest left now received old new a c is_down row (Err LinkContinue) lawful (inr h) stays = absurd h.3
+pub exchanged_one : {T : Type 0} (door : Door) (left : Option (List ℕ)) (now : ℕ) (received : List ℕ) (old new : List ℕ → Option Organization) (a c : Option (List ℕ)) (is_down : Bool) (row : Option LogRow) (result : Result T LinkFault)
+    → Exchanges door now received left old new a c is_down row result → (EndsBefore result → Stays old new) → ChangesAtMostOne old new
+exchanged_one door left now received old new a c is_down row (Ok done) h stays = answered_one_with door now received old new h.0 h.1 row is_down h.2
+exchanged_one door left now received old new a c is_down row (Err LinkWrite) h stays = answered_one_with door now received old new h.0 (h.1 ++ h.2) row is_down h.4
+exchanged_one door left now received old new a c is_down row (Err LinkEnded) h stays = stayed_one old new (stays (inl refl))
+exchanged_one door left now received old new a c is_down row (Err LinkRead) h stays = stayed_one old new (stays (inr (inl refl)))
+exchanged_one door left now received old new a c is_down row (Err LinkContinue) h stays = stayed_one old new (stays (inr (inr refl)))
+
+-- and what changed is what the row tells
+reported_with : (door : Door) (now : ℕ) (received : List ℕ) (old new : List ℕ → Option Organization) (awaited : Bool) (text : List ℕ) (row : Option LogRow) (is_down : Bool)
+    → AreLawful old → IsAnsweredWith door now received old new awaited text row is_down → IfSome row (λ reported. ChangesAsLogged reported old new)
+reported_with Closed now received old new awaited text row is_down lawful h = any_reported now received old new awaited text row is_down lawful h
+reported_with (Open digest) now received old new awaited text row is_down lawful (inl h) = any_reported now received old new awaited text row is_down lawful h.1
+reported_with (Open digest) now received old new awaited text row is_down lawful (inr h) = changed_at_door digest now h.0 old new text row is_down h.2
+
+pub exchanged_logged : {T : Type 0} (door : Door) (left : Option (List ℕ)) (now : ℕ) (received : List ℕ) (old new : List ℕ → Option Organization) (a c : Option (List ℕ)) (is_down : Bool) (row : Option LogRow) (result : Result T LinkFault)
+    → AreLawful old → Exchanges door now received left old new a c is_down row result → (EndsBefore result → Stays old new) → IfSome row (λ reported. ChangesAsLogged reported old new)
+exchanged_logged door left now received old new a c is_down row (Ok done) lawful h stays = reported_with door now received old new h.0 h.1 row is_down lawful h.2
+exchanged_logged door left now received old new a c is_down row (Err LinkWrite) lawful h stays = reported_with door now received old new h.0 (h.1 ++ h.2) row is_down lawful h.4
+exchanged_logged door left now received old new a c is_down row (Err LinkEnded) lawful h stays = silent_logged row now old new h.1 (stays (inl refl))
+exchanged_logged door left now received old new a c is_down row (Err LinkRead) lawful h stays = silent_logged row now old new h.1 (stays (inr (inl refl)))
+exchanged_logged door left now received old new a c is_down row (Err LinkContinue) lawful h stays = silent_logged row now old new h.1 (stays (inr (inr refl)))
 
 -- nothing was read, and the refusal is written
 pub refused_with : {T : Type 0} (door : Door) (left : Option (List ℕ)) (now : ℕ) (received : List ℕ) (rows : List ℕ → Option Organization) (a c : Option (List ℕ)) (row : Option LogRow) (result : Result T LinkFault)
-    → row ≡ Some (unavailable_row now) → Exchanges now received left rows rows a c true row result → ExchangesWith door now received left rows rows a c true row result
+    → row ≡ Some (unavailable_row now) → Exchanges Closed now received left rows rows a c true row result → Exchanges door now received left rows rows a c true row result
 refused_with Closed left now received rows a c row result is h = h
-refused_with (Open digest) left now received rows a c row result is h = inl (inr is, h)
+refused_with (Open digest) left now received rows a c row result is h =
+    by_the_door digest now received left rows rows a c true row result (λ up written. absurd (let none : ⊥ = cc in none)) (λ up. inr is) h
 
 -- ---- nobody without the secret
 

@@ -1,5 +1,5 @@
 -- One exchange: the reply to what was read, and what is written in all.
-use Rattle.std.proofs.Common.{◌≡◌, ◌≢◌, ℕ, Bool, true, false, List, [], ◌++◌, Option, Some, None, Result, Ok, Err, IsSome, IfSome, IfErr, IsErrOf, refl, sym, ap, subst, ◌∙◌, ◌⊎◌, inl, inr}
+use Rattle.std.proofs.Common.{◌≡◌, ◌≢◌, ℕ, Bool, true, false, List, [], Option, Some, None, Result, Ok, Err, IsSome, IfSome, IfErr, IsErrOf, refl, sym, ap, subst, ◌∙◌, ◌⊎◌, inl, inr}
 use Rattle.std.specs.Io.KnownBytes.{Appends, Consumes}
 use Rattle.std.specs.Str.{bytes_eq}
 use Rattle.std.proofs.lemmas.Slice.Eq.{bytes_eq-Decides}
@@ -25,6 +25,7 @@ use Rattle.serve.specs.Inner.Replying.{without_body, PreparesFor, LogsFor, LogsD
 use Rattle.serve.specs.Inner.Tracing.{as_unavailable}
 use Rattle.serve.specs.Service.{same_owner, record_for, asked_by, ask_of, Asks, Carries, Stays, said_to, IsSaidText, is_head, after_ask}
 use Rattle.serve.specs.Exchanges.{IsServed, IsUnavailableFor, IsAnswered, Exchanges, ChangesAtMostOne, ComesAsLogged, ChangesAsLogged}
+use Rattle.serve.specs.declared.doors.Door.TheVariants.{Closed}
 use Rattle.serve.specs.declared.exchanges.LinkFault.{LinkFault}
 use Rattle.serve.specs.declared.exchanges.LinkFault.TheVariants.{Ended as LinkEnded, Read as LinkRead, Continue as LinkContinue, Write as LinkWrite}
 use Rattle.serve.specs.declared.messages.Prepared.{Prepared}
@@ -72,7 +73,7 @@ carried_one (commands at command) old new carries = by_owner (ask.commanded_of c
 pub stayed_one : (old new : List ℕ → Option Organization) → Stays old new → ChangesAtMostOne old new
 stayed_one old new stays = ([], (λ other apart. stays other))
 
-answered_one : (now : ℕ) (received : List ℕ) (old new : List ℕ → Option Organization) (awaited : Bool) (text : List ℕ) (row : Option LogRow) (is_down : Bool) → IsAnswered now received old new awaited text row is_down → ChangesAtMostOne old new
+pub answered_one : (now : ℕ) (received : List ℕ) (old new : List ℕ → Option Organization) (awaited : Bool) (text : List ℕ) (row : Option LogRow) (is_down : Bool) → IsAnswered now received old new awaited text row is_down → ChangesAtMostOne old new
 answered_one now received old new awaited text row false served = carried_one served.ask old new served.carries
 answered_one now received old new awaited text row true unavailable = stayed_one old new unavailable.1.stays
 
@@ -245,20 +246,20 @@ Received old new P = (received : List ℕ) × Consumes old new received × P rec
 -- the reply is written, or a part of it
 pub replied : {T : Type 0} (now : ℕ) (read : Result Message WireFault) (old new : List ℕ → Option Organization) (is_down : Bool) (row : Option LogRow) (b c : Option (List ℕ)) (text : List ℕ) (result : Result T LinkFault)
     → AnswersRead now read old new is_down text row → Writes b c text result → IfErr result (λ fault. fault ≡ LinkWrite)
-    → AnswersTo now read old new b c is_down row result
+    → AnswersTo Closed now read old new b c is_down row result
 replied now read old new is_down row b c text (Ok done) answers writes fault received left a reported =
     let r = answers received left a b reported in
     (r.0, text, r.2, Appends-trans a b c (continue_if r.0) text r.1 writes)
 replied {T = T} now read old new is_down row b c text (Err e) answers writes fault received left a reported =
     let r = answers received left a b reported in
     let is = subst (λ (x : List ℕ). IsAnswered now received old new r.0 x row is_down) writes.3 r.2 in
-    subst (λ (f : LinkFault). Exchanges now received left old new a c is_down row {T = T} (Err f)) (sym fault)
+    subst (λ (f : LinkFault). Exchanges Closed now received left old new a c is_down row {T = T} (Err f)) (sym fault)
     (r.0, writes.0, writes.1, writes.2, is, Appends-trans a b c (continue_if r.0) writes.0 r.1 writes.4)
 
 -- nothing is read, and the refusal is written
 pub refused_unread : {T : Type 0} (left : Option (List ℕ)) (now : ℕ) (rows : List ℕ → Option Organization) (row : LogRow) (a c : Option (List ℕ)) (text : List ℕ) (result : Result T LinkFault)
     → row ≡ unavailable_row now → IsReplyText (unavailable_answer false) now text → Writes a c text result → IfErr result (λ fault. fault ≡ LinkWrite)
-    → Received left left (λ received. Exchanges now received left rows rows a c true (Some row) result)
+    → Received left left (λ received. Exchanges Closed now received left rows rows a c true (Some row) result)
 refused_unread left now rows row a c text result is is_text writes fault = (
   [],
   Consumes-nil left,
@@ -269,7 +270,7 @@ refused_unread left now rows row a c text result is is_text writes fault = (
 pub no_reply : (now : ℕ) (read : Result Message WireFault) (old new : List ℕ → Option Organization) (row : LogRow) (b : Option (List ℕ)) (fault : LinkFault)
     → row ≡ silent_row now → fault ≢ LinkWrite
     → (fault ≡ LinkEnded → read ≡ Err Ended) → (fault ≡ LinkRead → read ≡ Err Read) → (fault ≡ LinkContinue → read ≡ Err Continue)
-    → AnswersTo now read old new b b false (Some row) {T = Unit {0}} (Err fault)
+    → AnswersTo Closed now read old new b b false (Some row) {T = Unit {0}} (Err fault)
 no_reply now read old new row b LinkEnded no_row write ended failed continued received left a reported =
     let r = subst (λ (r : Result Message WireFault). ReportsReceived received left a b r) (ended refl) reported in (refl, ap Some no_row, r.0, r.1, r.2)
 no_reply now read old new row b LinkRead no_row write ended failed continued received left a reported =
@@ -286,32 +287,14 @@ not_prepared now rows read p prepared is = subst (λ (r : Result Message WireFau
 abbrev pub EndsBefore : {T : Type 0} → Result T LinkFault → Type 0
 EndsBefore result = IsErrOf result LinkEnded ⊎ (IsErrOf result LinkRead ⊎ IsErrOf result LinkContinue)
 
--- at most one record changes
-pub exchanged_one : {T : Type 0} (left : Option (List ℕ)) (now : ℕ) (received : List ℕ) (old new : List ℕ → Option Organization) (a c : Option (List ℕ)) (is_down : Bool) (row : Option LogRow) (result : Result T LinkFault)
-    → Exchanges now received left old new a c is_down row result → (EndsBefore result → Stays old new) → ChangesAtMostOne old new
-exchanged_one left now received old new a c is_down row (Ok done) h stays = answered_one now received old new h.0 h.1 row is_down h.2
-exchanged_one left now received old new a c is_down row (Err LinkWrite) h stays = answered_one now received old new h.0 (h.1 ++ h.2) row is_down h.4
-exchanged_one left now received old new a c is_down row (Err LinkEnded) h stays = stayed_one old new (stays (inl refl))
-exchanged_one left now received old new a c is_down row (Err LinkRead) h stays = stayed_one old new (stays (inr (inl refl)))
-exchanged_one left now received old new a c is_down row (Err LinkContinue) h stays = stayed_one old new (stays (inr (inr refl)))
-
-silent_logged : (row : Option LogRow) (now : ℕ) (old new : List ℕ → Option Organization) → row ≡ Some (silent_row now) → Stays old new → IfSome row (λ reported. ChangesAsLogged reported old new)
+pub silent_logged : (row : Option LogRow) (now : ℕ) (old new : List ℕ → Option Organization) → row ≡ Some (silent_row now) → Stays old new → IfSome row (λ reported. ChangesAsLogged reported old new)
 silent_logged row now old new is stays =
     subst (λ (r : Option LogRow). IfSome r (λ reported. ChangesAsLogged reported old new)) (sym is) (stayed_logged (silent_row now) old new (silent_makes_nothing (silent_row now) now refl) stays)
 
-any_reported : (now : ℕ) (received : List ℕ) (old new : List ℕ → Option Organization) (awaited : Bool) (text : List ℕ) (row : Option LogRow) (is_down : Bool)
+pub any_reported : (now : ℕ) (received : List ℕ) (old new : List ℕ → Option Organization) (awaited : Bool) (text : List ℕ) (row : Option LogRow) (is_down : Bool)
     → AreLawful old → IsAnswered now received old new awaited text row is_down → IfSome row (λ reported. ChangesAsLogged reported old new)
 any_reported now received old new awaited text None is_down lawful h = tt
 any_reported now received old new awaited text (Some row) is_down lawful h = answered_reported now received old new awaited text row is_down lawful h
-
--- what changed is what the row tells
-pub exchanged_logged : {T : Type 0} (left : Option (List ℕ)) (now : ℕ) (received : List ℕ) (old new : List ℕ → Option Organization) (a c : Option (List ℕ)) (is_down : Bool) (row : Option LogRow) (result : Result T LinkFault)
-    → AreLawful old → Exchanges now received left old new a c is_down row result → (EndsBefore result → Stays old new) → IfSome row (λ reported. ChangesAsLogged reported old new)
-exchanged_logged left now received old new a c is_down row (Ok done) lawful h stays = any_reported now received old new h.0 h.1 row is_down lawful h.2
-exchanged_logged left now received old new a c is_down row (Err LinkWrite) lawful h stays = any_reported now received old new h.0 (h.1 ++ h.2) row is_down lawful h.4
-exchanged_logged left now received old new a c is_down row (Err LinkEnded) lawful h stays = silent_logged row now old new h.1 (stays (inl refl))
-exchanged_logged left now received old new a c is_down row (Err LinkRead) lawful h stays = silent_logged row now old new h.1 (stays (inr (inl refl)))
-exchanged_logged left now received old new a c is_down row (Err LinkContinue) lawful h stays = silent_logged row now old new h.1 (stays (inr (inr refl)))
 
 -- what was read of a whole input, as of what received
 of_input : (at : ℕ) (rows : List ℕ → Option Organization) (read : Result Message WireFault) (p : Prepared) (bytes : List ℕ) (a b : Option (List ℕ)) → PreparesFor at rows read p → ReportsInput bytes a b read → ReportsReceived bytes None a b read

@@ -1,5 +1,5 @@
 -- Exchanges in a row: what one of them is, and what follows of each organization.
-use Rattle.std.proofs.Common.{◌≡◌, inl, inr, ℕ, Bool, true, false, List, [], ◌∷◌, ◌++◌, Option, Some, None, IfSome, Result, Ok, Err, refl, sym, ap, subst, ◌∙◌, append_assoc}
+use Rattle.std.proofs.Common.{◌≡◌, inl, inr, ℕ, Bool, true, false, List, [], ◌∷◌, ◌++◌, Option, Some, None, IfSome, Ok, Err, refl, sym, ap, subst, ◌∙◌, append_assoc}
 use Rattle.std.specs.Prelude.{⊤}
 use Rattle.std.proofs.Math.Path.{fun_ext}
 use Rattle.std.specs.List.{AllByRecursion}
@@ -19,24 +19,22 @@ use Rattle.wire.specs.Messages as wire
 use Rattle.wire.specs.Replies.{IsReplyText}
 use Rattle.serve.specs.declared.doors.Door.{Door}
 use Rattle.serve.specs.declared.doors.Door.TheVariants.{Closed, Open}
-use Rattle.serve.specs.declared.exchanges.LinkFault.{LinkFault}
 use Rattle.serve.specs.declared.exchanges.LinkFault.TheVariants.{Ended, Read, Continue, Write}
 use Rattle.serve.specs.declared.steps.Admin.{Admin}
 use Rattle.serve.specs.declared.steps.Admin.TheVariants.{OrgAdd, OrgLimit, OrgRemove, OrgList, TokenAdd, TokenList, TokenRevoke}
 use Rattle.serve.specs.Asks.{Ask, refused, requests, commands, Owner, organization, unattributed, operator, owner_of, IsTimely}
-use Rattle.serve.specs.Doors.{ComesToDoor, ComeNotToDoor, reported_answer, IsReportedAtDoor, PassesDoor, ExchangesOpen}
-use Rattle.serve.specs.Exchanges.{Exchanges, IsAnswered}
+use Rattle.serve.specs.Doors.{ComesToDoor, ComeNotToDoor, reported_answer}
+use Rattle.serve.specs.AtDoor.{IsReportedAtDoor}
+use Rattle.serve.specs.Exchanges.{IsAnswered, PassesDoor, IsAnsweredWith}
+use Rattle.serve.specs.Laws.{ExchangesAreServed}
 use Rattle.serve.specs.Runs.{IsOwnRecord}
 use Rattle.serve.specs.Service.{Asks, ask_of, asked_by, is_head, is_own, with_own, own_asks, replies_at, record_for, after_ask, Carries, Stays, said_to, IsAdminAnswer}
-use Rattle.serve.specs.Steps.{Said, nothing, reports, lists, lists_tokens, Answered as StepAnswered, replies, refusing, request_step, step, own_said, own_record}
+use Rattle.serve.specs.Steps.{Said, nothing, reports, lists, lists_tokens, replies, step, own_said, own_record}
 use Rattle.serve.specs.Promises.{ServicesAreAsPromised}
-use Rattle.serve.specs.AbsentForms.{IsFormOf, ServedRequest, record_at, ServedTellAbsentForms}
-use Rattle.serve.specs.Laws.{renamed}
+use Rattle.serve.specs.AbsentForms.{ServedRequest, record_at, ServedTellAbsentForms}
 use Rattle.route.specs.declared.routes.Asked.{Asked}
-use Rattle.basis.specs.declared.refusals.Refusal.TheVariants.{NotFound}
-use Rattle.serve.proofs.AbsentLemmas.{form_asks}
-use Rattle.serve.proofs.LawLemmas.{out_of_reach_is_not_found, out_of_reach_is_as_absent, outside_the_prefix_is_not_found, outside_the_prefix_is_as_absent}
-use Rattle.serve.specs.Served.{Exchange, AsksWith, IsLetIn, IsReportText, IsToldText, IsToldBy, IsFrontOf, IsTold, CarriesOut, IsCutShort, IsServedBy, IsServed, HasNoReply, ExchangesAreServed, AreServed, with_carried, with_ask, asked_in, carried_in, AreTold, AreOwnTold, EachIsServedAlone, ServedKeepCustody, AsksInTurn, ServedInTurn, AllWroteAlike, TwoServedWorlds}
+use Rattle.serve.proofs.AbsentLemmas.{looks_absent}
+use Rattle.serve.specs.Served.{Exchange, AsksWith, IsLetIn, IsReportText, IsToldText, IsToldBy, IsFrontOf, IsTold, CarriesOut, IsCutShort, IsServedBy, IsServed, AreServed, with_carried, with_ask, asked_in, carried_in, AreTold, AreOwnTold, EachIsServedAlone, ServedKeepCustody, AsksInTurn, ServedInTurn, AllWroteAlike, TwoServedWorlds}
 use Rattle.wire.proofs.ReplyLemmas.{one_reply}
 use Rattle.serve.proofs.BookLemmas.{custody_is_kept}
 use Rattle.serve.proofs.DoorLemmas.{brings}
@@ -128,37 +126,6 @@ unanswered door at received old new before after written awaited moment stays cu
   (moment, (stays, inr (refl, cut))),
 )
 
-abbrev PassesAs : Door → ℕ → List ℕ → Bool → Option LogRow → {T : Type 0} → Result T LinkFault → Type 0
-PassesAs Closed at received is_down row result = ⊤
-PassesAs (Open digest) at received is_down row result = PassesDoor at received is_down row result
-
-passes_done : {T : Type 0} (door : Door) (at : ℕ) (received : List ℕ) (is_down : Bool) (row : Option LogRow) (done : T) → PassesAs door at received is_down row (Ok done) → is_down ≡ false → PassesBy door received
-passes_done Closed at received is_down row done h e = tt
-passes_done (Open digest) at received false row done h e = h
-passes_done (Open digest) at received true row done h e = absurd (let none : ⊥ = cc in none)
-
-passes_cut : (T : Type 0) (door : Door) (at : ℕ) (received : List ℕ) (is_down : Bool) (row : Option LogRow) → PassesAs door at received is_down row {T = T} (Err Write) → is_down ≡ false → PassesBy door received
-passes_cut T Closed at received is_down row h e = tt
-passes_cut T (Open digest) at received false row h e = h
-passes_cut T (Open digest) at received true row h e = absurd (let none : ⊥ = cc in none)
-
--- an exchange that passes by the door, or has none
-passed_by : {T : Type 0} (door : Door) (at : ℕ) (received : List ℕ) (left : Option (List ℕ)) (old new : List ℕ → Option Organization) (before after : Option (List ℕ)) (is_down : Bool) (row : Option LogRow) (res : Result T LinkFault)
-    → IsMoment at → PassesAs door at received is_down row res → Exchanges at received left old new before after is_down row res → (HasNoReply res → Stays old new) → Found door at received old new before after
-passed_by door at received left old new before after is_down row (Ok done) moment passes h stays =
-    answered door at received old new before after h.0 h.1 row true (continue_if h.0 ++ h.1) is_down moment (passes_done door at received is_down row done passes) refl h.3 h.2
-passed_by {T = T} door at received left old new before after is_down row (Err Write) moment passes h stays =
-    answered door at received old new before after h.0 (h.1 ++ h.2) row false (continue_if h.0 ++ h.1) is_down moment (passes_cut T door at received is_down row passes) (h.2, h.3, sym (append_assoc (continue_if h.0) h.1 h.2)) h.5 h.4
-passed_by door at received left old new before after is_down row (Err Ended) moment passes h stays =
-    let continues = h.4 in
-    unanswered door at received old new before after (continue_if continues.0) continues.0 moment (stays (inl refl)) (inl (h.2, continues.1, refl)) continues.2
-passed_by door at received left old new before after is_down row (Err Read) moment passes h stays =
-    let continues = h.3 in
-    unanswered door at received old new before after (continue_if continues.0) continues.0 moment (stays (inr (inl refl))) (inl (h.2, continues.1, refl)) continues.2
-passed_by door at received left old new before after is_down row (Err Continue) moment passes h stays =
-    let cut = h.3 in
-    unanswered door at received old new before after cut.0 true moment (stays (inr (inr refl))) (inr (h.2, (cut.1, cut.2, cut.3))) cut.4
-
 -- one at the door
 at_the_door : (digest : List ℕ) (at : ℕ) (received : List ℕ) (message : Message) (awaited : Bool) (old new : List ℕ → Option Organization) (before after : Option (List ℕ)) (text : List ℕ) (row : Option LogRow) (is_whole : Bool) (written : List ℕ) (is_down : Bool)
     → IsMoment at → ComesToDoor received message awaited → IsFrontOf is_whole written (continue_if awaited ++ text) → Appends before after written → IsReportedAtDoor digest at message old new text row is_down
@@ -205,22 +172,35 @@ at_the_door digest at received message awaited old new before after text row is_
   (moment, (down.stays, inl (is_head message, text, down.is, front))),
 )
 
-opened : {T : Type 0} (digest : List ℕ) (at : ℕ) (received : List ℕ) (left : Option (List ℕ)) (old new : List ℕ → Option Organization) (before after : Option (List ℕ)) (is_down : Bool) (row : Option LogRow) (res : Result T LinkFault)
-    → IsMoment at → ExchangesOpen digest at received left old new before after is_down row res → (HasNoReply res → Stays old new) → Found (Open digest) at received old new before after
-opened digest at received left old new before after is_down row res moment (inl h) stays = passed_by (Open digest) at received left old new before after is_down row res moment h.0 h.1 stays
-opened digest at received left old new before after is_down row (Ok done) moment (inr h) stays =
-    let told = h.3 in
-    at_the_door digest at received h.0 h.1 old new before after told.0 row true (continue_if h.1 ++ told.0) is_down moment h.2 refl told.2 told.1
-opened digest at received left old new before after is_down row (Err Write) moment (inr h) stays =
-    let told = h.3 in
-    at_the_door digest at received h.0 h.1 old new before after (told.0 ++ told.1) row false (continue_if h.1 ++ told.0) is_down moment h.2 (told.1, told.2, sym (append_assoc (continue_if h.1) told.0 told.1)) told.4 told.3
-opened digest at received left old new before after is_down row (Err Ended) moment (inr h) stays = absurd h.3
-opened digest at received left old new before after is_down row (Err Read) moment (inr h) stays = absurd h.3
-opened digest at received left old new before after is_down row (Err Continue) moment (inr h) stays = absurd h.3
+passes_if_up : (at : ℕ) (received : List ℕ) (row : Option LogRow) (is_down : Bool) → PassesDoor at received row is_down → is_down ≡ false → ComeNotToDoor received
+passes_if_up at received row false h up = h
+passes_if_up at received row true h up = absurd (let none : ⊥ = cc in none)
+
+-- with a door or without
+answered_with : (door : Door) (at : ℕ) (received : List ℕ) (old new : List ℕ → Option Organization) (before after : Option (List ℕ)) (awaited : Bool) (text : List ℕ) (row : Option LogRow) (is_whole : Bool) (written : List ℕ) (is_down : Bool)
+    → IsMoment at → IsFrontOf is_whole written (continue_if awaited ++ text) → Appends before after written → IsAnsweredWith door at received old new awaited text row is_down
+    → Found door at received old new before after
+answered_with Closed at received old new before after awaited text row is_whole written is_down moment front appends h =
+    answered Closed at received old new before after awaited text row is_whole written is_down moment (λ up. tt) front appends h
+answered_with (Open digest) at received old new before after awaited text row is_whole written is_down moment front appends (inl h) =
+    answered (Open digest) at received old new before after awaited text row is_whole written is_down moment (passes_if_up at received row is_down h.0) front appends h.1
+answered_with (Open digest) at received old new before after awaited text row is_whole written is_down moment front appends (inr h) =
+    at_the_door digest at received h.0 awaited old new before after text row is_whole written is_down moment h.1 front appends h.2
 
 pub exchanges_are_served : ExchangesAreServed
-exchanges_are_served Closed at received left old new before after is_down row res moment h stays = passed_by Closed at received left old new before after is_down row res moment tt h stays
-exchanges_are_served (Open digest) at received left old new before after is_down row res moment h stays = opened digest at received left old new before after is_down row res moment h stays
+exchanges_are_served door at received left old new before after is_down row (Ok done) moment h stays =
+    answered_with door at received old new before after h.0 h.1 row true (continue_if h.0 ++ h.1) is_down moment refl h.3 h.2
+exchanges_are_served door at received left old new before after is_down row (Err Write) moment h stays =
+    answered_with door at received old new before after h.0 (h.1 ++ h.2) row false (continue_if h.0 ++ h.1) is_down moment (h.2, h.3, sym (append_assoc (continue_if h.0) h.1 h.2)) h.5 h.4
+exchanges_are_served door at received left old new before after is_down row (Err Ended) moment h stays =
+    let continues = h.4 in
+    unanswered door at received old new before after (continue_if continues.0) continues.0 moment (stays (inl refl)) (inl (h.2, continues.1, refl)) continues.2
+exchanges_are_served door at received left old new before after is_down row (Err Read) moment h stays =
+    let continues = h.3 in
+    unanswered door at received old new before after (continue_if continues.0) continues.0 moment (stays (inr (inl refl))) (inl (h.2, continues.1, refl)) continues.2
+exchanges_are_served door at received left old new before after is_down row (Err Continue) moment h stays =
+    let cut = h.3 in
+    unanswered door at received old new before after cut.0 true moment (stays (inr (inr refl))) (inr (h.2, (cut.1, cut.2, cut.3))) cut.4
 
 -- ---- exchanges in a row
 
@@ -333,25 +313,10 @@ module _ (door : Door) (es : List Exchange) (old new : List ℕ → Option Organ
   request_told : IsTold (step (record_at old a) (requests a.one.at a.one.awaited a.asked a.content_md5 a.body)).answer a.one
   request_told = subst (λ (r : Option Organization). IsTold (step r (requests a.one.at a.one.awaited a.asked a.content_md5 a.body)).answer a.one) record_is (request_served.text, request_served.told, request_served.written)
 
-  told_as : (done : StepAnswered) → request_step (record_at old a) a.one.at a.asked a.content_md5 a.body ≡ done → IsTold (replies a.one.awaited a.one.at done.answer) a.one
-  told_as done same = subst (λ (d : StepAnswered). IsTold (replies a.one.awaited a.one.at d.answer) a.one) same request_told
-
-  told_to_form : (other org ws : List ℕ) (ask : Ask) → IsFormOf a.one.received other org ws → Asks a.one.at other ask
-      → request_step (record_at old a) a.one.at a.asked a.content_md5 a.body ≡ request_step (record_at old a) a.one.at (record a.asked { org = org; act = renamed a.asked.act ws }) a.content_md5 a.body
-      → IsTold (step (record_at old a) ask).answer a.one
-  told_to_form other org ws ask form asks_it same =
-      let bytes_ask = request_asks door a.one.at a.one.received a.one.awaited a.asked a.content_md5 a.body request_served.asks in
-      let is : ask ≡ requests a.one.at a.one.awaited (record a.asked { org = org; act = renamed a.asked.act ws }) a.content_md5 a.body = form_asks a.one.at a.one.received other org ws a.one.awaited a.asked a.content_md5 a.body ask bytes_ask form asks_it in
-      subst (λ (x : Ask). IsTold (step (record_at old a) x).answer a.one) (sym is) (told_as (request_step (record_at old a) a.one.at (record a.asked { org = org; act = renamed a.asked.act ws }) a.content_md5 a.body) same)
-
 pub served_tell_absent_forms : ServedTellAbsentForms
-served_tell_absent_forms door es old new h = record {
-  absent_forms = λ a other org ws ask out needs lacks form asks_it. told_to_form door es old new h a other org ws ask form asks_it (out_of_reach_is_as_absent (record_at old a) a.one.at a.asked a.content_md5 a.body org ws out needs lacks);
-  out_of_reach = λ a token out known may. told_as door es old new h a (refusing NotFound (record_at old a)) (out_of_reach_is_not_found (record_at old a) a.one.at a.asked a.content_md5 a.body token out known may);
-  outside_the_prefix = λ a token other org ws ask known outside needs lacks form asks_it.
-      told_to_form door es old new h a other org ws ask form asks_it (outside_the_prefix_is_as_absent (record_at old a) a.one.at a.asked a.content_md5 a.body org ws token known outside needs lacks);
-  not_admitted = λ a token known outside may. told_as door es old new h a (refusing NotFound (record_at old a)) (outside_the_prefix_is_not_found (record_at old a) a.one.at a.asked a.content_md5 a.body token known outside may);
-}
+served_tell_absent_forms door es old new h a =
+    looks_absent (record_at old a) a.one.at a.one.awaited a.one.received a.asked a.content_md5 a.body (λ said. IsTold said a.one)
+    (request_asks door a.one.at a.one.received a.one.awaited a.asked a.content_md5 a.body (request_served door es old new h a).asks) (request_told door es old new h a)
 
 -- no request is an operator's command
 asking_let_in : (door : Door) (bytes : List ℕ) (at : ℕ) (awaited : Bool) (message : Message) (asking : Asking) → IsLetIn door bytes (asked_by at awaited message asking)

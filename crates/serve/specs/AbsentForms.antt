@@ -10,16 +10,17 @@ use Rattle.machine.specs.declared.records.Organization.{Organization}
 use Rattle.route.specs.Paths.{path_parts}
 use Rattle.route.specs.Policy.{is_admitted}
 use Rattle.route.specs.declared.routes.Asked.{Asked}
+use Rattle.route.specs.declared.routes.AskedAct.{AskedAct}
+use Rattle.route.specs.declared.routes.AskedAct.TheVariants.{ListWorkspaces, OfWorkspace}
 use Rattle.wire.specs.Replies.{refused_answer}
 use Rattle.wire.specs.Retargeting.{SameButTarget}
 use Rattle.wire.specs.Targets.{origin_of, path_of, query_of}
 use Rattle.serve.specs.declared.steps.Step.{Step}
 use Rattle.serve.specs.declared.steps.Step.TheVariants.{Request}
 use Rattle.serve.specs.Asks.{Ask, requests, organization}
-use Rattle.serve.specs.Checks.{is_in_reach, known_caller, may_do}
-use Rattle.serve.specs.Laws.{NeedsWorkspace}
+use Rattle.serve.specs.Checks.{makes, is_in_reach, known_caller, may_do}
 use Rattle.serve.specs.Service.{Asks, AreAsked, IsSaidText, own_asks}
-use Rattle.serve.specs.Steps.{replies, step, own_record}
+use Rattle.serve.specs.Steps.{Said, replies, step, own_record}
 use Rattle.serve.specs.Served.{Exchange, IsTold, AreServed, asked_in}
 use Rattle.serve.specs.declared.doors.Door.{Door}
 
@@ -48,6 +49,28 @@ pub record IsFormOf (bytes other org ws : List ℕ) : Type 0 where
   pub same : SameButTarget bytes other target aim
   pub names : NamesInstead target aim org ws
 
+-- what is asked of a workspace that has to be there
+abbrev pub NeedsWorkspace : AskedAct → Type 0
+NeedsWorkspace (ListWorkspaces after) = ⊥
+NeedsWorkspace (OfWorkspace ws act) = makes act ≡ false
+
+-- what is told to a request that needs a workspace is what the machine says to each absent form of it. The record is that of its caller's
+-- organization before it
+abbrev pub TellsAbsentForms : Option Organization → ℕ → List ℕ → Asked → (Said → Type 0) → Type 0
+TellsAbsentForms r at bytes asked Tells = (other org ws : List ℕ) (ask : Ask) → NeedsWorkspace asked.act → workspace_in r ws ≡ None → IsFormOf bytes other org ws → Asks at other ask
+    → Tells (step r ask).answer
+
+-- what is told to a request looks as if its workspace were absent: to one whose path names another organization than its caller's, or whose
+-- workspace is outside its caller's prefix. And if its caller is known and has the role, it is told not-found, whatever it asks: PUT of a
+-- workspace and the list of workspaces, too
+pub record LooksAbsent (r : Option Organization) (at : ℕ) (awaited : Bool) (bytes : List ℕ) (asked : Asked) (Tells : Said → Type 0) : Type 0 where
+  pub absent_forms : is_in_reach asked ≡ false → TellsAbsentForms r at bytes asked Tells
+  pub out_of_reach : (token : Token) → is_in_reach asked ≡ false → known_caller r at asked ≡ Ok token → may_do token asked ≡ Ok tt
+      → Tells (replies awaited at (refused_answer NotFound (error_text NotFound) false))
+  pub outside_the_prefix : (token : Token) → known_caller r at asked ≡ Ok token → is_admitted token.caller.prefix asked.act ≡ false → TellsAbsentForms r at bytes asked Tells
+  pub not_admitted : (token : Token) → known_caller r at asked ≡ Ok token → is_admitted token.caller.prefix asked.act ≡ false → may_do token asked ≡ Ok tt
+      → Tells (replies awaited at (refused_answer NotFound (error_text NotFound) false))
+
 -- at a position of a run: the request that arrived, what it asks, what was asked before it, and its reply
 pub record AnsweredRequest (steps : List Step) (texts : List (List ℕ)) : Type 0 where
   pub index : ℕ
@@ -68,32 +91,10 @@ pub record AnsweredRequest (steps : List Step) (texts : List (List ℕ)) : Type 
 abbrev pub record_before : (List ℕ → Option Organization) → List ℕ → List Ask → Option Organization
 record_before rows org earlier = own_record (rows org) (own_asks (organization org) earlier)
 
--- if a request's path names another organization than its caller's, and it needs a workspace, the reply is the text of the machine's answer to
--- each of its absent forms, from the record of the caller's organization before it
-abbrev pub RepliesAreThoseOfAbsentForms : List Step → (List ℕ → Option Organization) → List (List ℕ) → Type 0
-RepliesAreThoseOfAbsentForms steps rows texts = (a : AnsweredRequest steps texts) (other org ws : List ℕ) (ask : Ask) → is_in_reach a.asked ≡ false → NeedsWorkspace a.asked.act
-    → workspace_in (record_before rows a.asked.caller a.earlier) ws ≡ None → IsFormOf a.bytes other org ws → Asks a.at other ask
-    → IsSaidText (step (record_before rows a.asked.caller a.earlier) ask).answer a.text
-
--- and whatever it asks, PUT of a workspace and the list of workspaces too: if its caller is known and has the role, the reply is the text of not-found
-abbrev pub OutOfReachRepliesNotFound : List Step → (List ℕ → Option Organization) → List (List ℕ) → Type 0
-OutOfReachRepliesNotFound steps rows texts = (a : AnsweredRequest steps texts) (token : Token) → is_in_reach a.asked ≡ false
-    → known_caller (record_before rows a.asked.caller a.earlier) a.at a.asked ≡ Ok token → may_do token a.asked ≡ Ok tt
-    → IsSaidText (replies a.awaited a.at (refused_answer NotFound (error_text NotFound) false)) a.text
-
--- the reply to a request on a workspace outside its caller's prefix, other than PUT of a workspace, is the text of the machine's answer
--- to each of its absent forms, from the record of the caller's organization before it
-abbrev pub RepliesOutsideThePrefixAreThoseOfAbsentForms : List Step → (List ℕ → Option Organization) → List (List ℕ) → Type 0
-RepliesOutsideThePrefixAreThoseOfAbsentForms steps rows texts = (a : AnsweredRequest steps texts) (token : Token) (other org ws : List ℕ) (ask : Ask)
-    → known_caller (record_before rows a.asked.caller a.earlier) a.at a.asked ≡ Ok token → is_admitted token.caller.prefix a.asked.act ≡ false → NeedsWorkspace a.asked.act
-    → workspace_in (record_before rows a.asked.caller a.earlier) ws ≡ None → IsFormOf a.bytes other org ws → Asks a.at other ask
-    → IsSaidText (step (record_before rows a.asked.caller a.earlier) ask).answer a.text
-
--- and whatever it asks, PUT of a workspace too: if its caller has the role, the reply is the text of not-found
-abbrev pub RepliesOutsideThePrefixAreNotFound : List Step → (List ℕ → Option Organization) → List (List ℕ) → Type 0
-RepliesOutsideThePrefixAreNotFound steps rows texts = (a : AnsweredRequest steps texts) (token : Token)
-    → known_caller (record_before rows a.asked.caller a.earlier) a.at a.asked ≡ Ok token → is_admitted token.caller.prefix a.asked.act ≡ false → may_do token a.asked ≡ Ok tt
-    → IsSaidText (replies a.awaited a.at (refused_answer NotFound (error_text NotFound) false)) a.text
+-- each reply to a request looks so
+abbrev pub RepliesLookAbsent : List Step → (List ℕ → Option Organization) → List (List ℕ) → Type 0
+RepliesLookAbsent steps rows texts = (a : AnsweredRequest steps texts)
+    → LooksAbsent (record_before rows a.asked.caller a.earlier) a.at a.awaited a.bytes a.asked (λ said. IsSaidText said a.text)
 
 -- ---- the same of exchanges in a row
 
@@ -112,20 +113,9 @@ pub record ServedRequest (es : List Exchange) : Type 0 where
 abbrev pub record_at : {es : List Exchange} → (List ℕ → Option Organization) → ServedRequest es → Option Organization
 record_at rows a = record_before rows a.asked.caller (asked_in a.earlier)
 
--- what was written to a request out of its caller's reach, or outside the caller's prefix, is what the machine says to each of its absent
--- forms; and, if the caller is known and has the role, not-found, whatever it asks
-pub record AbsentFormsAreTold (es : List Exchange) (rows : List ℕ → Option Organization) : Type 0 where
-  pub absent_forms : (a : ServedRequest es) (other org ws : List ℕ) (ask : Ask) → is_in_reach a.asked ≡ false → NeedsWorkspace a.asked.act
-      → workspace_in (record_at rows a) ws ≡ None → IsFormOf a.one.received other org ws → Asks a.one.at other ask → IsTold (step (record_at rows a) ask).answer a.one
-  pub out_of_reach : (a : ServedRequest es) (token : Token) → is_in_reach a.asked ≡ false
-      → known_caller (record_at rows a) a.one.at a.asked ≡ Ok token → may_do token a.asked ≡ Ok tt
-      → IsTold (replies a.one.awaited a.one.at (refused_answer NotFound (error_text NotFound) false)) a.one
-  pub outside_the_prefix : (a : ServedRequest es) (token : Token) (other org ws : List ℕ) (ask : Ask)
-      → known_caller (record_at rows a) a.one.at a.asked ≡ Ok token → is_admitted token.caller.prefix a.asked.act ≡ false → NeedsWorkspace a.asked.act
-      → workspace_in (record_at rows a) ws ≡ None → IsFormOf a.one.received other org ws → Asks a.one.at other ask → IsTold (step (record_at rows a) ask).answer a.one
-  pub not_admitted : (a : ServedRequest es) (token : Token)
-      → known_caller (record_at rows a) a.one.at a.asked ≡ Ok token → is_admitted token.caller.prefix a.asked.act ≡ false → may_do token a.asked ≡ Ok tt
-      → IsTold (replies a.one.awaited a.one.at (refused_answer NotFound (error_text NotFound) false)) a.one
+-- what was written to each request looks so
+abbrev pub AbsentFormsAreTold : List Exchange → (List ℕ → Option Organization) → Type 0
+AbsentFormsAreTold es rows = (a : ServedRequest es) → LooksAbsent (record_at rows a) a.one.at a.one.awaited a.one.received a.asked (λ said. IsTold said a.one)
 
 abbrev pub ServedTellAbsentForms : Type 0
 ServedTellAbsentForms = (door : Door) (es : List Exchange) (old new : List ℕ → Option Organization) → AreServed door es old new → AbsentFormsAreTold es old

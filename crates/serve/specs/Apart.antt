@@ -10,7 +10,7 @@ use Rattle.serve.specs.declared.doors.Door.{Door}
 use Rattle.serve.specs.declared.steps.Admin.TheVariants.{OrgList}
 use Rattle.serve.specs.Asks.{Ask, silent, refused, requests, commands, Owner, unattributed, operator}
 use Rattle.serve.specs.Checks.{is_in_reach, known_caller, may_do}
-use Rattle.serve.specs.Doors.{org_commanded}
+use Rattle.serve.specs.AtDoor.{org_commanded}
 use Rattle.serve.specs.Runs.{IsOwnMachine, IsOwnRecord, AreOwnReplies, ListsAreReported}
 use Rattle.serve.specs.Served.{Exchange, AreServed, asked_in, carried_in, WroteAlike}
 use Rattle.serve.specs.Service.{records_after, with_own}

@@ -1,8 +1,11 @@
--- Laws of steps and runs.
-use Rattle.std.specs.Prelude.{◌≡◌, ◌≢◌, ℕ, Bool, false, List, [], ◌∷◌, map, Option, Some, None, Ok}
+-- Laws of steps, runs and exchanges.
+use Rattle.std.specs.Prelude.{◌≡◌, ◌≢◌, ◌⊎◌, ℕ, Bool, false, List, [], ◌∷◌, map, Option, Some, None, Result, Ok, IsErrOf}
+use Rattle.std.specs.Io.KnownBytes.{Appends}
 use Rattle.std.specs.FinMap.{FinMap, entries}
 use Rattle.sha2.specs.Sha256.{sha256}
+use Rattle.docs.specs.declared.logs.LogRow.{LogRow}
 use Rattle.machine.specs.Order.{name_cmp}
+use Rattle.machine.specs.Ranges.{IsMoment}
 use Rattle.machine.specs.Tokens.{asker_of}
 use Rattle.basis.specs.declared.refusals.Refusal.{Refusal}
 use Rattle.basis.specs.declared.refusals.Refusal.TheVariants.{NotFound}
@@ -15,13 +18,19 @@ use Rattle.route.specs.declared.routes.Asked.{Asked}
 use Rattle.route.specs.declared.routes.AskedAct.{AskedAct}
 use Rattle.route.specs.declared.routes.AskedAct.TheVariants.{ListWorkspaces, OfWorkspace}
 use Rattle.wire.specs.Replies.{Answer}
+use Rattle.serve.specs.declared.doors.Door.{Door}
+use Rattle.serve.specs.declared.exchanges.LinkFault.{LinkFault}
+use Rattle.serve.specs.declared.exchanges.LinkFault.TheVariants.{Ended, Read, Continue}
 use Rattle.serve.specs.declared.steps.Step.{Step}
+use Rattle.serve.specs.AbsentForms.{NeedsWorkspace}
 use Rattle.serve.specs.Asks.{Ask, organization}
 use Rattle.route.specs.Policy.{is_admitted}
-use Rattle.serve.specs.Checks.{makes, is_in_reach, known_caller, may_do}
+use Rattle.serve.specs.Checks.{is_in_reach, known_caller, may_do}
 use Rattle.serve.specs.Steps.{replies, reports, refusing, request_step, step}
 use Rattle.serve.specs.Logs.{request_row}
-use Rattle.serve.specs.Service.{AreAsked, with_own, is_own, own_asks, replies_at}
+use Rattle.serve.specs.Service.{Stays, AreAsked, with_own, is_own, own_asks, replies_at}
+use Rattle.serve.specs.Exchanges.{Exchanges}
+use Rattle.serve.specs.Served.{Exchange, IsServed}
 use Rattle.serve.specs.Runs.{IsOwnMachine}
 
 -- a list of steps asks one list of things
@@ -64,11 +73,6 @@ abbrev pub renamed : AskedAct → List ℕ → AskedAct
 renamed (ListWorkspaces after) ws = ListWorkspaces after
 renamed (OfWorkspace old act) ws = OfWorkspace ws act
 
--- what is asked of a workspace that has to be there
-abbrev pub NeedsWorkspace : AskedAct → Type 0
-NeedsWorkspace (ListWorkspaces after) = ⊥
-NeedsWorkspace (OfWorkspace ws act) = makes act ≡ false
-
 -- a request that is out of the caller's reach has the answer of the same request on a workspace that the caller's own
 -- organization lacks, under whatever organization's path, and changes nothing either
 abbrev pub OutOfReachIsAsAbsent : Type 0
@@ -101,3 +105,13 @@ NamesDecideNothing = (o : Organization) (tokens : FinMap name_cmp Token) (now : 
 abbrev pub SecretsAreNotLogged : Type 0
 SecretsAreNotLogged = (r : Option Organization) (at : ℕ) (asked : Asked) (secret : List ℕ) (content_md5 : Option (List ℕ)) (body : List ℕ) → asker_of r (sha256 secret) ≡ asker_of r (sha256 asked.secret)
     → request_row r at (record asked { secret = secret }) content_md5 body ≡ request_row r at asked content_md5 body
+
+-- an exchange ended before a reply
+abbrev pub HasNoReply : {T : Type 0} → Result T LinkFault → Type 0
+HasNoReply result = IsErrOf result Ended ⊎ (IsErrOf result Read ⊎ IsErrOf result Continue)
+
+-- an exchange is one of `Served`, whatever its link did
+abbrev pub ExchangesAreServed : Type 0
+ExchangesAreServed = (door : Door) (at : ℕ) (received : List ℕ) (left : Option (List ℕ)) (old new : List ℕ → Option Organization) (before after : Option (List ℕ)) (is_down : Bool) (row : Option LogRow) (result : Result (Unit {0}) LinkFault)
+    → IsMoment at → Exchanges door at received left old new before after is_down row result → (HasNoReply result → Stays old new)
+    → (e : Exchange) × (e.at ≡ at) × (e.received ≡ received) × Appends before after e.written × IsServed door e old new

@@ -10,6 +10,7 @@ pub mod Service
 pub mod Runs
 pub mod Exchanges
 pub mod Doors
+pub mod AtDoor
 pub mod Laws
 pub mod Custody
 pub mod Book

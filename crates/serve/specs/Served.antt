@@ -1,6 +1,6 @@
 -- Exchanges in a row over the records of all organizations: what each received, what it wrote and what it carried out; and what
 -- follows of each organization.
-use Rattle.std.specs.Prelude.{◌≡◌, ◌⊎◌, ◌<◌, ℕ, Bool, true, false, List, [], ◌∷◌, ◌++◌, length, Option, Some, None, Result, Ok, Err, IsErrOf, ⊤}
+use Rattle.std.specs.Prelude.{◌≡◌, ◌⊎◌, ◌<◌, ℕ, Bool, true, false, List, [], ◌∷◌, ◌++◌, length, Option, Some, None, Ok, Err, ⊤}
 use Rattle.machine.specs.Ranges.{IsMoment}
 use Rattle.machine.specs.Laws.{AreLawful}
 use Rattle.machine.specs.declared.keeps.AdminAnswer.{AdminAnswer}
@@ -8,20 +8,16 @@ use Rattle.machine.specs.declared.keeps.AdminAnswer.TheVariants.{Organizations}
 use Rattle.machine.specs.declared.keeps.OrgRow.{OrgRow}
 use Rattle.machine.specs.declared.records.Organization.{Organization}
 use Rattle.basis.specs.declared.refusals.Refusal.{Refusal}
-use Rattle.std.specs.Io.KnownBytes.{Appends}
-use Rattle.docs.specs.declared.logs.LogRow.{LogRow}
 use Rattle.wire.specs.declared.messages.Message.{Message}
 use Rattle.wire.specs.Links.{continue_if, continue_text}
 use Rattle.wire.specs.Messages.{Reads, unfinished, AwaitsContinue, IsAwaited}
 use Rattle.wire.specs.Replies.{IsReplyText, unavailable_answer}
 use Rattle.serve.specs.declared.doors.Door.{Door}
 use Rattle.serve.specs.declared.doors.Door.TheVariants.{Closed, Open}
-use Rattle.serve.specs.declared.exchanges.LinkFault.{LinkFault}
-use Rattle.serve.specs.declared.exchanges.LinkFault.TheVariants.{Ended, Read, Continue}
 use Rattle.serve.specs.declared.steps.Admin.{Admin}
 use Rattle.serve.specs.Asks.{Ask, silent, refused, requests, commands, Owner, organization}
 use Rattle.serve.specs.Book.{KeepsCustody}
-use Rattle.serve.specs.Doors.{ComesToDoor, ComeNotToDoor, commanded, reported_answer, BringsSecret, ExchangesWith}
+use Rattle.serve.specs.Doors.{ComesToDoor, ComeNotToDoor, commanded, reported_answer, BringsSecret}
 use Rattle.serve.specs.Runs.{IsOwnRecord}
 use Rattle.serve.specs.Service.{Asks, Carries, Stays, is_head, own_asks, replies_at, record_for, said_to, IsAdminAnswer}
 use Rattle.serve.specs.Steps.{Said, nothing, replies, reports, lists, lists_tokens, own_said}
@@ -124,16 +120,6 @@ IsServedBy door e (Some ask) old new = CarriesOut door e ask old new
 -- an exchange is served with this door: the records before and after it
 abbrev pub IsServed : Door → Exchange → (List ℕ → Option Organization) → (List ℕ → Option Organization) → Type 0
 IsServed door e old new = IsMoment e.at × IsServedBy door e e.ask old new
-
--- an exchange ended before a reply
-abbrev pub HasNoReply : {T : Type 0} → Result T LinkFault → Type 0
-HasNoReply result = IsErrOf result Ended ⊎ (IsErrOf result Read ⊎ IsErrOf result Continue)
-
--- an exchange is one of these, whatever its link did
-abbrev pub ExchangesAreServed : Type 0
-ExchangesAreServed = (door : Door) (at : ℕ) (received : List ℕ) (left : Option (List ℕ)) (old new : List ℕ → Option Organization) (before after : Option (List ℕ)) (is_down : Bool) (row : Option LogRow) (result : Result (Unit {0}) LinkFault)
-    → IsMoment at → ExchangesWith door at received left old new before after is_down row result → (HasNoReply result → Stays old new)
-    → (e : Exchange) × (e.at ≡ at) × (e.received ≡ received) × Appends before after e.written × IsServed door e old new
 
 -- ---- exchanges in a row
 

@@ -7,9 +7,8 @@ ghost use Rattle.machine.specs.StoreCalls.{Lasts, LastsWhere};
 ghost use Rattle.serve.specs.Asks.{Ask};
 ghost use Rattle.serve.specs.Logs.{unavailable_row};
 ghost use Rattle.serve.specs.Service.{Stays};
-ghost use Rattle.serve.specs.Exchanges.{ChangesAtMostOne, ChangesAsLogged};
-ghost use Rattle.serve.specs.Doors.{ExchangesWith, IsReportedAtDoor};
-ghost use Rattle.serve.specs.Inner.Doors.{AnswersOpen};
+ghost use Rattle.serve.specs.Exchanges.{Exchanges, ChangesAtMostOne, ChangesAsLogged};
+ghost use Rattle.serve.specs.AtDoor.{IsReportedAtDoor};
 ghost use Rattle.serve.specs.Inner.Prepared.{IsPrepared};
 ghost use Rattle.serve.specs.Inner.Replying.{AnswersTo, due_reply, due_row, CommitsUnlessDown};
 
@@ -118,7 +117,7 @@ fn answer_read<K: Keep, O: Outlet>(
 ) -> Result<(), LinkFault>
     requires { (O.broken outlet.old ≡ true) ↔ IsErrOf read WireFault.Continue }
     ensures lasts { Lasts K.clean K.sound K.keyed K.shielded keep.old keep.new }
-    ensures reported { K.clean keep.new → K.sound keep.old → AnswersTo now read (K.rows keep.old) (K.rows keep.new) (O.written outlet.old) (O.written outlet.new) is_down.new row.new result }
+    ensures reported { K.clean keep.new → K.sound keep.old → AnswersTo Door.Closed now read (K.rows keep.old) (K.rows keep.new) (O.written outlet.old) (O.written outlet.new) is_down.new row.new result }
     ensures stays { K.clean keep.new → (IsErrOf result LinkFault.Ended ⊎ (IsErrOf result LinkFault.Read ⊎ IsErrOf result LinkFault.Continue))
         → Stays (K.rows keep.old) (K.rows keep.new) }
     ensures ended { IsErrOf result LinkFault.Ended ↔ IsErrOf read WireFault.Ended }
@@ -184,12 +183,12 @@ fn answer_at_door<K: Keep, O: Outlet>(
     }
 }
 
-// Answers what was read while the door is open: at the door, or past it.
-fn answer_open<K: Keep, O: Outlet>(
+// Answers what was read: at the open door, or past it.
+fn answer<K: Keep, O: Outlet>(
     alloc: Global,
     keep: &mut K,
     routes: &Routes,
-    digest: &[u8; 32],
+    door: &Door,
     now: Moment,
     read: Result<Message, WireFault>,
     outlet: &mut O,
@@ -198,22 +197,25 @@ fn answer_open<K: Keep, O: Outlet>(
 ) -> Result<(), LinkFault>
     requires { (O.broken outlet.old ≡ true) ↔ IsErrOf read WireFault.Continue }
     ensures lasts { Lasts K.clean K.sound K.keyed K.shielded keep.old keep.new }
-    ensures reported { K.clean keep.new → K.sound keep.old → AnswersOpen digest.now now read (K.rows keep.old) (K.rows keep.new) (O.written outlet.old) (O.written outlet.new) is_down.new row.new result }
+    ensures reported { K.clean keep.new → K.sound keep.old → AnswersTo door.now now read (K.rows keep.old) (K.rows keep.new) (O.written outlet.old) (O.written outlet.new) is_down.new row.new result }
     ensures stays { K.clean keep.new → (IsErrOf result LinkFault.Ended ⊎ (IsErrOf result LinkFault.Read ⊎ IsErrOf result LinkFault.Continue))
         → Stays (K.rows keep.old) (K.rows keep.new) }
     ensures ended { IsErrOf result LinkFault.Ended ↔ IsErrOf read WireFault.Ended }
     ensures read { IsErrOf result LinkFault.Read ↔ IsErrOf read WireFault.Read }
     ensures written { (O.broken outlet.new ≡ true) ↔ (IsErrOf result LinkFault.Continue ⊎ IsErrOf result LinkFault.Write) }
 {
-    match read {
-        Ok(message) => {
-            if is_at_door(&message) {
-                answer_at_door(alloc, keep, digest, now, &message, outlet, is_down, row)
-            } else {
-                answer_read(alloc, keep, routes, now, Ok(message), outlet, is_down, row)
+    match door {
+        Door::Closed => answer_read(alloc, keep, routes, now, read, outlet, is_down, row),
+        Door::Open { digest } => match read {
+            Ok(message) => {
+                if is_at_door(&message) {
+                    answer_at_door(alloc, keep, digest, now, &message, outlet, is_down, row)
+                } else {
+                    answer_read(alloc, keep, routes, now, Ok(message), outlet, is_down, row)
+                }
             }
-        }
-        Err(fault) => answer_read(alloc, keep, routes, now, Err(fault), outlet, is_down, row),
+            Err(fault) => answer_read(alloc, keep, routes, now, Err(fault), outlet, is_down, row),
+        },
     }
 }
 
@@ -234,7 +236,7 @@ pub fn exchange_with<K: Keep, I: Inlet, O: Outlet>(
     requires writes { O.broken outlet.old ≡ false }
     ensures lasts { Lasts K.clean K.sound K.keyed K.shielded keep.old keep.new }
     ensures reported { K.clean keep.new → K.sound keep.old → (received : List ℕ) × Consumes (I.left inlet.old) (I.left inlet.new) received
-        × ExchangesWith door.now now received (I.left inlet.new) (K.rows keep.old) (K.rows keep.new) (O.written outlet.old) (O.written outlet.new) is_down.new row.new result }
+        × Exchanges door.now now received (I.left inlet.new) (K.rows keep.old) (K.rows keep.new) (O.written outlet.old) (O.written outlet.new) is_down.new row.new result }
     ensures stays { K.clean keep.new → (IsErrOf result LinkFault.Ended ⊎ (IsErrOf result LinkFault.Read ⊎ IsErrOf result LinkFault.Continue))
         → Stays (K.rows keep.old) (K.rows keep.new) }
     ensures others { K.clean keep.new → K.sound keep.old → ChangesAtMostOne (K.rows keep.old) (K.rows keep.new) }
@@ -245,10 +247,5 @@ pub fn exchange_with<K: Keep, I: Inlet, O: Outlet>(
 {
     keep.records_are_lawful();
     let read = read_message(alloc, inlet, outlet);
-    match door {
-        Door::Closed => answer_read(alloc, keep, routes, now, read, outlet, is_down, row),
-        Door::Open { digest } => {
-            answer_open(alloc, keep, routes, digest, now, read, outlet, is_down, row)
-        }
-    }
+    answer(alloc, keep, routes, door, now, read, outlet, is_down, row)
 }

@@ -2,12 +2,11 @@
 ghost use Rattle.std.specs.Prelude.{◌≡◌, ◌≤◌, ◌<◌, ℕ, List, Option, Some, None, IfOk, IsErrOf, true, false, IfSome, ◌↔◌, ◌⊎◌, OnOk, OnErr, length, take};
 ghost use Rattle.std.specs.Io.KnownBytes.{Consumes};
 ghost use Rattle.serve.specs.Exchanges.{Exchanges, ChangesAtMostOne, ChangesAsLogged};
-ghost use Rattle.serve.specs.Doors.{ExchangesWith};
 ghost use Rattle.serve.specs.Inner.Taking.{IsTaken, RunsTo};
 ghost use Rattle.serve.specs.Asks.{Ask, commands, unattributed, operator};
 ghost use Rattle.serve.specs.Service.{IsSaidText, Stays, Carries, said_to, AreAsked, IsAdminAnswer, IsListedBy};
 ghost use Rattle.machine.specs.StoreCalls.{Lasts};
-ghost use Rattle.serve.specs.AbsentForms.{RepliesAreThoseOfAbsentForms, RepliesOutsideThePrefixAreThoseOfAbsentForms, RepliesOutsideThePrefixAreNotFound, OutOfReachRepliesNotFound};
+ghost use Rattle.serve.specs.AbsentForms.{RepliesLookAbsent};
 ghost use Rattle.serve.specs.Book.{LocksKeepOthersOut, RunsKeepOthersOut, NoIdWhereNobodyHolds, LocksEndByUnlock, OneRunAtATime, StartsRise, RepeatsLeaveIt, DoneOnceIsDone, OfEachBook};
 ghost use Rattle.serve.specs.Runs.{IsOwnMachine, IsOwnRecord, AreOwnReplies, ListsAreReported};
 
@@ -176,7 +175,7 @@ impl<K: Keep> Service<K> {
         requires writes { O.broken outlet.old ≡ false }
         ensures lasts { Lasts K.clean K.sound K.keyed K.shielded self.old.keep self.new.keep }
         ensures reported { K.clean self.new.keep → K.sound self.old.keep → (received : List ℕ) × Consumes (I.left inlet.old) (I.left inlet.new) received
-            × Exchanges now received (I.left inlet.new) (K.rows self.old.keep) (K.rows self.new.keep) (O.written outlet.old) (O.written outlet.new) self.new.was_down self.new.row result }
+            × Exchanges Door.Closed now received (I.left inlet.new) (K.rows self.old.keep) (K.rows self.new.keep) (O.written outlet.old) (O.written outlet.new) self.new.was_down self.new.row result }
 
         // This needs no bytes: if no complete message was received, no record changes; and never more than one does.
         ensures stays { K.clean self.new.keep → (IsErrOf result LinkFault.Ended ⊎ (IsErrOf result LinkFault.Read ⊎ IsErrOf result LinkFault.Continue))
@@ -207,7 +206,7 @@ impl<K: Keep> Service<K> {
         requires writes { O.broken outlet.old ≡ false }
         ensures lasts { Lasts K.clean K.sound K.keyed K.shielded self.old.keep self.new.keep }
         ensures reported { K.clean self.new.keep → K.sound self.old.keep → (received : List ℕ) × Consumes (I.left inlet.old) (I.left inlet.new) received
-            × ExchangesWith door.now now received (I.left inlet.new) (K.rows self.old.keep) (K.rows self.new.keep) (O.written outlet.old) (O.written outlet.new) self.new.was_down self.new.row result }
+            × Exchanges door.now now received (I.left inlet.new) (K.rows self.old.keep) (K.rows self.new.keep) (O.written outlet.old) (O.written outlet.new) self.new.was_down self.new.row result }
 
         // This needs no bytes: if no complete message was received, no record changes; and never more than one does.
         ensures stays { K.clean self.new.keep → (IsErrOf result LinkFault.Ended ⊎ (IsErrOf result LinkFault.Read ⊎ IsErrOf result LinkFault.Continue))
@@ -295,17 +294,9 @@ impl<K: Keep> Service<K> {
         ensures isolation { K.clean self.new.keep → K.sound self.old.keep → IfOk result (λ replies. (asked : List Ask) → AreAsked steps.now asked
             → (org : List ℕ) → IsOwnMachine org asked (K.rows self.old.keep) (K.rows self.new.keep) replies.items) }
 
-        // Another organization's workspace answers as an absent one: the reply is that to each of the request's absent forms.
-        ensures absent_forms { K.clean self.new.keep → K.sound self.old.keep → IfOk result (λ replies. RepliesAreThoseOfAbsentForms steps.now (K.rows self.old.keep) replies.items) }
-
-        // And whatever is asked of another organization, by a caller that is known and has the role, is answered not-found.
-        ensures out_of_reach { K.clean self.new.keep → K.sound self.old.keep → IfOk result (λ replies. OutOfReachRepliesNotFound steps.now (K.rows self.old.keep) replies.items) }
-
-        // A workspace outside the caller's prefix looks absent, too, also one of the caller's own organization.
-        ensures outside_the_prefix { K.clean self.new.keep → K.sound self.old.keep → IfOk result (λ replies. RepliesOutsideThePrefixAreThoseOfAbsentForms steps.now (K.rows self.old.keep) replies.items) }
-
-        // And whatever is asked of such a workspace, also its creation, by a caller that is known and has the role, is answered not-found.
-        ensures not_admitted { K.clean self.new.keep → K.sound self.old.keep → IfOk result (λ replies. RepliesOutsideThePrefixAreNotFound steps.now (K.rows self.old.keep) replies.items) }
+        // A workspace of another organization, or outside the caller's prefix, looks absent: the reply is that to each of the request's absent
+        // forms. And whatever is asked of it, also its creation, by a caller that is known and has the role, is answered not-found.
+        ensures absent { K.clean self.new.keep → K.sound self.old.keep → IfOk result (λ replies. RepliesLookAbsent steps.now (K.rows self.old.keep) replies.items) }
 
         // The replies to unattributed steps follow from their bytes and moments alone.
         ensures unattributed { K.clean self.new.keep → K.sound self.old.keep → IfOk result (λ replies. (asked : List Ask) → AreAsked steps.now asked

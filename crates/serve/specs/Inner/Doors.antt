@@ -9,13 +9,12 @@ use Rattle.machine.specs.declared.records.Organization.{Organization}
 use Rattle.wire.specs.declared.messages.Message.{Message}
 use Rattle.wire.specs.declared.messages.WireFault.{WireFault}
 use Rattle.route.specs.Doors.{is_at_door, may_enter}
-use Rattle.wire.specs.Links.{ReportsReceived}
 use Rattle.wire.specs.Replies.{refused_answer}
 use Rattle.serve.specs.declared.doors.Operated.{Operated}
-use Rattle.serve.specs.declared.exchanges.LinkFault.{LinkFault}
 use Rattle.serve.specs.declared.steps.Admin.{Admin}
 use Rattle.serve.specs.Asks.{commands}
-use Rattle.serve.specs.Doors.{ExchangesOpen, commanded, reported_answer, reported_row, turned_row, unserved_row}
+use Rattle.serve.specs.AtDoor.{reported_row, turned_row, unserved_row}
+use Rattle.serve.specs.Doors.{commanded, reported_answer}
 use Rattle.serve.specs.Service.{is_head, Carries, Stays, IsAdminAnswer}
 
 -- a command is carried out, and this is its reply and its row
@@ -43,11 +42,6 @@ pub record IsRowSoFar (digest : List ℕ) (at : ℕ) (message : Message) (row : 
   pub command : Option Admin
   pub asks : IfSome command (λ c. commanded digest message ≡ Ok c)
   pub is : row ≡ unserved_row at command
-
--- what was read is answered while the door is open: by whatever was received that it reports, this is the exchange
-abbrev pub AnswersOpen : List ℕ → ℕ → Result Message WireFault → (List ℕ → Option Organization) → (List ℕ → Option Organization) → Option (List ℕ) → Option (List ℕ) → Bool → Option LogRow → {T : Type 0} → Result T LinkFault → Type 0
-AnswersOpen digest now read old new between after is_down row result =
-    (received : List ℕ) (left before : Option (List ℕ)) → ReportsReceived received left before between read → ExchangesOpen digest now received left old new before after is_down row result
 
 -- what was read does not come to the door
 abbrev pub ReadsElsewhere : Result Message WireFault → Type 0

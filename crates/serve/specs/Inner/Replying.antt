@@ -13,6 +13,7 @@ use Rattle.serve.specs.Asks as ask
 use Rattle.serve.specs.Logs.{row_of_ask, unavailable_row, IsUnavailableRow}
 use Rattle.serve.specs.Service.{is_head, asked_by, record_for, Carries, Stays}
 use Rattle.serve.specs.Exchanges.{Exchanges}
+use Rattle.serve.specs.declared.doors.Door.{Door}
 use Rattle.serve.specs.declared.exchanges.LinkFault.{LinkFault}
 use Rattle.serve.specs.Inner.Prepared.{IsPrepared}
 use Rattle.serve.specs.Inner.Tracing.{as_unavailable}
@@ -60,10 +61,10 @@ LogsDownFor at rows (Err Ended) row = ⊥
 LogsDownFor at rows (Err Read) row = ⊥
 LogsDownFor at rows (Err Continue) row = ⊥
 
--- what was read is answered: by whatever was received that it reports, this is the exchange
-abbrev pub AnswersTo : ℕ → Result Message WireFault → (List ℕ → Option Organization) → (List ℕ → Option Organization) → Option (List ℕ) → Option (List ℕ) → Bool → Option LogRow → {T : Type 0} → Result T LinkFault → Type 0
-AnswersTo now read old new between after is_down row result =
-    (received : List ℕ) (left before : Option (List ℕ)) → ReportsReceived received left before between read → Exchanges now received left old new before after is_down row result
+-- what was read is answered, with a door: by whatever was received that it reports, this is the exchange
+abbrev pub AnswersTo : Door → ℕ → Result Message WireFault → (List ℕ → Option Organization) → (List ℕ → Option Organization) → Option (List ℕ) → Option (List ℕ) → Bool → Option LogRow → {T : Type 0} → Result T LinkFault → Type 0
+AnswersTo door now read old new between after is_down row result =
+    (received : List ℕ) (left before : Option (List ℕ)) → ReportsReceived received left before between read → Exchanges door now received left old new before after is_down row result
 
 -- the row that is due: of what was prepared (`false`), or that of its 503 (`true`)
 abbrev pub due_row : Bool → LogRow → LogRow

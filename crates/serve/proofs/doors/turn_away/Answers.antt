@@ -1,6 +1,6 @@
 use Rattle.std.proofs.Common.{ap, ◌∙◌}
 use Rattle.wire.specs.Replies.{Answer}
-use Rattle.serve.specs.Doors.{turned_row}
+use Rattle.serve.specs.AtDoor.{turned_row}
 use Rattle.serve.proofs.doors.turn_away.Goals as goal
 
 pub returns-in-Ok-clause-ok : goal.returns-in-Ok-clause-ok

@@ -1,7 +1,7 @@
 use Rattle.serve.specs.Asks.{unattributed, operator}
 use Rattle.serve.proofs.RunLemmas.{replies_given, lists_given, orgs_given, rows_by}
 use Rattle.serve.proofs.service.Service.replay.Goals as goal
-use Rattle.serve.proofs.AbsentLemmas.{absent_forms, out_of_reach, outside_the_prefix, not_admitted, each_reply}
+use Rattle.serve.proofs.AbsentLemmas.{replies_look_absent, each_reply}
 use Rattle.serve.proofs.BookLemmas.{custody_of_run}
 
 pub returns-clause-readings : goal.returns-clause-readings
@@ -68,26 +68,8 @@ returns-clause-done_once g c = λ clean sound asked are.
     let ran = c.run_all.ensures.ran clean sound in
     (custody_of_run _ (g.K.Keep.rows c.args.self.now.keep) (g.K.Keep.rows c.run_all.new.self.keep) ran.0 ran.1 (c.records_are_lawful.ensures (c.run_all.ensures.lasts.so_far clean) sound) asked are).done_once
 
-pub returns-clause-absent_forms : goal.returns-clause-absent_forms
-returns-clause-absent_forms g c = λ clean sound.
+pub returns-clause-absent : goal.returns-clause-absent
+returns-clause-absent g c = λ clean sound.
     let old = g.K.Keep.rows c.args.self.now.keep in
     let new = g.K.Keep.rows c.run_all.new.self.keep in
-    each_reply _ c.args.steps.now c.run_all.new.self.taken old new c.run_all.result (λ texts asked are own. absent_forms c.args.steps.now old new texts asked are own) (c.run_all.ensures.ran clean sound) c.run_all.ensures.all
-
-pub returns-clause-out_of_reach : goal.returns-clause-out_of_reach
-returns-clause-out_of_reach g c = λ clean sound.
-    let old = g.K.Keep.rows c.args.self.now.keep in
-    let new = g.K.Keep.rows c.run_all.new.self.keep in
-    each_reply _ c.args.steps.now c.run_all.new.self.taken old new c.run_all.result (λ texts asked are own. out_of_reach c.args.steps.now old new texts asked are own) (c.run_all.ensures.ran clean sound) c.run_all.ensures.all
-
-pub returns-clause-outside_the_prefix : goal.returns-clause-outside_the_prefix
-returns-clause-outside_the_prefix g c = λ clean sound.
-    let old = g.K.Keep.rows c.args.self.now.keep in
-    let new = g.K.Keep.rows c.run_all.new.self.keep in
-    each_reply _ c.args.steps.now c.run_all.new.self.taken old new c.run_all.result (λ texts asked are own. outside_the_prefix c.args.steps.now old new texts asked are own) (c.run_all.ensures.ran clean sound) c.run_all.ensures.all
-
-pub returns-clause-not_admitted : goal.returns-clause-not_admitted
-returns-clause-not_admitted g c = λ clean sound.
-    let old = g.K.Keep.rows c.args.self.now.keep in
-    let new = g.K.Keep.rows c.run_all.new.self.keep in
-    each_reply _ c.args.steps.now c.run_all.new.self.taken old new c.run_all.result (λ texts asked are own. not_admitted c.args.steps.now old new texts asked are own) (c.run_all.ensures.ran clean sound) c.run_all.ensures.all
+    each_reply _ c.args.steps.now c.run_all.new.self.taken old new c.run_all.result (λ texts asked are own. replies_look_absent c.args.steps.now old new texts asked are own) (c.run_all.ensures.ran clean sound) c.run_all.ensures.all
