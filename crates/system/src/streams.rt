@@ -17,8 +17,9 @@ const MOST_INTERRUPTIONS: u32 = 1_000_000;
 /// The most bytes that one call writes. A Unix socket takes a longer text in pieces, and may wait for the timeout before each.
 const MOST_WRITTEN: usize = 32_768;
 
-/// How long a call waits that was interrupted and has no time left. What came during a pause of the process is there at once.
-const LAST_WAIT: Duration = Duration::from_millis(1);
+/// How long a call waits that was interrupted and has no time left, in milliseconds. What came during a pause of the process is
+/// there at once.
+const LAST_WAIT_MILLIS: u64 = 1;
 
 /// One side of a socket: what is assumed of the calls that read and write it. All else is proved for every half. The program names
 /// `SystemHalf`, which knows no bytes, because no contract says what the system's calls give and take.
@@ -153,7 +154,10 @@ impl<'a, H: Half + Drop> Timed<'a, H> {
     // How long a call that began at a moment may wait once it was interrupted.
     fn left_again(&self, begun: Instant) -> io::Result<Duration> {
         let now = Instant::now(self.rt)?;
-        Ok(self.left(begun, now).unwrap_or(LAST_WAIT))
+        Ok(
+            self.left(begun, now)
+                .unwrap_or(Duration::from_millis(LAST_WAIT_MILLIS)),
+        )
     }
 
     // Lets reads wait for so long.
