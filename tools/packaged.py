@@ -197,7 +197,7 @@ def has_control(program):
     kib = sum(-(-os.path.getsize(os.path.join(folder, name)) // 1024) for folder, _, names in os.walk(package.tree) for name in names)
     said("whether the installed size is that of the files and at most 100 folders", kib <= size <= kib + 100, True)
     needs = fields["Depends"].split(", ")
-    said("what it needs besides the C library", needs[1:], ["systemd | systemd-standalone-sysusers", "systemd | systemd-standalone-tmpfiles"])
+    said("what it needs besides the C library", needs[1:], ["libjemalloc2", "systemd | systemd-standalone-sysusers", "systemd | systemd-standalone-tmpfiles"])
     if not left("which C library the program needs", "readelf"):
         found = re.findall(r"Name: GLIBC_(\d+)\.(\d+)", ran(["readelf", "-V", program.path])[1])
         said("the C library", needs[0], "libc6 (>= %d.%d)" % max((int(major), int(minor)) for major, minor in found))
