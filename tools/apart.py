@@ -5,7 +5,7 @@
     python3 tools/apart.py NAME/WORD..             those of the crate whose names have WORD
     python3 tools/apart.py --over GATE [NAME..]    the same over the libraries that `rt ci` left in the clone GATE, of the same text
     python3 tools/apart.py --unchanged ..          whether the functions that mutants change pass where they are as they were
-    python3 tools/apart.py --rounds ..             which would be tried together, and of which functions
+    python3 tools/apart.py --rounds ..             which would be tried together, and of which functions; builds nothing
     python3 tools/apart.py --applies               whether each mutant and twin still applies, in a second
 
 A mutant, crates/NAME/apart/*.edit, is a planted mistake: a check of the function that it changes has to refuse it, at a goal of
@@ -495,7 +495,11 @@ def main():
     lacking = [it for it in names if not edits("apart", it)]
     if lacking or not names:
         sys.exit(f"no crate {lacking[0] if lacking else ''} has mutants in apart/")
-    for name in names if gate is None else ():
+    # a list is wanted at once, and building takes an hour
+    lacking = [it for it in names if not os.path.isdir(f"{gate or TOP}/crates/{it}/out/rlib/{it}.rlib")] if shows else []
+    if lacking:
+        sys.exit(f"there is no library of {lacking[0]}: give the clone of a gate by --over")
+    for name in names if gate is None and not shows else ():
         if subprocess.run(["rt", "lib"], cwd=f"{TOP}/crates/{name}", stdin=subprocess.DEVNULL).returncode:
             sys.exit(f"{name} is not proved, so its mutants say nothing")
     crates = [Crate(gate or TOP, it) for it in names]
