@@ -6,7 +6,7 @@ use program::reasons::Cause;
 use program::replies::{refuse, refuse_usage};
 use program::streams::CountedErrors;
 use std::fs::{File, OpenOptions};
-use std::io::{BufWriter, Read, Stderr};
+use std::io::{BufWriter, Stderr};
 use std::process::ExitCode;
 use std::{env, io};
 use system::run_here;
@@ -60,21 +60,9 @@ fn hold_streams(rt: &HostRuntime) -> io::Result<(File, File, File)> {
     Ok((open_null(rt)?, open_null(rt)?, open_null(rt)?))
 }
 
-/// How many bytes of stack are taken before anything is read. A state that is nested 127 deep needs the most: 148 KB in all.
-const STACK_BYTES: usize = 262_144;
-
-// Takes the stack that any request needs. The system extends a stack when it is used, and ends a process for whose stack it has no
-// memory, whereas a refused allocation is answered. The read, which finds nothing, keeps the compiler from leaving the bytes out.
-#[inline(never)]
-fn take_stack(null: &mut File) {
-    let mut bytes = [0u8; STACK_BYTES];
-    let _ = null.read(&mut bytes);
-}
-
 fn main(rt: HostRuntime) -> ExitCode {
     let status = match hold_streams(&rt) {
-        Ok(mut held) => {
-            take_stack(&mut held.0);
+        Ok(held) => {
             let status = run(&rt);
             drop(held);
             status
