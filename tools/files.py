@@ -859,7 +859,7 @@ def look_at_moved(program):
     path, log, away = folder + "/a.db", folder + "/a.db-wal", folder + "/away.db"
 
     def is_replaced(old):
-        shutil.copyfile(old, folder + "/new")
+        shutil.copy(old, folder + "/new")
         os.rename(folder + "/new", old)
 
     def is_linked():
@@ -867,12 +867,12 @@ def look_at_moved(program):
         os.symlink("away.db", path)
 
     def leads_elsewhere():
-        shutil.copyfile(folder + "/real.db", folder + "/other.db")
+        shutil.copy(folder + "/real.db", folder + "/other.db")
         os.symlink("other.db", folder + "/new")
         os.rename(folder + "/new", path)
 
     def is_emptied():
-        open(folder + "/new", "wb").close()
+        os.close(os.open(folder + "/new", os.O_CREAT | os.O_WRONLY, 0o600))
         os.rename(folder + "/new", log)
 
     # what is done; the name of the file in which everything is afterwards, if it is still somewhere
