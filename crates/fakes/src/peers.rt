@@ -1,6 +1,7 @@
 //! Peers in memory, in the place of those that connect to a socket.
 ghost use Rattle.std.specs.Prelude.{◌≡◌, ◌++◌, ◌∷◌, ◌⊎◌, [], Ok, Some, true, IfSome, OnOk};
 ghost use Rattle.fakes.specs.Peers.{AcceptsNext, IsBound};
+ghost use Rattle.program.specs.declared.environment.Standing.TheVariants as stands;
 
 use basis::{Bytes, Down};
 use program::environment::{Connections, Standing};
@@ -80,7 +81,7 @@ impl<'a> Connections for MemoryPeers<'a> {
 
     ghost looks = { λ old path result new. (result ≡ Ok old.standing) × (new ≡ old) };
 
-    ghost removes = { λ old path result new. new.standing ≡ Standing.Nothing };
+    ghost removes = { λ old path result new. new.standing ≡ stands.Nothing };
 
     ghost listens = { λ old path mode result new. new.made ≡ Some mode };
 
