@@ -7,7 +7,6 @@ use crate::askers::Asked;
 use crate::counts;
 use crate::counts::WorkspaceCount;
 use crate::sizes::SizedVersion;
-use basis::Items;
 use machine::Change;
 
 /// What is kept. Everything is forgotten when the tables change in any other way than by a change of a
@@ -18,8 +17,8 @@ pub(crate) struct Memo {
     pub(crate) cached: Option<WorkspaceCount>,
     /// The version that was read last and whose text is read next.
     pub(crate) sized: Option<SizedVersion>,
-    /// The tokens that were used last, the newest last; none before the first is.
-    pub(crate) asked: Option<Items<Asked>>,
+    /// The token that was used last.
+    pub(crate) asked: Option<Asked>,
 }
 
 impl Memo {
