@@ -13,7 +13,6 @@ use program::replays::replay_over;
 use program::totals::{Findings, Totals};
 use serve::Step;
 use std::alloc::Global;
-use std::cell::Cell;
 
 /// The newest version of the schema of which a file would be.
 pub const SCHEMA_VERSION: u64 = 3;
@@ -37,8 +36,6 @@ pub struct MemoryFile<'a> {
     pub keeps_log: bool,
     /// Whether others than its owner may read the file.
     pub is_readable: bool,
-    /// How often the file is still found in place, if it is moved then.
-    pub found: Option<Cell<u64>>,
     /// What a check for faults finds: a line for each.
     pub faults: Vec<&'a str>,
 }
@@ -63,7 +60,6 @@ impl<'a> MemoryFile<'a> {
             store: None,
             keeps_log: false,
             is_readable: false,
-            found: None,
             faults: Vec::new(alloc),
         }
     }
@@ -90,9 +86,6 @@ impl Files<PlainKeep> for MemoryFile<'_> {
 
     // A store in memory is never shut.
     ghost shuts = { λ store said after. (said ≡ Ok false) × (after ≡ store) };
-
-    // No contract can say what a cell holds.
-    ghost places = { λ _ _. ⊤ };
 
     // It has no WAL.
     ghost checkpoints = { λ store after. after ≡ store };
@@ -131,19 +124,6 @@ impl Files<PlainKeep> for MemoryFile<'_> {
 
     fn is_shut(&self, _store: &mut PlainKeep) -> Result<bool, Down> {
         Ok(false)
-    }
-
-    fn is_in_place(&self, _store: &PlainKeep) -> bool {
-        let Some(found) = &self.found else {
-            return true;
-        };
-        match found.get().checked_sub(1) {
-            Some(left) => {
-                found.set(left);
-                true
-            }
-            None => false,
-        }
     }
 
     fn checkpoint(&self, _store: &mut PlainKeep) -> Result<(), Down> {

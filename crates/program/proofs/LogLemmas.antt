@@ -105,19 +105,16 @@ module _ {K F N C R W : Type 0} (k : keep.Ghosts K) (f : files.Ghosts F K) (n : 
   grows_all terms connection [] old new same = grows_none terms.logs old.output new.output (ap (λ (s : State N C K). s.output) same)
   grows_all terms connection (at ∷ moments) old new all =
       let one = all.1.answers.answers in
-      grows_then terms.logs old.output all.0.output new.output (grows_one terms.logs true (row_text connection one.result one.row) old.output all.0.output one.logged) (grows_all terms (suc connection) moments all.0 new all.3)
+      grows_then terms.logs old.output all.0.output new.output (grows_one terms.logs true (row_text connection one.result one.row) old.output all.0.output one.logged) (grows_all terms (suc connection) moments all.0 new all.2)
 
   pub grows_early : (terms : Terms) (connection : ℕ) (last new : State N C K) (why : Cause) → EndsEarly k f n c i o terms connection last new why → Grows terms.logs last.output new.output
   grows_early terms connection last new why (inl none) = grows_none terms.logs last.output new.output none.3
   grows_early terms connection last new why (inr (inl shut)) =
       let one = shut.2.answers.answers in
       grows_one terms.logs shut.1 (row_text connection one.result one.row) last.output new.output one.logged
-  grows_early terms connection last new why (inr (inr (inl unreported))) =
+  grows_early terms connection last new why (inr (inr unreported)) =
       let one = unreported.1.answers.answers in
       grows_one terms.logs false (row_text connection one.result one.row) last.output new.output one.logged
-  grows_early terms connection last new why (inr (inr (inr moved))) =
-      let one = moved.1.answers.answers in
-      grows_one terms.logs true (row_text connection one.result one.row) last.output new.output one.logged
 
   pub clean_next : (terms : Terms) (connection at : ℕ) (is_shut is_logged : Bool) (old new : State N C K) → AnswersNext k f n c i o terms connection at is_shut is_logged old new → k.clean new.store → k.clean old.store
   clean_next terms connection at is_shut is_logged old new one clean = one.answers.answers.lasts.so_far ((after_reply_lasts k f one.is_down one.store is_shut new.store one.after_reply).so_far clean)
@@ -125,7 +122,7 @@ module _ {K F N C R W : Type 0} (k : keep.Ghosts K) (f : files.Ghosts F K) (n : 
   pub clean_all : (terms : Terms) (connection : ℕ) (moments : List ℕ) (old new : State N C K) → AnswersAll k f n c i o terms connection moments old new → k.clean new.store → k.clean old.store
   clean_all terms connection [] old new same clean = subst (λ (s : State N C K). k.clean s.store) same clean
   clean_all terms connection (at ∷ moments) old new all clean =
-      clean_next terms connection at false true old all.0 all.1 (clean_all terms (suc connection) moments all.0 new all.3 clean)
+      clean_next terms connection at false true old all.0 all.1 (clean_all terms (suc connection) moments all.0 new all.2 clean)
 
   pub sound_next : (terms : Terms) (connection at : ℕ) (is_shut is_logged : Bool) (old new : State N C K) → AnswersNext k f n c i o terms connection at is_shut is_logged old new → k.clean new.store → k.sound old.store → k.sound new.store
   sound_next terms connection at is_shut is_logged old new one clean sound =
@@ -152,9 +149,9 @@ module _ {K F N C R W : Type 0} (k : keep.Ghosts K) (f : files.Ghosts F K) (n : 
     λ org. ap (λ (s : State N C K). k.rows s.store org) same,
   )
   reports_changes terms logged connection (at ∷ moments) old new all clean sound =
-      let before = clean_all terms (suc connection) moments all.0 new all.3 clean in
+      let before = clean_all terms (suc connection) moments all.0 new all.2 clean in
       let line = line_next terms logged connection at old all.0 all.1 before sound in
-      let more = reports_changes terms logged (suc connection) moments all.0 new all.3 clean (sound_next terms connection at false true old all.0 all.1 before sound) in (
+      let more = reports_changes terms logged (suc connection) moments all.0 new all.2 clean (sound_next terms connection at false true old all.0 all.1 before sound) in (
         line.0 ∷ more.0,
         ap suc more.1,
         Appends-trans old.output all.0.output new.output (log_line connection (end_word line.0.ended) line.0.row) (log_text (suc connection) more.0) line.1 more.2,

@@ -77,12 +77,12 @@ module _ {K F N C R W : Type 0} (k : keep.Ghosts K) (f : files.Ghosts F K) (n : 
       → (es : List Exchange) × (length es ≡ length moments) × ServesAll k f n c i o terms connection es old new × AreServed terms.door es (k.rows old.store) (k.rows new.store)
   served_all terms connection [] old new same clean sound = ([], refl, same, λ org. ap (λ (s : State N C K). k.rows s.store org) same)
   served_all terms connection (at ∷ moments) old new all clean sound =
-      let before = clean_all k f n c i o terms (suc connection) moments all.0 new all.3 clean in
+      let before = clean_all k f n c i o terms (suc connection) moments all.0 new all.2 clean in
       let one = served_next terms connection at false true old all.0 all.1 before sound in
-      let more = served_all terms (suc connection) moments all.0 new all.3 clean (sound_next k f n c i o terms connection at false true old all.0 all.1 before sound) in (
+      let more = served_all terms (suc connection) moments all.0 new all.2 clean (sound_next k f n c i o terms connection at false true old all.0 all.1 before sound) in (
         one.0 ∷ more.0,
         ap suc more.1,
-        (all.0, one.1, all.2, more.2),
+        (all.0, one.1, more.2),
         (k.rows all.0.store, one.1.served, more.3),
       )
 
@@ -96,24 +96,20 @@ module _ {K F N C R W : Type 0} (k : keep.Ghosts K) (f : files.Ghosts F K) (n : 
   served_early terms connection last new why (inr (inl shut)) clean sound =
       let one = served_next terms connection shut.0 true shut.1 last new shut.2 clean sound in
       (one.0 ∷ [], inr (inl (one.0, shut.1, refl, one.1, shut.3)), (k.rows new.store, one.1.served, λ org. refl))
-  served_early terms connection last new why (inr (inr (inl unlogged))) clean sound =
+  served_early terms connection last new why (inr (inr unlogged)) clean sound =
       let one = served_next terms connection unlogged.0 false false last new unlogged.1 clean sound in
-      (one.0 ∷ [], inr (inr (inl (one.0, refl, one.1, unlogged.2))), (k.rows new.store, one.1.served, λ org. refl))
-  served_early terms connection last new why (inr (inr (inr moved))) clean sound =
-      let one = served_next terms connection moved.0 false true last new moved.1 clean sound in
-      (one.0 ∷ [], inr (inr (inr (one.0, refl, one.1, moved.2, moved.3))), (k.rows new.store, one.1.served, λ org. refl))
+      (one.0 ∷ [], inr (inr (one.0, refl, one.1, unlogged.2)), (k.rows new.store, one.1.served, λ org. refl))
 
   clean_early : (terms : Terms) (connection : ℕ) (last new : State N C K) (why : Cause) → EndsEarly k f n c i o terms connection last new why → k.clean new.store → k.clean last.store
   clean_early terms connection last new why (inl none) clean = subst (λ (s : K). k.clean s) none.1 clean
   clean_early terms connection last new why (inr (inl shut)) clean = clean_next k f n c i o terms connection shut.0 true shut.1 last new shut.2 clean
-  clean_early terms connection last new why (inr (inr (inl unlogged))) clean = clean_next k f n c i o terms connection unlogged.0 false false last new unlogged.1 clean
-  clean_early terms connection last new why (inr (inr (inr moved))) clean = clean_next k f n c i o terms connection moved.0 false true last new moved.1 clean
+  clean_early terms connection last new why (inr (inr unlogged)) clean = clean_next k f n c i o terms connection unlogged.0 false false last new unlogged.1 clean
 
   sound_all : (terms : Terms) (connection : ℕ) (moments : List ℕ) (old new : State N C K) → AnswersAll k f n c i o terms connection moments old new → k.clean new.store → k.sound old.store → k.sound new.store
   sound_all terms connection [] old new same clean sound = subst (λ (s : State N C K). k.sound s.store) (sym same) sound
   sound_all terms connection (at ∷ moments) old new all clean sound =
-      let before = clean_all k f n c i o terms (suc connection) moments all.0 new all.3 clean in
-      sound_all terms (suc connection) moments all.0 new all.3 clean (sound_next k f n c i o terms connection at false true old all.0 all.1 before sound)
+      let before = clean_all k f n c i o terms (suc connection) moments all.0 new all.2 clean in
+      sound_all terms (suc connection) moments all.0 new all.2 clean (sound_next k f n c i o terms connection at false true old all.0 all.1 before sound)
 
   pub loops_are_served : LoopsAreServed k f n c i o
   loops_are_served site terms count old new exit.Done h clean sound =
@@ -145,10 +141,8 @@ module _ {K F N C R W : Type 0} (k : keep.Ghosts K) (f : files.Ghosts F K) (n : 
       let same : length es ≡ length before = ap length (is ∙ ap (λ (x : List Exchange). before ++ x) none.0 ∙ append-nil before) in omega arith
   few_since terms connection before since es last new why count is few (inr (inl shut)) =
       let same : length es ≡ length before + 1 = ap length (is ∙ ap (λ (x : List Exchange). before ++ x) shut.2) ∙ length_push before shut.0 in omega arith
-  few_since terms connection before since es last new why count is few (inr (inr (inl unlogged))) =
+  few_since terms connection before since es last new why count is few (inr (inr unlogged)) =
       let same : length es ≡ length before + 1 = ap length (is ∙ ap (λ (x : List Exchange). before ++ x) unlogged.1) ∙ length_push before unlogged.0 in omega arith
-  few_since terms connection before since es last new why count is few (inr (inr (inr moved))) =
-      let same : length es ≡ length before + 1 = ap length (is ∙ ap (λ (x : List Exchange). before ++ x) moved.1) ∙ length_push before moved.0 in omega arith
 
   few_served : (site : Site) (terms : Terms) (count : ℕ) (es : List Exchange) (old new : State N C K) (e : Exit) → ServesCount k f n c i o site terms count es old new e → length es ≤ count
   few_served site terms count es old new exit.Done h = let all = h.2 in omega arith

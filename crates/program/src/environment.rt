@@ -61,9 +61,6 @@ pub trait Files<K: Keep> {
     // Finds out whether a disk error has closed a store: the store before and after.
     ghost shuts: { K → Result Bool AnyDown → K → Type 0 };
 
-    // Finds out whether the files of an open store are still at its path.
-    ghost places: { K → Bool → Type 0 };
-
     // Copies a long WAL of a store into its file: the store before and after.
     ghost checkpoints: { K → K → Type 0 };
 
@@ -105,11 +102,6 @@ pub trait Files<K: Keep> {
     fn is_shut(&self, store: &mut K) -> Result<bool, Down>
         ensures reported { shuts store.old result store.new }
         ensures unchanged { Unchanged K.rows K.clean K.sound K.keyed K.shielded store.old store.new };
-
-    /// Whether the file of an open store and its WAL are still at the path at which it was opened: neither was moved, removed or
-    /// replaced. What cannot be found out counts as in place.
-    fn is_in_place(&self, store: &K) -> bool
-        ensures { places store.now result };
 
     /// Checkpoints a long WAL: copies it into its file, so that the next change does not have to. No record of a sound store
     /// changes. Fails if an allocation or the store fails.

@@ -2,13 +2,11 @@
 use crate::programs::{Does, Left, answer_of, compare_left, split, words_of};
 use crate::streams::{Reported, break_streams};
 use basis::Moment;
-use basis::numbers::whole_number;
 use fakes::{MemoryFile, MemoryPeers, StandingClock};
 use program::replays::run_frames;
 use program::running::run_words;
 use program::streams::CountedErrors;
 use std::alloc::Global;
-use std::cell::Cell;
 use std::mem;
 use story_runner::books::{Part, Plot, Story};
 use story_runner::devices::{ALL, Giver, Taker};
@@ -147,7 +145,6 @@ impl<'s> Memory<'s> {
         };
         self.has_no_clock = false;
         self.file.keeps_log = false;
-        self.file.found = None;
         self.file.faults = Vec::new(alloc);
         compare_got(alloc, due.as_slice(), &peers)?;
         Ok(Left {
@@ -199,21 +196,12 @@ impl<'s> Memory<'s> {
             self.file.faults.push(fault)?;
             return Ok(());
         }
-        if let Some(("place", times)) = what.split_once(' ') {
-            let Some(times) = whole_number(times) else {
-                return Err(Failure::from(head.unread("how often the file is found in place")));
-            };
-            self.file.found = Some(Cell::new(times));
-            return Ok(());
-        }
         match what {
             "clock" => self.has_no_clock = true,
             "log" => self.file.keeps_log = true,
             "output" => self.is_unflushed = true,
             _ => {
-                return Err(Failure::from(head.unread(
-                    "a clock, a log, an output, a place or tables break",
-                )));
+                return Err(Failure::from(head.unread("a clock, a log, an output or tables break")));
             }
         }
         Ok(())

@@ -298,9 +298,6 @@ impl<S: Start> Files<FileKeep<S>> for DiskFiles<'_, S> {
     // A store is shut where its connection is, while its disk kept what it promised.
     ghost shuts = { λ store said after. ⟦<FileKeep<S> as Keep>⟧.clean after → IfOk said (λ is_shut. (file_state store.conn).is_open ≡ not is_shut) };
 
-    // Nothing ties a path to what is looked at there.
-    ghost places = { λ _ _. ⊤ };
-
     // What was written is counted, and no longer once a long log was copied. How long the log is, and where its pages lie, no
     // clause of the kit tells.
     ghost checkpoints = { λ old new. CopiesLog old.logged new.logged old new };
@@ -347,14 +344,6 @@ impl<S: Start> Files<FileKeep<S>> for DiskFiles<'_, S> {
 
     fn is_shut(&self, store: &mut FileKeep<S>) -> Result<bool, Down> {
         store.is_shut()
-    }
-
-    // Files that could not be looked at when they were opened count as in place.
-    fn is_in_place(&self, _store: &FileKeep<S>) -> bool {
-        match &self.first {
-            Some(first) => first.is_in_place(self.rt),
-            None => true,
-        }
     }
 
     fn checkpoint(&self, store: &mut FileKeep<S>) -> Result<(), Down> {

@@ -26,7 +26,7 @@ connections-preserved g c =
         answers_more g.K.Keep g.F.Files g.N.Connections g.C.Clock g.N.Reader.Inlet g.N.Writer.Outlet c.args.terms.now 1 (c.connections.connection + 1) so_far.0 one.0
             (state c.args.network.now c.args.clock.now c.args.service.now.keep (g.E.ErrorStream.reported c.args.errors.now) (g.O.Write.contents c.print_listening.new.output))
             (state c.connections.network c.connections.clock c.connections.service.keep (g.E.ErrorStream.reported c.connections.errors) (g.O.Write.contents c.connections.output))
-            (state c.serve_next.new.network c.serve_next.new.clock c.serve_next.new.service.keep (g.E.ErrorStream.reported c.serve_next.new.errors) (g.O.Write.contents c.serve_next.new.output)) (let is = so_far.1 in omega arith) so_far.2 one.1 c.in-Ok.ensures.placed,
+            (state c.serve_next.new.network c.serve_next.new.clock c.serve_next.new.service.keep (g.E.ErrorStream.reported c.serve_next.new.errors) (g.O.Write.contents c.serve_next.new.output)) (let is = so_far.1 in omega arith) so_far.2 one.1,
       );
     }
 
