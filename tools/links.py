@@ -303,23 +303,17 @@ def look_at_most(program):
 
 
 def look_at_lingering(program):
-    """A peer that trickles behind the reply to what was too large is cut off then, too, and the next one is served."""
-    with Service(program, 2, "--idle", str(FAR), "--most", str(MOST)) as service:
-        with service.peer() as peer, service.peer() as later:
-            begun = time.monotonic()
-            peer.sendall(LONG_HEAD)
-            later.sendall(PUT)
-            served_behind("a peer that trickles behind its 413", later, begun, MOST, lambda: trickle(peer))
-            said("the one behind it", undated(received(later)) == ok(HELD), True)
-        service.ends()
-    with Service(program, 2, "--idle", str(FAR), "--most", str(FAR)) as service:
-        with service.peer() as peer, service.peer() as later:
-            begun = time.monotonic()
-            peer.sendall(LONG_HEAD)
-            later.sendall(PUT)
-            served_behind("a peer whose connection may last longer", later, begun, LINGER_MOST, lambda: trickle(peer))
-            said("the one behind it", undated(received(later)) == ok(HELD), True)
-        service.ends()
+    """A peer that trickles behind the reply to what was too large is cut off once its connection lasted as long as it may, and a few seconds
+    behind the reply in any case. The next one is served then."""
+    for what, most, due in [("a peer that trickles behind its 413", MOST, MOST), ("one whose connection may last longer", FAR, LINGER_MOST)]:
+        with Service(program, 2, "--idle", str(FAR), "--most", str(most)) as service:
+            with service.peer() as peer, service.peer() as later:
+                begun = time.monotonic()
+                peer.sendall(LONG_HEAD)
+                later.sendall(PUT)
+                served_behind(what, later, begun, due, lambda: trickle(peer))
+                said("the one behind it", undated(received(later)) == ok(HELD), True)
+            service.ends()
 
 
 def is_told_at_once(service, peer, later, begun):
