@@ -13,6 +13,11 @@ abbrev pub bound_site : Result Address Cause → Result Site Cause
 bound_site (Ok address) = Ok (site_of address)
 bound_site (Err why) = Err why
 
+-- the sites that may be printed for one that is asked for: a port for a port, which the system may have chosen, and a socket for itself
+abbrev pub IsGivenFor : Site → Site → Type 0
+IsGivenFor (at_port port) site = (given : ℕ) × (site ≡ at_port given)
+IsGivenFor (at_socket path) site = site ≡ at_socket path
+
 -- 0660: the owner and the group of a socket may connect to it
 abbrev pub owner_and_group : ℕ
 owner_and_group = 432

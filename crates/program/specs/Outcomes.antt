@@ -35,7 +35,7 @@ use Rattle.program.specs.declared.totals.Findings.{Findings}
 use Rattle.program.specs.declared.totals.Totals.{Totals}
 use Rattle.program.specs.Totals.{sound_text, version_text}
 use Rattle.command_line.specs.Orders.{Asked, Site, at_port, at_socket, carries, adds_token, checks_file, copies, compacts, serves, carries_all, replays, reports_version}
-use Rattle.program.specs.Listening.{AsksToListen}
+use Rattle.program.specs.Listening.{AsksToListen, IsGivenFor}
 use Rattle.program.specs.Moves.{org_copied, IsFilled, SomeAreCopied, CopiesBetween}
 use Rattle.program.specs.Paths.{AllStay, OthersStay, OthersStayBut, LeavesVacant, makes}
 use Rattle.program.specs.Replies.{printed, bad_frame_text, answer_line, fault_lines, AreReplies, Replays}
@@ -251,24 +251,24 @@ abbrev pub ReportsUnsound : Cause → Result Findings Down → Errors → Type 0
 ReportsUnsound why (Ok findings) errors = ReportsEach why findings.faults errors
 ReportsUnsound why (Err refused) errors = ReportsCause cause.Store errors
 
--- connections are served at the site that is printed, followed by the log if it is on (`true`)
-abbrev pub ServesAt : Bool → Exit → Stream → Type 0
-ServesAt logs exit.Done output = (site : Site) × (log : List ℕ) × Gets output (with_log logs (listening_line site) log)
-ServesAt logs exit.Schema output = Says exit.Schema output
-ServesAt logs exit.Down output =
-    Says exit.Down output ⊎ ((site : Site) × (log : List ℕ) × Gets output (with_log logs (listening_line site) log ++ answer_line (ending_line exit.Down)))
-ServesAt logs exit.Unprinted output = ⊤
-ServesAt logs e output = ⊥
+-- connections are served at the site that is printed, one of these, followed by the log if it is on (`true`)
+abbrev pub ServesAt : (Site → Type 0) → Bool → Exit → Stream → Type 0
+ServesAt IsSite logs exit.Done output = (site : Site) × IsSite site × (log : List ℕ) × Gets output (with_log logs (listening_line site) log)
+ServesAt IsSite logs exit.Schema output = Says exit.Schema output
+ServesAt IsSite logs exit.Down output =
+    Says exit.Down output ⊎ ((site : Site) × IsSite site × (log : List ℕ) × Gets output (with_log logs (listening_line site) log ++ answer_line (ending_line exit.Down)))
+ServesAt IsSite logs exit.Unprinted output = ⊤
+ServesAt IsSite logs e output = ⊥
 
 -- if an operator's door is asked for (`true`), its secret is on the input
 abbrev pub HasDoor : Bool → Option (List ℕ) → Type 0
 HasDoor true input = HasSecret input
 HasDoor false input = ⊤
 
--- connections are served; if an operator's door is asked for (`operates`), only after its secret is read
-abbrev pub ServesBehind : Bool → Bool → Option (List ℕ) → Exit → Stream → Errors → Type 0
-ServesBehind operates logs input e output errors =
-    (HasDoor operates input × ServesAt logs e output)
+-- connections are served at the site that is asked for; if an operator's door is asked for (`operates`), only after its secret is read
+abbrev pub ServesBehind : Site → Bool → Bool → Option (List ℕ) → Exit → Stream → Errors → Type 0
+ServesBehind site operates logs input e output errors =
+    (HasDoor operates input × ServesAt (IsGivenFor site) logs e output)
     ⊎ ((operates ≡ true) × ((HasNoSecret input × RefusesUsage e output errors) ⊎ RefusesDown e output))
 
 -- an exit after operator's commands that were carried out in order
@@ -310,7 +310,7 @@ Does schema (adds_token db org name role bounds) input e output errors = AddsTok
 Does schema (checks_file db) input e output errors = AnswersFaults e output
 Does schema (copies from to org) input e output errors = AnswersLine e output
 Does schema (compacts from to) input e output errors = AnswersFilled e output
-Does schema (serves db site count timeouts logs checks operates) input e output errors = ServesBehind operates logs input e output errors
+Does schema (serves db site count timeouts logs checks operates) input e output errors = ServesBehind site operates logs input e output errors
 Does schema (carries_all db) input e output errors = AnswersBatch input e output errors
 Does schema replays input e output errors = ReplaysFrames input e output errors
 Does schema reports_version input e output errors = ReportsVersion schema e output

@@ -34,13 +34,13 @@ abbrev pub listening_line : Site → List ℕ
 listening_line (at_port port) = codes "listening 127.0.0.1:" ++ decimal port ++ 10 ∷ []
 listening_line (at_socket path) = codes "listening " ++ path ++ 10 ∷ []
 
--- what standard output gets: this line once, before the first connection, then the log if it is on (`true`). If no connection can be accepted,
--- the line may be missing
-abbrev pub Listens : Bool → Exit → Option (List ℕ) → Option (List ℕ) → Type 0
-Listens logs exit.Done old new = (site : Site) × (log : List ℕ) × Appends old new (with_log logs (listening_line site) log)
-Listens logs exit.Down old new = (new ≡ old) ⊎ ((site : Site) × (log : List ℕ) × Appends old new (with_log logs (listening_line site) log))
-Listens logs exit.Unprinted old new = ⊤
-Listens logs other old new = ⊥
+-- what standard output gets: the line with one of these sites once, before the first connection, then the log if it is on (`true`). If no
+-- connection can be accepted, the line may be missing
+abbrev pub Listens : (Site → Type 0) → Bool → Exit → Option (List ℕ) → Option (List ℕ) → Type 0
+Listens IsSite logs exit.Done old new = (site : Site) × IsSite site × (log : List ℕ) × Appends old new (with_log logs (listening_line site) log)
+Listens IsSite logs exit.Down old new = (new ≡ old) ⊎ ((site : Site) × IsSite site × (log : List ℕ) × Appends old new (with_log logs (listening_line site) log))
+Listens IsSite logs exit.Unprinted old new = ⊤
+Listens IsSite logs other old new = ⊥
 
 -- the same, if the site is known
 abbrev pub ListensAt : Site → Bool → Exit → Option (List ℕ) → Option (List ℕ) → Type 0

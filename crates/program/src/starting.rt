@@ -1,5 +1,5 @@
 //! The command `serve`: a file is opened, connections are answered from it, and it is closed.
-ghost use Rattle.std.specs.Prelude.{◌≡◌, ◌≢◌, ◌⊎◌, true, IfOk, OnOk, OnErr, IsErrOf};
+ghost use Rattle.std.specs.Prelude.{◌≡◌, ◌≢◌, ◌⊎◌, true, Ok, IfOk, OnOk, OnErr, IsErrOf};
 ghost use Rattle.std.specs.Io.KnownBytes.{IsAtEnd};
 ghost use Rattle.command_line.specs.Orders.{site_of};
 ghost use Rattle.machine.specs.StoreCalls.{Lasts};
@@ -44,7 +44,7 @@ fn serve_bound<K: Keep, F: Files<K>, N: Connections, C: Clock, O: Write, E: Erro
     ensures lasts { Lasts K.clean K.sound K.keyed K.shielded service.old.keep service.new.keep }
     ensures serves { K.clean service.new.keep → K.sound service.old.keep → Serves (λ exchanges. ServesBound K.Keep F.Files N.Connections C.Clock N.Reader.Inlet N.Writer.Outlet (bound_site bound.entry) terms.now count exchanges (state network.old clock.old service.old.keep (E.reported errors.old) (O.contents output.old)) (state network.new clock.new service.new.keep (E.reported errors.new) (O.contents output.new)) result)
         terms.now.door count (K.rows service.old.keep) (K.rows service.new.keep) }
-    ensures listens { Listens terms.now.logs result (O.contents output.old) (O.contents output.new) }
+    ensures listens { Listens (λ site. bound_site bound.entry ≡ Ok site) terms.now.logs result (O.contents output.old) (O.contents output.new) }
     ensures answers { AnswersBound K.Keep F.Files N.Connections C.Clock N.Reader.Inlet N.Writer.Outlet (bound_site bound.entry) terms.now count (state network.old clock.old service.old.keep (E.reported errors.old) (O.contents output.old)) (state network.new clock.new service.new.keep (E.reported errors.new) (O.contents output.new)) result }
 {
     service.keep.records_are_lawful();
@@ -84,7 +84,7 @@ fn serve_opened<K: Keep, F: Files<K>, N: Connections, C: Clock, O: Write, E: Err
     output: &mut O,
     errors: &mut E,
 ) -> Exit
-    ensures line { ServesAt terms.now.logs result (stream (O.contents output.old) (O.contents output.new)) }
+    ensures line { ServesAt (λ site. bound_site bound.entry ≡ Ok site) terms.now.logs result (stream (O.contents output.old) (O.contents output.new)) }
     ensures serves { ServesOpened K.Keep F.Files N.Connections C.Clock N.Reader.Inlet N.Writer.Outlet db.now (bound_site bound.entry) terms.now count keep (environment files.old network.old clock.old) (environment files.new network.new clock.new) result (stream (O.contents output.old) (O.contents output.new)) (error_stream (E.reported errors.old) (E.reported errors.new)) }
 {
     let mut service = Service::new(keep);
@@ -117,7 +117,7 @@ fn serve<K: Keep, F: Files<K>, N: Connections, C: Clock, O: Write, E: ErrorStrea
     output: &mut O,
     errors: &mut E,
 ) -> Exit
-    ensures line { ServesAt terms.now.logs result (stream (O.contents output.old) (O.contents output.new)) }
+    ensures line { ServesAt (λ site. bound_site bound.entry ≡ Ok site) terms.now.logs result (stream (O.contents output.old) (O.contents output.new)) }
     ensures serves { ServesFrom K.Keep F.Files N.Connections C.Clock N.Reader.Inlet N.Writer.Outlet db.now (bound_site bound.entry) terms.now count (environment files.old network.old clock.old) (environment files.new network.new clock.new) result (stream (O.contents output.old) (O.contents output.new)) (error_stream (E.reported errors.old) (E.reported errors.new))
         ⊎ (RefusesToOpen K.Keep F.Files db.now Opening.Created files.old files.new result (stream (O.contents output.old) (O.contents output.new)) (error_stream (E.reported errors.old) (E.reported errors.new)) × IsAlone (environment files.old network.old clock.old) (environment files.new network.new clock.new)) }
 {
@@ -142,7 +142,7 @@ fn serve_checked<K: Keep, F: Files<K>, N: Connections, C: Clock, O: Write, E: Er
     output: &mut O,
     errors: &mut E,
 ) -> Exit
-    ensures line { ServesAt terms.now.logs result (stream (O.contents output.old) (O.contents output.new)) }
+    ensures line { ServesAt (λ site. bound_site bound.entry ≡ Ok site) terms.now.logs result (stream (O.contents output.old) (O.contents output.new)) }
     ensures serves { (ServesChecked K.Keep F.Files N.Connections C.Clock N.Reader.Inlet N.Writer.Outlet db.now (bound_site bound.entry) terms.now count (environment files.old network.old clock.old) (environment files.new network.new clock.new) result (stream (O.contents output.old) (O.contents output.new)) (error_stream (E.reported errors.old) (E.reported errors.new))
         ⊎ (RefusesUnsound K.Keep F.Files db.now Cause.Faults files.old files.new result (stream (O.contents output.old) (O.contents output.new)) (error_stream (E.reported errors.old) (E.reported errors.new)) × IsAlone (environment files.old network.old clock.old) (environment files.new network.new clock.new)))
         ⊎ (RefusesToOpen K.Keep F.Files db.now Opening.Existing files.old files.new result (stream (O.contents output.old) (O.contents output.new)) (error_stream (E.reported errors.old) (E.reported errors.new)) × IsAlone (environment files.old network.old clock.old) (environment files.new network.new clock.new)) }
@@ -174,7 +174,7 @@ fn serve_as_asked<K: Keep, F: Files<K>, N: Connections, C: Clock, O: Write, E: E
     output: &mut O,
     errors: &mut E,
 ) -> Exit
-    ensures line { ServesAt terms.now.logs result (stream (O.contents output.old) (O.contents output.new)) }
+    ensures line { ServesAt (λ site. bound_site bound.entry ≡ Ok site) terms.now.logs result (stream (O.contents output.old) (O.contents output.new)) }
     ensures serves { ServesAsAsked K.Keep F.Files N.Connections C.Clock N.Reader.Inlet N.Writer.Outlet checks db.now (bound_site bound.entry) terms.now count (environment files.old network.old clock.old) (environment files.new network.new clock.new) result (stream (O.contents output.old) (O.contents output.new)) (error_stream (E.reported errors.old) (E.reported errors.new)) }
 {
     if checks {
@@ -203,7 +203,7 @@ fn start_at<K: Keep, F: Files<K>, N: Connections, C: Clock, O: Write, E: ErrorSt
     output: &mut O,
     errors: &mut E,
 ) -> Exit
-    ensures line { ServesAt terms.now.logs result (stream (O.contents output.old) (O.contents output.new)) }
+    ensures line { ServesAt (λ site. bound_site bound.entry ≡ Ok site) terms.now.logs result (stream (O.contents output.old) (O.contents output.new)) }
     ensures starts { StartsAt K.Keep F.Files N.Connections C.Clock N.Reader.Inlet N.Writer.Outlet (site_of address.entry) checks db.now (bound_site bound.entry) terms.now count (environment files.old network.old clock.old) (environment files.new network.new clock.new) result (stream (O.contents output.old) (O.contents output.new)) (error_stream (E.reported errors.old) (E.reported errors.new)) }
 {
     match address {
@@ -274,7 +274,7 @@ pub fn serve_with_door<
     output: &mut O,
     errors: &mut E,
 ) -> Exit
-    ensures line { ServesBehind operates logs (I.remaining input.old) result (stream (O.contents output.old) (O.contents output.new)) (error_stream (E.reported errors.old) (E.reported errors.new)) }
+    ensures line { ServesBehind (site_of address.entry) operates logs (I.remaining input.old) result (stream (O.contents output.old) (O.contents output.new)) (error_stream (E.reported errors.old) (E.reported errors.new)) }
     ensures serves { ServesWithDoor K.Keep F.Files N.Connections C.Clock N.Reader.Inlet N.Writer.Outlet operates checks db.now (site_of address.entry) timeouts logs count (I.remaining input.old) (environment files.old network.old clock.old) (environment files.new network.new clock.new) result (stream (O.contents output.old) (O.contents output.new)) (error_stream (E.reported errors.old) (E.reported errors.new)) }
     ensures input { ReadsAllIf operates (I.remaining input.old) (I.remaining input.new) result (stream (O.contents output.old) (O.contents output.new)) (error_stream (E.reported errors.old) (E.reported errors.new)) }
 {

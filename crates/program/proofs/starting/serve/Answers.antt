@@ -6,7 +6,7 @@ use Rattle.program.specs.Listening.{bound_site}
 use Rattle.program.proofs.starting.serve.Goals as goal
 
 pub returns-in-Err-clause-line : goal.returns-in-Err-clause-line
-returns-in-Err-clause-line g c = refused_serving c.args.terms.now.logs c.in-Err.exit _ _ (refused_by g.K.Keep g.F.Files c.args.db.now Created c.args.files.now c.open_one.new.files c.in-Err.exit (g.O.Write.contents c.args.output.now) (g.O.Write.contents c.open_one.new.output) (g.E.ErrorStream.reported c.args.errors.now) (g.E.ErrorStream.reported c.open_one.new.errors) c.in-Err.ensures.refused)
+returns-in-Err-clause-line g c = refused_serving _ c.args.terms.now.logs c.in-Err.exit _ _ (refused_by g.K.Keep g.F.Files c.args.db.now Created c.args.files.now c.open_one.new.files c.in-Err.exit (g.O.Write.contents c.args.output.now) (g.O.Write.contents c.open_one.new.output) (g.E.ErrorStream.reported c.args.errors.now) (g.E.ErrorStream.reported c.open_one.new.errors) c.in-Err.ensures.refused)
 
 pub returns-in-Err-clause-serves : goal.returns-in-Err-clause-serves
 returns-in-Err-clause-serves g c = inr (c.in-Err.ensures.refused, (refl {a = c.args.network.now}, refl {a = c.args.clock.now}))

@@ -1,5 +1,7 @@
-use Rattle.std.proofs.Common.{refl}
+use Rattle.std.proofs.Common.{Ok, refl, inl}
+use Rattle.command_line.specs.Orders.{site_of}
 use Rattle.program.specs.Serving.{state}
+use Rattle.program.proofs.OutcomeLemmas.{listens_at}
 use Rattle.program.proofs.ServedLemmas.{none_serves}
 use Rattle.program.proofs.starting.serve_bound.Goals as goal
 
@@ -18,3 +20,9 @@ returns-in-Ok-clause-answers g c = rw c.in-Ok.is (c.serve_loop.ensures.answers, 
 
 pub returns-in-Err-clause-answers : goal.returns-in-Err-clause-answers
 returns-in-Err-clause-answers g c = rw c.in-Err.is (refl, refl, refl, c.report_cause.ensures, refl, refl)
+
+pub returns-in-Ok-clause-listens : goal.returns-in-Ok-clause-listens
+returns-in-Ok-clause-listens g c = rw c.in-Ok.is (listens_at (Ok (site_of c.in-Ok.given)) (site_of c.in-Ok.given) c.args.terms.now.logs c.serve_loop.result _ _ refl c.serve_loop.ensures.listens)
+
+pub returns-in-Err-clause-listens : goal.returns-in-Err-clause-listens
+returns-in-Err-clause-listens g c = inl refl

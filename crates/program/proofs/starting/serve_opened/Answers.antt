@@ -4,7 +4,7 @@ use Rattle.program.specs.Listening.{bound_site}
 use Rattle.program.proofs.starting.serve_opened.Goals as goal
 
 pub returns-clause-line : goal.returns-clause-line
-returns-clause-line g c = served c.args.terms.now.logs c.serve_bound-exit.result c.say_served.result (g.O.Write.contents c.args.output.now) (g.O.Write.contents c.serve_bound-exit.new.output) (g.O.Write.contents c.say_served.new.output) c.serve_bound-exit.ensures.listens c.say_served.ensures.down c.say_served.ensures.other
+returns-clause-line g c = served _ c.args.terms.now.logs c.serve_bound-exit.result c.say_served.result (g.O.Write.contents c.args.output.now) (g.O.Write.contents c.serve_bound-exit.new.output) (g.O.Write.contents c.say_served.new.output) c.serve_bound-exit.ensures.listens c.say_served.ensures.down c.say_served.ensures.other
 
 pub returns-clause-serves : goal.returns-clause-serves
 returns-clause-serves g c = serves_opened g.K.Keep g.F.Files g.N.Connections g.C.Clock g.N.Reader.Inlet g.N.Writer.Outlet

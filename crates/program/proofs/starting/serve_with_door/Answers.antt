@@ -1,10 +1,13 @@
 use Rattle.std.proofs.Common.{◌≡◌, true, rules, refl, inl, inr}
 use Rattle.program.specs.Listening.{bound_site}
+use Rattle.command_line.specs.Orders.{site_of}
+use Rattle.program.specs.Outcomes.{stream}
 use Rattle.program.proofs.InputLemmas.{read_if}
+use Rattle.program.proofs.OutcomeLemmas.{served_among, site_given}
 use Rattle.program.proofs.starting.serve_with_door.Goals as goal
 
 pub returns-in-Ok-clause-line : goal.returns-in-Ok-clause-line
-returns-in-Ok-clause-line g c = inl (c.in-Ok.ensures.has, c.start_at.ensures.line)
+returns-in-Ok-clause-line g c = inl (c.in-Ok.ensures.has, served_among (site_given g.N.Connections (site_of c.args.address) (bound_site c.listen-bound.result) c.args.network.now c.listen-bound.new.network c.listen-bound.ensures) c.args.logs c.start_at.result (stream (g.O.Write.contents c.args.output.now) (g.O.Write.contents c.start_at.new.output)) c.start_at.ensures.line)
 
 pub returns-in-Ok-clause-serves : goal.returns-in-Ok-clause-serves
 returns-in-Ok-clause-serves g c = inl (c.in-Ok.door, c.in-Ok.ensures.is, bound_site c.listen-bound.result, c.listen-bound.new.network, c.listen-bound.ensures, c.start_at.ensures.starts)
