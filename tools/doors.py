@@ -29,8 +29,11 @@ ADMIN = b"Bearer acme.adminadminadmin1"
 # How many clients work while the operator does, and how many rounds each has to complete before and after.
 CLIENTS, ROUNDS = 40, 3
 DATE = b"Tue, 14 Nov 2023 22:13:20 GMT"
-# Commands and requests behind each of which SQLite reads the rows of a running service.
-MEMORY_STEPS = 1_000
+# Commands and requests behind each of which SQLite reads the rows of a running service. Commands come in the first half of each hundred,
+# because they make the service forget.
+MEMORY_STEPS = 2_000
+# The tokens of each of two organizations: together more than the eight that a service remembers.
+NAMES = ["root", "ci", "t2", "t3", "t4", "t5"]
 
 REFUSED = {
     "no-method": reply(b"405 Method Not Allowed\r\nAllow: POST", b'{"error":"no-method"}'),
@@ -278,16 +281,19 @@ def rows_in(program, path):
         return tuple(database.execute(text).fetchall() for text in ["SELECT name, cap FROM org ORDER BY 1", "SELECT org, name, digest FROM token ORDER BY 1, 2", "SELECT org, name FROM ws ORDER BY 1, 2"])
 
 
-def next_step(chance, orgs):
-    """A command, or a request with its method, organization, workspace and secret. Mostly an organization and its token are there, and
-    requests come one behind the other: what is remembered of them is asked before a command makes it forgotten."""
-    org, token = chance.choices(["acme", "beta"], [3, 1])[0], chance.choices(["root", "ci"], [5, 1])[0]
-    secret = "%s%s11111111" % (org, token.ljust(4, "0"))
-    word = chance.choices(["PUT", "DELETE", "GET", "org-limit", "org-remove", "token-add", "token-revoke", "org-add"], [45, 25, 6, 8, 5, 4, 3, 4])[0]
-    if org not in orgs and chance.random() < 0.5:
+def next_step(chance, orgs, has_commands):
+    """A command, or a request with its method, organization, workspace and secret, which is the same in each organization. Mostly an
+    organization and its token are there, and requests come one behind the other: what is remembered of them is asked before a command makes
+    it forgotten."""
+    org, token = chance.choices(["acme", "beta"], [3, 1])[0], chance.choice(NAMES)
+    secret = "%s11111111" % token.ljust(8, "0")
+    word = chance.choices(["PUT", "DELETE", "GET"], [45, 25, 6])[0]
+    if has_commands and org not in orgs and chance.random() < 0.5:
         word = "org-add"
-    elif org in orgs and token not in orgs[org][1] and chance.random() < 0.5:
+    elif has_commands and org in orgs and token not in orgs[org][1] and chance.random() < 0.5:
         word = "token-add"
+    elif has_commands and chance.random() < 0.24:
+        word = chance.choices(["org-limit", "org-remove", "token-add", "token-revoke", "org-add"], [8, 2, 4, 6, 4])[0]
     if word in ("PUT", "DELETE", "GET"):
         return word, org, chance.choice("abcd"), secret
     limits = {"org-add": [chance.choice("0123")], "org-limit": [chance.choice("0123")], "org-remove": [], "token-add": [token, "admin", secret], "token-revoke": [token]}
@@ -299,7 +305,7 @@ def look_at_memory(program):
     chance, model, refused = random.Random(7), Model(), collections.Counter()
     with Door(program, "m.db", ()) as door:
         for step in range(MEMORY_STEPS):
-            word, org, *rest = next_step(chance, model.orgs)
+            word, org, *rest = next_step(chance, model.orgs, step % 100 < 50)
             what = "step %d, %s %s %s" % (step, word, org, " ".join(rest))
             if word.isupper():
                 status, why = model.request(word, org, *rest)

@@ -41,12 +41,12 @@ use Rattle.tables.specs.declared.askers.Asked.{Asked}
 use Rattle.tables.specs.declared.points.UnitRead.{UnitRead}
 use Rattle.tables.specs.declared.memo.Memo.{Memo}
 use Rattle.tables.specs.declared.sizes.SizedVersion.{SizedVersion}
-use Rattle.tables.specs.Remembered.{IsRemembered}
+use Rattle.tables.specs.Remembered.{AreAskers, IsRemembered}
 use Rattle.tables.specs.Inner.Counting.{known_of, count_after}
 use Rattle.tables.specs.Inner.Points.{unit_read_in, text_by}
-use Rattle.tables.specs.Inner.Remembering.{size_kept, Notes, asker_kept, asker_noted, changed_memo}
+use Rattle.tables.specs.Inner.Remembering.{size_kept, Notes, changed_memo}
 use Rattle.tables.proofs.Remembering.{known_is, kept_is, changed_is}
-use Rattle.tables.proofs.KeptInMemory.{noted_size, sized_text, kept_asker, noted_asker, same_asker}
+use Rattle.tables.proofs.KeptInMemory.{noted_size, sized_text, same_askers}
 use Rattle.tables.specs.Inner.Steps.{Commits}
 use Rattle.tables.proofs.Managed.{asker_found}
 use Rattle.tables.proofs.Finding.{unit_found}
@@ -71,21 +71,29 @@ module _ {memo : Memo} (db : Database) (a : State) (s : IsSoundKeep db memo a) w
   asker_reported org digest asker reported = reported.1 now (held reported.0) ∙ asker_found now s.store.sound org digest
 
   -- the token that is kept is who asks
-  pub asker_known : (org digest : List ℕ) (row : TokenRow) → asker_kept memo.asked org digest ≡ Some row → Some row ≡ asker_of (records_of db org) digest
-  asker_known org digest row kept = kept_asker now memo.asked org digest row s.remembered.askers kept
+  pub asker_known : (org digest : List ℕ) (row : TokenRow) → ((t : Tables) → AreAskers t memo.asked → Some row ≡ asker_of (record_of t org) digest) → Some row ≡ asker_of (records_of db org) digest
+  asker_known org digest row kept = kept now s.remembered.askers
 
-  -- what is kept in memory after it is so
-  pub asker_keeps : (b : State) (org digest : List ℕ) (asker : Option TokenRow) → IsTrue a.is_open × ((t : Tables) → Holds a.committed t → asker ≡ asker_in org digest t) → KeepsCommit a b
-      → (asked : Option Asked) → IfSome asked (λ kept. asker_noted memo.asked org digest asker ≡ Some kept) → IsSoundKeep db (record memo { asked = asked }) b
-  asker_keeps b org digest asker reported stays asked noted = record {
+  -- with other tokens in memory, each as it is
+  asked_are : (b : State) (asked : Option (List Asked)) → AreAskers now asked → KeepsCommit a b → IsSoundKeep db (record memo { asked = asked }) b
+  asked_are b asked are stays = record {
     store = s.store;
-    remembered = record {
-      counts = s.remembered.counts;
-      sizes = s.remembered.sizes;
-      askers = noted_asker now memo.asked asked org digest asker s.remembered.askers (asker_reported org digest asker reported) noted;
-    };
+    remembered = record { counts = s.remembered.counts; sizes = s.remembered.sizes; askers = are };
     tied = λ is. stays.committed is ∙ s.tied (stays.was_open is);
   }
+
+  -- what is kept in memory after one of them was asked for
+  pub askers_stay : (asked : Option (List Asked)) → ((t : Tables) → AreAskers t memo.asked → AreAskers t asked) → IsSoundKeep db (record memo { asked = asked }) a
+  askers_stay asked kept = record {
+    store = s.store;
+    remembered = record { counts = s.remembered.counts; sizes = s.remembered.sizes; askers = kept now s.remembered.askers };
+    tied = s.tied;
+  }
+
+  -- what is kept in memory after it was looked up
+  pub asker_keeps : (b : State) (org digest : List ℕ) (asker : Option TokenRow) → IsTrue a.is_open × ((t : Tables) → Holds a.committed t → asker ≡ asker_in org digest t) → KeepsCommit a b
+      → (before after : Option (List Asked)) → ((t : Tables) → AreAskers t memo.asked → AreAskers t before) → ((t : Tables) → AreAskers t before → asker ≡ asker_of (record_of t org) digest → AreAskers t after) → IsSoundKeep db (record memo { asked = after }) b
+  asker_keeps b org digest asker reported stays before after kept noted = asked_are b after (noted now (kept now s.remembered.askers) (asker_reported org digest asker reported)) stays
 
   pub unit_reported : (org ws : List ℕ) (act : Act) (need : Needed) → need ≡ needs act → (it : UnitRead) → IsTrue a.is_open × ((t : Tables) → Holds a.committed t → it ≡ unit_read_in need (known_of memo.cached org) org ws t)
       → (o : Organization) → records_of db org ≡ Some o → it.unit ≡ unit_of o ws act
@@ -160,7 +168,7 @@ module _ {memo : Memo} (db : Database) (a : State) (s : IsSoundKeep db memo a) w
         remembered = record {
           counts = changed_is (records_of db) (records_of b.committed) org ws change applied_other o there (applied_own o there due) memo.cached s.remembered.counts;
           sizes = tt;
-          askers = same_asker now (tables_of b.committed) org ws change applied_other o there (applied_own o there due) memo.asked s.remembered.askers;
+          askers = same_askers now (tables_of b.committed) org ws change applied_other o there (applied_own o there due) memo.asked s.remembered.askers;
         };
         tied = λ _. refl;
       }

@@ -1,9 +1,10 @@
 -- What is kept in memory of versions and tokens is so, and stays so.
-use Rattle.std.proofs.Common.{◌≡◌, ◌≢◌, ℕ, ◌==◌, ◌&&◌, Bool, true, false, cond, List, Option, Some, None, is_some, IfSome, option_map, refl, sym, ap, ◌∙◌, subst}
+use Rattle.std.proofs.Common.{All, OnOk, OnErr, slice_index_or, ◌≡◌, ◌≢◌, ◌<◌, ◌++◌, [], ◌∷◌, length, Result, Ok, Err, ℕ, ◌==◌, ◌&&◌, Bool, true, false, cond, List, Option, Some, None, is_some, IfSome, option_map, refl, sym, ap, ◌∙◌, subst}
 use Rattle.std.specs.Str.{bytes_eq}
 use Rattle.std.specs.FinMap.{get}
 use Rattle.std.proofs.lemmas.Bool.{eqb-true}
 use Rattle.std.proofs.lemmas.Option.{same_Some}
+use Rattle.std.proofs.lemmas.List.Elements.{All-weaker, All-push}
 use Rattle.sqlite_keyed.proofs.SliceLemmas.{is_some-map}
 use Rattle.basis.specs.declared.rows.VersionRow.{VersionRow as Head}
 use Rattle.basis.proofs.NameLemmas.{equal_bytes}
@@ -23,10 +24,10 @@ use Rattle.statements.specs.Tables.{Tables}
 use Rattle.statements.specs.declared.rows.Workspace.{Workspace as WorkspaceCells}
 use Rattle.texts.specs.Texts.{text_of}
 use Rattle.tables.specs.Records.{settings_of_cells, workspace_at, workspace_by, record_of}
-use Rattle.tables.specs.Remembered.{IsSize, IsAsker, IsRemembered, nothing_kept}
+use Rattle.tables.specs.Remembered.{IsSize, IsAsker, AreAskers, IsRemembered, nothing_kept}
 use Rattle.tables.specs.Sound.{IsSound}
 use Rattle.tables.specs.Inner.Points.{sized_by, sized_in, size_asked, size_from, size_seen, present_in, unit_read_at, text_by}
-use Rattle.tables.specs.Inner.Remembering.{size_kept, Notes, asker_kept, asker_noted}
+use Rattle.tables.specs.Inner.Remembering.{size_kept, Notes, IsAskedBy}
 use Rattle.tables.specs.Inner.Units.{holder_status_in, newest_by, retention_in, has_version_in, outgoing_in, asked_run_in}
 use Rattle.tables.specs.declared.askers.Asked.{Asked}
 use Rattle.tables.specs.declared.versions.SizedNewest.{SizedNewest}
@@ -127,31 +128,25 @@ module _ (t : Tables) (sound : IsSound t) (org ws : List ℕ) where
       by_name true false c e f g = text_found t sound org ws n
       by_name false b c e f g = text_found t sound org ws n
 
--- ---- the token that asked
+-- ---- the tokens that asked
 
--- what is kept of it is who asks
-pub kept_asker : (t : Tables) (asked : Option Asked) (org digest : List ℕ) (row : TokenRow) → IfSome asked (IsAsker t) → asker_kept asked org digest ≡ Some row → Some row ≡ asker_of (record_of t org) digest
-kept_asker t None org digest row is kept = absurd (let none : ⊥ = cc in none)
-kept_asker t (Some a) org digest row is kept = by_name (bytes_eq a.org org) (bytes_eq a.digest digest) refl refl kept
-  where
-    by_name : (b c : Bool) → bytes_eq a.org org ≡ b → bytes_eq a.digest digest ≡ c → cond (b && c) (Some a.row) None ≡ Some row → Some row ≡ asker_of (record_of t org) digest
-    by_name true true e f own = sym own ∙ sym is ∙ (λ i. asker_of (record_of t (equal_bytes a.org org e i)) (equal_bytes a.digest digest f i))
-    by_name true false e f own = absurd (let none : ⊥ = cc in none)
-    by_name false c e f own = absurd (let none : ⊥ = cc in none)
+-- one that is put behind the others, if there is memory for it
+pub pushed : {X E : Type 0} {U : Type 0} (P : X → Type 0) (xs ys : List X) (x : X) (result : Result U E) → OnOk result (ys ≡ xs ++ x ∷ []) → OnErr result (ys ≡ xs) → All P xs → P x → All P ys
+pushed P xs ys x (Ok u) is err all one = subst (All P) (sym is) (All-push P xs x all one)
+pushed P xs ys x (Err e) ok is all one = subst (All P) (sym is) all
 
--- after a query
-pub noted_asker : (t : Tables) (before after : Option Asked) (org digest : List ℕ) (found : Option TokenRow) → IfSome before (IsAsker t) → found ≡ asker_of (record_of t org) digest
-    → IfSome after (λ kept. asker_noted before org digest found ≡ Some kept) → IfSome after (IsAsker t)
-noted_asker t before None org digest found is reported noted = tt
-noted_asker t before (Some a) org digest None is reported noted = subst (λ (o : Option Asked). IfSome o (IsAsker t)) noted is
-noted_asker t before (Some a) org digest (Some row) is reported noted = subst (IsAsker t) (same_Some _ _ noted) (sym reported)
+-- the one at a place, found by its organization and digest
+pub one_of : (t : Tables) (org digest : List ℕ) (list : List Asked) (place : ℕ) (row : TokenRow) → place < length list → ((d : Asked) → IsAskedBy org digest (slice_index_or list place d)) → ((d : Asked) → (slice_index_or list place d).row ≡ row)
+    → All (IsAsker t) list → Some row ≡ asker_of (record_of t org) digest
+one_of t org digest list place row within by is all =
+    let d : Asked = record { org = org; digest = digest; row = row } in
+    ap Some (sym (is d)) ∙ sym (all place d within) ∙ (λ i. asker_of (record_of t ((by d).0 i)) ((by d).1 i))
 
 -- a workspace that changes changes no token
 module _ (t u : Tables) (org ws : List ℕ) (change : Change) (others : (q : List ℕ) → q ≢ org → record_of u q ≡ record_of t q) (o : Organization) (there : record_of t org ≡ Some o)
     (own : record_of u org ≡ Some (placed o ws (changed_by change (get o.workspaces ws)))) where
-  pub same_asker : (asked : Option Asked) → IfSome asked (IsAsker t) → IfSome asked (IsAsker u)
-  same_asker None is = tt
-  same_asker (Some a) is = by_name (bytes_eq a.org org) refl
+  same_asker : (a : Asked) → IsAsker t a → IsAsker u a
+  same_asker a is = by_name (bytes_eq a.org org) refl
     where
       by_name : (b : Bool) → bytes_eq a.org org ≡ b → IsAsker u a
       by_name false e = ap (λ (r : Option Organization). asker_of r a.digest) (others a.org (apart_from a.org org e)) ∙ is
@@ -159,3 +154,7 @@ module _ (t u : Tables) (org ws : List ℕ) (change : Change) (others : (q : Lis
           let name : a.org ≡ org = equal_bytes a.org org e in
           let before : asker_of (Some o) a.digest ≡ Some a.row = ap (λ (r : Option Organization). asker_of r a.digest) (sym there ∙ ap (record_of t) (sym name)) ∙ is in
           ap (λ (r : Option Organization). asker_of r a.digest) (ap (record_of u) name ∙ own) ∙ before
+
+  pub same_askers : (asked : Option (List Asked)) → AreAskers t asked → AreAskers u asked
+  same_askers None are = tt
+  same_askers (Some list) are = All-weaker (IsAsker t) (IsAsker u) same_asker list are

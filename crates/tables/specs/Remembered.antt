@@ -1,5 +1,5 @@
 -- When what is kept in memory of the tables is correct.
-use Rattle.std.specs.Prelude.{◌≡◌, Some, None, IfSome}
+use Rattle.std.specs.Prelude.{◌≡◌, List, Option, Some, None, IfSome, All}
 use Rattle.machine.specs.Records.{workspace_in}
 use Rattle.machine.specs.Tokens.{asker_of}
 use Rattle.machine.specs.Units.{version_text}
@@ -19,11 +19,15 @@ IsSize t s = version_text s.number (workspace_in (record_of t s.org) s.ws) ≡ S
 abbrev pub IsAsker : Tables → Asked → Type 0
 IsAsker t a = asker_of (record_of t a.org) a.digest ≡ Some a.row
 
+-- each of the tokens that are kept is so
+abbrev pub AreAskers : Tables → Option (List Asked) → Type 0
+AreAskers t asked = IfSome asked (All (IsAsker t))
+
 -- everything that is kept is correct for the tables
 pub record IsRemembered (t : Tables) (memo : Memo) : Type 0 where
   pub counts : IsCachedCount (record_of t) memo.cached
   pub sizes : IfSome memo.sized (IsSize t)
-  pub askers : IfSome memo.asked (IsAsker t)
+  pub askers : AreAskers t memo.asked
 
 abbrev pub nothing_kept : Memo
 nothing_kept = record { cached = None; sized = None; asked = None }

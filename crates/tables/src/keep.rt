@@ -100,7 +100,7 @@ impl<S: Alter, K: PageKey> Keep for SqlKeep<S, K> {
         digest: &[u8; 32],
     ) -> Result<Option<TokenRow>, Down> {
         let org = org.as_str();
-        if let Some(asker) = askers::known(&self.memo.asked, org, digest) {
+        if let Some(asker) = askers::known(&mut self.memo.asked, org, digest) {
             return Ok(Some(asker));
         }
         match callers::caller(&mut self.conn, org, digest.as_slice()) {
@@ -108,7 +108,10 @@ impl<S: Alter, K: PageKey> Keep for SqlKeep<S, K> {
                 askers::cache_asker(&mut self.memo.asked, alloc, org, digest, &asker);
                 Ok(asker)
             }
-            Err(_) => Err(Down),
+            Err(_) => {
+                self.memo = Memo::new();
+                Err(Down)
+            }
         }
     }
 

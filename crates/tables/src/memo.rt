@@ -7,6 +7,7 @@ use crate::askers::Asked;
 use crate::counts;
 use crate::counts::WorkspaceCount;
 use crate::sizes::SizedVersion;
+use basis::Items;
 use machine::Change;
 
 /// What is kept. Everything is forgotten when the tables change in any other way than by a change of a
@@ -17,8 +18,8 @@ pub(crate) struct Memo {
     pub(crate) cached: Option<WorkspaceCount>,
     /// The version that was read last and whose text is read next.
     pub(crate) sized: Option<SizedVersion>,
-    /// The token that was used last.
-    pub(crate) asked: Option<Asked>,
+    /// The tokens that were used last, the newest last; none before the first is.
+    pub(crate) asked: Option<Items<Asked>>,
 }
 
 impl Memo {

@@ -5,7 +5,6 @@ use Rattle.basis.specs.declared.acts.Query.TheVariants as query
 use Rattle.machine.specs.declared.acts.Act.{Act}
 use Rattle.machine.specs.declared.acts.Act.TheVariants.{Query}
 use Rattle.machine.specs.declared.acts.Edit.{Edit}
-use Rattle.machine.specs.declared.keeps.TokenRow.{TokenRow}
 use Rattle.tables.specs.Inner.Counting.{changed_count}
 use Rattle.tables.specs.declared.askers.Asked.{Asked}
 use Rattle.tables.specs.declared.versions.VersionSize.{VersionSize}
@@ -28,15 +27,9 @@ abbrev pub Notes : List ℕ → List ℕ → Option VersionSize → SizedVersion
 Notes org ws None kept = ⊥
 Notes org ws (Some v) kept = kept ≡ record { org = org; ws = ws; number = v.number; size = v.size }
 
--- the caller and the name of the token with a digest, if they are in memory
-abbrev pub asker_kept : Option Asked → List ℕ → List ℕ → Option TokenRow
-asker_kept None org digest = None
-asker_kept (Some a) org digest = cond (bytes_eq a.org org && bytes_eq a.digest digest) (Some a.row) None
-
--- after a read: the token that was found
-abbrev pub asker_noted : Option Asked → List ℕ → List ℕ → Option TokenRow → Option Asked
-asker_noted before org digest None = before
-asker_noted before org digest (Some row) = Some (record { org = org; digest = digest; row = row })
+-- it is the token of this organization with this digest
+abbrev pub IsAskedBy : List ℕ → List ℕ → Asked → Type 0
+IsAskedBy org digest a = (a.org ≡ org) × (a.digest ≡ digest)
 
 -- after a workspace was changed
 abbrev pub changed_memo : Memo → List ℕ → List ℕ → Edit → Memo
