@@ -6,22 +6,18 @@ use Rattle.docs.specs.Logs.{log_line}
 use Rattle.docs.specs.declared.logs.LogRow.{LogRow}
 use Rattle.machine.specs.declared.keeps.Keep as keep
 use Rattle.machine.specs.declared.records.Organization.{Organization}
-use Rattle.wire.specs.Replies.{Answer, refused_answer}
-use Rattle.wire.specs.declared.messages.Message.{Message}
+use Rattle.wire.specs.Replies.{Answer}
 use Rattle.wire.specs.declared.devices.Inlet as inlet
 use Rattle.wire.specs.declared.devices.Outlet as outlet
 use Rattle.serve.specs.Asks.{Ask, silent, refused, requests, commands, owner_of}
-use Rattle.docs.specs.Bodies.{error_text}
-use Rattle.serve.specs.AtDoor.{reported_row, turned_row, unserved_row, IsReportedAtDoor}
-use Rattle.serve.specs.Exchanges.{IsAnswered, IsAnsweredWith, Exchanges, ChangesAsLogged}
+use Rattle.serve.specs.Doors.{IsAnswerTo}
+use Rattle.serve.specs.Exchanges.{IsAnswered, Exchanges, ChangesAsLogged}
 use Rattle.serve.specs.declared.doors.Door.{Door}
-use Rattle.serve.specs.declared.doors.Door.TheVariants.{Closed, Open}
-use Rattle.serve.specs.Logs.{silent_row, with_answer, request_row, row_of_ask}
-use Rattle.serve.specs.Service.{record_for, is_head}
-use Rattle.serve.specs.Steps.{replies, refusing, step}
+use Rattle.serve.specs.Logs.{silent_row, with_answer, request_row, command_row, no_command_row, row_of_ask}
+use Rattle.serve.specs.Service.{record_for}
+use Rattle.serve.specs.Steps.{refusing}
 use Rattle.serve.specs.declared.exchanges.LinkFault.{LinkFault}
 use Rattle.serve.specs.declared.exchanges.LinkFault.TheVariants.{Ended, Read, Continue, Write}
-use Rattle.serve.proofs.LawLemmas.{no_reply}
 use Rattle.program.specs.declared.serving.Terms.{Terms}
 use Rattle.program.specs.declared.environment.Clock as clock
 use Rattle.program.specs.declared.environment.Connections as connections
@@ -56,37 +52,26 @@ heard_log true line old heard new first log = (log.0, Appends-trans old heard ne
 heard_log false line old heard new first same = ([], subst (λ (o : Option (List ℕ)). Appends old o line) (sym same) first)
 
 -- of each exchange something is told
-served_row : (r : Option Organization) (ask : Ask) (awaited : Bool) (at : ℕ) (answer : Answer) (row : Option LogRow)
-    → (step r ask).answer ≡ replies awaited at answer → row ≡ row_of_ask r ask → (reported : LogRow) × (row ≡ Some reported)
-served_row r silent awaited at answer row said is = absurd (let none : ⊥ = cc in none)
-served_row r (refused when due refusal is_head) awaited at answer row said is = (with_answer (refusing refusal r).answer (silent_row when), is)
-served_row r (requests when due asked content_md5 body) awaited at answer row said is = (request_row r when asked content_md5 body, is)
-served_row r (commands when command) awaited at answer row said is = absurd (no_reply command _ awaited at answer said)
+served_row : (rows : List ℕ → Option Organization) (r : Option Organization) (now : ℕ) (awaited : Bool) (ask : Ask) (answer : Answer) (row : Option LogRow)
+    → IsAnswerTo rows now awaited ask answer → row ≡ row_of_ask r ask answer → (reported : LogRow) × (row ≡ Some reported)
+served_row rows r now awaited silent answer row answers is = absurd answers
+served_row rows r now awaited (refused when due refusal is_head false) answer row answers is = (with_answer (refusing refusal r).answer (silent_row when), is)
+served_row rows r now awaited (refused when due refusal is_head true) answer row answers is = (no_command_row when (refusing refusal r).answer, is)
+served_row rows r now awaited (requests when due asked content_md5 body) answer row answers is = (request_row r when asked content_md5 body, is)
+served_row rows r now awaited (commands when command) answer row answers is = (command_row when command answer, is)
 
-answered_row : (now : ℕ) (received : List ℕ) (old new : List ℕ → Option Organization) (awaited : Bool) (text : List ℕ) (row : Option LogRow) (is_down : Bool)
-    → IsAnswered now received old new awaited text row is_down → (reported : LogRow) × (row ≡ Some reported)
-answered_row now received old new awaited text row false served = served_row (record_for old (owner_of served.ask)) served.ask awaited now served.answer row served.said served.logged
-answered_row now received old new awaited text row true down = (down.1.reported, down.1.reports)
-
-reported_row_there : (digest : List ℕ) (now : ℕ) (message : Message) (old new : List ℕ → Option Organization) (text : List ℕ) (row : Option LogRow) (is_down : Bool)
-    → IsReportedAtDoor digest now message old new text row is_down → (reported : LogRow) × (row ≡ Some reported)
-reported_row_there digest now message old new text row false (inl done) = (reported_row now done.command done.answer, done.logged)
-reported_row_there digest now message old new text row false (inr away) = (turned_row now (refused_answer away.refusal (error_text away.refusal) (is_head message)), away.logged)
-reported_row_there digest now message old new text row true down = (unserved_row now down.command, down.logged)
-
-answered_row_with : (door : Door) (now : ℕ) (received : List ℕ) (old new : List ℕ → Option Organization) (awaited : Bool) (text : List ℕ) (row : Option LogRow) (is_down : Bool)
-    → IsAnsweredWith door now received old new awaited text row is_down → (reported : LogRow) × (row ≡ Some reported)
-answered_row_with Closed now received old new awaited text row is_down h = answered_row now received old new awaited text row is_down h
-answered_row_with (Open digest) now received old new awaited text row is_down (inl h) = answered_row now received old new awaited text row is_down h.1
-answered_row_with (Open digest) now received old new awaited text row is_down (inr h) = reported_row_there digest now h.0 old new text row is_down h.2
+answered_row : (door : Door) (now : ℕ) (received : List ℕ) (old new : List ℕ → Option Organization) (awaited : Bool) (text : List ℕ) (row : Option LogRow) (is_down : Bool)
+    → IsAnswered door now received old new awaited text row is_down → (reported : LogRow) × (row ≡ Some reported)
+answered_row door now received old new awaited text row false served = served_row old (record_for old (owner_of served.ask)) now awaited served.ask served.answer row served.carried.answers served.logged
+answered_row door now received old new awaited text row true down = (down.1.reported, down.1.reports)
 
 row_there : {T : Type 0} (door : Door) (now : ℕ) (received : List ℕ) (left : Option (List ℕ)) (old new : List ℕ → Option Organization) (before after : Option (List ℕ)) (is_down : Bool) (row : Option LogRow) (res : Result T LinkFault)
     → Exchanges door now received left old new before after is_down row res → (reported : LogRow) × (row ≡ Some reported)
-row_there door now received left old new before after is_down row (Ok done) reported = answered_row_with door now received old new reported.0 reported.1 row is_down reported.2
+row_there door now received left old new before after is_down row (Ok done) reported = answered_row door now received old new reported.0 reported.1 row is_down reported.2
 row_there door now received left old new before after is_down row (Err Ended) reported = (silent_row now, reported.1)
 row_there door now received left old new before after is_down row (Err Read) reported = (silent_row now, reported.1)
 row_there door now received left old new before after is_down row (Err Continue) reported = (silent_row now, reported.1)
-row_there door now received left old new before after is_down row (Err Write) reported = answered_row_with door now received old new reported.0 (reported.1 ++ reported.2) row is_down reported.4
+row_there door now received left old new before after is_down row (Err Write) reported = answered_row door now received old new reported.0 (reported.1 ++ reported.2) row is_down reported.4
 
 module _ {K N R W : Type 0} (k : keep.Ghosts K) (n : connections.Ghosts N R W) (i : inlet.Ghosts R) (o : outlet.Ghosts W) where
   line_of : (terms : Terms) → terms.logs ≡ true → (connection at : ℕ) (is_down : Bool) (reader : R) (writer : W) (network network' : N) (store store' : K) (errors errors' : Reported) (output output' : Option (List ℕ))

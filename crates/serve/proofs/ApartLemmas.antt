@@ -6,22 +6,23 @@ use Rattle.std.proofs.Math.Path.{fun_ext}
 use Rattle.std.proofs.lemmas.Slice.Eq.{bytes_eq-Decides}
 use Rattle.basis.specs.declared.refusals.Refusal.TheVariants.{BadToken, NotFound}
 use Rattle.machine.specs.Tokens.{token_list_answer}
-use Rattle.machine.specs.declared.keeps.AdminAnswer.{AdminAnswer}
 use Rattle.machine.specs.declared.records.Organization.{Organization}
 use Rattle.serve.specs.declared.doors.Door.{Door}
 use Rattle.serve.specs.declared.steps.Admin.{Admin}
 use Rattle.serve.specs.declared.steps.Admin.TheVariants.{OrgAdd, OrgLimit, OrgRemove, OrgList, TokenAdd, TokenList, TokenRevoke}
 use Rattle.serve.specs.Apart.{Passed, asks_of, asks_to, answers_of, org_named, IsServiceOf, ChoosesByName, AreDivided, ListsThemAll, AreAlike, AnswersInTurn, ReplaysAnswerInTurn, ServicesApartAreOne, Sent, exchanges_of, with_passed, passed_in, ServedApartAreOne, StrangersHaveBadTokens, FrontsByPathAnswerOtherwise}
 use Rattle.serve.specs.Asks.{Ask, silent, refused, requests, commands, Owner, organization, unattributed, operator, owner_of}
-use Rattle.serve.specs.AtDoor.{org_commanded}
+use Rattle.serve.specs.Doors.{reported_answer, IsAnswerTo}
+use Rattle.serve.specs.Laws.{WroteAlike}
+use Rattle.serve.specs.Logs.{org_commanded}
 use Rattle.serve.specs.Runs.{AreOwnReplies}
-use Rattle.serve.specs.Served.{Exchange, IsReportText, IsToldText, IsToldBy, IsFrontOf, IsServedBy, AreServed, with_carried, with_ask, asked_in, carried_in, WroteAlike}
+use Rattle.serve.specs.Served.{Exchange, Replies, IsSaidBy, IsServedBy, AreServed, with_carried, with_ask, asked_in, carried_in}
 use Rattle.serve.specs.Service.{token_list_text, IsSaidText, AreTexts, IsListed, Stays, said_to, is_own, same_owner, with_own, own_asks, replies_at, record_for, after_ask, records_after}
 use Rattle.serve.specs.Steps.{Said, Answered, nothing, step, own_said, own_record}
 use Rattle.wire.specs.Replies.{Answer}
 use Rattle.serve.proofs.LawLemmas.{out_of_reach_is_not_found}
 use Rattle.serve.proofs.RunLemmas.{IsOfOne, one_text, owner_is}
-use Rattle.serve.proofs.ServedLemmas.{record_then, whole_is, one_report, one_told}
+use Rattle.serve.proofs.ServedLemmas.{record_then, answer_said, one_answer, reply_alike}
 
 abbrev pub Records : Type 0
 Records = List ℕ → Option Organization
@@ -41,7 +42,7 @@ own_names org (TokenRevoke name token) own = ap Some (sym ((bytes_eq-Decides org
 
 own_is_named : (org : List ℕ) (a : Ask) → is_own (organization org) a ≡ true → org_named a ≡ Some org
 own_is_named org silent own = absurd (let none : ⊥ = cc in none)
-own_is_named org (refused at awaited refusal is_head) own = absurd (let none : ⊥ = cc in none)
+own_is_named org (refused at awaited refusal is_head at_door) own = absurd (let none : ⊥ = cc in none)
 own_is_named org (requests at awaited asked content_md5 body) own = ap Some (sym ((bytes_eq-Decides org asked.caller).0 own))
 own_is_named org (commands at command) own = own_names org command own
 
@@ -170,7 +171,7 @@ command_alike at (TokenRevoke org name) rows others x y same h k = inr (said_ali
 
 text_alike : (a : Ask) (rows others : Records) (x y : List ℕ) → Agree a rows others → TellsText rows a x → TellsText others a y → ListsThemAll a ⊎ (x ≡ y)
 text_alike silent rows others x y same h k = inr (one_text nothing x y tt h.0 k.0)
-text_alike (refused at awaited refusal is_head) rows others x y same h k = inr (one_text (said_to others (refused at awaited refusal is_head)) x y tt h.0 k.0)
+text_alike (refused at awaited refusal is_head at_door) rows others x y same h k = inr (one_text (said_to others (refused at awaited refusal is_head at_door)) x y tt h.0 k.0)
 text_alike (requests at awaited asked content_md5 body) rows others x y same h k =
     inr (said_alike (said_to rows (requests at awaited asked content_md5 body)) (said_to others (requests at awaited asked content_md5 body)) x y
     (ap (λ (r : Option Organization). (step r (requests at awaited asked content_md5 body)).answer) same) tt h.0 k.0)
@@ -255,25 +256,22 @@ services_apart_are_one home passed ts old new before after one each divided righ
 -- ---- exchanges
 
 abbrev TellsExchange : Records → Ask → Exchange → Type 0
-TellsExchange rows a e = (text : List ℕ) × IsToldText e.at e.awaited (said_to rows a) text × IsToldBy rows e.at e.awaited a text × IsFrontOf e.is_whole e.written text
-
--- two exchanges that wrote texts which are equal at one moment
-texts_alike : (e f : Exchange) (x y : List ℕ) → (e.at ≡ f.at → e.awaited ≡ f.awaited → x ≡ y) → IsFrontOf e.is_whole e.written x → IsFrontOf f.is_whole f.written y → WroteAlike e f
-texts_alike e f x y same h k = λ moment line all every. whole_is e.is_whole e.written x all h ∙ same moment line ∙ sym (whole_is f.is_whole f.written y every k)
+TellsExchange rows a e = (answer : Answer) × IsAnswerTo rows e.at e.awaited a answer × Replies e answer
 
 -- what is said of equal records
 module _ (a : Ask) (rows others : Records) (e f : Exchange) (said : said_to rows a ≡ said_to others a) (one : IsOfOne (said_to others a)) where
   told_alike : TellsExchange rows a e → TellsExchange others a f → ListsThemAll a ⊎ WroteAlike e f
   told_alike h k =
-      inr (texts_alike e f h.0 k.0 (λ moment line. one_told (said_to others a) e.at f.at e.awaited f.awaited h.0 k.0 one moment line (subst (λ (s : Said). IsToldText e.at e.awaited s h.0) said h.1) k.1) h.3 k.3)
+      inr (reply_alike e f h.0 k.0 (one_answer (said_to others a) e.at f.at e.awaited f.awaited h.0 k.0 one
+      (subst (λ (s : Said). IsSaidBy e.at e.awaited s h.0) said (answer_said rows e.at e.awaited a h.0 h.1)) (answer_said others f.at f.awaited a k.0 k.1)) h.2 k.2)
 
 list_told_alike : (at : ℕ) (org : List ℕ) (rows others : Records) (e f : Exchange) → rows org ≡ others org → TellsExchange rows (commands at (TokenList org)) e → TellsExchange others (commands at (TokenList org)) f
     → ListsThemAll (commands at (TokenList org)) ⊎ WroteAlike e f
 list_told_alike at org rows others e f same h k =
-    let first = h.2 in
-    let second = k.2 in
-    let answer : first.0 ≡ second.0 = first.1 ∙ ap token_list_answer same ∙ sym second.1 in
-    inr (texts_alike e f h.0 k.0 (λ moment line. one_report second.0 e.at f.at e.awaited f.awaited h.0 k.0 moment line (subst (λ (x : AdminAnswer). IsReportText e.at e.awaited x h.0) answer first.2) second.2) h.3 k.3)
+    let first = h.1 in
+    let second = k.1 in
+    let listed : first.0 ≡ second.0 = first.1 ∙ ap token_list_answer same ∙ sym second.1 in
+    inr (reply_alike e f h.0 k.0 (first.2 ∙ ap reported_answer listed ∙ sym second.2) h.2 k.2)
 
 command_told_alike : (at : ℕ) (command : Admin) (rows others : Records) (e f : Exchange) → IfSome (org_commanded command) (λ org. rows org ≡ others org)
     → TellsExchange rows (commands at command) e → TellsExchange others (commands at command) f → ListsThemAll (commands at command) ⊎ WroteAlike e f
@@ -287,7 +285,7 @@ command_told_alike at (TokenRevoke org name) rows others e f same = told_alike (
 
 exchange_alike : (a : Ask) (rows others : Records) (e f : Exchange) → Agree a rows others → TellsExchange rows a e → TellsExchange others a f → ListsThemAll a ⊎ WroteAlike e f
 exchange_alike silent rows others e f same = told_alike silent rows others e f refl tt
-exchange_alike (refused at awaited refusal is_head) rows others e f same = told_alike (refused at awaited refusal is_head) rows others e f refl tt
+exchange_alike (refused at awaited refusal is_head at_door) rows others e f same = told_alike (refused at awaited refusal is_head at_door) rows others e f refl tt
 exchange_alike (requests at awaited asked content_md5 body) rows others e f same =
     told_alike (requests at awaited asked content_md5 body) rows others e f (ap (λ (r : Option Organization). (step r (requests at awaited asked content_md5 body)).answer) same) tt
 exchange_alike (commands at command) rows others e f same = command_told_alike at command rows others e f same
@@ -299,7 +297,7 @@ chain_served door (e ∷ es) old new h = by_ask e.ask h.1.1 (chain_served door e
   where
     by_ask : (o : Option Ask) → IsServedBy door e o old h.0 → Chain TellsExchange (asked_in es) (carried_in es) h.0 new → Chain TellsExchange (with_ask o (asked_in es)) (with_carried o e (carried_in es)) old new
     by_ask None one rest = subst (λ (rows : Records). Chain TellsExchange (asked_in es) (carried_in es) rows new) (fun_ext one.0) rest
-    by_ask (Some a) one rest = ((one.text, one.told, one.listed, one.written), subst (λ (rows : Records). Chain TellsExchange (asked_in es) (carried_in es) rows new) (fun_ext one.carries) rest)
+    by_ask (Some a) one rest = ((one.0, one.1.answers, one.2), subst (λ (rows : Records). Chain TellsExchange (asked_in es) (carried_in es) rows new) (fun_ext one.1.carries) rest)
 
 -- what a service carried out, as it passed the front
 module _ (service : List ℕ) (s : Sent) (passed : List (Passed Exchange)) (es : List Exchange) where

@@ -148,7 +148,7 @@ command_goes ws r at command (inr h) = inr (inl (record { stays = h.keeps ws; re
 
 step_goes : (ws : List ℕ) (r : Option Organization) (a : Ask) → IsTimely a → Goes ws (entry_of ws r a)
 step_goes ws r silent timely = inr (inl (record { stays = refl; refuses = λ names accepted. names }))
-step_goes ws r (ask.refused at awaited refusal is_head) timely = inr (inl (record { stays = refl; refuses = λ names accepted. names }))
+step_goes ws r (ask.refused at awaited refusal is_head at_door) timely = inr (inl (record { stays = refl; refuses = λ names accepted. names }))
 step_goes ws r (requests at awaited asked content_md5 body) timely = request_goes ws r at awaited asked content_md5 body (checked r at asked content_md5 body) refl timely
 step_goes ws r (commands at command) timely = command_goes ws r at command (command_comes r command)
 
@@ -298,26 +298,26 @@ names_it ws e h = subst (λ (a : Ask). Names a ws) (sym h.asking) (names_of h.as
 
 asks_names : (ws : List ℕ) (what : WsAct) (a : Ask) → AsksOf ws what a → Names a ws
 asks_names ws what silent asks = asks
-asks_names ws what (ask.refused at awaited refusal is_head) asks = asks
+asks_names ws what (ask.refused at awaited refusal is_head at_door) asks = asks
 asks_names ws what (requests at awaited asked content_md5 body) asks = names_of asked.act ws what asks
 asks_names ws what (commands at command) asks = asks
 
 for_names : (ws : List ℕ) (act : Act) (a : Ask) → AsksFor ws act a → Names a ws
 for_names ws act silent asks = asks
-for_names ws act (ask.refused at awaited refusal is_head) asks = asks
+for_names ws act (ask.refused at awaited refusal is_head at_door) asks = asks
 for_names ws act (requests at awaited asked content_md5 body) asks = names_of asked.act ws asks.0 asks.1
 for_names ws act (commands at command) asks = asks
 
 -- the removal of an organization names no workspace, nor does what it repeats
 removal_names : (ws : List ℕ) (a : Ask) → RemovesOrganization a → Names a ws → ⊥
 removal_names ws silent removes names = names
-removal_names ws (ask.refused at awaited refusal is_head) removes names = names
+removal_names ws (ask.refused at awaited refusal is_head at_door) removes names = names
 removal_names ws (requests at awaited asked content_md5 body) removes names = removes
 removal_names ws (commands at command) removes names = names
 
 names_again : (ws : List ℕ) (at : ℕ) (a : Ask) → Names a ws → Names (asked_again at a) ws
 names_again ws at silent names = names
-names_again ws at (ask.refused now awaited refusal is_head) names = names
+names_again ws at (ask.refused now awaited refusal is_head at_door) names = names
 names_again ws at (requests now awaited asked content_md5 body) names = names
 names_again ws at (commands now command) names = names
 

@@ -83,7 +83,7 @@ request_leaves_others r now asked content_md5 body ws (Ok (Carry its_ws its_act)
 
 pub steps_change_what_they_name : StepsChangeWhatTheyName
 steps_change_what_they_name r silent ws other stays = refl
-steps_change_what_they_name r (ask.refused at awaited refusal is_head) ws other stays = refl
+steps_change_what_they_name r (ask.refused at awaited refusal is_head at_door) ws other stays = refl
 steps_change_what_they_name r (requests at awaited asked content_md5 body) ws other stays = request_leaves_others r at asked content_md5 body ws (checked r at asked content_md5 body) refl other
 steps_change_what_they_name r (commands at command) ws other stays = by_case (command_comes r command)
   where
@@ -154,7 +154,7 @@ request_kept r now awaited asked content_md5 body ws w own text (Ok (Carry its_w
 
 pub locks_are_kept : LocksAreKept
 locks_are_kept r silent ws w own text stands lock = inl (stays (workspace_in r ws) silent ws own text w stands lock)
-locks_are_kept r (ask.refused at awaited refusal is_head) ws w own text stands lock = inl (stays (workspace_in r ws) (ask.refused at awaited refusal is_head) ws own text w stands lock)
+locks_are_kept r (ask.refused at awaited refusal is_head at_door) ws w own text stands lock = inl (stays (workspace_in r ws) (ask.refused at awaited refusal is_head at_door) ws own text w stands lock)
 locks_are_kept r (requests at awaited asked content_md5 body) ws w own text stands lock =
     inl (request_kept r at awaited asked content_md5 body ws w own text (checked r at asked content_md5 body) refl stands lock)
 locks_are_kept r (commands at command) ws w own text stands lock = by_case (command_comes r command)
@@ -178,7 +178,7 @@ some_stays left some gone = let none : ⊥ = cc (sym some ∙ ap is_some gone) i
 
 pub organizations_go_by_removal : OrganizationsGoByRemoval
 organizations_go_by_removal o silent gone = absurd (some_stays (Some o) refl gone)
-organizations_go_by_removal o (ask.refused at awaited refusal is_head) gone = absurd (some_stays (Some o) refl gone)
+organizations_go_by_removal o (ask.refused at awaited refusal is_head at_door) gone = absurd (some_stays (Some o) refl gone)
 organizations_go_by_removal o (requests at awaited asked content_md5 body) gone =
     absurd (some_stays _ (request_leaves_one o at asked.caller (checked (Some o) at asked content_md5 body)) gone)
 organizations_go_by_removal o (commands at command) gone = by_case (command_comes (Some o) command)
@@ -189,7 +189,7 @@ organizations_go_by_removal o (commands at command) gone = by_case (command_come
 
 pub removals_are_carried_out : RemovalsAreCarriedOut
 removals_are_carried_out o silent removes reason = absurd removes
-removals_are_carried_out o (ask.refused at awaited refusal is_head) removes reason = absurd removes
+removals_are_carried_out o (ask.refused at awaited refusal is_head at_door) removes reason = absurd removes
 removals_are_carried_out o (requests at awaited asked content_md5 body) removes reason = absurd removes
 removals_are_carried_out o (commands at command) removes reason = removal_goes o command removes reason
 
@@ -333,7 +333,7 @@ command_again (Some o) (TokenRevoke org name) = revoked_again o name (is_some (g
 
 pub steps_are_repeatable : StepsAreRepeatable
 steps_are_repeatable r silent later may most = refl
-steps_are_repeatable r (ask.refused at awaited refusal is_head) later may most = refl
+steps_are_repeatable r (ask.refused at awaited refusal is_head at_door) later may most = refl
 steps_are_repeatable r (requests at awaited asked content_md5 body) later may most = second_leaves r at later asked content_md5 body (checked r at asked content_md5 body) most refl may
 steps_are_repeatable r (commands at command) later may most = command_again r command
 
@@ -377,7 +377,7 @@ later_leaves r q now later asked content_md5 body ws (Ok (Carry its_ws its_act))
 
 pub repeats_leave_the_workspace : RepeatsLeaveTheWorkspace
 repeats_leave_the_workspace r q silent later ws may names accepted same = absurd names
-repeats_leave_the_workspace r q (ask.refused at awaited refusal is_head) later ws may names accepted same = absurd names
+repeats_leave_the_workspace r q (ask.refused at awaited refusal is_head at_door) later ws may names accepted same = absurd names
 repeats_leave_the_workspace r q (requests at awaited asked content_md5 body) later ws may names accepted same =
     later_leaves r q at later asked content_md5 body ws (checked r at asked content_md5 body) (checked q later asked content_md5 body) refl refl may names accepted same
 repeats_leave_the_workspace r q (commands at command) later ws may names accepted same = absurd names
@@ -410,6 +410,6 @@ request_leaves_all r now asked content_md5 body ws (Ok (Carry its_ws its_act)) e
 
 pub requests_change_their_workspace_alone : RequestsChangeTheirWorkspaceAlone
 requests_change_their_workspace_alone r silent ws names same = refl
-requests_change_their_workspace_alone r (ask.refused at awaited refusal is_head) ws names same = refl
+requests_change_their_workspace_alone r (ask.refused at awaited refusal is_head at_door) ws names same = refl
 requests_change_their_workspace_alone r (requests at awaited asked content_md5 body) ws names same = request_leaves_all r at asked content_md5 body ws (checked r at asked content_md5 body) refl names same
 requests_change_their_workspace_alone r (commands at command) ws names same = absurd names

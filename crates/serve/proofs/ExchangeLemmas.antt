@@ -1,5 +1,6 @@
 -- One exchange: the reply to what was read, and what is written in all.
-use Rattle.std.proofs.Common.{◌≡◌, ◌≢◌, ℕ, Bool, true, false, List, [], Option, Some, None, Result, Ok, Err, IsSome, IfSome, IfErr, IsErrOf, refl, sym, ap, subst, ◌∙◌, ◌⊎◌, inl, inr}
+use Rattle.std.proofs.Common.{◌≡◌, ◌≢◌, ℕ, Bool, true, false, List, [], Option, Some, None, Result, Ok, Err, IsSome, IfSome, IfErr, IsErrOf, refl, sym, ap, subst, ◌∙◌, ◌⊎◌, inl, inr, ◌++◌}
+use Rattle.std.specs.Prelude.{if◌then◌else◌}
 use Rattle.std.specs.Io.KnownBytes.{Appends, Consumes}
 use Rattle.std.specs.Str.{bytes_eq}
 use Rattle.std.proofs.lemmas.Slice.Eq.{bytes_eq-Decides}
@@ -12,26 +13,29 @@ use Rattle.route.specs.Asks as route
 use Rattle.wire.specs.declared.messages.Message.{Message}
 use Rattle.wire.specs.declared.messages.WireFault.{WireFault}
 use Rattle.wire.specs.declared.messages.WireFault.TheVariants.{Refused, Down, Ended, Read, Continue}
-use Rattle.wire.specs.Messages.{Reading, refused, whole}
+use Rattle.wire.specs.Messages.{Reading, unfinished, refused, whole}
 use Rattle.wire.specs.Links.{ReportsReceived, ReportsInput, continue_if, Writes}
 use Rattle.wire.specs.Replies.{Answer, IsReplyText, unavailable_answer}
 use Rattle.docs.specs.declared.logs.LogRow.{LogRow}
-use Rattle.serve.specs.Logs.{silent_row, with_answer, unavailable_row, IsUnavailableRow, request_row, row_of_ask, token_named, id_spelt, task_read}
+use Rattle.serve.specs.Doors.{commanded, asked_at_door, ask_with, IsAnswerTo}
+use Rattle.serve.specs.Logs.{silent_row, with_answer, unavailable_row, command_row, no_command_row, IsUnavailableRow, request_row, row_of_ask, token_named, id_spelt, task_read}
 use Rattle.serve.specs.Asks.{Ask, Owner, owner_of, organization, unattributed, operator, silent, requests, commands}
 use Rattle.serve.specs.Asks as ask
 use Rattle.serve.specs.Steps.{Said, replies, refusing, request_step, step}
 use Rattle.serve.specs.Inner.Prepared.{IsPrepared}
-use Rattle.serve.specs.Inner.Replying.{without_body, PreparesFor, LogsFor, LogsDownFor, AnswersTo, due_reply, due_row, CommitsUnlessDown}
+use Rattle.serve.specs.Inner.Replying.{without_body, PreparesFor, LogsFor, LogsDownFor, AnswersTo, PassesBy, due_reply, due_row, CommitsUnlessDown}
 use Rattle.serve.specs.Inner.Tracing.{as_unavailable}
 use Rattle.serve.specs.Service.{same_owner, record_for, asked_by, ask_of, Asks, Carries, Stays, said_to, IsSaidText, is_head, after_ask}
 use Rattle.serve.specs.Exchanges.{IsServed, IsUnavailableFor, IsAnswered, Exchanges, ChangesAtMostOne, ComesAsLogged, ChangesAsLogged}
-use Rattle.serve.specs.declared.doors.Door.TheVariants.{Closed}
+use Rattle.serve.specs.declared.doors.Door.{Door}
+use Rattle.serve.specs.declared.doors.Door.TheVariants.{Closed, Open}
 use Rattle.serve.specs.declared.exchanges.LinkFault.{LinkFault}
 use Rattle.serve.specs.declared.exchanges.LinkFault.TheVariants.{Ended as LinkEnded, Read as LinkRead, Continue as LinkContinue, Write as LinkWrite}
 use Rattle.serve.specs.declared.messages.Prepared.{Prepared}
 use Rattle.basis.specs.declared.refusals.Refusal.{Refusal}
 use Rattle.serve.proofs.LawLemmas.{refusals_change_nothing}
 use Rattle.serve.proofs.RecordLemmas.{workspace_lawful}
+use Rattle.serve.proofs.CommandChanges.{MakesNothing, command_reported}
 use Rattle.serve.proofs.LoggedChanges.{request_as_logged, still_logged}
 use Rattle.serve.proofs.TakenLemmas.{prepared_after, carries_after}
 
@@ -53,7 +57,7 @@ message_answered old mid new at awaited message p stays prepared carried =
 -- what is asked moves the record of one organization at most
 pub carried_one : (a : Ask) (old new : List ℕ → Option Organization) → Carries a old new → ChangesAtMostOne old new
 carried_one silent old new carries = ([], (λ other apart. carries other))
-carried_one (ask.refused at awaited refusal is_head) old new carries = ([], (λ other apart. carries other))
+carried_one (ask.refused at awaited refusal is_head at_door) old new carries = ([], (λ other apart. carries other))
 carried_one (requests at awaited asked content_md5 body) old new carries = (asked.caller, (λ other apart. carries other ∙ stays_apart (requests at awaited asked content_md5 body) other old (bytes_eq other asked.caller) refl apart))
   where
     stays_apart : (a : Ask) (other : List ℕ) (rows : List ℕ → Option Organization) (b : Bool) → bytes_eq other asked.caller ≡ b → other ≢ asked.caller → after_ask b a (rows other) ≡ rows other
@@ -73,14 +77,10 @@ carried_one (commands at command) old new carries = by_owner (ask.commanded_of c
 pub stayed_one : (old new : List ℕ → Option Organization) → Stays old new → ChangesAtMostOne old new
 stayed_one old new stays = ([], (λ other apart. stays other))
 
-pub answered_one : (now : ℕ) (received : List ℕ) (old new : List ℕ → Option Organization) (awaited : Bool) (text : List ℕ) (row : Option LogRow) (is_down : Bool) → IsAnswered now received old new awaited text row is_down → ChangesAtMostOne old new
-answered_one now received old new awaited text row false served = carried_one served.ask old new served.carries
-answered_one now received old new awaited text row true unavailable = stayed_one old new unavailable.1.stays
-
--- a row that tells of no version and of no run
-pub record MakesNothing (row : LogRow) : Type 0 where
-  pub version : row.version ≡ None
-  pub run : row.run ≡ None
+answered_one : (door : Door) (now : ℕ) (received : List ℕ) (old new : List ℕ → Option Organization) (awaited : Bool) (text : List ℕ) (row : Option LogRow) (is_down : Bool)
+    → IsAnswered door now received old new awaited text row is_down → ChangesAtMostOne old new
+answered_one door now received old new awaited text row false served = carried_one served.ask old new served.carried.carries
+answered_one door now received old new awaited text row true unavailable = stayed_one old new unavailable.1.stays
 
 pub silent_makes_nothing : (row : LogRow) (now : ℕ) → row ≡ silent_row now → MakesNothing row
 silent_makes_nothing row now is = subst MakesNothing (sym is) (record { version = refl; run = refl })
@@ -90,14 +90,16 @@ unavailable_makes_nothing row now is = subst MakesNothing (sym is) (record { ver
 
 row_makes_nothing : (r : Option Organization) (a : Ask) (row : LogRow) → IsUnavailableRow r a row → MakesNothing row
 row_makes_nothing r silent row h = absurd h
-row_makes_nothing r (ask.refused at awaited refusal is_head) row h = unavailable_makes_nothing row at h
+row_makes_nothing r (ask.refused at awaited refusal is_head false) row h = unavailable_makes_nothing row at h
+row_makes_nothing r (ask.refused at awaited refusal is_head true) row h = subst MakesNothing (sym h.1) (record { version = refl; run = refl })
 row_makes_nothing r (requests at awaited asked content_md5 body) row (inl is) = unavailable_makes_nothing row at is
 row_makes_nothing r (requests at awaited asked content_md5 body) row (inr request) = subst MakesNothing (sym request.is) (record { version = refl; run = refl })
-row_makes_nothing r (commands at command) row h = absurd h
+row_makes_nothing r (commands at command) row (inl is) = subst MakesNothing (sym is) (record { version = refl; run = refl })
+row_makes_nothing r (commands at command) row (inr is) = subst MakesNothing (sym is) (record { version = refl; run = refl })
 
-down_makes_nothing : (now : ℕ) (old : List ℕ → Option Organization) (reading : Option Reading) (row : LogRow) → IsUnavailableFor now old reading row → MakesNothing row
-down_makes_nothing now old None row h = unavailable_makes_nothing row now h
-down_makes_nothing now old (Some reading) row h = row_makes_nothing (record_for old (owner_of (ask_of now reading))) (ask_of now reading) row h
+down_makes_nothing : (door : Door) (now : ℕ) (old : List ℕ → Option Organization) (reading : Option Reading) (row : LogRow) → IsUnavailableFor door now old reading row → MakesNothing row
+down_makes_nothing door now old None row h = unavailable_makes_nothing row now h
+down_makes_nothing door now old (Some reading) row h = row_makes_nothing (record_for old (owner_of (ask_with door now reading))) (ask_with door now reading) row h
 
 pub stayed_logged : (row : LogRow) (old new : List ℕ → Option Organization) → MakesNothing row → Stays old new → ChangesAsLogged row old new
 stayed_logged row old new nothing stays = record {
@@ -108,12 +110,19 @@ stayed_logged row old new nothing stays = record {
 }
 
 -- what is asked changes what its row tells
-asked_reported : (a : Ask) (row : LogRow) (old new : List ℕ → Option Organization) → AreLawful old → Some row ≡ row_of_ask (record_for old (owner_of a)) a → Carries a old new → ChangesAsLogged row old new
-asked_reported silent row old new lawful is carries = absurd (let none : ⊥ = cc in none)
-asked_reported (ask.refused at awaited refusal is_head) row old new lawful is carries =
+asked_reported : (a : Ask) (now : ℕ) (due : Bool) (answer : Answer) (row : LogRow) (old new : List ℕ → Option Organization) → AreLawful old → Some row ≡ row_of_ask (record_for old (owner_of a)) a answer
+    → IsAnswerTo old now due a answer → Carries a old new → ChangesAsLogged row old new
+asked_reported silent now due answer row old new lawful is answers carries = absurd answers
+asked_reported (ask.refused at awaited refusal is_head false) now due answer row old new lawful is answers carries =
     subst (λ (x : LogRow). ChangesAsLogged x old new) (sym (same_Some row (with_answer (refusing refusal None).answer (silent_row at)) is))
     (stayed_logged (with_answer (refusing refusal None).answer (silent_row at)) old new (record { version = refl; run = refl }) carries)
-asked_reported (requests at awaited asked content_md5 body) row old new lawful is carries =
+asked_reported (ask.refused at awaited refusal is_head true) now due answer row old new lawful is answers carries =
+    subst (λ (x : LogRow). ChangesAsLogged x old new) (sym (same_Some row (no_command_row at (refusing refusal None).answer) is))
+    (stayed_logged (no_command_row at (refusing refusal None).answer) old new (record { version = refl; run = refl }) carries)
+asked_reported (commands at command) now due answer row old new lawful is answers carries =
+    subst (λ (x : LogRow). ChangesAsLogged x old new) (sym (same_Some row (command_row at command answer) is))
+    (subst (λ (x : Answer). ChangesAsLogged (command_row at command x) old new) (sym answers.2) (command_reported at command answers.0 old new answers.1 carries))
+asked_reported (requests at awaited asked content_md5 body) now due answer row old new lawful is answers carries =
     let same : row ≡ request_row (old asked.caller) at asked content_md5 body = same_Some row (request_row (old asked.caller) at asked content_md5 body) is in
     subst (λ (x : LogRow). ChangesAsLogged x old new) (sym same) (record {
       others = λ org apart. carries org ∙ other_stays org (bytes_eq org asked.caller) refl apart;
@@ -138,97 +147,157 @@ asked_reported (requests at awaited asked content_md5 body) row old new lawful i
         ∙ (refusals_change_nothing (old asked.caller) (requests at awaited asked content_md5 body)).0 awaited at _ refusal refl e
         ∙ ap old (sym ((bytes_eq-Decides org asked.caller).0 is))
     refused_stays (Some refusal) e some org false is = refl
-asked_reported (commands at command) row old new lawful is carries = absurd (let none : ⊥ = cc in none)
 
-answered_reported : (now : ℕ) (received : List ℕ) (old new : List ℕ → Option Organization) (awaited : Bool) (text : List ℕ) (row : LogRow) (is_down : Bool) → AreLawful old → IsAnswered now received old new awaited text (Some row) is_down → ChangesAsLogged row old new
-answered_reported now received old new awaited text row false lawful served = asked_reported served.ask row old new lawful served.logged served.carries
-answered_reported now received old new awaited text row true lawful (reading, unavailable) =
-    stayed_logged row old new (subst MakesNothing (sym (same_Some row unavailable.reported unavailable.reports)) (down_makes_nothing now old reading unavailable.reported unavailable.logged)) unavailable.stays
+answered_reported : (door : Door) (now : ℕ) (received : List ℕ) (old new : List ℕ → Option Organization) (awaited : Bool) (text : List ℕ) (row : LogRow) (is_down : Bool) → AreLawful old
+    → IsAnswered door now received old new awaited text (Some row) is_down → ChangesAsLogged row old new
+answered_reported door now received old new awaited text row false lawful served =
+    asked_reported served.ask now awaited served.answer row old new lawful served.logged served.carried.answers served.carried.carries
+answered_reported door now received old new awaited text row true lawful (reading, unavailable) =
+    stayed_logged row old new (subst MakesNothing (sym (same_Some row unavailable.reported unavailable.reports)) (down_makes_nothing door now old reading unavailable.reported unavailable.logged)) unavailable.stays
+
+-- what passes by the door asks what it would without a door
+asks_past : (door : Door) (at : ℕ) (message : Message) (awaited : Bool) → PassesBy door (Ok message) → ask_with door at (whole message awaited) ≡ asked_by at awaited message (asked_of message)
+asks_past Closed at message awaited passes = refl
+asks_past (Open digest) at message awaited passes =
+    ap (λ (b : Bool). if b then asked_at_door at awaited message (commanded digest message) else asked_by at awaited message (asked_of message)) passes
+
+refuses_past : (door : Door) (at : ℕ) (refusal : Refusal) (head : Bool) → ask_with door at (refused refusal head) ≡ ask.refused at false refusal head false
+refuses_past Closed at refusal head = refl
+refuses_past (Open digest) at refusal head = refl
+
+-- the answer to what is no command is what is said
+asking_answered : (rows : List ℕ → Option Organization) (at : ℕ) (due awaited : Bool) (message : Message) (asking : Asking) (answer : Answer)
+    → said_to rows (asked_by at due message asking) ≡ replies awaited at answer → IsAnswerTo rows at awaited (asked_by at due message asking) answer
+asking_answered rows at due awaited message (route.refused refusal) answer said = said
+asking_answered rows at due awaited message (asks asked) answer said = said
+
+asking_said : (rows : List ℕ → Option Organization) (at : ℕ) (due awaited : Bool) (message : Message) (asking : Asking) (answer : Answer)
+    → IsAnswerTo rows at awaited (asked_by at due message asking) answer → said_to rows (asked_by at due message asking) ≡ replies awaited at answer
+asking_said rows at due awaited message (route.refused refusal) answer answers = answers
+asking_said rows at due awaited message (asks asked) answer answers = answers
+
+reading_said : (rows : List ℕ → Option Organization) (at : ℕ) (awaited : Bool) (reading : Reading) (answer : Answer) → IsAnswerTo rows at awaited (ask_of at reading) answer → said_to rows (ask_of at reading) ≡ replies awaited at answer
+reading_said rows at awaited unfinished answer answers = absurd answers
+reading_said rows at awaited (refused refusal head) answer answers = answers
+reading_said rows at awaited (whole message due) answer answers = asking_said rows at due awaited message (asked_of message) answer answers
 
 -- what was read of what received is answered by this text
-abbrev pub AnswersRead : ℕ → Result Message WireFault → (List ℕ → Option Organization) → (List ℕ → Option Organization) → Bool → List ℕ → Option LogRow → Type 0
-AnswersRead now read old new is_down text row = (received : List ℕ) (left before after : Option (List ℕ)) → ReportsReceived received left before after read
-    → (awaited : Bool) × Appends before after (continue_if awaited) × IsAnswered now received old new awaited text row is_down
+abbrev pub AnswersRead : Door → ℕ → Result Message WireFault → (List ℕ → Option Organization) → (List ℕ → Option Organization) → Bool → List ℕ → Option LogRow → Type 0
+AnswersRead door now read old new is_down text row = (received : List ℕ) (left before after : Option (List ℕ)) → ReportsReceived received left before after read
+    → (awaited : Bool) × Appends before after (continue_if awaited) × IsAnswered door now received old new awaited text row is_down
 
 -- memory or the store was refused, inside the reading or past it
-pub refused_read : (now : ℕ) (read : Result Message WireFault) (old new : List ℕ → Option Organization) (text : List ℕ) (row : LogRow)
-    → Stays old new → IsReplyText (unavailable_answer (without_body read)) now text → LogsDownFor now old read row → AnswersRead now read old new true text (Some row)
-refused_read now (Ok message) old new text row stays is_text logs received left before after reported = (
+pub refused_read : (door : Door) (now : ℕ) (read : Result Message WireFault) (old new : List ℕ → Option Organization) (text : List ℕ) (row : LogRow) → PassesBy door read
+    → Stays old new → IsReplyText (unavailable_answer (without_body read)) now text → LogsDownFor now old read row → AnswersRead door now read old new true text (Some row)
+refused_read door now (Ok message) old new text row passes stays is_text logs received left before after reported = (
   reported.0,
   reported.2,
-  (Some (whole message reported.0), record { stays = stays; reads = reported.1; without_body = is_head message; shaped = (refl, refl); is = is_text; reported = row; reports = refl; logged = logs reported.0 }),
+  (
+    Some (whole message reported.0),
+    record {
+      stays = stays;
+      reads = reported.1;
+      without_body = is_head message;
+      shaped = (refl, refl);
+      is = is_text;
+      reported = row;
+      reports = refl;
+      logged = subst (λ (a : Ask). IsUnavailableRow (record_for old (owner_of a)) a row) (sym (asks_past door now message reported.0 passes)) (logs reported.0);
+    },
+  ),
 )
-refused_read now (Err (Refused refusal head)) old new text row stays is_text logs received left before after reported =
-    (false, reported.1, (Some (refused refusal head), record { stays = stays; reads = reported.0; without_body = head; shaped = (refl, refl); is = is_text; reported = row; reports = refl; logged = logs }))
-refused_read now (Err Down) old new text row stays is_text logs received left before after reported =
+refused_read door now (Err (Refused refusal head)) old new text row passes stays is_text logs received left before after reported = (
+  false,
+  reported.1,
+  (
+    Some (refused refusal head),
+    record {
+      stays = stays;
+      reads = reported.0;
+      without_body = head;
+      shaped = (refl, refl);
+      is = is_text;
+      reported = row;
+      reports = refl;
+      logged = subst (λ (a : Ask). IsUnavailableRow (record_for old (owner_of a)) a row) (sym (refuses_past door now refusal head)) logs;
+    },
+  ),
+)
+refused_read door now (Err Down) old new text row passes stays is_text logs received left before after reported =
     (false, reported, (None, record { stays = stays; reads = tt; without_body = false; shaped = (refl, refl); is = is_text; reported = row; reports = refl; logged = logs }))
-refused_read now (Err Ended) old new text row stays is_text logs received left before after reported = absurd logs
-refused_read now (Err Read) old new text row stays is_text logs received left before after reported = absurd logs
-refused_read now (Err Continue) old new text row stays is_text logs received left before after reported = absurd logs
+refused_read door now (Err Ended) old new text row passes stays is_text logs received left before after reported = absurd logs
+refused_read door now (Err Read) old new text row passes stays is_text logs received left before after reported = absurd logs
+refused_read door now (Err Continue) old new text row passes stays is_text logs received left before after reported = absurd logs
 
 -- the row of a 503 in place of an answer: all of it had been read
-down_logged : (r : Option Organization) (a : Ask) (row : LogRow) → row_of_ask r a ≡ Some row → IsUnavailableRow r a (as_unavailable row)
-down_logged r silent row e = absurd (let none : ⊥ = cc in none)
-down_logged r (ask.refused at awaited refusal is_head) row e = ap as_unavailable (sym (same_Some (with_answer (refusing refusal r).answer (silent_row at)) row e))
-down_logged r (requests at awaited asked content_md5 body) row e =
+down_request : (r : Option Organization) (at : ℕ) (awaited : Bool) (message : Message) (asking : Asking) (answer : Answer) (row : LogRow) → row_of_ask r (asked_by at awaited message asking) answer ≡ Some row
+    → IsUnavailableRow r (asked_by at awaited message asking) (as_unavailable row)
+down_request r at awaited message (route.refused refusal) answer row e = ap as_unavailable (sym (same_Some (with_answer (refusing refusal r).answer (silent_row at)) row e))
+down_request r at awaited message (asks asked) answer row e =
+    let content_md5 = message.content_md5 in
+    let body = message.body in
     inr (record {
       token = token_named r at asked;
       id = id_spelt (task_read r at asked content_md5 body);
       read = inr (refl, inr refl);
       is = ap as_unavailable (sym (same_Some (request_row r at asked content_md5 body) row e));
     })
-down_logged r (commands at command) row e = absurd (let none : ⊥ = cc in none)
 
 stays_both : (old mid new : List ℕ → Option Organization) → Stays old mid → Stays mid new → Stays old new
 stays_both old mid new first second = λ org. second org ∙ first org
 
 -- what was read is prepared, and its change is made, or isn't
-pub answered_read : (now : ℕ) (read : Result Message WireFault) (old mid new : List ℕ → Option Organization) (p : Prepared) (row : LogRow) (is_down : Bool) (text : List ℕ)
-    → Stays old mid → PreparesFor now old read p → LogsFor now old read row → CommitsUnlessDown is_down p mid new
-    → IsReplyText (due_reply is_down (without_body read) p.reply) now text → AnswersRead now read old new is_down text (Some (due_row is_down row))
-answered_read now (Ok message) old mid new p row false text stays prepared logs committed is_text received left before after reported =
+pub answered_read : (door : Door) (now : ℕ) (read : Result Message WireFault) (old mid new : List ℕ → Option Organization) (p : Prepared) (row : LogRow) (is_down : Bool) (text : List ℕ)
+    → PassesBy door read → Stays old mid → PreparesFor now old read p → LogsFor now old read row → CommitsUnlessDown is_down p mid new
+    → IsReplyText (due_reply is_down (without_body read) p.reply) now text → AnswersRead door now read old new is_down text (Some (due_row is_down row))
+answered_read door now (Ok message) old mid new p row false text passes stays prepared logs committed is_text received left before after reported =
     let h = message_answered old mid new now reported.0 message p stays (prepared reported.0) committed in (
       reported.0,
       reported.2,
       record {
         ask = asked_by now reported.0 message (asked_of message);
-        asks = record { reading = whole message reported.0; reads = reported.1; is = refl };
-        carries = h.0;
         answer = p.reply;
-        said = h.1;
+        carried = record {
+          asks = record { reading = whole message reported.0; reads = reported.1; due = refl; is = sym (asks_past door now message reported.0 passes) };
+          carries = h.0;
+          answers = asking_answered old now reported.0 reported.0 message (asked_of message) p.reply h.1;
+        };
         is = is_text;
-        logged = sym (logs reported.0);
+        logged = sym (logs reported.0 p.reply);
       },
     )
-answered_read now (Ok message) old mid new p row true text stays prepared logs committed is_text received left before after reported =
-    refused_read now (Ok message) old new text (as_unavailable row) (stays_both old mid new stays committed) is_text
-    (λ due. let a : Ask = asked_by now due message (asked_of message) in down_logged (record_for old (owner_of a)) a row (logs due)) received left before after reported
-answered_read now (Err (Refused refusal head)) old mid new p row false text stays prepared logs committed is_text received left before after reported =
-    let a : Ask = ask.refused now false refusal head in (
+answered_read door now (Ok message) old mid new p row true text passes stays prepared logs committed is_text received left before after reported =
+    refused_read door now (Ok message) old new text (as_unavailable row) passes (stays_both old mid new stays committed) is_text
+    (λ due. down_request (record_for old (owner_of (asked_by now due message (asked_of message)))) now due message (asked_of message) p.reply row (logs due p.reply)) received left before after reported
+answered_read door now (Err (Refused refusal head)) old mid new p row false text passes stays prepared logs committed is_text received left before after reported =
+    let a : Ask = ask.refused now false refusal head false in (
       false,
       reported.1,
       record {
         ask = a;
-        asks = record { reading = refused refusal head; reads = reported.0; is = refl };
-        carries = carries_after old mid new a stays (committed a prepared);
         answer = p.reply;
-        said = ap (replies false now) (sym prepared.0);
+        carried = record {
+          asks = record { reading = refused refusal head; reads = reported.0; due = refl; is = sym (refuses_past door now refusal head) };
+          carries = carries_after old mid new a stays (committed a prepared);
+          answers = ap (replies false now) (sym prepared.0);
+        };
         is = is_text;
-        logged = sym logs;
+        logged = sym (logs p.reply);
       },
     )
-answered_read now (Err (Refused refusal head)) old mid new p row true text stays prepared logs committed is_text received left before after reported =
-    refused_read now (Err (Refused refusal head)) old new text (as_unavailable row) (stays_both old mid new stays committed) is_text (down_logged None (ask.refused now false refusal head) row logs) received left before after reported
-answered_read now (Err Down) old mid new p row is_down text stays prepared logs committed is_text received left before after reported = absurd prepared
-answered_read now (Err Ended) old mid new p row is_down text stays prepared logs committed is_text received left before after reported = absurd prepared
-answered_read now (Err Read) old mid new p row is_down text stays prepared logs committed is_text received left before after reported = absurd prepared
-answered_read now (Err Continue) old mid new p row is_down text stays prepared logs committed is_text received left before after reported = absurd prepared
+answered_read door now (Err (Refused refusal head)) old mid new p row true text passes stays prepared logs committed is_text received left before after reported =
+    refused_read door now (Err (Refused refusal head)) old new text (as_unavailable row) passes (stays_both old mid new stays committed) is_text
+    (ap as_unavailable (sym (same_Some (with_answer (refusing refusal None).answer (silent_row now)) row (logs p.reply)))) received left before after reported
+answered_read door now (Err Down) old mid new p row is_down text passes stays prepared logs committed is_text received left before after reported = absurd prepared
+answered_read door now (Err Ended) old mid new p row is_down text passes stays prepared logs committed is_text received left before after reported = absurd prepared
+answered_read door now (Err Read) old mid new p row is_down text passes stays prepared logs committed is_text received left before after reported = absurd prepared
+answered_read door now (Err Continue) old mid new p row is_down text passes stays prepared logs committed is_text received left before after reported = absurd prepared
 
 -- what is prepared is of something that is asked
 pub asks_something : (now : ℕ) (read : Result Message WireFault) (old mid : List ℕ → Option Organization) (p : Prepared) → Stays old mid → PreparesFor now old read p → (a : Ask) × IsPrepared mid a p
 asks_something now (Ok message) old mid p stays prepared =
     let a : Ask = asked_by now false message (asked_of message) in (a, prepared_after old mid a p stays (prepared false))
-asks_something now (Err (Refused refusal head)) old mid p stays prepared = (ask.refused now false refusal head, prepared)
+asks_something now (Err (Refused refusal head)) old mid p stays prepared = (ask.refused now false refusal head false, prepared)
 asks_something now (Err Down) old mid p stays prepared = absurd prepared
 asks_something now (Err Ended) old mid p stays prepared = absurd prepared
 asks_something now (Err Read) old mid p stays prepared = absurd prepared
@@ -244,44 +313,44 @@ abbrev Received : Option (List ℕ) → Option (List ℕ) → (List ℕ → Type
 Received old new P = (received : List ℕ) × Consumes old new received × P received
 
 -- the reply is written, or a part of it
-pub replied : {T : Type 0} (now : ℕ) (read : Result Message WireFault) (old new : List ℕ → Option Organization) (is_down : Bool) (row : Option LogRow) (b c : Option (List ℕ)) (text : List ℕ) (result : Result T LinkFault)
-    → AnswersRead now read old new is_down text row → Writes b c text result → IfErr result (λ fault. fault ≡ LinkWrite)
-    → AnswersTo Closed now read old new b c is_down row result
-replied now read old new is_down row b c text (Ok done) answers writes fault received left a reported =
+pub replied : {T : Type 0} (door : Door) (now : ℕ) (read : Result Message WireFault) (old new : List ℕ → Option Organization) (is_down : Bool) (row : Option LogRow) (b c : Option (List ℕ)) (text : List ℕ) (result : Result T LinkFault)
+    → AnswersRead door now read old new is_down text row → Writes b c text result → IfErr result (λ fault. fault ≡ LinkWrite)
+    → AnswersTo door now read old new b c is_down row result
+replied door now read old new is_down row b c text (Ok done) answers writes fault received left a reported =
     let r = answers received left a b reported in
     (r.0, text, r.2, Appends-trans a b c (continue_if r.0) text r.1 writes)
-replied {T = T} now read old new is_down row b c text (Err e) answers writes fault received left a reported =
+replied {T = T} door now read old new is_down row b c text (Err e) answers writes fault received left a reported =
     let r = answers received left a b reported in
-    let is = subst (λ (x : List ℕ). IsAnswered now received old new r.0 x row is_down) writes.3 r.2 in
-    subst (λ (f : LinkFault). Exchanges Closed now received left old new a c is_down row {T = T} (Err f)) (sym fault)
+    let is = subst (λ (x : List ℕ). IsAnswered door now received old new r.0 x row is_down) writes.3 r.2 in
+    subst (λ (f : LinkFault). Exchanges door now received left old new a c is_down row {T = T} (Err f)) (sym fault)
     (r.0, writes.0, writes.1, writes.2, is, Appends-trans a b c (continue_if r.0) writes.0 r.1 writes.4)
 
+nothing_passes : (door : Door) → PassesBy door (Err Down)
+nothing_passes Closed = tt
+nothing_passes (Open digest) = tt
+
 -- nothing is read, and the refusal is written
-pub refused_unread : {T : Type 0} (left : Option (List ℕ)) (now : ℕ) (rows : List ℕ → Option Organization) (row : LogRow) (a c : Option (List ℕ)) (text : List ℕ) (result : Result T LinkFault)
+pub refused_unread : {T : Type 0} (door : Door) (left : Option (List ℕ)) (now : ℕ) (rows : List ℕ → Option Organization) (row : LogRow) (a c : Option (List ℕ)) (text : List ℕ) (result : Result T LinkFault)
     → row ≡ unavailable_row now → IsReplyText (unavailable_answer false) now text → Writes a c text result → IfErr result (λ fault. fault ≡ LinkWrite)
-    → Received left left (λ received. Exchanges Closed now received left rows rows a c true (Some row) result)
-refused_unread left now rows row a c text result is is_text writes fault = (
+    → Received left left (λ received. Exchanges door now received left rows rows a c true (Some row) result)
+refused_unread door left now rows row a c text result is is_text writes fault = (
   [],
   Consumes-nil left,
-  replied now (Err Down) rows rows true (Some row) a c text result (refused_read now (Err Down) rows rows text row (λ org. refl) is_text is) writes fault [] left a (Appends-nil a),
+  replied door now (Err Down) rows rows true (Some row) a c text result (refused_read door now (Err Down) rows rows text row (nothing_passes door) (λ org. refl) is_text is) writes fault [] left a (Appends-nil a),
 )
 
 -- no reply: what received is unfinished, or `100 Continue` wasn't taken
-pub no_reply : (now : ℕ) (read : Result Message WireFault) (old new : List ℕ → Option Organization) (row : LogRow) (b : Option (List ℕ)) (fault : LinkFault)
+pub no_reply : (door : Door) (now : ℕ) (read : Result Message WireFault) (old new : List ℕ → Option Organization) (row : LogRow) (b : Option (List ℕ)) (fault : LinkFault)
     → row ≡ silent_row now → fault ≢ LinkWrite
     → (fault ≡ LinkEnded → read ≡ Err Ended) → (fault ≡ LinkRead → read ≡ Err Read) → (fault ≡ LinkContinue → read ≡ Err Continue)
-    → AnswersTo Closed now read old new b b false (Some row) {T = Unit {0}} (Err fault)
-no_reply now read old new row b LinkEnded no_row write ended failed continued received left a reported =
+    → AnswersTo door now read old new b b false (Some row) {T = Unit {0}} (Err fault)
+no_reply door now read old new row b LinkEnded no_row write ended failed continued received left a reported =
     let r = subst (λ (r : Result Message WireFault). ReportsReceived received left a b r) (ended refl) reported in (refl, ap Some no_row, r.0, r.1, r.2)
-no_reply now read old new row b LinkRead no_row write ended failed continued received left a reported =
+no_reply door now read old new row b LinkRead no_row write ended failed continued received left a reported =
     let r = subst (λ (r : Result Message WireFault). ReportsReceived received left a b r) (failed refl) reported in (refl, ap Some no_row, r.0, r.1)
-no_reply now read old new row b LinkContinue no_row write ended failed continued received left a reported =
+no_reply door now read old new row b LinkContinue no_row write ended failed continued received left a reported =
     let r = subst (λ (r : Result Message WireFault). ReportsReceived received left a b r) (continued refl) reported in (refl, ap Some no_row, r.0, r.1)
-no_reply now read old new row b LinkWrite no_row write ended failed continued received left a reported = absurd (write refl)
-
--- where memory was refused inside the reading nothing is prepared
-pub not_prepared : (now : ℕ) (rows : List ℕ → Option Organization) (read : Result Message WireFault) (p : Prepared) → PreparesFor now rows read p → read ≡ Err Down → ⊥
-not_prepared now rows read p prepared is = subst (λ (r : Result Message WireFault). PreparesFor now rows r p) is prepared
+no_reply door now read old new row b LinkWrite no_row write ended failed continued received left a reported = absurd (write refl)
 
 -- an exchange ended before a reply
 abbrev pub EndsBefore : {T : Type 0} → Result T LinkFault → Type 0
@@ -291,10 +360,28 @@ pub silent_logged : (row : Option LogRow) (now : ℕ) (old new : List ℕ → Op
 silent_logged row now old new is stays =
     subst (λ (r : Option LogRow). IfSome r (λ reported. ChangesAsLogged reported old new)) (sym is) (stayed_logged (silent_row now) old new (silent_makes_nothing (silent_row now) now refl) stays)
 
-pub any_reported : (now : ℕ) (received : List ℕ) (old new : List ℕ → Option Organization) (awaited : Bool) (text : List ℕ) (row : Option LogRow) (is_down : Bool)
-    → AreLawful old → IsAnswered now received old new awaited text row is_down → IfSome row (λ reported. ChangesAsLogged reported old new)
-any_reported now received old new awaited text None is_down lawful h = tt
-any_reported now received old new awaited text (Some row) is_down lawful h = answered_reported now received old new awaited text row is_down lawful h
+any_reported : (door : Door) (now : ℕ) (received : List ℕ) (old new : List ℕ → Option Organization) (awaited : Bool) (text : List ℕ) (row : Option LogRow) (is_down : Bool)
+    → AreLawful old → IsAnswered door now received old new awaited text row is_down → IfSome row (λ reported. ChangesAsLogged reported old new)
+any_reported door now received old new awaited text None is_down lawful h = tt
+any_reported door now received old new awaited text (Some row) is_down lawful h = answered_reported door now received old new awaited text row is_down lawful h
+
+-- at most one record changes
+pub exchanged_one : {T : Type 0} (door : Door) (left : Option (List ℕ)) (now : ℕ) (received : List ℕ) (old new : List ℕ → Option Organization) (a c : Option (List ℕ)) (is_down : Bool) (row : Option LogRow) (result : Result T LinkFault)
+    → Exchanges door now received left old new a c is_down row result → (EndsBefore result → Stays old new) → ChangesAtMostOne old new
+exchanged_one door left now received old new a c is_down row (Ok done) h stays = answered_one door now received old new h.0 h.1 row is_down h.2
+exchanged_one door left now received old new a c is_down row (Err LinkWrite) h stays = answered_one door now received old new h.0 (h.1 ++ h.2) row is_down h.4
+exchanged_one door left now received old new a c is_down row (Err LinkEnded) h stays = stayed_one old new (stays (inl refl))
+exchanged_one door left now received old new a c is_down row (Err LinkRead) h stays = stayed_one old new (stays (inr (inl refl)))
+exchanged_one door left now received old new a c is_down row (Err LinkContinue) h stays = stayed_one old new (stays (inr (inr refl)))
+
+-- and what changed is what the row tells
+pub exchanged_logged : {T : Type 0} (door : Door) (left : Option (List ℕ)) (now : ℕ) (received : List ℕ) (old new : List ℕ → Option Organization) (a c : Option (List ℕ)) (is_down : Bool) (row : Option LogRow) (result : Result T LinkFault)
+    → AreLawful old → Exchanges door now received left old new a c is_down row result → (EndsBefore result → Stays old new) → IfSome row (λ reported. ChangesAsLogged reported old new)
+exchanged_logged door left now received old new a c is_down row (Ok done) lawful h stays = any_reported door now received old new h.0 h.1 row is_down lawful h.2
+exchanged_logged door left now received old new a c is_down row (Err LinkWrite) lawful h stays = any_reported door now received old new h.0 (h.1 ++ h.2) row is_down lawful h.4
+exchanged_logged door left now received old new a c is_down row (Err LinkEnded) lawful h stays = silent_logged row now old new h.1 (stays (inl refl))
+exchanged_logged door left now received old new a c is_down row (Err LinkRead) lawful h stays = silent_logged row now old new h.1 (stays (inr (inl refl)))
+exchanged_logged door left now received old new a c is_down row (Err LinkContinue) lawful h stays = silent_logged row now old new h.1 (stays (inr (inr refl)))
 
 -- what was read of a whole input, as of what received
 of_input : (at : ℕ) (rows : List ℕ → Option Organization) (read : Result Message WireFault) (p : Prepared) (bytes : List ℕ) (a b : Option (List ℕ)) → PreparesFor at rows read p → ReportsInput bytes a b read → ReportsReceived bytes None a b read
@@ -316,6 +403,13 @@ pub input_answered : (at : ℕ) (read : Result Message WireFault) (old mid new :
     → ReportsInput bytes (Some []) b read → Appends b (Some all) text
     → (a : Ask) × Asks at bytes a × Carries a old new × IsSaidText (said_to old a) all
 input_answered at read old mid new p row bytes b text all stays prepared logs committed is_text reported appends =
-    let r = answered_read at read old mid new p row false text stays prepared logs committed is_text bytes None (Some []) b (of_input at old read p bytes (Some []) b prepared reported) in
-    let served : IsServed at bytes old new r.0 text (Some row) = r.2 in
-    (served.ask, served.asks, served.carries, subst (λ (s : Said). IsSaidText s all) (sym served.said) (text, served.is, Appends-trans (Some []) b (Some all) (continue_if r.0) text r.1 appends))
+    let r = answered_read Closed at read old mid new p row false text tt stays prepared logs committed is_text bytes None (Some []) b (of_input at old read p bytes (Some []) b prepared reported) in
+    let served : IsServed Closed at bytes old new r.0 text (Some row) = r.2 in
+    let asks = served.carried.asks in
+    let said : said_to old served.ask ≡ replies r.0 at served.answer =
+    ap (said_to old) asks.is ∙ reading_said old at r.0 asks.reading served.answer (subst (λ (a : Ask). IsAnswerTo old at r.0 a served.answer) asks.is served.carried.answers) in (
+      served.ask,
+      record { reading = asks.reading; reads = asks.reads; is = asks.is },
+      served.carried.carries,
+      subst (λ (s : Said). IsSaidText s all) (sym said) (text, served.is, Appends-trans (Some []) b (Some all) (continue_if r.0) text r.1 appends),
+    )

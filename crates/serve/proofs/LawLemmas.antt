@@ -114,7 +114,7 @@ answer_is awaited also at now a b e = cc
 
 pub refusals_change_nothing : RefusedStepsChangeNothing
 refusals_change_nothing r silent = ((λ awaited at answer refusal e is. refl), (λ answer e apart. refl))
-refusals_change_nothing r (ask.refused at awaited refusal is_head) = ((λ awaited at answer refusal e is. refl), (λ answer e apart. refl))
+refusals_change_nothing r (ask.refused at awaited refusal is_head at_door) = ((λ awaited at answer refusal e is. refl), (λ answer e apart. refl))
 refusals_change_nothing r (requests at awaited asked content_md5 body) = (
   (λ also now answer refusal e is. carried_leaves asked.caller at r (checked r at asked content_md5 body) refusal
       (ap (λ (a : Answer). a.refusal) (answer_is awaited also at now (request_step r at asked content_md5 body).answer answer e) ∙ is)),

@@ -17,6 +17,7 @@ pub mod AbsentExamples
 pub mod TokenExamples
 pub mod LogLemmas
 pub mod LoggedChanges
+pub mod CommandChanges
 pub mod DoorLemmas
 pub mod LogInputs
 pub mod ServedLemmas

@@ -109,7 +109,7 @@ nobody_commands (TokenRevoke org name) e = let no : ⊥ = cc in no
 
 pub nobody_still : (b : Ask) (r : Option Organization) → same_owner unattributed (owner_of b) ≡ true → (step r b).left ≡ r
 nobody_still silent r e = refl
-nobody_still (refused at awaited refusal is_head) r e = refl
+nobody_still (refused at awaited refusal is_head at_door) r e = refl
 nobody_still (requests at awaited asked content_md5 body) r e = absurd (let no : ⊥ = cc in no)
 nobody_still (commands at command) r e = absurd (nobody_commands command e)
 
@@ -124,7 +124,7 @@ list_still (TokenRevoke org name) r e = absurd (let no : ⊥ = cc in no)
 
 pub operator_still : (b : Ask) (r : Option Organization) → same_owner operator (owner_of b) ≡ true → (step r b).left ≡ r
 operator_still silent r e = absurd (let no : ⊥ = cc in no)
-operator_still (refused at awaited refusal is_head) r e = absurd (let no : ⊥ = cc in no)
+operator_still (refused at awaited refusal is_head at_door) r e = absurd (let no : ⊥ = cc in no)
 operator_still (requests at awaited asked content_md5 body) r e = absurd (let no : ⊥ = cc in no)
 operator_still (commands at command) r e = list_still command r e
 
@@ -231,7 +231,7 @@ said_of_one org (TokenRevoke name token) answer own = tt
 
 step_of_one : (org : List ℕ) (r : Option Organization) (a : Ask) → is_own (organization org) a ≡ true → IsOfOne (step r a).answer
 step_of_one org r silent own = tt
-step_of_one org r (refused at awaited refusal is_head) own = tt
+step_of_one org r (refused at awaited refusal is_head at_door) own = tt
 step_of_one org r (requests at awaited asked content_md5 body) own = tt
 step_of_one org r (commands at command) own = said_of_one org command (command_step r command).answer own
 

@@ -32,7 +32,7 @@ use Rattle.machine.specs.Ranges.{IsMoment}
 -- what is prepared stays so over rows that stay
 pub prepared_after : (old new : List ℕ → Option Organization) (a : Ask) (p : Prepared) → Stays old new → IsPrepared old a p → IsPrepared new a p
 prepared_after old new silent p stays h = h
-prepared_after old new (ask.refused at awaited refusal is_head) p stays h = h
+prepared_after old new (ask.refused at awaited refusal is_head at_door) p stays h = h
 prepared_after old new (requests at awaited asked content_md5 body) p stays h =
     subst (λ (r : Option Organization). Foresees r asked.caller (request_step r at asked content_md5 body) p.reply p.change) (sym (stays asked.caller)) h
 prepared_after old new (commands at command) p stays h = h

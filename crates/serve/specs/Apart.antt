@@ -10,9 +10,10 @@ use Rattle.serve.specs.declared.doors.Door.{Door}
 use Rattle.serve.specs.declared.steps.Admin.TheVariants.{OrgList}
 use Rattle.serve.specs.Asks.{Ask, silent, refused, requests, commands, Owner, unattributed, operator}
 use Rattle.serve.specs.Checks.{is_in_reach, known_caller, may_do}
-use Rattle.serve.specs.AtDoor.{org_commanded}
+use Rattle.serve.specs.Laws.{WroteAlike}
+use Rattle.serve.specs.Logs.{org_commanded}
 use Rattle.serve.specs.Runs.{IsOwnMachine, IsOwnRecord, AreOwnReplies, ListsAreReported}
-use Rattle.serve.specs.Served.{Exchange, AreServed, asked_in, carried_in, WroteAlike}
+use Rattle.serve.specs.Served.{Exchange, AreServed, asked_in, carried_in}
 use Rattle.serve.specs.Service.{records_after, with_own}
 use Rattle.serve.specs.Steps.{refusing, request_step}
 
@@ -41,7 +42,7 @@ answers_of service (p ∷ passed) = with_own (bytes_eq p.service service) p.answ
 -- the organization that is named: by the token, or by the command
 abbrev pub org_named : Ask → Option (List ℕ)
 org_named silent = None
-org_named (refused at awaited refusal is_head) = None
+org_named (refused at awaited refusal is_head at_door) = None
 org_named (requests at awaited asked content_md5 body) = Some asked.caller
 org_named (commands at command) = org_commanded command
 

@@ -10,8 +10,8 @@ use Rattle.serve.specs.declared.steps.Admin.TheVariants.{OrgAdd, OrgLimit, OrgRe
 pub data Ask : Type 0 where
   -- nothing, because its message is unfinished
   silent : Ask
-  -- nothing of any organization: its bytes are refused; the last flag says that the method is HEAD
-  refused : ℕ → Bool → Refusal → Bool → Ask
+  -- nothing of any organization: it is refused; the last two flags say that the method is HEAD, and that it came to the operator's door
+  refused : ℕ → Bool → Refusal → Bool → Bool → Ask
   -- an act, in the name of the organization of a token, with the field Content-MD5, if it is sent, and the body
   requests : ℕ → Bool → Asked → Option (List ℕ) → List ℕ → Ask
   -- an operator's command
@@ -39,13 +39,13 @@ commanded_of (TokenRevoke org name) = organization org
 -- whose step it is: of the organization that the token or the command names, nobody's, or the operator's
 abbrev pub owner_of : Ask → Owner
 owner_of silent = unattributed
-owner_of (refused at awaited refusal is_head) = unattributed
+owner_of (refused at awaited refusal is_head at_door) = unattributed
 owner_of (requests at awaited asked content_md5 body) = organization asked.caller
 owner_of (commands at command) = commanded_of command
 
 -- the moment of a request is in range
 abbrev pub IsTimely : Ask → Type 0
 IsTimely silent = ⊤
-IsTimely (refused at awaited refusal is_head) = ⊤
+IsTimely (refused at awaited refusal is_head at_door) = ⊤
 IsTimely (requests at awaited asked content_md5 body) = IsMoment at
 IsTimely (commands at command) = ⊤

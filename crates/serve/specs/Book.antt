@@ -109,21 +109,21 @@ life e es = if_so (is_some e.after) (as_long_as is_some es)
 -- it asks this of the workspace
 abbrev pub AsksOf : List ℕ → WsAct → Ask → Type 0
 AsksOf ws what silent = ⊥
-AsksOf ws what (ask.refused at awaited refusal is_head) = ⊥
+AsksOf ws what (ask.refused at awaited refusal is_head at_door) = ⊥
 AsksOf ws what (requests at awaited asked content_md5 body) = asked.act ≡ OfWorkspace ws what
 AsksOf ws what (commands at command) = ⊥
 
 -- it asks for this act on the workspace, its documents read
 abbrev pub AsksFor : List ℕ → Act → Ask → Type 0
 AsksFor ws act silent = ⊥
-AsksFor ws act (ask.refused at awaited refusal is_head) = ⊥
+AsksFor ws act (ask.refused at awaited refusal is_head at_door) = ⊥
 AsksFor ws act (requests at awaited asked content_md5 body) = (what : WsAct) × (asked.act ≡ OfWorkspace ws what) × IsActOn asked.act asked.lock_id body act
 AsksFor ws act (commands at command) = ⊥
 
 -- the request has no ID in its query
 abbrev pub CarriesNoId : Ask → Type 0
 CarriesNoId silent = ⊥
-CarriesNoId (ask.refused at awaited refusal is_head) = ⊥
+CarriesNoId (ask.refused at awaited refusal is_head at_door) = ⊥
 CarriesNoId (requests at awaited asked content_md5 body) = asked.lock_id ≡ None
 CarriesNoId (commands at command) = ⊥
 

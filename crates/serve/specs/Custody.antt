@@ -29,7 +29,7 @@ NamesIn (OfWorkspace name act) ws = name ≡ ws
 -- the step names this workspace
 abbrev pub Names : Ask → List ℕ → Type 0
 Names silent ws = ⊥
-Names (ask.refused at awaited refusal is_head) ws = ⊥
+Names (ask.refused at awaited refusal is_head at_door) ws = ⊥
 Names (requests at awaited asked content_md5 body) ws = NamesIn asked.act ws
 Names (commands at command) ws = ⊥
 
@@ -45,14 +45,14 @@ IsForcedRemoval command = ⊥
 -- the step is the operator's removal of the organization
 abbrev pub RemovesOrganization : Ask → Type 0
 RemovesOrganization silent = ⊥
-RemovesOrganization (ask.refused at awaited refusal is_head) = ⊥
+RemovesOrganization (ask.refused at awaited refusal is_head at_door) = ⊥
 RemovesOrganization (requests at awaited asked content_md5 body) = ⊥
 RemovesOrganization (commands at command) = IsRemoval command
 
 -- and it is by force
 abbrev pub ForcesRemoval : Ask → Type 0
 ForcesRemoval silent = ⊥
-ForcesRemoval (ask.refused at awaited refusal is_head) = ⊥
+ForcesRemoval (ask.refused at awaited refusal is_head at_door) = ⊥
 ForcesRemoval (requests at awaited asked content_md5 body) = ⊥
 ForcesRemoval (commands at command) = IsForcedRemoval command
 
@@ -63,7 +63,7 @@ StepsChangeWhatTheyName = (r : Option Organization) (what : Ask) (ws : List ℕ)
 -- the request has this ID in its query
 abbrev pub CarriesId : Ask → List ℕ → Type 0
 CarriesId silent held = ⊥
-CarriesId (ask.refused at awaited refusal is_head) held = ⊥
+CarriesId (ask.refused at awaited refusal is_head at_door) held = ⊥
 CarriesId (requests at awaited asked content_md5 body) held = asked.lock_id ≡ Some held
 CarriesId (commands at command) held = ⊥
 
@@ -75,7 +75,7 @@ IsActOn (OfWorkspace ws what) id body act = act_of what id body ≡ Ok act
 -- the request is an UNLOCK by this ID, or one with an empty body
 abbrev pub ReleasesLock : Ask → List ℕ → Type 0
 ReleasesLock silent held = ⊥
-ReleasesLock (ask.refused at awaited refusal is_head) held = ⊥
+ReleasesLock (ask.refused at awaited refusal is_head at_door) held = ⊥
 ReleasesLock (requests at awaited asked content_md5 body) held = (act : Act) × IsActOn asked.act asked.lock_id body act × Releases act held
 ReleasesLock (commands at command) held = ⊥
 
@@ -111,21 +111,21 @@ OrganizationsBeginAnew = (at : ℕ) (org : List ℕ) (limit : ℕ) → (step Non
 -- the same thing asked at another moment: the same bytes, sent again
 abbrev pub asked_again : ℕ → Ask → Ask
 asked_again later silent = silent
-asked_again later (ask.refused at awaited refusal is_head) = ask.refused later awaited refusal is_head
+asked_again later (ask.refused at awaited refusal is_head at_door) = ask.refused later awaited refusal is_head at_door
 asked_again later (requests at awaited asked content_md5 body) = requests later awaited asked content_md5 body
 asked_again later (commands at command) = commands later command
 
 -- what may be sent again
 abbrev pub MayRepeat : Ask → Type 0
 MayRepeat silent = ⊤
-MayRepeat (ask.refused at awaited refusal is_head) = ⊤
+MayRepeat (ask.refused at awaited refusal is_head at_door) = ⊤
 MayRepeat (requests at awaited asked content_md5 body) = (act : Act) → IsActOn asked.act asked.lock_id body act → IsRepeatable act
 MayRepeat (commands at command) = ⊤
 
 -- a moment is not before that of a step
 abbrev pub IsNotBefore : Ask → ℕ → Type 0
 IsNotBefore silent later = ⊤
-IsNotBefore (ask.refused at awaited refusal is_head) later = at ≤ later
+IsNotBefore (ask.refused at awaited refusal is_head at_door) later = at ≤ later
 IsNotBefore (requests at awaited asked content_md5 body) later = at ≤ later
 IsNotBefore (commands at command) later = at ≤ later
 

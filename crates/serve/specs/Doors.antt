@@ -1,20 +1,25 @@
--- The operator's door: what a request that comes to it asks for.
-use Rattle.std.specs.Prelude.{◌≡◌, ℕ, Bool, nat_le, cond, List, length, Some, None, option_and_then, Result, IsTrue}
+-- The operator's door: what bytes ask with it, and how what they ask is carried out and answered.
+use Rattle.std.specs.Prelude.{◌≡◌, ℕ, Bool, false, true, nat_le, cond, if◌then◌else◌, List, length, Option, Some, None, option_and_then, Result, Ok, Err, IsTrue}
 use Rattle.sha2.specs.Sha256.{sha256}
 use Rattle.basis.specs.declared.refusals.Refusal.{Refusal}
 use Rattle.basis.specs.declared.refusals.Refusal.TheVariants.{BadBody}
 use Rattle.basis.specs.Checks.{or_refused, and_then}
 use Rattle.machine.specs.declared.keeps.AdminAnswer.{AdminAnswer}
+use Rattle.machine.specs.declared.records.Organization.{Organization}
+use Rattle.route.specs.Asks.{asked_of}
 use Rattle.route.specs.Doors.{is_at_door, operator_of, may_enter}
 use Rattle.wire.specs.declared.messages.Message.{Message}
-use Rattle.wire.specs.Messages.{Reads, whole}
+use Rattle.wire.specs.Messages.{Reading, Reads, unfinished, whole}
+use Rattle.wire.specs.Messages as wire
 use Rattle.wire.specs.Replies.{Answer, text_answer}
 use Rattle.serve.specs.declared.doors.Door.{Door}
-use Rattle.serve.specs.declared.doors.Door.TheVariants.{Open}
+use Rattle.serve.specs.declared.doors.Door.TheVariants.{Closed, Open}
 use Rattle.serve.specs.declared.steps.Admin.{Admin}
+use Rattle.serve.specs.Asks.{Ask, silent, refused, requests, commands}
 use Rattle.serve.specs.Checks.{digest_checked}
 use Rattle.serve.specs.Lines.{only_line}
-use Rattle.serve.specs.Service.{reported_text, reported_refusal}
+use Rattle.serve.specs.Service.{asked_by, ask_of, is_head, Carries, said_to, IsAdminAnswer, reported_text, reported_refusal}
+use Rattle.serve.specs.Steps.{replies}
 use Rattle.serve.specs.Words.{command_in_line}
 
 -- the door that is open to this secret
@@ -39,10 +44,6 @@ pub record ComesToDoor (received : List ℕ) (message : Message) (awaited : Bool
   pub reads : Reads received (whole message awaited)
   pub at_door : IsTrue (is_at_door message)
 
--- the bytes do not come to the door
-abbrev pub ComeNotToDoor : List ℕ → Type 0
-ComeNotToDoor received = (message : Message) (awaited : Bool) → ComesToDoor received message awaited → ⊥
-
 -- a message brings a secret of this digest
 abbrev pub BringsSecret : List ℕ → Message → Type 0
 BringsSecret digest message = (field : List ℕ) × (secret : List ℕ) × (message.authorization ≡ Some field) × (operator_of field ≡ Some secret) × (sha256 secret ≡ digest)
@@ -50,3 +51,44 @@ BringsSecret digest message = (field : List ℕ) × (secret : List ℕ) × (mess
 -- the reply to a command that is carried out: what the program would print
 abbrev pub reported_answer : AdminAnswer → Answer
 reported_answer answer = text_answer (reported_refusal answer) (reported_text answer)
+
+-- ---- what is asked
+
+-- what a message at the open door asks at a moment: its command, or that it is turned away
+abbrev pub asked_at_door : ℕ → Bool → Message → Result Admin Refusal → Ask
+asked_at_door at awaited message (Ok command) = commands at command
+asked_at_door at awaited message (Err refusal) = refused at awaited refusal (is_head message) true
+
+-- what the reading of a string of bytes asks at a moment, with this door
+abbrev pub ask_with : Door → ℕ → Reading → Ask
+ask_with Closed at reading = ask_of at reading
+ask_with (Open digest) at unfinished = silent
+ask_with (Open digest) at (wire.refused refusal head) = refused at false refusal head false
+ask_with (Open digest) at (whole message awaited) =
+    if is_at_door message then asked_at_door at awaited message (commanded digest message) else asked_by at awaited message (asked_of message)
+
+-- whether `100 Continue` comes before the reply
+abbrev pub awaits : Reading → Bool
+awaits unfinished = false
+awaits (wire.refused refusal head) = false
+awaits (whole message awaited) = awaited
+
+-- what the bytes of a connection ask at a moment, with this door, and whether `100 Continue` comes before the reply
+pub record AsksWith (door : Door) (at : ℕ) (bytes : List ℕ) (awaited : Bool) (ask : Ask) : Type 0 where
+  pub reading : Reading
+  pub reads : Reads bytes reading
+  pub due : awaited ≡ awaits reading
+  pub is : ask ≡ ask_with door at reading
+
+-- the answer on a connection to what is asked, by the records before: to a command what the program would print
+abbrev pub IsAnswerTo : (List ℕ → Option Organization) → ℕ → Bool → Ask → Answer → Type 0
+IsAnswerTo rows at awaited silent answer = ⊥
+IsAnswerTo rows at awaited (refused now due refusal is_head at_door) answer = said_to rows (refused now due refusal is_head at_door) ≡ replies awaited at answer
+IsAnswerTo rows at awaited (requests now due asked content_md5 body) answer = said_to rows (requests now due asked content_md5 body) ≡ replies awaited at answer
+IsAnswerTo rows at awaited (commands now command) answer = (a : AdminAnswer) × IsAdminAnswer rows command a × (answer ≡ reported_answer a)
+
+-- what the bytes of a connection ask is carried out, and this is the answer
+pub record CarriesOut (door : Door) (at : ℕ) (received : List ℕ) (awaited : Bool) (ask : Ask) (answer : Answer) (old new : List ℕ → Option Organization) : Type 0 where
+  pub asks : AsksWith door at received awaited ask
+  pub carries : Carries ask old new
+  pub answers : IsAnswerTo old at awaited ask answer

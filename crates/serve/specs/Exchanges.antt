@@ -11,27 +11,21 @@ use Rattle.wire.specs.Messages.{Reading, Reads, unfinished, refused, whole, Awai
 use Rattle.wire.specs.Links.{continue_if, continue_text, WritesPrefix, WritesContinue}
 use Rattle.wire.specs.Replies.{Answer, IsReplyText, unavailable_answer}
 use Rattle.docs.specs.declared.logs.LogRow.{LogRow}
-use Rattle.wire.specs.declared.messages.Message.{Message}
 use Rattle.serve.specs.Asks.{Ask, owner_of}
-use Rattle.serve.specs.AtDoor.{IsReportedAtDoor}
-use Rattle.serve.specs.Doors.{ComesToDoor, ComeNotToDoor}
+use Rattle.serve.specs.Doors.{ask_with, CarriesOut}
 use Rattle.serve.specs.Logs.{silent_row, unavailable_row, IsUnavailableRow, row_of_ask}
-use Rattle.serve.specs.Steps.{replies}
-use Rattle.serve.specs.Service.{Asks, Carries, Stays, ask_of, record_for, said_to, is_head}
+use Rattle.serve.specs.Service.{Stays, record_for, is_head}
 use Rattle.serve.specs.declared.doors.Door.{Door}
-use Rattle.serve.specs.declared.doors.Door.TheVariants.{Closed, Open}
 use Rattle.serve.specs.declared.exchanges.LinkFault.{LinkFault}
 use Rattle.serve.specs.declared.exchanges.LinkFault.TheVariants.{Ended, Read, Continue, Write}
 
--- what the bytes ask is carried out, and this is the reply's text, after `100 Continue` if it is awaited
-pub record IsServed (now : ℕ) (received : List ℕ) (old new : List ℕ → Option Organization) (awaited : Bool) (text : List ℕ) (row : Option LogRow) : Type 0 where
+-- what the bytes ask is carried out, this is the text of its answer, which follows `100 Continue` if that is awaited, and the row of the log
+pub record IsServed (door : Door) (now : ℕ) (received : List ℕ) (old new : List ℕ → Option Organization) (awaited : Bool) (text : List ℕ) (row : Option LogRow) : Type 0 where
   pub ask : Ask
-  pub asks : Asks now received ask
-  pub carries : Carries ask old new
   pub answer : Answer
-  pub said : said_to old ask ≡ replies awaited now answer
+  pub carried : CarriesOut door now received awaited ask answer old new
   pub is : IsReplyText answer now text
-  pub logged : row ≡ row_of_ask (record_for old (owner_of ask)) ask
+  pub logged : row ≡ row_of_ask (record_for old (owner_of ask)) ask answer
 
 -- whether `100 Continue` comes before the 503 of a failed allocation or store, and whether its body is left out, by what
 -- had been read: neither, if an allocation failed while reading; after that, `100 Continue` comes first if it is awaited, and
@@ -43,12 +37,12 @@ IsShapedBy (Some (refused refusal head)) awaited without_body = (awaited ≡ fal
 IsShapedBy (Some (whole message due)) awaited without_body = (awaited ≡ due) × (without_body ≡ is_head message)
 
 -- the row of a 503, by what had been read: only the moment, if an allocation failed while reading (none)
-abbrev pub IsUnavailableFor : ℕ → (List ℕ → Option Organization) → Option Reading → LogRow → Type 0
-IsUnavailableFor now old None row = row ≡ unavailable_row now
-IsUnavailableFor now old (Some reading) row = IsUnavailableRow (record_for old (owner_of (ask_of now reading))) (ask_of now reading) row
+abbrev pub IsUnavailableFor : Door → ℕ → (List ℕ → Option Organization) → Option Reading → LogRow → Type 0
+IsUnavailableFor door now old None row = row ≡ unavailable_row now
+IsUnavailableFor door now old (Some reading) row = IsUnavailableRow (record_for old (owner_of (ask_with door now reading))) (ask_with door now reading) row
 
 -- an allocation or the store failed, while reading (none) or after it: nothing changes, and the reply's text says so
-pub record IsUnavailable (now : ℕ) (received : List ℕ) (old new : List ℕ → Option Organization) (reading : Option Reading) (awaited : Bool) (text : List ℕ) (row : Option LogRow) : Type 0 where
+pub record IsUnavailable (door : Door) (now : ℕ) (received : List ℕ) (old new : List ℕ → Option Organization) (reading : Option Reading) (awaited : Bool) (text : List ℕ) (row : Option LogRow) : Type 0 where
   pub stays : Stays old new
   pub reads : IfSome reading (Reads received)
   pub without_body : Bool
@@ -56,37 +50,24 @@ pub record IsUnavailable (now : ℕ) (received : List ℕ) (old new : List ℕ �
   pub is : IsReplyText (unavailable_answer without_body) now text
   pub reported : LogRow
   pub reports : row ≡ Some reported
-  pub logged : IsUnavailableFor now old reading reported
+  pub logged : IsUnavailableFor door now old reading reported
 
--- what was received is answered without a door: it is served (`false`), or an allocation or the store failed (`true`)
-abbrev pub IsAnswered : ℕ → List ℕ → (List ℕ → Option Organization) → (List ℕ → Option Organization) → Bool → List ℕ → Option LogRow → Bool → Type 0
-IsAnswered now received old new awaited text row false = IsServed now received old new awaited text row
-IsAnswered now received old new awaited text row true = (reading : Option Reading) × IsUnavailable now received old new reading awaited text row
-
--- bytes that were answered pass by the open door: they do not come to it. Or an allocation failed while they were read, and the row of the 503
--- names nothing
-abbrev pub PassesDoor : ℕ → List ℕ → Option LogRow → Bool → Type 0
-PassesDoor now received row false = ComeNotToDoor received
-PassesDoor now received row true = ComeNotToDoor received ⊎ (row ≡ Some (unavailable_row now))
-
--- what was received is answered, with a door: as without one if it is closed or the bytes pass by it, and otherwise at the door
-abbrev pub IsAnsweredWith : Door → ℕ → List ℕ → (List ℕ → Option Organization) → (List ℕ → Option Organization) → Bool → List ℕ → Option LogRow → Bool → Type 0
-IsAnsweredWith Closed now received old new awaited text row is_down = IsAnswered now received old new awaited text row is_down
-IsAnsweredWith (Open digest) now received old new awaited text row is_down =
-    (PassesDoor now received row is_down × IsAnswered now received old new awaited text row is_down)
-    ⊎ ((message : Message) × ComesToDoor received message awaited × IsReportedAtDoor digest now message old new text row is_down)
+-- what was received is answered, with this door: it is served (`false`), or an allocation or the store failed (`true`)
+abbrev pub IsAnswered : Door → ℕ → List ℕ → (List ℕ → Option Organization) → (List ℕ → Option Organization) → Bool → List ℕ → Option LogRow → Bool → Type 0
+IsAnswered door now received old new awaited text row false = IsServed door now received old new awaited text row
+IsAnswered door now received old new awaited text row true = (reading : Option Reading) × IsUnavailable door now received old new reading awaited text row
 
 -- what an exchange with a door answers, by the bytes that were received from the reader, and those that it has left: the records before and
 -- after, what was written before and after, and whether the reply is the 503 of a failed allocation or store, which no exchange without a
 -- reply has; and the row of the log. After `Write`, `100 Continue` was written completely if it is awaited, and the reply was not
 abbrev pub Exchanges : Door → ℕ → List ℕ → Option (List ℕ) → (List ℕ → Option Organization) → (List ℕ → Option Organization) → Option (List ℕ) → Option (List ℕ) → Bool → Option LogRow → {T : Type 0} → Result T LinkFault → Type 0
 Exchanges door now received left old new before after is_down row (Ok done) =
-    (awaited : Bool) × (text : List ℕ) × IsAnsweredWith door now received old new awaited text row is_down × Appends before after (continue_if awaited ++ text)
+    (awaited : Bool) × (text : List ℕ) × IsAnswered door now received old new awaited text row is_down × Appends before after (continue_if awaited ++ text)
 Exchanges door now received left old new before after is_down row (Err Ended) = (is_down ≡ false) × (row ≡ Some (silent_row now)) × Reads received unfinished × IsAtEnd left × WritesContinue received before after
 Exchanges door now received left old new before after is_down row (Err Read) = (is_down ≡ false) × (row ≡ Some (silent_row now)) × Reads received unfinished × WritesContinue received before after
 Exchanges door now received left old new before after is_down row (Err Continue) = (is_down ≡ false) × (row ≡ Some (silent_row now)) × AwaitsContinue received × WritesPrefix before after continue_text
 Exchanges door now received left old new before after is_down row (Err Write) =
-    (awaited : Bool) × (part : List ℕ) × (rest : List ℕ) × (0 < length rest) × IsAnsweredWith door now received old new awaited (part ++ rest) row is_down × Appends before after (continue_if awaited ++ part)
+    (awaited : Bool) × (part : List ℕ) × (rest : List ℕ) × (0 < length rest) × IsAnswered door now received old new awaited (part ++ rest) row is_down × Appends before after (continue_if awaited ++ part)
 
 -- at most the record of one organization changes
 abbrev pub ChangesAtMostOne : (List ℕ → Option Organization) → (List ℕ → Option Organization) → Type 0

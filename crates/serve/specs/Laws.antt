@@ -1,9 +1,10 @@
 -- Laws of steps, runs and exchanges.
-use Rattle.std.specs.Prelude.{◌≡◌, ◌≢◌, ◌⊎◌, ℕ, Bool, false, List, [], ◌∷◌, map, Option, Some, None, Result, Ok, IsErrOf}
+use Rattle.std.specs.Prelude.{◌≡◌, ◌≢◌, ◌⊎◌, ℕ, Bool, true, false, List, [], ◌∷◌, ◌++◌, map, Option, Some, None, Result, Ok, IsErrOf, ⊤}
 use Rattle.std.specs.Io.KnownBytes.{Appends}
 use Rattle.std.specs.FinMap.{FinMap, entries}
 use Rattle.sha2.specs.Sha256.{sha256}
 use Rattle.docs.specs.declared.logs.LogRow.{LogRow}
+use Rattle.machine.specs.Laws.{AreLawful}
 use Rattle.machine.specs.Order.{name_cmp}
 use Rattle.machine.specs.Ranges.{IsMoment}
 use Rattle.machine.specs.Tokens.{asker_of}
@@ -23,15 +24,16 @@ use Rattle.serve.specs.declared.exchanges.LinkFault.{LinkFault}
 use Rattle.serve.specs.declared.exchanges.LinkFault.TheVariants.{Ended, Read, Continue}
 use Rattle.serve.specs.declared.steps.Step.{Step}
 use Rattle.serve.specs.AbsentForms.{NeedsWorkspace}
-use Rattle.serve.specs.Asks.{Ask, organization}
+use Rattle.serve.specs.Asks.{Ask, Owner, organization}
+use Rattle.serve.specs.Book.{KeepsCustody}
 use Rattle.route.specs.Policy.{is_admitted}
 use Rattle.serve.specs.Checks.{is_in_reach, known_caller, may_do}
 use Rattle.serve.specs.Steps.{replies, reports, refusing, request_step, step}
 use Rattle.serve.specs.Logs.{request_row}
 use Rattle.serve.specs.Service.{Stays, AreAsked, with_own, is_own, own_asks, replies_at}
 use Rattle.serve.specs.Exchanges.{Exchanges}
-use Rattle.serve.specs.Served.{Exchange, IsServed}
-use Rattle.serve.specs.Runs.{IsOwnMachine}
+use Rattle.serve.specs.Served.{Exchange, IsServed, AreServed, AreOwnTold, IsServedAlone, asked_in, carried_in}
+use Rattle.serve.specs.Runs.{IsOwnMachine, IsOwnRecord}
 
 -- a list of steps asks one list of things
 abbrev pub OneAsking : Type 0
@@ -115,3 +117,42 @@ abbrev pub ExchangesAreServed : Type 0
 ExchangesAreServed = (door : Door) (at : ℕ) (received : List ℕ) (left : Option (List ℕ)) (old new : List ℕ → Option Organization) (before after : Option (List ℕ)) (is_down : Bool) (row : Option LogRow) (result : Result (Unit {0}) LinkFault)
     → IsMoment at → Exchanges door at received left old new before after is_down row result → (HasNoReply result → Stays old new)
     → (e : Exchange) × (e.at ≡ at) × (e.received ≡ received) × Appends before after e.written × IsServed door e old new
+
+-- isolation of exchanges in a row
+abbrev pub EachIsServedAlone : Type 0
+EachIsServedAlone = (door : Door) (es : List Exchange) (old new : List ℕ → Option Organization) → AreServed door es old new → (org : List ℕ) → IsServedAlone org es old new
+
+-- what nobody's exchanges wrote, and the operator's
+abbrev pub OwnersAreTold : Type 0
+OwnersAreTold = (door : Door) (es : List Exchange) (old new : List ℕ → Option Organization) → AreServed door es old new → (owner : Owner) → AreOwnTold es old owner
+
+-- custody of exchanges in a row
+abbrev pub ServedKeepCustody : Type 0
+ServedKeepCustody = (door : Door) (es : List Exchange) (old new : List ℕ → Option Organization) → AreServed door es old new → AreLawful old → KeepsCustody (asked_in es) old
+
+-- what is asked in turn, and then more from the records that it left, is all of it in turn: so exchanges of two services, and what an
+-- operator's commands ask between them
+abbrev pub AsksInTurn : Type 0
+AsksInTurn = (asked more : List Ask) (old mid new : List ℕ → Option Organization) (org : List ℕ) → IsOwnRecord asked old mid org → IsOwnRecord more mid new org → IsOwnRecord (asked ++ more) old new org
+
+-- exchanges in a row, and then others from the records that they left, are all of them in a row
+abbrev pub ServedInTurn : Type 0
+ServedInTurn = (door : Door) (es fs : List Exchange) (old mid new : List ℕ → Option Organization) → AreServed door es old mid → AreServed door fs mid new → AreServed door (es ++ fs) old new
+
+-- two exchanges wrote the same, if both wrote all of their replies, at the same moment, and `100 Continue` went before both or neither
+abbrev pub WroteAlike : Exchange → Exchange → Type 0
+WroteAlike e f = e.at ≡ f.at → e.awaited ≡ f.awaited → e.is_whole ≡ true → f.is_whole ≡ true → e.written ≡ f.written
+
+abbrev pub AllWroteAlike : List Exchange → List Exchange → Type 0
+AllWroteAlike [] [] = ⊤
+AllWroteAlike [] (f ∷ fs) = ⊥
+AllWroteAlike (e ∷ es) [] = ⊥
+AllWroteAlike (e ∷ es) (f ∷ fs) = WroteAlike e f × AllWroteAlike es fs
+
+-- two worlds: of an organization that is served alone in both, begins with equal records and asks the same, its own exchanges write the
+-- same, and its records afterwards are equal, whatever else differs
+abbrev pub TwoServedWorlds : Type 0
+TwoServedWorlds = (org : List ℕ) (es fs : List Exchange) (before after before' after' : List ℕ → Option Organization)
+    → IsServedAlone org es before after → IsServedAlone org fs before' after'
+    → before org ≡ before' org → own_asks (organization org) (asked_in es) ≡ own_asks (organization org) (asked_in fs)
+    → AllWroteAlike (replies_at (organization org) (asked_in es) (carried_in es)) (replies_at (organization org) (asked_in fs) (carried_in fs)) × (after org ≡ after' org)

@@ -1,17 +1,18 @@
 -- The log row of an exchange: by what was asked, the record before it, and the answer.
-use Rattle.std.specs.Prelude.{◌≡◌, ◌⊎◌, ℕ, zero, suc, true, false, ◌==◌, if◌then◌else◌, List, Option, Some, None, Result, Ok, Err}
+use Rattle.std.specs.Prelude.{◌≡◌, ◌≢◌, ◌⊎◌, ℕ, zero, suc, true, false, ◌==◌, if◌then◌else◌, List, Option, Some, None, Result, Ok, Err}
 use Rattle.std.specs.Option.{option_or}
 use Rattle.basis.specs.Acts.{act_number}
 use Rattle.basis.specs.Checks.{and_then}
 use Rattle.basis.specs.Roles.{is_valid_at}
 use Rattle.basis.specs.declared.refusals.Refusal.{Refusal}
-use Rattle.basis.specs.declared.refusals.Refusal.TheVariants.{Unavailable}
+use Rattle.basis.specs.declared.refusals.Refusal.TheVariants.{BadSecret, Unavailable}
 use Rattle.basis.specs.declared.rows.Holder.{Holder}
 use Rattle.basis.specs.declared.rows.Holder.TheVariants.{Nobody, Lock as HeldLock, Run as HeldRun}
 use Rattle.sha2.specs.Sha256.{sha256}
 use Rattle.docs.specs.declared.logs.LogAct.{LogAct}
 use Rattle.docs.specs.declared.logs.LogAct.TheVariants as logged
 use Rattle.docs.specs.declared.logs.LogRow.{LogRow}
+use Rattle.docs.specs.declared.logs.OperatorAct.TheVariants.{AddOrganization, LimitOrganization, RemoveOrganization, ListOrganizations, AddToken, ListTokens, RevokeToken}
 use Rattle.machine.specs.Laws.{holds}
 use Rattle.machine.specs.Records.{workspace_in}
 use Rattle.machine.specs.Rules.{Outcome, refused, held, done, no_state, state, workspace, the_run, versions, runs, Ruling, rules}
@@ -22,12 +23,14 @@ use Rattle.machine.specs.declared.records.Organization.{Organization}
 use Rattle.route.specs.declared.routes.Asked.{Asked}
 use Rattle.route.specs.declared.routes.AskedAct.{AskedAct}
 use Rattle.route.specs.declared.routes.AskedAct.TheVariants.{ListWorkspaces, OfWorkspace}
-use Rattle.wire.specs.Replies.{Answer}
+use Rattle.wire.specs.Replies.{Answer, unavailable_answer}
 use Rattle.serve.specs.Asks.{Ask, silent, requests, commands}
 use Rattle.serve.specs.Asks as ask
 use Rattle.serve.specs.Checks.{known_caller, may_do, admitted, in_reach, digest_checked, task_of, checked, id_of_act}
 use Rattle.serve.specs.Steps.{seen_at, request_step, refusing}
 use Rattle.serve.specs.declared.logs.Trace.{Trace}
+use Rattle.serve.specs.declared.steps.Admin.{Admin}
+use Rattle.serve.specs.declared.steps.Admin.TheVariants.{OrgAdd, OrgLimit, OrgRemove, OrgList, TokenAdd, TokenList, TokenRevoke}
 use Rattle.serve.specs.declared.checks.Task.{Task}
 use Rattle.serve.specs.declared.checks.Task.TheVariants.{ListAll, Carry}
 
@@ -132,11 +135,48 @@ silent_row at = record { act = None; at = at; id = None; number = None; operator
 abbrev pub with_answer : Answer → LogRow → LogRow
 with_answer answer row = record row { status = Some answer.status; refusal = answer.refusal }
 
--- the row of a request at the operator's door: what its command asks, the organization that it names, and the token that it added or revoked,
+-- the row of a message at the operator's door: what its command asks, the organization that it names, and the token that it adds or revokes,
 -- each if there is one; and the answer
 abbrev pub operator_row : ℕ → Option LogAct → Option (List ℕ) → Option (List ℕ) → Answer → LogRow
 operator_row at act org subject answer =
     record (silent_row at) { act = act; operator = true; organization = org; refusal = answer.refusal; status = Some answer.status; subject = subject }
+
+-- what a command asks, as the log names it
+abbrev pub act_commanded : Admin → LogAct
+act_commanded (OrgAdd org limit) = logged.OfOperator AddOrganization
+act_commanded (OrgLimit org limit) = logged.OfOperator LimitOrganization
+act_commanded (OrgRemove org is_forced) = logged.OfOperator RemoveOrganization
+act_commanded OrgList = logged.OfOperator ListOrganizations
+act_commanded (TokenAdd org name role secret bounds) = logged.OfOperator AddToken
+act_commanded (TokenList org) = logged.OfOperator ListTokens
+act_commanded (TokenRevoke org name) = logged.OfOperator RevokeToken
+
+-- the organization that a command names
+abbrev pub org_commanded : Admin → Option (List ℕ)
+org_commanded (OrgAdd org limit) = Some org
+org_commanded (OrgLimit org limit) = Some org
+org_commanded (OrgRemove org is_forced) = Some org
+org_commanded OrgList = None
+org_commanded (TokenAdd org name role secret bounds) = Some org
+org_commanded (TokenList org) = Some org
+org_commanded (TokenRevoke org name) = Some org
+
+-- the token that a command adds or revokes: the log names it whenever the command was read, and the status says whether it was done
+abbrev pub token_commanded : Admin → Option (List ℕ)
+token_commanded (OrgAdd org limit) = None
+token_commanded (OrgLimit org limit) = None
+token_commanded (OrgRemove org is_forced) = None
+token_commanded OrgList = None
+token_commanded (TokenAdd org name role secret bounds) = Some name
+token_commanded (TokenList org) = None
+token_commanded (TokenRevoke org name) = Some name
+
+-- the row of a command, and that of a message at the door of which no command was read
+abbrev pub command_row : ℕ → Admin → Answer → LogRow
+command_row at command answer = operator_row at (Some (act_commanded command)) (org_commanded command) (token_commanded command) answer
+
+abbrev pub no_command_row : ℕ → Answer → LogRow
+no_command_row at answer = operator_row at None None None answer
 
 -- the row of a request, by what is asked, what was answered, the token's name, the ID in the document, and what the rules did
 abbrev pub row_of_request : ℕ → Asked → Answer → Option (List ℕ) → Option (List ℕ) → Trace → LogRow
@@ -160,12 +200,13 @@ abbrev pub request_row : Option Organization → ℕ → Asked → Option (List 
 request_row r at asked content_md5 body =
     row_of_request at asked (request_step r at asked content_md5 body).answer (token_named r at asked) (id_spelt (task_read r at asked content_md5 body)) (traced at r (checked r at asked content_md5 body))
 
--- the row of what is asked, over the record that it reads: none for what is unfinished, or for an operator's command, which has no exchange
-abbrev pub row_of_ask : Option Organization → Ask → Option LogRow
-row_of_ask r silent = None
-row_of_ask r (ask.refused at awaited refusal is_head) = Some (with_answer (refusing refusal r).answer (silent_row at))
-row_of_ask r (requests at awaited asked content_md5 body) = Some (request_row r at asked content_md5 body)
-row_of_ask r (commands at command) = None
+-- the row of what is asked and answered, over the record that it reads: none for what is unfinished
+abbrev pub row_of_ask : Option Organization → Ask → Answer → Option LogRow
+row_of_ask r silent answer = None
+row_of_ask r (ask.refused at awaited refusal is_head false) answer = Some (with_answer (refusing refusal r).answer (silent_row at))
+row_of_ask r (ask.refused at awaited refusal is_head true) answer = Some (no_command_row at (refusing refusal r).answer)
+row_of_ask r (requests at awaited asked content_md5 body) answer = Some (request_row r at asked content_md5 body)
+row_of_ask r (commands at command) answer = Some (command_row at command answer)
 
 -- the row of the 503 of a failed allocation or store, if nothing was read of what is asked
 abbrev pub unavailable_row : ℕ → LogRow
@@ -194,9 +235,11 @@ pub record IsUnavailableRequest (r : Option Organization) (at : ℕ) (asked : As
   pub read : IsReadSoFar r at asked content_md5 body token id
   pub is : row ≡ row_of_unavailable at asked token id
 
--- the row of a 503 to what is asked, over the record that it reads: a request's, unless an allocation failed before its head was read
+-- the row of a 503 to what is asked, over the record that it reads: a request's, unless an allocation failed before its head was read; a
+-- command's, if the command had been read. A message that is turned away for its secret has no 503: that reply needs no memory
 abbrev pub IsUnavailableRow : Option Organization → Ask → LogRow → Type 0
 IsUnavailableRow r silent row = ⊥
-IsUnavailableRow r (ask.refused at awaited refusal is_head) row = row ≡ unavailable_row at
+IsUnavailableRow r (ask.refused at awaited refusal is_head false) row = row ≡ unavailable_row at
+IsUnavailableRow r (ask.refused at awaited refusal is_head true) row = (refusal ≢ BadSecret) × (row ≡ no_command_row at (unavailable_answer false))
 IsUnavailableRow r (requests at awaited asked content_md5 body) row = (row ≡ unavailable_row at) ⊎ IsUnavailableRequest r at asked content_md5 body row
-IsUnavailableRow r (commands at command) row = ⊥
+IsUnavailableRow r (commands at command) row = (row ≡ no_command_row at (unavailable_answer false)) ⊎ (row ≡ command_row at command (unavailable_answer false))

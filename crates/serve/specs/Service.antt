@@ -31,13 +31,13 @@ is_head message = bytes_eq message.method (codes "HEAD")
 
 -- what a message asks at a moment
 abbrev pub asked_by : ℕ → Bool → Message → Asking → Ask
-asked_by at awaited message (route.refused refusal) = refused at awaited refusal (is_head message)
+asked_by at awaited message (route.refused refusal) = refused at awaited refusal (is_head message) false
 asked_by at awaited message (asks asked) = requests at awaited asked message.content_md5 message.body
 
 -- what the reading of a string of bytes asks at a moment
 abbrev pub ask_of : ℕ → Reading → Ask
 ask_of at unfinished = silent
-ask_of at (wire.refused refusal head) = refused at false refusal head
+ask_of at (wire.refused refusal head) = refused at false refusal head false
 ask_of at (whole message awaited) = asked_by at awaited message (asked_of message)
 
 -- what the bytes of a connection ask at a moment
@@ -213,7 +213,7 @@ IsListedBy records (TokenRevoke org name) text = ⊤
 
 abbrev pub IsListed : (List ℕ → Option Organization) → Ask → List ℕ → Type 0
 IsListed records silent text = ⊤
-IsListed records (refused at awaited refusal is_head) text = ⊤
+IsListed records (refused at awaited refusal is_head at_door) text = ⊤
 IsListed records (requests at awaited asked content_md5 body) text = ⊤
 IsListed records (commands at command) text = IsListedBy records command text
 

@@ -106,7 +106,7 @@ command_said (TokenRevoke org name) answer = reports answer
 -- the step of an organization's machine: what is said, and the record afterwards; an unattributed step changes no record and reads none
 abbrev pub step : Option Organization → Ask → Effect Said (Option Organization)
 step r silent = effect nothing r
-step r (ask.refused at awaited refusal is_head) = effect (replies awaited at (refused_answer refusal (error_text refusal) is_head)) r
+step r (ask.refused at awaited refusal is_head at_door) = effect (replies awaited at (refused_answer refusal (error_text refusal) is_head)) r
 step r (requests at awaited asked content_md5 body) =
     let done = request_step r at asked content_md5 body in effect (replies awaited at done.answer) done.left
 step r (commands at command) =

@@ -1,12 +1,11 @@
 //! The operator's door: an operator's command in a request.
-ghost use Rattle.std.specs.Prelude.{◌≡◌, ◌≢◌, Some, None, IfOk, IfErr, OnOk, OnErr};
+ghost use Rattle.std.specs.Prelude.{◌≡◌, ◌≢◌, false, Some, None, IfOk, IfErr, OnOk, OnErr};
 ghost use Rattle.basis.specs.Inner.Checks.{Follows};
 ghost use Rattle.machine.specs.StoreCalls.{Lasts};
 ghost use Rattle.docs.specs.Bodies.{error_text};
-ghost use Rattle.wire.specs.Replies.{text_answer, refused_answer};
-ghost use Rattle.serve.specs.AtDoor.{act_commanded, org_commanded, token_commanded, unserved_row};
+ghost use Rattle.wire.specs.Replies.{text_answer, refused_answer, unavailable_answer};
 ghost use Rattle.serve.specs.Doors.{opened_by, command_in, command_asked};
-ghost use Rattle.serve.specs.Logs.{operator_row};
+ghost use Rattle.serve.specs.Logs.{act_commanded, org_commanded, token_commanded, command_row, no_command_row};
 ghost use Rattle.serve.specs.Service.{Stays};
 ghost use Rattle.serve.specs.Inner.Doors.{Operates, TurnsAway, OperatesOrNot, IsRowSoFar};
 
@@ -140,7 +139,7 @@ pub struct Operated {
 // The reply and the row for a command that is carried out.
 fn answered(at: Moment, asked: Admin, reported: CommandReport) -> Operated
     ensures reply { result.reply ≡ text_answer reported.refusal reported.text }
-    ensures row { result.row ≡ operator_row at (Some (act_commanded asked)) (org_commanded asked) (token_commanded asked) (text_answer reported.refusal reported.text) }
+    ensures row { result.row ≡ command_row at asked (text_answer reported.refusal reported.text) }
 {
     let CommandReport { refusal, text } = reported;
     let act = act_of(&asked);
@@ -152,7 +151,7 @@ fn answered(at: Moment, asked: Admin, reported: CommandReport) -> Operated
 
 // The row of a 503, if this command had been read.
 fn row_so_far(at: Moment, asked: Admin) -> LogRow
-    ensures { result ≡ unserved_row at (Some asked) }
+    ensures { result ≡ command_row at asked (unavailable_answer false) }
 {
     let act = act_of(&asked);
     let Names { org, token } = names_in(asked);
@@ -162,7 +161,7 @@ fn row_so_far(at: Moment, asked: Admin) -> LogRow
 
 // The row of a 503, if no command had been read.
 fn unread_row(at: Moment) -> LogRow
-    ensures { result ≡ unserved_row at None }
+    ensures { result ≡ no_command_row at (unavailable_answer false) }
 {
     let reply = Reply::unavailable(false);
     operator_row(at, None, None, None, &reply)
@@ -177,7 +176,7 @@ fn carry_out<K: Keep>(
     ensures lasts { Lasts K.clean K.sound K.keyed K.shielded keep.old keep.new }
     ensures ok { K.clean keep.new → K.sound keep.old → IfOk result (Operates at asked (K.rows keep.old) (K.rows keep.new)) }
     ensures err { K.clean keep.new → OnErr result (Stays (K.rows keep.old) (K.rows keep.new)) }
-    ensures row { IfErr result (λ row. row ≡ unserved_row at (Some asked)) }
+    ensures row { IfErr result (λ row. row ≡ command_row at asked (unavailable_answer false)) }
 {
     match report(alloc, keep, &asked) {
         Ok(reported) => Ok(answered(at, asked, reported)),
@@ -202,7 +201,7 @@ fn turn_away(alloc: Global, at: Moment, refusal: Refusal, is_head: bool) -> Resu
     ensures known { OnOk result (refusal ≢ Refusal.Unavailable) }
     ensures ok { IfOk result (TurnsAway at refusal is_head) }
     ensures secret { OnErr result (refusal ≢ Refusal.BadSecret) }
-    ensures row { IfErr result (λ row. row ≡ unserved_row at None) }
+    ensures row { IfErr result (λ row. row ≡ no_command_row at (unavailable_answer false)) }
 {
     match refusal_reply(alloc, refusal, is_head) {
         Ok(reply) => {

@@ -1,16 +1,15 @@
 //! One exchange: a request is read, answered and carried out, and its reply is written.
-ghost use Rattle.std.specs.Prelude.{◌≡◌, ◌↔◌, ℕ, List, ◌⊎◌, true, false, IfSome, IfErr, is_err, IsErrOf, Some};
+ghost use Rattle.std.specs.Prelude.{◌≡◌, ◌↔◌, ℕ, List, ◌⊎◌, true, false, IfSome, IfErr, is_err, IsErrOf};
 ghost use Rattle.std.specs.Io.KnownBytes.{Consumes};
 ghost use Rattle.wire.specs.Links.{Writes};
 ghost use Rattle.wire.specs.Replies.{IsReplyText, unavailable_answer};
 ghost use Rattle.machine.specs.StoreCalls.{Lasts, LastsWhere};
 ghost use Rattle.serve.specs.Asks.{Ask};
-ghost use Rattle.serve.specs.Logs.{unavailable_row};
 ghost use Rattle.serve.specs.Service.{Stays};
 ghost use Rattle.serve.specs.Exchanges.{Exchanges, ChangesAtMostOne, ChangesAsLogged};
-ghost use Rattle.serve.specs.AtDoor.{IsReportedAtDoor};
+ghost use Rattle.serve.specs.Inner.Doors.{IsAnsweredThere};
 ghost use Rattle.serve.specs.Inner.Prepared.{IsPrepared};
-ghost use Rattle.serve.specs.Inner.Replying.{AnswersTo, due_reply, due_row, CommitsUnlessDown};
+ghost use Rattle.serve.specs.Inner.Replying.{AnswersTo, AnswersPast, due_reply, due_row, CommitsUnlessDown};
 
 use crate::doors::{Door, Operated, operate};
 use crate::logs::{as_unavailable, silent_row};
@@ -117,14 +116,11 @@ fn answer_read<K: Keep, O: Outlet>(
 ) -> Result<(), LinkFault>
     requires { (O.broken outlet.old ≡ true) ↔ IsErrOf read WireFault.Continue }
     ensures lasts { Lasts K.clean K.sound K.keyed K.shielded keep.old keep.new }
-    ensures reported { K.clean keep.new → K.sound keep.old → AnswersTo Door.Closed now read (K.rows keep.old) (K.rows keep.new) (O.written outlet.old) (O.written outlet.new) is_down.new row.new result }
+    ensures reported { K.clean keep.new → K.sound keep.old → AnswersPast now read (K.rows keep.old) (K.rows keep.new) (O.written outlet.old) (O.written outlet.new) is_down.new row.new result }
     ensures stays { K.clean keep.new → (IsErrOf result LinkFault.Ended ⊎ (IsErrOf result LinkFault.Read ⊎ IsErrOf result LinkFault.Continue))
         → Stays (K.rows keep.old) (K.rows keep.new) }
     ensures ended { IsErrOf result LinkFault.Ended ↔ IsErrOf read WireFault.Ended }
     ensures read { IsErrOf result LinkFault.Read ↔ IsErrOf read WireFault.Read }
-    ensures continues { IsErrOf result LinkFault.Continue ↔ IsErrOf read WireFault.Continue }
-    ensures down { K.clean keep.new → K.sound keep.old → IsErrOf read WireFault.Down → is_down.new ≡ true }
-    ensures unread { K.clean keep.new → K.sound keep.old → IsErrOf read WireFault.Down → row.new ≡ Some (unavailable_row now) }
     ensures written { (O.broken outlet.new ≡ true) ↔ (IsErrOf result LinkFault.Continue ⊎ IsErrOf result LinkFault.Write) }
 {
     *is_down = false;
@@ -160,7 +156,7 @@ fn answer_at_door<K: Keep, O: Outlet>(
 ) -> Result<(), LinkFault>
     requires { O.broken outlet.old ≡ false }
     ensures lasts { Lasts K.clean K.sound K.keyed K.shielded keep.old keep.new }
-    ensures text { K.clean keep.new → K.sound keep.old → (text : List ℕ) × IsReportedAtDoor digest.now now message.now (K.rows keep.old) (K.rows keep.new) text row.new is_down.new
+    ensures text { K.clean keep.new → K.sound keep.old → (text : List ℕ) × IsAnsweredThere digest.now now message.now (K.rows keep.old) (K.rows keep.new) text row.new is_down.new
         × Writes (O.written outlet.old) (O.written outlet.new) text result }
     ensures fault { IfErr result (λ fault. fault ≡ LinkFault.Write) }
     ensures cause { O.broken outlet.new ≡ is_err result }

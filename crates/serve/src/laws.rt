@@ -1,10 +1,9 @@
 //! Laws of steps and runs, each the contract of a call that does nothing.
-ghost use Rattle.serve.specs.Laws.{OneAsking, TwoWorlds, SameStepsAskTheSame, RefusedStepsChangeNothing, OutOfReachIsNotFound, OutOfReachIsAsAbsent, OutsideThePrefixIsNotFound, OutsideThePrefixIsAsAbsent, NamesDecideNothing, SecretsAreNotLogged, ExchangesAreServed};
+ghost use Rattle.serve.specs.Laws.{OneAsking, TwoWorlds, SameStepsAskTheSame, RefusedStepsChangeNothing, OutOfReachIsNotFound, OutOfReachIsAsAbsent, OutsideThePrefixIsNotFound, OutsideThePrefixIsAsAbsent, NamesDecideNothing, SecretsAreNotLogged, ExchangesAreServed, EachIsServedAlone, OwnersAreTold, ServedKeepCustody, AsksInTurn, ServedInTurn, TwoServedWorlds};
 ghost use Rattle.serve.specs.Custody.{StepsChangeWhatTheyName, LocksAreKept, OrganizationsGoByRemoval, RemovalsAreCarriedOut, OrganizationsBeginAnew, StepsAreRepeatable, RepeatsLeaveTheWorkspace, LockedNamesTheHolder, SameBytesAskAgain, RequestsChangeTheirWorkspaceAlone};
 ghost use Rattle.serve.specs.AtDoor.{OnlyTheSecretOpens, WithoutTheSecret, WrongSecretsAreAlike, AddedSecretsAreNotLogged};
 ghost use Rattle.serve.specs.Book.{BooksAreOfTheRun, PeriodsAreTheStepsBetween, CustodyIsKept};
 ghost use Rattle.serve.specs.AbsentForms.{ServedTellAbsentForms};
-ghost use Rattle.serve.specs.Served.{EachIsServedAlone, OwnersAreTold, ServedKeepCustody, AsksInTurn, ServedInTurn, TwoServedWorlds};
 ghost use Rattle.serve.specs.Promises.{ServicesAreAsPromised};
 
 /// The steps of a list ask one list of things.

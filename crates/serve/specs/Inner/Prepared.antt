@@ -56,7 +56,7 @@ pub record Foresees (r : Option Organization) (org : List ℕ) (want : Answered)
 -- what is prepared is what is to be said, by the records as they stand
 abbrev pub IsPrepared : (List ℕ → Option Organization) → Ask → Prepared → Type 0
 IsPrepared rows silent p = ⊥
-IsPrepared rows (ask.refused at awaited refusal is_head) p = (p.reply ≡ refused_answer refusal (error_text refusal) is_head) × (p.change ≡ None)
+IsPrepared rows (ask.refused at awaited refusal is_head at_door) p = (p.reply ≡ refused_answer refusal (error_text refusal) is_head) × (p.change ≡ None)
 IsPrepared rows (requests at awaited asked content_md5 body) p = Foresees (rows asked.caller) asked.caller (request_step (rows asked.caller) at asked content_md5 body) p.reply p.change
 IsPrepared rows (commands at command) p = ⊥
 

@@ -1,6 +1,7 @@
-use Rattle.std.proofs.Common.{◌≡◌, Ok, Err, true, false, rules}
+use Rattle.std.proofs.Common.{◌≡◌, true, false, rules}
 use Rattle.route.specs.Doors.{is_at_door}
-use Rattle.serve.proofs.DoorLemmas.{passed, at_door}
+use Rattle.serve.specs.declared.doors.Door.TheVariants.{Closed, Open}
+use Rattle.serve.proofs.DoorLemmas.{at_door}
 use Rattle.serve.proofs.exchanges.answer.Goals as goal
 
 pub returns-then-is_at_door-clause-reported : goal.returns-then-is_at_door-clause-reported
@@ -13,13 +14,10 @@ returns-then-is_at_door-clause-reported g c = λ clean sound.
 pub returns-else-is_at_door-clause-reported : goal.returns-else-is_at_door-clause-reported
 returns-else-is_at_door-clause-reported g c = λ clean sound.
     let away : is_at_door c.in-Ok.message ≡ false = search rules in
-    rw c.in-Open.is (rw c.in-Ok.is (passed c.in-Open.digest c.args.now (Ok c.in-Ok.message) (g.K.Keep.rows c.args.keep.now) (g.K.Keep.rows c.answer_read-else-is_at_door.new.keep) (g.O.Outlet.written c.args.outlet.now) (g.O.Outlet.written c.answer_read-else-is_at_door.new.outlet)
-    c.answer_read-else-is_at_door.new.is_down c.answer_read-else-is_at_door.new.row c.answer_read-else-is_at_door.result away (c.answer_read-else-is_at_door.ensures.down clean sound) (c.answer_read-else-is_at_door.ensures.unread clean sound) c.answer_read-else-is_at_door.ensures.continues.1 (c.answer_read-else-is_at_door.ensures.reported clean sound)))
+    rw c.in-Open.is (rw c.in-Ok.is (c.answer_read-else-is_at_door.ensures.reported clean sound (Open c.in-Open.digest) away))
 
 pub returns-in-Err-clause-reported : goal.returns-in-Err-clause-reported
-returns-in-Err-clause-reported g c = λ clean sound.
-    rw c.in-Open.is (rw c.in-Err.is (passed c.in-Open.digest c.args.now (Err c.in-Err.fault) (g.K.Keep.rows c.args.keep.now) (g.K.Keep.rows c.answer_read-in-Err.new.keep) (g.O.Outlet.written c.args.outlet.now) (g.O.Outlet.written c.answer_read-in-Err.new.outlet)
-    c.answer_read-in-Err.new.is_down c.answer_read-in-Err.new.row c.answer_read-in-Err.result tt (c.answer_read-in-Err.ensures.down clean sound) (c.answer_read-in-Err.ensures.unread clean sound) c.answer_read-in-Err.ensures.continues.1 (c.answer_read-in-Err.ensures.reported clean sound)))
+returns-in-Err-clause-reported g c = λ clean sound. rw c.in-Open.is (rw c.in-Err.is (c.answer_read-in-Err.ensures.reported clean sound (Open c.in-Open.digest) tt))
 
 pub returns-in-Closed-clause-reported : goal.returns-in-Closed-clause-reported
-returns-in-Closed-clause-reported g c = λ clean sound. rw c.in-Closed.is (c.answer_read.ensures.reported clean sound)
+returns-in-Closed-clause-reported g c = λ clean sound. rw c.in-Closed.is (c.answer_read.ensures.reported clean sound Closed tt)

@@ -1,4 +1,4 @@
-use Rattle.serve.proofs.DoorLemmas.{exchanged_one, exchanged_logged}
+use Rattle.serve.proofs.ExchangeLemmas.{exchanged_one, exchanged_logged}
 use Rattle.serve.proofs.exchanges.exchange_with.Goals as goal
 
 pub returns-clause-reported : goal.returns-clause-reported
