@@ -292,13 +292,6 @@ fn field_in(text: &str) -> Option<&[u8]> {
     }
 }
 
-fn bytes_in<'a>(part: &'a Part<'_>) -> Option<&'a [u8]> {
-    match &part.bytes {
-        Some(bytes) => Some(bytes.as_slice()),
-        None => None,
-    }
-}
-
 // What is due, compared with what a value comes to.
 fn compare(alloc: Global, head: &Part<'_>, due: &str, came: Shown) -> Result<(), Failure> {
     match came {
@@ -336,7 +329,7 @@ fn result_lines(alloc: Global, parts: &[Part<'_>]) -> Result<String, Unread> {
 fn query_in<'s, 'a>(kind: Kind, parts: &'s [Part<'a>]) -> (Option<&'s [u8]>, &'s [Part<'a>]) {
     match (kind, parts) {
         (Kind::Asks, [query, results @ ..]) if query.mark == Mark::Query => {
-            (bytes_in(query), results)
+            (query.pieces(), results)
         }
         _ => (None, parts),
     }
@@ -353,7 +346,7 @@ fn take_block(
     let (query, results) = query_in(kind, parts);
     let due = result_lines(alloc, results)?;
     let came = match kind {
-        Kind::Asks => show_asks(alloc, bytes_in(head), query),
+        Kind::Asks => show_asks(alloc, head.pieces(), query),
         _ => show_bytes(alloc, kind, words, head.written()),
     };
     compare(alloc, head, due.as_str(), came)

@@ -1,40 +1,36 @@
 //! Acts on a workspace in words.
-use basis::{Number, Query, WsAct};
+use basis::{Query, WsAct};
 use std::alloc::{AllocError, Global};
 
-// The number after which a list begins.
-fn after_in(act: &WsAct) -> Option<u64> {
+// The number that an act names.
+fn number_in(act: &WsAct) -> Option<u64> {
     match act {
         WsAct::Query(Query::Versions(after)) => Some(*after),
         WsAct::Query(Query::Runs(after)) => Some(*after),
-        _ => None,
+        WsAct::ReportRun(run, _) => Some(u64::from(run.get())),
+        _ => match act.number() {
+            Some(number) => Some(u64::from(number.get())),
+            None => None,
+        },
     }
 }
 
-// The run of which something is reported.
-fn run_in(act: &WsAct) -> Option<Number> {
+// The words before an act's own, and before its number.
+fn words_around(act: &WsAct) -> (&'static str, &'static str) {
     match act {
-        WsAct::ReportRun(number, _) => Some(*number),
-        _ => None,
+        WsAct::Query(Query::Versions(_)) => ("", " after "),
+        WsAct::Query(Query::Runs(_)) => ("", " after "),
+        WsAct::ReportRun(_, _) => ("report ", " on run "),
+        _ => ("", " "),
     }
 }
 
 /// An act in words, with the numbers that it names.
 pub fn act_text(alloc: Global, act: &WsAct) -> Result<String, AllocError> {
-    let (after, run, number) = (after_in(act), run_in(act), act.number());
+    let (front, behind) = words_around(act);
     let word = act.word();
-    if let Some(after) = after {
-        return format!(in alloc; "{word} after {after}");
-    }
-    if let Some(run) = run {
-        let run = run.get();
-        return format!(in alloc; "report {word} on run {run}");
-    }
-    match number {
-        Some(number) => {
-            let number = number.get();
-            format!(in alloc; "{word} {number}")
-        }
+    match number_in(act) {
+        Some(number) => format!(in alloc; "{front}{word}{behind}{number}"),
         None => String::from_str(alloc, word),
     }
 }

@@ -1,6 +1,6 @@
 //! The text of the stories: of each its name and the parts of its steps.
 use crate::definitions::{Definitions, Unread};
-use crate::lines::{Line, Mark, Piece, read_line};
+use crate::lines::{Line, Mark, Piece, Says, read_line};
 use crate::modes::{Mode, Modes, NONE};
 use crate::pieces::{write_behind, write_row};
 use std::alloc::Global;
@@ -14,8 +14,10 @@ pub struct Part<'a> {
     pub text: &'a str,
     /// The fields, each with CR LF.
     pub fields: Vec<u8>,
-    /// What the pieces write; `None` without a piece.
-    pub bytes: Option<Vec<u8>>,
+    /// Whether it has a piece.
+    pub has_pieces: bool,
+    // What the pieces write.
+    bytes: Vec<u8>,
     // Whether the last piece is one of `|`.
     is_row: bool,
 }
@@ -27,16 +29,23 @@ impl<'a> Part<'a> {
             mark,
             text,
             fields: Vec::new(alloc),
-            bytes: None,
+            has_pieces: false,
+            bytes: Vec::new(alloc),
             is_row: false,
         }
     }
 
     /// What the pieces write.
     pub fn written(&self) -> &[u8] {
-        match &self.bytes {
-            Some(bytes) => bytes.as_slice(),
-            None => b"",
+        self.bytes.as_slice()
+    }
+
+    /// The same; `None` without a piece.
+    pub fn pieces(&self) -> Option<&[u8]> {
+        if self.has_pieces {
+            Some(self.bytes.as_slice())
+        } else {
+            None
         }
     }
 
@@ -61,14 +70,9 @@ impl<'a> Part<'a> {
     ) -> Result<(), Unread> {
         let is_row = piece == Piece::Row;
         let is_behind_row = is_row && self.is_row;
+        self.has_pieces = true;
         self.is_row = is_row;
-        let mut bytes = match self.bytes.take() {
-            Some(bytes) => bytes,
-            None => Vec::new(alloc),
-        };
-        let written = write_behind(alloc, &mut bytes, is_behind_row, line, piece, text);
-        self.bytes = Some(bytes);
-        written
+        write_behind(alloc, &mut self.bytes, is_behind_row, line, piece, text)
     }
 }
 
@@ -168,6 +172,59 @@ impl<'a> Story<'a> {
         Ok(())
     }
 
+    fn set_before(&mut self, line: usize, chain: Vec<usize>) -> Result<(), Unread> {
+        if !self.is_bare() {
+            return Err(Unread {
+                line,
+                why: "`after` is the first line of a story",
+            });
+        }
+        self.before = chain;
+        Ok(())
+    }
+
+    fn set_mode(&mut self, line: usize, mode: Mode) -> Result<(), Unread> {
+        if !self.may_set(mode) {
+            return Err(Unread {
+                line,
+                why: mode.rule(),
+            });
+        }
+        self.modes.set(mode);
+        Ok(())
+    }
+
+    fn set_begins(&mut self, line: usize, path: &'a str) -> Result<(), Unread> {
+        if !self.is_first() {
+            return Err(Unread {
+                line,
+                why: "`begins` is the first line of a story, which comes after no other",
+            });
+        }
+        self.begins = Some(path);
+        self.modes = NONE;
+        Ok(())
+    }
+
+    fn set_operator(&mut self, line: usize, secret: &'a str) -> Result<(), Unread> {
+        if !self.plots.is_empty() {
+            return Err(Unread {
+                line,
+                why: "`operator` stands before the first step of a story",
+            });
+        }
+        self.operator = Some(Operator { line, secret });
+        Ok(())
+    }
+
+    fn set(&mut self, line: usize, says: Says<'a>) -> Result<(), Unread> {
+        match says {
+            Says::Breaks(mode) => self.set_mode(line, mode),
+            Says::FromFile(path) => self.set_begins(line, path),
+            Says::Operator(secret) => self.set_operator(line, secret),
+        }
+    }
+
     fn push(&mut self, plot: Plot<'a>) -> Result<(), Unread> {
         self.plots.push(plot)?;
         Ok(())
@@ -224,13 +281,10 @@ impl<'a> Book<'a> {
     // Of the story that begins.
     fn set_chain(&mut self, line: usize, chain: Vec<usize>) -> Result<(), Unread> {
         match self.stories.last_mut() {
-            Some(story) if story.is_bare() => {
-                story.before = chain;
-                Ok(())
-            }
-            _ => Err(Unread {
+            Some(story) => story.set_before(line, chain),
+            None => Err(Unread {
                 line,
-                why: "`after` is the first line of a story",
+                why: "`after` stands in a story",
             }),
         }
     }
@@ -253,44 +307,12 @@ impl<'a> Book<'a> {
     }
 
     // Of the story that begins.
-    fn set(&mut self, line: usize, mode: Mode) -> Result<(), Unread> {
+    fn set(&mut self, line: usize, says: Says<'a>) -> Result<(), Unread> {
         match self.stories.last_mut() {
-            Some(story) if story.may_set(mode) => {
-                story.modes.set(mode);
-                Ok(())
-            }
-            _ => Err(Unread {
+            Some(story) => story.set(line, says),
+            None => Err(Unread {
                 line,
-                why: mode.rule(),
-            }),
-        }
-    }
-
-    // Of the story that begins.
-    fn set_begins(&mut self, line: usize, path: &'a str) -> Result<(), Unread> {
-        match self.stories.last_mut() {
-            Some(story) if story.is_first() => {
-                story.begins = Some(path);
-                story.modes = NONE;
-                Ok(())
-            }
-            _ => Err(Unread {
-                line,
-                why: "`begins` is the first line of a story, which comes after no other",
-            }),
-        }
-    }
-
-    // Of the story that begins.
-    fn set_operator(&mut self, line: usize, secret: &'a str) -> Result<(), Unread> {
-        match self.stories.last_mut() {
-            Some(story) if story.plots.is_empty() => {
-                story.operator = Some(Operator { line, secret });
-                Ok(())
-            }
-            _ => Err(Unread {
-                line,
-                why: "`operator` stands before the first step of a story",
+                why: "it stands in no story",
             }),
         }
     }
@@ -386,9 +408,7 @@ impl<'a> Book<'a> {
             Line::Story(name) => self.begin_story(alloc, line, name),
             Line::After(name) => self.set_before(alloc, line, name),
             Line::Links(words) => self.set_modes(line, words),
-            Line::Sets(mode) => self.set(line, mode),
-            Line::FromFile(path) => self.set_begins(line, path),
-            Line::Operator(secret) => self.set_operator(line, secret),
+            Line::Says(says) => self.set(line, says),
             Line::Field(field) => self.add_field(line, field),
             Line::Piece(piece, text) => self.add_piece(alloc, line, piece, text),
             Line::Begins(mark, text) => self.begin(alloc, line, mark, text),

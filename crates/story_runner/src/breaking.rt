@@ -16,6 +16,12 @@ pub const WAY: &str = "links that break";
 /// The most bytes that readers give at a time.
 const READERS: &[usize] = &[1, 7, ALL];
 
+/// The last of them, alone.
+const LAST_READER: &[usize] = &[ALL];
+
+/// How writing stops.
+const STOPS: &[Stop] = &[Stop::Fails, Stop::TakesNone];
+
 /// What breaks under each of a story's own requests.
 #[derive(Clone, Copy)]
 enum Breaks<'s> {
@@ -106,24 +112,32 @@ fn write_one<K: Keep + Drop, L: Inspects<K>>(
     checked(alloc, inspects, keep, asked.line, due, false)
 }
 
-// The request of a place over links that break.
-fn break_one<K: Keep + Drop, L: Inspects<K>>(
+// The step of a place: a request over links that break, or an operator's command.
+fn break_at<K: Keep + Drop, L: Inspects<K>>(
     alloc: Global,
     inspects: &L,
     keep: K,
     play: &Play,
     index: usize,
-    asked: &Asked<'_>,
     breaks: &Breaks<'_>,
     counts: &mut Counts,
 ) -> Result<K, Failure> {
+    let next = index.saturating_add(1);
+    let Some(asked) = asked_at(play, index) else {
+        return taken_to(alloc, keep, Way::Replay, play, index, next);
+    };
     match breaks {
-        Breaks::Reads(most, modes) => read_one(alloc, inspects, keep, asked, *most, *modes, counts),
+        Breaks::Reads(most, modes) => {
+            read_one(alloc, inspects, keep, &asked, *most, *modes, counts)
+        }
         Breaks::Writes(stops, again, records) => {
-            let before = record_at(records, play, index);
-            let after = record_at(records, play, index.saturating_add(1));
-            let around = (before, after);
-            write_one(alloc, inspects, keep, asked, around, *stops, *again, counts)
+            let around = (
+                record_at(records, play, index),
+                record_at(records, play, next),
+            );
+            write_one(
+                alloc, inspects, keep, &asked, around, *stops, *again, counts,
+            )
         }
     }
 }
@@ -138,11 +152,7 @@ fn break_each<K: Keep + Drop, T: Makes<K> + Inspects<K>>(
 ) -> Result<(), Failure> {
     let mut keep: K = begun(alloc, tables, play)?;
     for index in play.own..play.steps.len() {
-        let next = index.saturating_add(1);
-        keep = match asked_at(play, index) {
-            Some(asked) => break_one(alloc, tables, keep, play, index, &asked, breaks, counts)?,
-            None => taken_to(alloc, keep, Way::Replay, play, index, next)?,
-        };
+        keep = break_at(alloc, tables, keep, play, index, breaks, counts)?;
     }
     Ok(())
 }
@@ -183,6 +193,24 @@ fn stop_writes<K: Keep + Drop, T: Makes<K> + Inspects<K>>(
     Ok(())
 }
 
+// The same by each of these readers, and by writers that fail and that take nothing.
+fn stop_by_each<K: Keep + Drop, T: Makes<K> + Inspects<K>>(
+    alloc: Global,
+    tables: &T,
+    play: &Play,
+    records: &[Vec<u8>],
+    again: bool,
+    counts: &mut Counts,
+) -> Result<(), Failure> {
+    let readers = if again { READERS } else { LAST_READER };
+    for most in readers {
+        for stop in STOPS {
+            stop_writes::<K, T>(alloc, tables, play, records, *most, *stop, again, counts)?;
+        }
+    }
+    Ok(())
+}
+
 fn break_writes<K: Keep + Drop, T: Makes<K> + Inspects<K>>(
     alloc: Global,
     tables: &T,
@@ -192,14 +220,7 @@ fn break_writes<K: Keep + Drop, T: Makes<K> + Inspects<K>>(
 ) -> Result<(), Failure> {
     let keep: K = begun(alloc, tables, play)?;
     let (_, records) = records_of(alloc, tables, keep, play, Way::Replay, false)?;
-    let records = records.as_slice();
-    let readers = if again { READERS } else { &[ALL] };
-    for most in readers {
-        for stop in &[Stop::Fails, Stop::TakesNone] {
-            stop_writes::<K, T>(alloc, tables, play, records, *most, *stop, again, counts)?;
-        }
-    }
-    Ok(())
+    stop_by_each::<K, T>(alloc, tables, play, records.as_slice(), again, counts)
 }
 
 /// Tells a story's own requests over links that break.
@@ -216,7 +237,7 @@ pub fn run_broken<K: Keep + Drop, T: Makes<K> + Inspects<K>>(
         }
     }
     if modes.writes {
-        break_writes::<K, T>(alloc, tables, play, modes.again, counts)?;
+        return break_writes::<K, T>(alloc, tables, play, modes.again, counts);
     }
     Ok(())
 }

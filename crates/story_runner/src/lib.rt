@@ -7,6 +7,7 @@ pub mod breaking;
 pub mod definitions;
 pub mod devices;
 pub mod failures;
+mod joined;
 pub mod keyed;
 pub mod lines;
 pub mod links;

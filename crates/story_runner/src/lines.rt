@@ -32,12 +32,23 @@ pub enum Piece {
 }
 
 /// What a line defines.
-#[derive(Clone, Copy, PartialEq, Eq)]
+#[derive(Clone, Copy)]
 pub enum Defines {
     Token,
     Moment,
     Reason,
     Challenge,
+}
+
+/// What a line says of the story that begins.
+#[derive(Clone, Copy)]
+pub enum Says<'a> {
+    /// A word alone on a line: what breaks under it, or in which ways it runs.
+    Breaks(Mode),
+    /// `begins`: it begins with the tables of a file.
+    FromFile(&'a str),
+    /// `operator`: the operator's door is open to this secret.
+    Operator(&'a str),
 }
 
 /// A line, by how it begins, and the text after that.
@@ -50,12 +61,7 @@ pub enum Line<'a> {
     After(&'a str),
     /// `links`: what breaks under the steps of a story.
     Links(&'a str),
-    /// A word alone on a line, which says something of a story.
-    Sets(Mode),
-    /// `begins`: a story begins with the tables of a file.
-    FromFile(&'a str),
-    /// `operator`: the operator's door is open to this secret.
-    Operator(&'a str),
+    Says(Says<'a>),
     Piece(Piece, &'a str),
     /// `+`: a field of a head.
     Field(&'a str),
@@ -122,8 +128,8 @@ fn line_of(front: Front, rest: &str) -> Line<'_> {
         Front::Story => Line::Story(rest),
         Front::After => Line::After(rest),
         Front::Links => Line::Links(rest),
-        Front::FromFile => Line::FromFile(rest),
-        Front::Operator => Line::Operator(rest),
+        Front::FromFile => Line::Says(Says::FromFile(rest)),
+        Front::Operator => Line::Says(Says::Operator(rest)),
         Front::Field => Line::Field(rest),
         Front::Defines(defines) => Line::Definition(defines, rest),
     }
@@ -150,7 +156,7 @@ fn mode_in(line: &str) -> Option<Mode> {
 // What a line is that has no mark.
 fn unmarked(line: &str) -> Line<'_> {
     match mode_in(line) {
-        Some(mode) => Line::Sets(mode),
+        Some(mode) => Line::Says(Says::Breaks(mode)),
         None => Line::Begins(Mark::Head, line),
     }
 }

@@ -12,7 +12,7 @@ use serve::{Door, LinkFault, Service};
 use std::alloc::Global;
 
 /// A request, and what is due to it.
-#[derive(Drop)]
+#[derive(Clone, Copy)]
 pub struct Asked<'s> {
     pub line: usize,
     pub at: Moment,

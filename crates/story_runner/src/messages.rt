@@ -40,18 +40,16 @@ fn add_field(
     }
 }
 
-fn message_lines(alloc: Global, message: &Message) -> Result<String, AllocError> {
-    let mut lines = String::new(alloc);
-    let all = &mut lines;
-    add_line(alloc, all, "method", message.method.as_str().as_bytes())?;
-    add_line(alloc, all, "path", message.path.as_str().as_bytes())?;
-    add_text(alloc, all, "query", &message.query)?;
-    add_field(alloc, all, "authorization", &message.authorization)?;
-    add_field(alloc, all, "content-md5", &message.content_md5)?;
-    if !message.body.as_slice().is_empty() {
-        add_line(alloc, all, "body", message.body.as_slice())?;
+fn add_message(alloc: Global, lines: &mut String, message: &Message) -> Result<(), AllocError> {
+    add_line(alloc, lines, "method", message.method.as_str().as_bytes())?;
+    add_line(alloc, lines, "path", message.path.as_str().as_bytes())?;
+    add_text(alloc, lines, "query", &message.query)?;
+    add_field(alloc, lines, "authorization", &message.authorization)?;
+    add_field(alloc, lines, "content-md5", &message.content_md5)?;
+    if message.body.as_slice().is_empty() {
+        return Ok(());
     }
-    Ok(lines)
+    add_line(alloc, lines, "body", message.body.as_slice())
 }
 
 /// What is written before the body is read, if the client waits for it.
@@ -68,18 +66,34 @@ fn add_continue(lines: &mut String, written: &[u8]) -> Result<(), AllocError> {
     }
 }
 
+fn message_lines(alloc: Global, message: &Message, written: &[u8]) -> Result<String, AllocError> {
+    let mut lines = String::new(alloc);
+    add_message(alloc, &mut lines, message)?;
+    add_continue(&mut lines, written)?;
+    Ok(lines)
+}
+
 fn fault_line(alloc: Global, fault: WireFault) -> Result<String, Failure> {
-    match fault {
-        WireFault::Ended => Ok(String::from_str(alloc, "unfinished")?),
-        WireFault::Refused(refusal, false) => {
-            Ok(format!(in alloc; "refused {}", refusal.word())?)
-        }
-        WireFault::Refused(refusal, true) => {
-            Ok(format!(in alloc; "refused {}, HEAD", refusal.word())?)
-        }
+    let (front, word, end) = match fault {
+        WireFault::Ended => ("unfinished", "", ""),
+        WireFault::Refused(refusal, false) => ("refused ", refusal.word(), ""),
+        WireFault::Refused(refusal, true) => ("refused ", refusal.word(), ", HEAD"),
         WireFault::Read | WireFault::Continue | WireFault::Down => {
-            Err(Failure::refused(0, "memory was refused"))
+            return Err(Failure::refused(0, "memory was refused"));
         }
+    };
+    Ok(format!(in alloc; "{front}{word}{end}")?)
+}
+
+// The lines of what was read, before which this was written.
+fn lines_of(
+    alloc: Global,
+    read: &Result<Message, WireFault>,
+    written: &[u8],
+) -> Result<String, Failure> {
+    match read {
+        Ok(message) => Ok(message_lines(alloc, message, written)?),
+        Err(fault) => fault_line(alloc, *fault),
     }
 }
 
@@ -87,21 +101,19 @@ fn fault_line(alloc: Global, fault: WireFault) -> Result<String, Failure> {
 fn lines_by(alloc: Global, bytes: &[u8], most: usize) -> Result<String, Failure> {
     let mut inlet = FromRead::new(Giver::new(bytes, most));
     let mut outlet = ToWrite::new(Taker::new(alloc));
-    match read_message(alloc, &mut inlet, &mut outlet) {
-        Ok(message) => {
-            let mut lines = message_lines(alloc, &message)?;
-            add_continue(&mut lines, outlet.into_inner().taken.as_slice())?;
-            Ok(lines)
-        }
-        Err(fault) => fault_line(alloc, fault),
-    }
+    let read = read_message(alloc, &mut inlet, &mut outlet);
+    let taker = outlet.into_inner();
+    lines_of(alloc, &read, taker.taken.as_slice())
 }
+
+/// How many bytes readers give at a time, beside all of them.
+const READERS: &[usize] = &[1, 7, 4_096];
 
 /// The lines of a message, which are the same by whatever pieces it is read.
 pub fn show_message(alloc: Global, bytes: &[u8]) -> Result<String, Failure> {
     let whole = lines_by(alloc, bytes, ALL)?;
-    for most in [1, 7, 4_096] {
-        let lines = lines_by(alloc, bytes, most)?;
+    for most in READERS {
+        let lines = lines_by(alloc, bytes, *most)?;
         if lines.as_str() != whole.as_str() {
             return Ok(lines);
         }

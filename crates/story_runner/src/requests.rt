@@ -1,10 +1,18 @@
 //! A request in short form as its bytes, and a reply that is due as its bytes.
 use crate::books::Part;
 use crate::definitions::{Definitions, Unread};
-use std::alloc::{AllocError, Global};
+use crate::joined::Joined;
+use basis::Down;
+use std::alloc::Global;
 
 /// What is put before a target in short form.
 const WITHIN: &str = "/v1/acme/";
+
+/// The field with the length of a body.
+const LENGTH: &str = "Content-Length";
+
+/// What follows the date in each reply.
+const KEPT_FIELDS: &str = "\r\nConnection: close\r\nCache-Control: private, no-store\r\n";
 
 // A target as it is sent.
 fn is_whole(target: &str) -> bool {
@@ -12,19 +20,6 @@ fn is_whole(target: &str) -> bool {
         || target.starts_with('*')
         || target.starts_with("http")
         || target.starts_with("HTTP")
-}
-
-fn put(bytes: &mut Vec<u8>, texts: &[&str]) -> Result<(), AllocError> {
-    for text in texts {
-        bytes.extend_from_slice(text.as_bytes())?;
-    }
-    Ok(())
-}
-
-// A field `Content-Length`.
-fn put_length(alloc: Global, bytes: &mut Vec<u8>, length: usize) -> Result<(), AllocError> {
-    let field = format!(in alloc; "Content-Length: {length}\r\n")?;
-    put(bytes, &[field.as_str()])
 }
 
 // The token, the method and the target of a request in short form.
@@ -39,21 +34,26 @@ fn words_of<'a>(head: &Part<'a>) -> Result<(&'a str, &'a str, &'a str), Unread> 
     }
 }
 
-fn put_token(
-    bytes: &mut Vec<u8>,
-    definitions: &Definitions<'_>,
+// The bearer token of a short name; none for a hyphen.
+fn bearer_of<'a>(
+    definitions: &Definitions<'a>,
     head: &Part<'_>,
-    token: &str,
-) -> Result<(), Unread> {
-    if token == "-" {
-        return Ok(());
+    name: &str,
+) -> Result<Option<&'a str>, Unread> {
+    if name == "-" {
+        return Ok(None);
     }
-    match definitions.token(token) {
-        Some(token) => {
-            put(bytes, &["Authorization: Bearer ", token, "\r\n"])?;
-            Ok(())
-        }
+    match definitions.token(name) {
+        Some(token) => Ok(Some(token)),
         None => Err(head.unread("no step begins so, and no token has this name")),
+    }
+}
+
+fn begin_request(joined: &mut Joined, method: &str, target: &str, bearer: Option<&str>) {
+    let within = if is_whole(target) { "" } else { WITHIN };
+    joined.put_texts(&[method, " ", within, target, " HTTP/1.1\r\nHost: c\r\n"]);
+    if let Some(token) = bearer {
+        joined.put_texts(&["Authorization: Bearer ", token, "\r\n"]);
     }
 }
 
@@ -63,21 +63,17 @@ pub fn request_of(
     definitions: &Definitions<'_>,
     head: &Part<'_>,
 ) -> Result<Vec<u8>, Unread> {
-    let (token, method, target) = words_of(head)?;
-    let within = if is_whole(target) { "" } else { WITHIN };
-    let mut bytes = Vec::new(alloc);
-    put(
-        &mut bytes,
-        &[method, " ", within, target, " HTTP/1.1\r\nHost: c\r\n"],
-    )?;
-    put_token(&mut bytes, definitions, head, token)?;
-    bytes.extend_from_slice(head.fields.as_slice())?;
-    if head.bytes.is_some() {
-        put_length(alloc, &mut bytes, head.written().len())?;
+    let (name, method, target) = words_of(head)?;
+    let bearer = bearer_of(definitions, head, name)?;
+    let mut joined = Joined::new(alloc);
+    begin_request(&mut joined, method, target, bearer);
+    joined.put(head.fields.as_slice());
+    if head.has_pieces {
+        joined.put_number(alloc, LENGTH, head.written().len());
     }
-    put(&mut bytes, &["\r\n"])?;
-    bytes.extend_from_slice(head.written())?;
-    Ok(bytes)
+    joined.put(b"\r\n");
+    joined.put(head.written());
+    Ok(joined.end()?)
 }
 
 // The status and, for a refusal, its word.
@@ -89,38 +85,13 @@ fn status_of<'a>(answer: &Part<'a>) -> (&'a str, &'a str) {
 }
 
 // The body of a reply: that of a refusal's word, or what the pieces write.
-fn body_of(alloc: Global, answer: &Part<'_>, word: &str) -> Result<Vec<u8>, Unread> {
-    let mut body = Vec::from_slice(alloc, answer.written())?;
-    if word.is_empty() {
-        return Ok(body);
+fn body_of(alloc: Global, answer: &Part<'_>, word: &str) -> Result<Vec<u8>, Down> {
+    let mut joined = Joined::new(alloc);
+    joined.put(answer.written());
+    if !word.is_empty() {
+        joined.put_texts(&["{\"error\":\"", word, "\"}"]);
     }
-    if answer.bytes.is_some() {
-        return Err(answer.unread("a refusal's word makes the body"));
-    }
-    put(&mut body, &["{\"error\":\"", word, "\"}"])?;
-    Ok(body)
-}
-
-// The head of a reply up to the further fields.
-fn begin_reply(
-    alloc: Global,
-    definitions: &Definitions<'_>,
-    date: &str,
-    answer: &Part<'_>,
-    status: &str,
-) -> Result<Vec<u8>, Unread> {
-    let Some(reason) = definitions.reason(status) else {
-        return Err(answer.unread("the text defines no reason for this status"));
-    };
-    let mut bytes = Vec::new(alloc);
-    put(&mut bytes, &["HTTP/1.1 ", status, " ", reason])?;
-    put(&mut bytes, &["\r\nDate: ", date, "\r\n"])?;
-    put(
-        &mut bytes,
-        &["Connection: close\r\nCache-Control: private, no-store\r\n"],
-    )?;
-    bytes.extend_from_slice(answer.fields.as_slice())?;
-    Ok(bytes)
+    joined.end()
 }
 
 // Whether further fields say the type of the body.
@@ -131,30 +102,36 @@ fn has_type(fields: &[u8]) -> bool {
     }
 }
 
-fn put_body_fields(
-    alloc: Global,
-    bytes: &mut Vec<u8>,
-    fields: &[u8],
-    status: &str,
-    length: usize,
-) -> Result<(), AllocError> {
-    if length > 0 && !has_type(fields) {
-        put(bytes, &["Content-Type: application/json\r\n"])?;
+fn put_fields(
+    joined: &mut Joined,
+    definitions: &Definitions<'_>,
+    answer: &Part<'_>,
+    word: &str,
+    has_body: bool,
+) {
+    let fields = answer.fields.as_slice();
+    joined.put(fields);
+    if let Some(challenge) = definitions.challenge(word) {
+        joined.put_texts(&["WWW-Authenticate: ", challenge, "\r\n"]);
     }
-    if status != "204" {
-        put_length(alloc, bytes, length)?;
+    if has_body && !has_type(fields) {
+        joined.put(b"Content-Type: application/json\r\n");
     }
-    put(bytes, &["\r\n"])
 }
 
-fn put_challenge(
-    bytes: &mut Vec<u8>,
-    definitions: &Definitions<'_>,
+// The phrase of a status. A refusal's word makes the body.
+fn reason_of<'a>(
+    definitions: &Definitions<'a>,
+    answer: &Part<'_>,
+    status: &str,
     word: &str,
-) -> Result<(), AllocError> {
-    match definitions.challenge(word) {
-        Some(challenge) => put(bytes, &["WWW-Authenticate: ", challenge, "\r\n"]),
-        None => Ok(()),
+) -> Result<&'a str, Unread> {
+    if !word.is_empty() && answer.has_pieces {
+        return Err(answer.unread("a refusal's word makes the body"));
+    }
+    match definitions.reason(status) {
+        Some(reason) => Ok(reason),
+        None => Err(answer.unread("the text defines no reason for this status")),
     }
 }
 
@@ -167,15 +144,27 @@ fn short_reply(
     is_head: bool,
 ) -> Result<Vec<u8>, Unread> {
     let (status, word) = status_of(answer);
+    let reason = reason_of(definitions, answer, status, word)?;
     let body = body_of(alloc, answer, word)?;
-    let mut bytes = begin_reply(alloc, definitions, date, answer, status)?;
-    put_challenge(&mut bytes, definitions, word)?;
-    let fields = answer.fields.as_slice();
-    put_body_fields(alloc, &mut bytes, fields, status, body.len())?;
-    if !is_head {
-        bytes.extend_from_slice(body.as_slice())?;
+    let mut joined = Joined::new(alloc);
+    joined.put_texts(&[
+        "HTTP/1.1 ",
+        status,
+        " ",
+        reason,
+        "\r\nDate: ",
+        date,
+        KEPT_FIELDS,
+    ]);
+    put_fields(&mut joined, definitions, answer, word, !body.is_empty());
+    if status != "204" {
+        joined.put_number(alloc, LENGTH, body.len());
     }
-    Ok(bytes)
+    joined.put(b"\r\n");
+    if !is_head {
+        joined.put(body.as_slice());
+    }
+    Ok(joined.end()?)
 }
 
 /// The bytes of the reply that is due to a request, which has the method HEAD or another.

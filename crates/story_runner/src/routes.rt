@@ -87,14 +87,19 @@ fn caller_of(alloc: Global, role: Role) -> Caller {
     }
 }
 
+fn may_ask(alloc: Global, asked: &Asked, role: Role) -> bool {
+    allowed(asked, &caller_of(alloc, role)).is_ok()
+}
+
 // The least role that an act needs.
 fn role_word(alloc: Global, asked: &Asked) -> &'static str {
-    for (role, word) in [(Role::Read, "read"), (Role::Write, "write")] {
-        if allowed(asked, &caller_of(alloc, role)).is_ok() {
-            return word;
-        }
+    if may_ask(alloc, asked, Role::Read) {
+        "read"
+    } else if may_ask(alloc, asked, Role::Write) {
+        "write"
+    } else {
+        "admin"
     }
-    "admin"
 }
 
 fn asked_act(alloc: Global, role: &str, act: &AskedAct) -> Result<String, AllocError> {

@@ -66,6 +66,20 @@ pub fn checked<K: Keep + Drop, L: Inspects<K>>(
     }
 }
 
+// Adds the contents of the tables to those before.
+fn record_next<K: Keep + Drop, L: Inspects<K>>(
+    alloc: Global,
+    inspects: &L,
+    keep: K,
+    line: usize,
+    is_lawful: bool,
+    records: &mut Vec<Vec<u8>>,
+) -> Result<K, Failure> {
+    let (keep, record) = inspects.recorded(alloc, keep, line, is_lawful)?;
+    records.push(record)?;
+    Ok(keep)
+}
+
 /// The contents of the tables before each of the story's own steps, and after the last.
 pub fn records_of<K: Keep + Drop, L: Inspects<K>>(
     alloc: Global,
@@ -78,13 +92,12 @@ pub fn records_of<K: Keep + Drop, L: Inspects<K>>(
     let mut records = Vec::new(alloc);
     let mut keep = keep;
     for index in play.own..play.steps.len() {
-        let (kept, record) = inspects.recorded(alloc, keep, line_at(play, index), is_lawful)?;
-        records.push(record)?;
-        keep = taken_to(alloc, kept, way, play, index, index.saturating_add(1))?;
+        let line = line_at(play, index);
+        keep = record_next(alloc, inspects, keep, line, is_lawful, &mut records)?;
+        keep = taken_to(alloc, keep, way, play, index, index.saturating_add(1))?;
     }
-    let (kept, record) = inspects.recorded(alloc, keep, 0, is_lawful)?;
-    records.push(record)?;
-    Ok((kept, records))
+    let keep = record_next(alloc, inspects, keep, 0, is_lawful, &mut records)?;
+    Ok((keep, records))
 }
 
 /// What stood in the tables before the own step of this place.

@@ -2,10 +2,12 @@
 use crate::devices::{ALL, Giver, Taker};
 use crate::failures::{Failure, compare_bytes};
 use crate::plays::{Due, Play};
-use basis::{Bytes, Down, Moment, Role};
-use machine::{AdminAnswer, Keep, OrgRow, TokenRow};
-use serve::{Door, LinkFault, Service, Step};
-use std::alloc::{AllocError, Global};
+use basis::{Bytes, Down, Moment};
+use machine::{AdminAnswer, Keep};
+use serve::{Door, LinkFault, Service, Step, write_org_lines, write_token_lines};
+use std::alloc::Global;
+use std::io;
+use std::io::Write;
 use wire::{FromRead, ToWrite};
 
 /// How steps are taken.
@@ -83,55 +85,23 @@ fn exchanged<K: Keep>(
     }
 }
 
-fn list_lines(alloc: Global, rows: &[OrgRow]) -> Result<Vec<u8>, AllocError> {
-    let mut text = Vec::new(alloc);
-    for row in rows {
-        let (name, count, limit) = (row.name.as_str(), row.workspaces, row.limit.get());
-        let line = format!(in alloc; "{name} {count} {limit}\n")?;
-        text.extend_from_slice(line.as_str().as_bytes())?;
-    }
-    Ok(text)
-}
-
-fn role_word(role: Role) -> &'static str {
-    match role {
-        Role::Read => "read",
-        Role::Write => "write",
-        Role::Admin => "admin",
-    }
-}
-
-// A token's line: its name, its role, its end and its prefix, or a hyphen for none.
-fn token_line(alloc: Global, row: &TokenRow) -> Result<String, AllocError> {
-    let (name, role) = (row.name.as_str(), role_word(row.caller.role));
-    let prefix = match row.caller.prefix.as_str() {
-        "" => "-",
-        prefix => prefix,
-    };
-    match row.caller.until {
-        Some(until) => format!(in alloc; "{name} {role} {} {prefix}\n", until.seconds()),
-        None => format!(in alloc; "{name} {role} - {prefix}\n"),
-    }
-}
-
-fn token_lines(alloc: Global, rows: &[TokenRow]) -> Result<Vec<u8>, AllocError> {
-    let mut text = Vec::new(alloc);
-    for row in rows {
-        let line = token_line(alloc, row)?;
-        text.extend_from_slice(line.as_str().as_bytes())?;
-    }
-    Ok(text)
-}
-
 // An operator's answer, a line each.
-fn answer_lines(alloc: Global, answer: &AdminAnswer) -> Result<Vec<u8>, AllocError> {
+fn write_answer<O: Write>(output: &mut O, answer: &AdminAnswer) -> io::Result<()> {
     match answer {
-        AdminAnswer::Done => Vec::from_slice(alloc, b"ok\n"),
-        AdminAnswer::Exists => Vec::from_slice(alloc, b"refused exists\n"),
-        AdminAnswer::Absent => Vec::from_slice(alloc, b"refused absent\n"),
-        AdminAnswer::InUse => Vec::from_slice(alloc, b"refused in-use\n"),
-        AdminAnswer::Organizations(rows) => list_lines(alloc, rows.as_slice()),
-        AdminAnswer::Tokens(rows) => token_lines(alloc, rows.as_slice()),
+        AdminAnswer::Done => output.write_all(b"ok\n"),
+        AdminAnswer::Exists => output.write_all(b"refused exists\n"),
+        AdminAnswer::Absent => output.write_all(b"refused absent\n"),
+        AdminAnswer::InUse => output.write_all(b"refused in-use\n"),
+        AdminAnswer::Organizations(rows) => write_org_lines(output, rows.as_slice()),
+        AdminAnswer::Tokens(rows) => write_token_lines(output, rows.as_slice()),
+    }
+}
+
+fn answer_lines(alloc: Global, answer: &AdminAnswer) -> Result<Vec<u8>, Down> {
+    let mut lines = Vec::new(alloc);
+    match write_answer(&mut lines, answer) {
+        Ok(()) => Ok(lines),
+        Err(_) => Err(Down),
     }
 }
 
@@ -209,17 +179,20 @@ fn replies_to<K: Keep>(
     }
 }
 
-fn compare_one(alloc: Global, due: &Due, came: &[u8]) -> Result<(), Failure> {
-    compare_bytes(alloc, due.line, due.bytes.as_slice(), came)
+// That the reply at a place is the one that is due there.
+fn compare_at(alloc: Global, due: &[Due], replies: &[Bytes], index: usize) -> Result<(), Failure> {
+    match (due.get(index), replies.get(index)) {
+        (Some(due), Some(reply)) => {
+            compare_bytes(alloc, due.line, due.bytes.as_slice(), reply.as_slice())
+        }
+        _ => Err(Failure::refused(0, "not one reply to each step")),
+    }
 }
 
 // Replies compared with those that are due.
 fn compare(alloc: Global, due: &[Due], replies: &[Bytes]) -> Result<(), Failure> {
-    if due.len() != replies.len() {
-        return Err(Failure::refused(0, "not one reply to each step"));
-    }
-    for (due, reply) in due.iter().zip(replies.iter()) {
-        compare_one(alloc, due, reply.as_slice())?;
+    for index in 0..due.len().max(replies.len()) {
+        compare_at(alloc, due, replies, index)?;
     }
     Ok(())
 }
