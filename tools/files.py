@@ -21,6 +21,7 @@ import errno
 import json
 import os
 import re
+import resource
 import shutil
 import sqlite3
 import struct
@@ -731,6 +732,24 @@ def look_at_memory(program):
     print("right: a service has room for 20 MB of pages, and states of 4 MB take less than 13 MB more")
 
 
+# How deep a state may be nested.
+DEEPEST = 127
+
+
+def look_at_stack(program):
+    """A service whose address space may not grow answers the state that needs the most stack: it has taken its stack before it listens."""
+    filled(program, "deep.db")
+    with Service(program, "deep.db", 2) as service:
+        with open("/proc/%d/statm" % service.process.pid, encoding="ascii") as pages:
+            size = int(pages.read().split()[0]) * resource.getpagesize()
+        resource.prlimit(service.process.pid, resource.RLIMIT_AS, (size, size))
+        text = b'{"serial":3,"x":%s%s}' % (b"[" * (DEEPEST - 1), b"]" * (DEEPEST - 1))
+        for _ in range(2):
+            said("whether a state that is nested %d deep is answered" % DEEPEST, service.asked(post(text)) in (ok(), DOWN), True)
+        said("the status of a service without memory for its stack", service.left()[0], 0)
+    print("right: a service whose address space may not grow answers a state that is nested %d deep" % DEEPEST)
+
+
 def look_at_salts(program):
     """Two files have logs of different salts, so frames of one never pass for those of another (SQLite's file format, section 4.1)."""
     salts = []
@@ -938,4 +957,4 @@ def look_at_synced(program):
 
 
 if __name__ == "__main__":
-    look_at(__doc__, look_at_modes, look_at_absent, look_at_lone_logs, look_at_totals, look_at_sizes, look_at_greatest, look_at_pages, look_at_owners, look_at_makers, look_at_reasons, look_at_numbers, look_at_spoiled, look_at_full, look_at_half, look_at_memory, look_at_salts, look_at_want, look_at_log, look_at_killed_behind, look_at_shut, look_at_unsynced, look_at_synced)
+    look_at(__doc__, look_at_modes, look_at_absent, look_at_lone_logs, look_at_totals, look_at_sizes, look_at_greatest, look_at_pages, look_at_owners, look_at_makers, look_at_reasons, look_at_numbers, look_at_spoiled, look_at_full, look_at_half, look_at_memory, look_at_stack, look_at_salts, look_at_want, look_at_log, look_at_killed_behind, look_at_shut, look_at_unsynced, look_at_synced)

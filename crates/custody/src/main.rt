@@ -9,7 +9,7 @@ use std::fs::{File, OpenOptions};
 use std::io::{BufWriter, Stderr};
 use std::process::ExitCode;
 use std::{env, io};
-use system::run_here;
+use system::{run_here, take_stack};
 
 fn read_arguments(rt: &HostRuntime) -> io::Result<Vec<String>> {
     let words = env::args(rt)?.skip(1).collect(rt.alloc())?;
@@ -62,7 +62,8 @@ fn hold_streams(rt: &HostRuntime) -> io::Result<(File, File, File)> {
 
 fn main(rt: HostRuntime) -> ExitCode {
     let status = match hold_streams(&rt) {
-        Ok(held) => {
+        Ok(mut held) => {
+            take_stack(&mut held.0);
             let status = run(&rt);
             drop(held);
             status

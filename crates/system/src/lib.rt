@@ -13,6 +13,7 @@ mod pairs;
 mod replays;
 mod running;
 mod sockets;
+mod stack;
 mod streams;
 mod tuning;
 
@@ -21,4 +22,5 @@ pub use files::{DiskFiles, FileKeep, close_file, open_file};
 pub use laws::{new_files_are_served, shielded_stores_are_clean_or_digests_collide};
 pub use running::run_here;
 pub use sockets::{LINGER_READS, LINGER_SECONDS, Sockets, TcpSockets};
+pub use stack::take_stack;
 pub use streams::{Half, SystemHalf, Timed, TimedStream};
