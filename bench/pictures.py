@@ -12,7 +12,7 @@
 - post: the functions that a POST of a state passes. Each must exist in the source of its crate, and its number is that of a step in
   docs/ARCHITECTURE.md.
 - lives: the steps of runs, as crates/machine/specs/RunSteps.antt lists them, and the life of a token.
-- deployment: what docs/operating/ installs around the service.
+- deployment: what docs/operating/ installs around the services, one for each organization.
 - pair: the two ways to have a second machine, as docs/GROWING.md describes them.
 
 The script ends with status 1 if the source or a page lacks a name or number that a picture has.
@@ -255,13 +255,18 @@ def draw_post():
 
 # What the picture of a deployment names: each file must have these words.
 DEPLOYED = {
-    "docs/operating/nginx.conf": ["listen 443 ssl", "/run/custody/socket", "location /v1/", "location = /health"],
-    "docs/operating/custody.service": ["--socket /run/custody/socket", "--log", "--operator", "/var/lib/custody/custody.db"],
+    "docs/operating/nginx.conf": ["listen 443 ssl", "map $custody_token $custody_own", "unix:/run/custody/socket", "location /v1/", "location = /health"],
+    "docs/operating/functions.sh": ["unix:/run/custody/$1/socket"],
+    "docs/operating/custody@.service": ["--socket /run/custody/%i/socket", "--log", "--operator", "/root/operators/%i", "/var/lib/custody/%i/custody.db"],
+    "docs/operating/custody.service": ["--socket /run/custody/socket", "/var/lib/custody/custody.db"],
+    "docs/operating/custody-backup@.service": ["backup-daily.sh"],
     "docs/operating/backup.sh": ["kill -STOP"],
     "docs/operating/backup-daily.sh": ["custody check", "rsync"],
     "docs/operating/runner.sh": ["terraform apply"],
     "crates/route/src/doors.rt": ["/operator"],
 }
+# The services that the picture has: whose it is, and what its file has.
+SERVED = [("acme", "its states and tokens"), ("beta", "its states and tokens"), ("none", "nothing: for other names")]
 
 
 def part(x, y, wide, tall, colors, name, *lines):
@@ -275,30 +280,33 @@ def draw_deployment():
         for name in names:
             if name not in read(f"{TOP}/{file}"):
                 fail(f"{name} in {file}")
-    drawn = [box(204, 14, 512, 410, ("#fafafa", "#bbb")), words(216, 34, "one machine", "name")]
-    drawn += [box(762, 244, 176, 180, ("#fafafa", "#bbb")), words(774, 264, "another machine", "name")]
-    drawn += part(10, 110, 144, 62, YELLOW, "Terraform", 'backend "http"', "token as user name")
-    drawn += part(10, 212, 144, 62, YELLOW, "runner.sh", "takes a queued run,", "plans and applies")
-    drawn += part(220, 110, 152, 78, BLUE, "nginx", "TLS; the user name", "becomes a bearer token;", "/v1/ and /health only")
-    drawn += part(506, 110, 190, 62, BLUE, "custody serve", "/run/custody/socket", "one connection at a time")
-    drawn += part(506, 30, 190, 46, GRAY, "journald", "the exchange log")
-    drawn += part(220, 244, 152, 62, YELLOW, "operator", "organizations and tokens,", "as commands")
-    drawn += part(506, 244, 190, 62, GREEN, "custody.db", "a SQLite file, and its WAL", "custody.db-wal")
-    drawn += part(506, 360, 190, 48, BLUE, "backup-daily.sh", "pauses, copies, checks")
-    drawn += part(778, 360, 144, 48, GREEN, "copies", "one a day, checked")
-    notes = ["no replication: a standby", "starts from a copy, or from", "a replicated device below", "the file (docs/GROWING.md)"]
-    drawn += [words(774, 286 + 15 * n, line, "small") for n, line in enumerate(notes)]
-    drawn += [path([(154, 140), (220, 140)]), words(179, 132, "HTTPS", "small", "middle")]
-    drawn += [path([(154, 243), (180, 243), (180, 170), (220, 170)])]
-    drawn += [path([(372, 140), (506, 140)]), words(439, 132, "HTTP", "small", "middle")]
-    drawn += [path([(601, 110), (601, 76)]), words(609, 98, "--log", "small")]
-    drawn += [path([(601, 172), (601, 244)]), words(593, 212, "one sync a commit", "small", "end")]
-    drawn += [path([(372, 260), (430, 260), (430, 162), (506, 162)]), words(424, 212, "/operator,", "small", "end"), words(424, 227, "with a secret", "small", "end")]
-    drawn += [path([(372, 290), (506, 290)], "dash"), words(439, 308, "while the service", "small", "middle"), words(439, 323, "is stopped", "small", "middle")]
-    drawn += [path([(601, 306), (601, 360)])]
-    drawn += [path([(696, 384), (778, 384)]), words(739, 376, "rsync", "small", "middle")]
-    drawn.append(words(10, 446, "Yellow: who asks. Blue: programs. Green: files. Only members of the group custody reach the service's socket.", "small"))
-    write("deployment", 950, 460, drawn)
+    drawn = [box(204, 14, 662, 430, ("#fafafa", "#bbb")), words(216, 34, "one machine", "name")]
+    drawn += [box(896, 244, 176, 200, ("#fafafa", "#bbb")), words(908, 264, "another machine", "name")]
+    drawn += part(10, 150, 144, 62, YELLOW, "Terraform", 'backend "http"', "token as user name")
+    drawn += part(10, 252, 144, 62, YELLOW, "runner.sh", "takes a queued run,", "plans and applies")
+    drawn += part(220, 142, 152, 93, BLUE, "nginx", "TLS; the user name", "becomes a bearer token;", "its organization", "chooses the service")
+    drawn += part(466, 30, 184, 46, GRAY, "journald", "the exchange log of all")
+    drawn += [box(456, 96, 204, 212, ("#fff", BLUE[1])), box(686, 96, 166, 212, ("#fff", GREEN[1]))]
+    for n, (org, holds) in enumerate(SERVED):
+        y = 106 + 66 * n
+        drawn += part(466, y, 184, 46, BLUE, f"custody@{org}", f"/run/custody/{org}/socket")
+        drawn += part(696, y, 146, 46, GREEN, f"{org}/custody.db", holds)
+        drawn += [path([(414, y + 23), (466, y + 23)]), path([(650, y + 23), (696, y + 23)])]
+    drawn += part(466, 370, 184, 62, YELLOW, "operator", "organizations and tokens,", "as commands")
+    drawn += part(686, 370, 166, 62, BLUE, "backup-daily.sh", "of each: pauses, copies,", "checks")
+    drawn += part(912, 370, 144, 62, GREEN, "copies", "of each, one a day,", "checked")
+    notes = ["no replication: a standby", "starts from copies, or from", "a replicated device below", "the files (docs/GROWING.md)"]
+    drawn += [words(908, 286 + 15 * n, line, "small") for n, line in enumerate(notes)]
+    drawn += [path([(154, 181), (220, 181)]), words(179, 173, "HTTPS", "small", "middle")]
+    drawn += [path([(154, 283), (187, 283), (187, 215), (220, 215)])]
+    drawn += [path([(372, 188), (414, 188)], tip=False), path([(414, 129), (414, 261)], tip=False), words(393, 180, "HTTP", "small", "middle")]
+    drawn += [path([(558, 96), (558, 76)]), words(566, 91, "--log", "small")]
+    drawn += [path([(520, 370), (520, 308)]), words(512, 336, "/operator,", "small", "end"), words(512, 351, "a secret each", "small", "end")]
+    drawn += [path([(650, 388), (672, 388), (672, 290), (686, 290)], "dash"), words(664, 336, "while that service", "small", "end"), words(664, 351, "is stopped", "small", "end")]
+    drawn += [path([(769, 308), (769, 370)]), path([(852, 401), (912, 401)]), words(882, 393, "rsync", "small", "middle")]
+    drawn.append(words(10, 466, "Yellow: who asks. Blue: programs. Green: files, each with its WAL. A service answers one connection at a time, and syncs each commit. Only members of the group custody reach a socket.", "small"))
+    drawn.append(words(10, 482, "With one file, the unit custody at /run/custody/socket stands in place of all services, and /var/lib/custody/custody.db in place of all files; everything else is the same.", "small"))
+    write("deployment", 1084, 494, drawn)
 
 
 # What the picture of a second machine names.

@@ -78,10 +78,10 @@ def made(program, name, orgs):
 
 
 class Front:
-    """nginx, with docs/operating/nginx.conf, on a port of its own. `lines` are the files of its folder of organizations; `mistakes` change
-    the configuration."""
+    """nginx, with docs/operating/nginx.conf, on a port of its own. The one service listens at `one`, a port or a socket's path. `lines` are
+    the files of its folder of organizations; `mistakes` change the configuration."""
 
-    def __init__(self, nginx, folder, one, lines, mistakes=()):
+    def __init__(self, nginx, folder, one, lines, mistakes=(), workers="1"):
         self.folder, self.port = folder, free_port()
         with open(OPERATING + "/nginx.conf", encoding="utf-8") as file:
             text = file.read()
@@ -91,7 +91,7 @@ class Front:
                 raise Wrong("nginx.conf does not have " + was)
             text = text.replace(was, now)
         text = re.sub(r"^ *(ssl_|server_name).*\n", "", text, flags=re.M)
-        for was, now in [("listen 443 ssl", "listen 127.0.0.1:%d" % self.port), ("unix:/run/custody/socket;", "127.0.0.1:%d;" % one),
+        for was, now in [("listen 443 ssl", "listen 127.0.0.1:%d" % self.port), ("unix:/run/custody/socket;", "unix:%s;" % one if isinstance(one, str) else "127.0.0.1:%d;" % one),
                          ("/etc/custody/", folder + "/"), ("/var/log/nginx/", folder + "/")]:
             if was not in text:
                 raise Wrong("nginx.conf does not have " + was)
@@ -102,8 +102,8 @@ class Front:
                 file.write(line)
         temporary = "".join("    %s_temp_path %s/%s;\n" % (kind, folder, kind) for kind in ["client_body", "proxy", "fastcgi", "uwsgi", "scgi"])
         with open(folder + "/main.conf", "w", encoding="utf-8") as file:
-            file.write("%sdaemon off;\nworker_processes 1;\npid %s/pid;\nerror_log %s/errors;\nevents {}\nhttp {\n%s%s}\n" % (
-                "user root;\n" if os.geteuid() == 0 else "", folder, folder, temporary, text))
+            file.write("%sdaemon off;\nworker_processes %s;\npid %s/pid;\nerror_log %s/errors;\nevents {}\nhttp {\n%s%s}\n" % (
+                "user root;\n" if os.geteuid() == 0 else "", workers, folder, folder, temporary, text))
         words = [nginx, "-e", folder + "/errors", "-c", folder + "/main.conf"]
         done = subprocess.run([*words, "-t", "-q"], capture_output=True, text=True, check=False)
         said("what nginx says of the configuration", (done.returncode, done.stderr), (0, ""))
