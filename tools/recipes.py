@@ -883,6 +883,8 @@ def log(page, shell):
     with Shell(first=page.block(". /usr/share/custody")) as other:
         other.begins(lines_of(block, ENDLESS))
         other.waits('"force unlock"')
+    said("workspaces with many runs", shell.runs(page, "many=500"), "")
+    shell.does(page.block("many=500").replace("=500", "=0"), [r"^ +\d+ acme/net$"])
 
 
 def runners():
