@@ -10,17 +10,18 @@ disturbs both alike. Each of N organizations has a client with a connection to n
 else uses its workspace, so no POST needs a lock. Each POST changes each page of the state; ten versions are kept.
 
 - load: each client sends as soon as it has its reply.
-- restart: each client has a request to send each 0.2 s (--pace). A service is killed and started again meanwhile: the one, or that of one
+- restart: each client has a request to send each 0.5 s (--pace). A service is killed and started again meanwhile: the one, or that of one
   organization. A client that gets 503 with Retry-After sends its request again, after 50 ms.
-- noise: as there, without a noise and with each. An organization posts states of 16 MB without pause; makes and cancels 3,000 runs without
-  a key; and one with 100 MB of states is removed, at the operator's door. Beside them, in place of a service: a process that hashes, writes
-  and syncs as many bytes without pause. At last the service that has the runs starts again.
+- noise: as there, without a noise and with each. An organization posts states of 16 MB without pause; makes and cancels runs without a
+  key, up to 3,000; and one with 100 MB of states is removed, at the operator's door. Beside them, in place of a service: a process that
+  hashes, writes and syncs as many bytes without pause. At last the service that has 3,000 runs starts again.
 - many: 200 organizations, their services started at once: the memory, and the seconds until each has answered.
 
 Times count from the moment at which a request was due to its whole reply. So a client that waits counts what it could not send, too. `nginx`
 is a reply of nginx alone, 404, asked as often: what it takes longer, no service is to blame for. `service` and `front` are milliseconds of
 the processor for a request, of the services whose clients are counted and of nginx; `wait` is what these services waited for a processor
-that others had. `others` is how many processors worked for anything but services, nginx and this script. Each row has the medians of the
+that others had. `others` is how many processors worked for anything but services, nginx and this script; `noises` counts what a noise did,
+in `s` seconds. Each row has the medians of the
 turns, and the least and the greatest 99 of 100. `times` is the median of it over that without noise, in the same layout.
 
 Prints one table. Ends with status 1 if a reply is not as expected, or if with services apart a noise changes the time of 99 of 100 of the
@@ -64,6 +65,8 @@ NOISY, REMOVED, NONE = "noisy", "removed", fronts.NONE
 KEPT, BEFORE = 10, 12
 # Seconds after which a request that got 503 is sent again; and those that a noise may take.
 AGAIN, LONGEST = 0.05, 300
+# How many times longer than others the part with runs may last.
+SLOWER = 3
 # Clients of nginx alone, and the most others.
 PROBES, MOST_CLIENTS = 10, 60
 MEGABYTE = 1_000_000
@@ -340,9 +343,9 @@ def imitation(layout, size):
             yield
 
 
-def runs(layout, count, ws):
+def runs(address, count, ws):
     """Makes runs without a key, and cancels each."""
-    with Link(layout.front.port) as link:
+    with Link(address) as link:
         yield
         for _ in range(count):
             made_run = json.loads(link.due("a run", *of_org("POST", NOISY, f"runs/{ws}", b"{}", "ci")))
@@ -434,7 +437,7 @@ class Window:
 
     def __init__(self, layout, pace, may_wait=()):
         self.layout, self.pace, self.may_wait = layout, pace, set(may_wait)
-        self.end, self.faults, self.took, self.alone, self.again = math.inf, [], collections.defaultdict(list), [], 0
+        self.end, self.faults, self.took, self.alone, self.again = math.inf, [], collections.defaultdict(list), [], []
         count = len(layout.clients)
         self.threads = [threading.Thread(target=self.works, args=(self.client, client, place / count)) for place, client in enumerate(layout.clients)]
         if pace:
@@ -447,7 +450,7 @@ class Window:
         return self
 
     def __exit__(self, kind, *_):
-        self.end = min(self.end, time.monotonic())
+        self.end = min(self.end, time.monotonic() if kind is None else 0)
         for thread in self.threads:
             thread.join()
         self.lasted = time.monotonic() - self.begun
@@ -472,7 +475,7 @@ class Window:
             self.end = 0
 
     def client(self, link, client, due):
-        self.again += client.turn(link, client.org in self.may_wait)
+        self.again.append(client.turn(link, client.org in self.may_wait))
         self.took[client.org].append(time.monotonic() - due)
 
     def probe(self, link, _, due):
@@ -493,7 +496,7 @@ def share_of(ordered, share):
 
 
 def measured(layout, seconds, pace, noise=None, is_finite=False):
-    """A row: the clients work for some seconds, or as long as a noise lasts."""
+    """A row: the clients work for some seconds. A finite noise has them work until it ends, at most so many seconds."""
     orgs, services = [client.org for client in layout.clients], layout.all()
     noisy = [service.process.pid for service in services if service.process.pid not in layout.counted()] + ([noise.process.pid] if noise else [])
 
@@ -506,7 +509,7 @@ def measured(layout, seconds, pace, noise=None, is_finite=False):
         if noise:
             noise.begins.set()
         if is_finite:
-            noise.ours.poll(LONGEST)
+            noise.ours.poll(seconds)
         else:
             time.sleep(seconds)
         if noise:
@@ -515,8 +518,9 @@ def measured(layout, seconds, pace, noise=None, is_finite=False):
     row = window.times(orgs)
     row |= {"rate": row["n"] / window.lasted, "service": 1000 * ran / row["n"], "front": 1000 * front / row["n"], "wait": 1000 * waited / row["n"]}
     row |= {"others": max(0, worked - ran - front - other) / window.lasted, "MB": memory(services)}
-    steps = noise.end() if noise else None
-    return row | ({"s": window.lasted} if is_finite else {"steps": steps / window.lasted} if noise else {})
+    if noise:
+        row |= {"count": noise.end(), "s": window.lasted}
+    return row
 
 
 def restarted(layout, org, seconds, pace):
@@ -533,7 +537,7 @@ def restarted(layout, org, seconds, pace):
         time.sleep(3 * seconds / 4)
     others = [client.org for client in layout.clients if client.org not in hit]
     if hit:
-        yield "its clients", window.times(hit) | {"s": took, "again": window.again}
+        yield "its clients", window.times(hit) | {"s": took, "again": sum(window.again)}
     if others:
         yield "the others", window.times(others) | {"s": took}
 
@@ -548,7 +552,7 @@ class Table:
 
     COLUMNS = [("n", "requests", 9, ",.0f"), ("rate", "a second", 9, ",.0f"), ("p50", "50 of 100", 10, ".1f"), ("p99", "99 of 100", 10, ".1f"), ("range", "its range", 14, ""),
                ("worst", "worst", 8, ".1f"), ("times", "times", 6, ".2f"), ("alone", "nginx", 7, ".1f"), ("service", "service", 8, ".2f"), ("front", "front", 7, ".2f"),
-               ("wait", "wait", 7, ".2f"), ("others", "others", 7, ".1f"), ("steps", "noises/s", 9, ".1f"), ("again", "503", 6, ".0f"), ("MB", "MB", 7, ",.0f"), ("s", "s", 7, ".2f")]
+               ("wait", "wait", 7, ".2f"), ("others", "others", 7, ".1f"), ("count", "noises", 7, ",.0f"), ("again", "503", 6, ".0f"), ("MB", "MB", 7, ",.0f"), ("s", "s", 7, ".2f")]
 
     def __init__(self):
         self.rows, self.quiet = collections.defaultdict(list), {}
@@ -593,15 +597,17 @@ def noises(table, layout, asked, turn, large):
     table.add(BIG, layout.name, measured(layout, asked.seconds, asked.pace, Noise(big_posts(layout, large, turn * MEGABYTE))))
     table.add(IMITATION, layout.name, measured(layout, asked.seconds, asked.pace, Noise(imitation(layout, asked.big))))
     layout.asks("a workspace", "PUT", NOISY, f"workspaces/runs{turn}")
-    table.add(RUNS, layout.name, measured(layout, 0, asked.pace, Noise(runs(layout, asked.runs, f"runs{turn}")), True))
+    row = measured(layout, SLOWER * asked.seconds, asked.pace, Noise(runs(layout.front.port, asked.runs, f"runs{turn}")), True)
+    table.add(RUNS, layout.name, row)
     if turn == asked.turns - 1:
+        collections.deque(runs(layout.services[NOISY].socket, asked.runs - row["count"], f"runs{turn}"), 0)
         for who, row in restarted(layout, NOISY, asked.seconds, asked.pace):
             table.add(f"{AFTER_RUNS}: {who}", layout.name, row)
     layout.asks("a workspace", "DELETE", NOISY, f"workspaces/runs{turn}")
     if turn:
         layout.add_removed()
     layout.fill(asked.removed)
-    table.add(REMOVAL, layout.name, measured(layout, 0, asked.pace, Noise(removal(layout)), True))
+    table.add(REMOVAL, layout.name, measured(layout, LONGEST, asked.pace, Noise(removal(layout)), True))
 
 
 def in_turns(table, asked, folder):
@@ -650,7 +656,8 @@ def host(asked, folder):
         model = re.search(r"^model name\s*: (.*)$", it.read(), re.M)
     version = subprocess.run([asked.nginx, "-v"], capture_output=True, text=True, check=True).stderr.strip().rpartition("/")[2]
     kind = subprocess.run(["stat", "-f", "-c", "%T", folder], capture_output=True, text=True, check=True).stdout.strip()
-    print(f"{os.cpu_count()} processors, {model[1] if model else platform.machine()}; load average {os.getloadavg()[0]:.1f}; Linux {platform.release()}; nginx {version}; files on {kind}"
+    usable = len(os.sched_getaffinity(0))
+    print(f"{os.cpu_count()} processors{f', of which this may use {usable}' if usable < os.cpu_count() else ''}, {model[1] if model else platform.machine()}; load average {os.getloadavg()[0]:.1f}; Linux {platform.release()}; nginx {version}; files on {kind}"
           + (f"; services with {asked.preload}" if asked.preload else ""))
     print(f"{asked.clients} clients, POST and GET of {asked.size:,} bytes by turns; {asked.turns} turns of {asked.seconds:g} s; at a pace: a request each {asked.pace:g} s; "
           f"large POSTs: {asked.big:,} bytes; {asked.runs:,} runs; removed: {asked.removed:,} MB")
@@ -673,7 +680,7 @@ def arguments():
     words.add_argument("--folder")
     words.add_argument("--preload")
     words.add_argument("--quick", action="store_true")
-    for name, kind, default in [("turns", int, 3), ("clients", int, 40), ("seconds", float, 4.0), ("pace", float, 0.2), ("size", int, 40_000), ("big", int, 16 * MEGABYTE),
+    for name, kind, default in [("turns", int, 3), ("clients", int, 40), ("seconds", float, 4.0), ("pace", float, 0.5), ("size", int, 40_000), ("big", int, 16 * MEGABYTE),
                                 ("runs", int, 3000), ("removed", int, 100), ("many", int, 200)]:
         words.add_argument(f"--{name}", type=kind, default=default)
     if words.parse_args().quick:
