@@ -21,8 +21,8 @@ Times count from the moment at which a request was due to its whole reply. So a 
 is a reply of nginx alone, 404, asked as often: what it takes longer, no service is to blame for. `service` and `front` are milliseconds of
 the processor for a request, of the services whose clients are counted and of nginx; `wait` is what these services waited for a processor
 that others had. `others` is how many processors worked for anything but services, nginx and this script; `noises` counts what a noise did,
-in `s` seconds. Each row has the medians of the
-turns, and the least and the greatest 99 of 100. `times` is the median of it over that without noise, in the same layout.
+in `s` seconds. Each row has the medians of the turns, and the least and the greatest 99 of 100. `times` is the median of it over that
+without noise, in the same layout.
 
 Prints one table. Ends with status 1 if a reply is not as expected, or if with services apart a noise changes the time of 99 of 100 of the
 others' requests by more than half. With --quick, which has too few requests for that, everything is done once with small sizes.
@@ -566,9 +566,7 @@ class Table:
 
     def times(self, what, layout):
         """The 99 of 100 over that without noise."""
-        if what not in NOISES:
-            return None
-        return self.median(what, layout, "p99") / self.median(QUIET, layout, "p99")
+        return self.median(what, layout, "p99") / self.median(QUIET, layout, "p99") if what in NOISES else None
 
     def cells(self, what, layout):
         for key, _, width, form in self.COLUMNS:
@@ -663,6 +661,14 @@ def host(asked, folder):
           f"large POSTs: {asked.big:,} bytes; {asked.runs:,} runs; removed: {asked.removed:,} MB")
 
 
+class Ended(BaseException):
+    """The script got SIGTERM."""
+
+
+def end_early(*_):
+    raise Ended
+
+
 def told(table, asked):
     """Whether the aim holds: a noise changes the others' times by at most a half."""
     if "noise" not in asked.parts or asked.quick:
@@ -697,7 +703,7 @@ def arguments():
 
 def main():
     asked, table = arguments(), Table()
-    signal.signal(signal.SIGTERM, lambda *_: sys.exit("apart.py: ended early"))
+    signal.signal(signal.SIGTERM, end_early)
     with tempfile.TemporaryDirectory(dir=asked.folder, prefix="apart") as folder:
         host(asked, folder)
         try:
@@ -705,8 +711,9 @@ def main():
                 in_turns(table, asked, folder)
             if "many" in asked.parts:
                 many(table, asked, folder)
-        except (Wrong, OSError, subprocess.SubprocessError) as wrong:
-            print("WRONG:", wrong)
+        except (Wrong, OSError, subprocess.SubprocessError, Ended) as wrong:
+            table.print()
+            print("WRONG:", wrong or "it was ended early")
             return 1
         table.print()
         return 0 if told(table, asked) else 1
