@@ -68,7 +68,7 @@ AGAIN, LONGEST = 0.05, 300
 # How many times longer than others the part with runs may last.
 SLOWER = 3
 # Clients of nginx alone, and the most others.
-PROBES, MOST_CLIENTS = 10, 60
+PROBES, MOST_CLIENTS = 20, 60
 MEGABYTE = 1_000_000
 # Megabytes that must be free for each of many services.
 ROOM_EACH = 40
@@ -436,7 +436,7 @@ class Window:
     Those of `may_wait` send again what gets 503."""
 
     def __init__(self, layout, pace, may_wait=()):
-        self.layout, self.pace, self.may_wait = layout, pace, set(may_wait)
+        self.layout, self.pace, self.may_wait, self.begins = layout, pace, set(may_wait), threading.Event()
         self.end, self.faults, self.took, self.alone, self.again = math.inf, [], collections.defaultdict(list), [], []
         count = len(layout.clients)
         self.threads = [threading.Thread(target=self.works, args=(self.client, client, place / count)) for place, client in enumerate(layout.clients)]
@@ -444,9 +444,10 @@ class Window:
             self.threads += [threading.Thread(target=self.works, args=(self.probe, None, place / PROBES)) for place in range(PROBES)]
 
     def __enter__(self):
-        self.begun = time.monotonic() + 0.05
         for thread in self.threads:
             thread.start()
+        self.begun = time.monotonic() + 0.05
+        self.begins.set()
         return self
 
     def __exit__(self, kind, *_):
@@ -459,6 +460,7 @@ class Window:
 
     def works(self, step, client, share):
         """Takes a step whenever one is due, and notes the seconds since then."""
+        self.begins.wait()
         due = self.begun + share * self.pace
         try:
             with Link(self.layout.front.port) as link:
