@@ -266,7 +266,7 @@ DEPLOYED = {
     "crates/route/src/doors.rt": ["/operator"],
 }
 # The services that the picture has: whose it is, and what its file has.
-SERVED = [("acme", "its states and tokens"), ("beta", "its states and tokens"), ("none", "nothing: for other names")]
+SERVED = [("acme", "its states and tokens"), ("beta", "its states and tokens"), ("none", "empty")]
 
 
 def part(x, y, wide, tall, colors, name, *lines):
@@ -295,7 +295,7 @@ def draw_deployment():
     drawn += part(466, 370, 184, 62, YELLOW, "operator", "organizations and tokens,", "as commands")
     drawn += part(686, 370, 166, 62, BLUE, "backup-daily.sh", "of each: pauses, copies,", "checks")
     drawn += part(912, 370, 144, 62, GREEN, "copies", "of each, one a day,", "checked")
-    notes = ["no replication: a standby", "starts from copies, or from", "a replicated device below", "the files (docs/GROWING.md)"]
+    notes = ["no replication: a standby", "starts from copies, or from", "a replicated device below", "the files (GROWING.md)"]
     drawn += [words(908, 286 + 15 * n, line, "small") for n, line in enumerate(notes)]
     drawn += [path([(154, 181), (220, 181)]), words(179, 173, "HTTPS", "small", "middle")]
     drawn += [path([(154, 283), (187, 283), (187, 215), (220, 215)])]
@@ -304,9 +304,10 @@ def draw_deployment():
     drawn += [path([(520, 370), (520, 308)]), words(512, 336, "/operator,", "small", "end"), words(512, 351, "a secret each", "small", "end")]
     drawn += [path([(650, 388), (672, 388), (672, 290), (686, 290)], "dash"), words(664, 336, "while that service", "small", "end"), words(664, 351, "is stopped", "small", "end")]
     drawn += [path([(769, 308), (769, 370)]), path([(852, 401), (912, 401)]), words(882, 393, "rsync", "small", "middle")]
-    drawn.append(words(10, 466, "Yellow: who asks. Blue: programs. Green: files, each with its WAL. A service answers one connection at a time, and syncs each commit. Only members of the group custody reach a socket.", "small"))
-    drawn.append(words(10, 482, "With one file, the unit custody at /run/custody/socket stands in place of all services, and /var/lib/custody/custody.db in place of all files; everything else is the same.", "small"))
-    write("deployment", 1084, 494, drawn)
+    drawn.append(words(10, 466, "Yellow: who asks. Blue: programs. Green: files, each with its WAL. A service answers one connection at a time, and syncs each commit.", "small"))
+    drawn.append(words(10, 482, "Only members of the group custody reach a socket. custody@none answers what names no organization that nginx knows.", "small"))
+    drawn.append(words(10, 498, "With one file, the unit custody at /run/custody/socket stands in place of all services, and /var/lib/custody/custody.db in place of all files; everything else is the same.", "small"))
+    write("deployment", 1084, 510, drawn)
 
 
 # What the picture of a second machine names.
