@@ -3,7 +3,7 @@ _custody() {
     local word=${COMP_WORDS[COMP_CWORD]} before=${COMP_WORDS[COMP_CWORD - 1]} words
     COMPREPLY=()
     case $before in
-        --db | --to | --socket)
+        --db | --to | --copied-to | --socket)
             compopt -o filenames 2> /dev/null
             mapfile -t COMPREPLY < <(compgen -f -- "$word")
             return ;;
@@ -16,7 +16,7 @@ _custody() {
             org-add) words="--db --limit --help" ;;
             org-limit | org-list | token-list | token-revoke | check | admin) words="--db --help" ;;
             org-copy | compact) words="--db --to --help" ;;
-            org-remove) words="--db --force --help" ;;
+            org-remove) words="--db --copied-to --force --help" ;;
             token-add) words="--db --until --prefix --help read write admin" ;;
             serve) words="--db --port --socket --count --unlimited --idle --most --log --check --operator --help" ;;
             replay) words="--help" ;;

@@ -10,6 +10,9 @@ old. Each reply has to be the one that the first service gave, but for the momen
 acme have to be in the new file as they were in the old one, by SQLite's own library, and all others as before. Behind the
 last request acme is copied back.
 
+With `--copied-to` an organization is removed only where the other file has the same of it: a copy that lacks something or has more is refused, and so
+is the file itself, one that isn't there, and one with faults; neither file changes then.
+
 The words of the three commands are refused as they have to be. A copy and a removal are killed at each call that changes a
 file (calls.c): the organization is there whole or not at all, all else is as it was, and sent again it is done. So is
 `compact`: what it left has to be deleted where it has an organization, and then it is done. What is compacted has the same rows,
@@ -31,7 +34,7 @@ import tempfile
 
 import refusals
 import stories
-from files import LAST_NUMBERS, TEAM, greatest, greatest_read, read_all
+from files import LAST_NUMBERS, MISSING, TEAM, greatest, greatest_read, read_all
 from harness import DISK, IN_USE, LOG_ALONE, LOG_STAYS, NEW_FILE, UNFINISHED, Service, Wrong, bytes_of, compiled, look_at, request, said
 
 STORY = "a long history of two organizations that share texts"
@@ -44,6 +47,8 @@ KILLED = -9
 CAUSES = [*refusals.CAUSES, DISK, UNFINISHED]
 # A page of a text whose uses are counted once more leaves the file's pages that its bytes were in; the next one takes them.
 MOST_FREE = 4
+NOT_COPIED = b"custody: the --copied-to file does not hold the same organization, so nothing is removed\n"
+COPY_FAULTS = b"custody: the tables of the --copied-to file have faults, so nothing is removed:\n"
 # The tables, each with the column that names the organization; of a text its pages, with their bytes.
 ROWS = {
     "org": "SELECT name, cap FROM org WHERE name = ?",
@@ -271,6 +276,82 @@ def look_at_removals(program, path):
     forget(file)
 
 
+def look_at_copied_removals(program, path):
+    """With --copied-to an organization goes only where the other file has the same of it. Neither file changes otherwise."""
+    old, copy, before = program.folder + "/from.db", program.folder + "/to.db", all_rows(path)
+    left = {org: rows for org, rows in before.items() if org != "acme"}
+    words, _ = asked()
+
+    def copied(org="acme"):
+        forget(old, copy)
+        shutil.copy(path, old)
+        program.is_due("a copy of " + org, ["org-copy", "--db", old, "--to", copy, org], 0, b"ok\n", NEW_FILE)
+
+    def removes(file, *more):
+        return ["org-remove", "--db", old, "--copied-to", file, *more, "acme"]
+
+    def is_refused(what, command, status, answer, *why):
+        files = [file for file in (old, copy) if os.path.exists(file)]
+        there = [all_rows(file) for file in files]
+        program.is_due(what, command, status, answer, *why)
+        said("what the files have behind " + what, [all_rows(file) for file in files], there)
+
+    def differs(what, *more):
+        is_refused(what, removes(copy, "--force", *more), 3, b"refused down\n", NOT_COPIED)
+
+    copied()
+    is_refused("a removal of one in which a lock holds", removes(copy), 1, b"refused in-use\n")
+    program.is_due("one that is copied is removed by force", removes(copy, "--force"), 0, b"ok\n")
+    said("what the file has then", all_rows(old), left)
+    said("what the copy has then", all_rows(copy), {"acme": before["acme"]})
+    look_at_form("the file", old)
+    differs("a removal of one that is there no more")
+    changes = {
+        "a copy that lacks a token": lambda file: program.run(["token-revoke", "--db", file, "acme", "ends"]),
+        "a copy with another limit": lambda file: program.run(["org-limit", "--db", file, "acme", "77"]),
+        "a copy with one more workspace": lambda file: ask(program, file, [(b"acme", by_admin(words, b"PUT", b"workspaces/late"))]),
+        "a copy with one more version": lambda file: ask(program, file, [(b"acme", by_admin(words, b"POST", b"state/net?ID=x9", b'{"serial":3,"x":"y"}'))]),
+        "a copy whose lock is released": lambda file: ask(program, file, [(b"acme", by_admin(words, b"UNLOCK", b"state/net", b'{"ID":"x9"}'))]),
+        "a copy whose run went on": lambda file: ask(program, file, [(b"acme", by_admin(words, b"POST", b"runs/app/2/actions/cancel"))]),
+    }
+    for what, change in changes.items():
+        for changed in (lambda: copy, lambda: old):
+            copied()
+            there = rows_of(changed(), "acme")
+            change(changed())
+            said("whether there is a change for " + what, rows_of(changed(), "acme") != there, True)
+            differs(what)
+    copied()
+    program.is_due("a token is revoked", ["token-revoke", "--db", copy, "acme", "ends"], 0, b"ok\n")
+    other = ["token-add", "--db", copy, "--until", "4000000000", "--prefix", "ne", "acme", "ends", "write"]
+    program.is_due("and added with another secret", other, 0, b"ok\n", b"", b"otherotherother1\n")
+    differs("a copy whose token has another secret")
+    copied("beta")
+    differs("a copy of another organization")
+    with opened(copy) as conn:
+        text = "\n".join(conn.iterdump())
+    conn.close()
+    forget(copy)
+    with sqlite3.connect(copy) as conn:
+        conn.executescript(text)
+        conn.execute("DELETE FROM bound")
+    conn.close()
+    os.chmod(copy, 0o600)
+    status, output, errors = program.run(removes(copy, "--force"))
+    said("a copy with faults", (status, output, errors.startswith(COPY_FAULTS), len(errors) > len(COPY_FAULTS)), (3, b"refused down\n", True, True))
+    said("what the file has", all_rows(old), before)
+    os.symlink(old, program.folder + "/same.db")
+    for same in (old, program.folder + "/same.db"):
+        is_refused("a copy that is the file itself", removes(same, "--force"), 3, b"refused down\n", IN_USE)
+    forget(copy)
+    is_refused("a copy that isn't there", removes(copy, "--force"), 3, b"refused down\n", MISSING)
+    said("whether there is one then", os.path.exists(copy), False)
+    said("words without a file", program.run(["org-remove", "--db", old, "acme", "--copied-to"])[:2], (2, b"refused usage\n"))
+    said("what the file has in the end", all_rows(old), before)
+    forget(old)
+    print("right: with --copied-to an organization is removed only where the other file has the same")
+
+
 def look_at_killed_removals(program, path):
     """A removal is killed at each call that changes a file: the organization is there whole or not at all."""
     env = {**os.environ, "LD_PRELOAD": compiled("calls", program.folder)}
@@ -487,7 +568,7 @@ def look_at_all(program):
     look_at_words(program, path)
     look_at_many_versions(program)
     some = small(program)
-    for look in (look_at_targets, look_at_removals, look_at_kills, look_at_killed_removals, look_at_memory, look_at_lone_logs):
+    for look in (look_at_targets, look_at_removals, look_at_copied_removals, look_at_kills, look_at_killed_removals, look_at_memory, look_at_lone_logs):
         look(program, some)
 
 

@@ -282,7 +282,7 @@ def verified(package, paths):
 
 
 def options_in(text):
-    return set(re.findall(r"--[a-z]+", text)) - {"--help", "--version"}
+    return set(re.findall(r"--[a-z]+(?:-[a-z]+)*", text)) - {"--help", "--version"}
 
 
 def helps(program):
@@ -335,7 +335,7 @@ def completes(program):
         roles = {"read", "write", "admin"} if "read, write or admin" in told else set()
         said("the words of " + name, offered(name, ""), options_in(told) | roles | {"--help"})
     for name, told in commands.items():
-        for option, value in re.findall(r"^ +(--[a-z]+)(?: <(.*?)>)? ", told, re.M):
+        for option, value in re.findall(r"^ +(--[a-z]+(?:-[a-z]+)*)(?: <(.*?)>)? ", told, re.M):
             words = {HERE + "/harness.py"} if value == "PATH" else set() if value else offered(name, "")
             said("the words after %s %s" % (name, option), offered(name, option, HERE + "/harness.p" if value == "PATH" else ""), words)
     right("the completion offers the commands and their options")

@@ -6,7 +6,7 @@ use lib.Utf8.{encode}
 use Rattle.basis.specs.declared.roles.Role.TheVariants.{Write}
 use Rattle.clap.proofs.OnLiterals.{clap_on_literals}
 use Rattle.serve.specs.Bounds.{bounds, no_bounds}
-use Rattle.command_line.specs.Orders.{at_port, at_socket, carries, adds_token, checks_file, copies, compacts, serves, carries_all, replays, reports_version, unlimited}
+use Rattle.command_line.specs.Orders.{at_port, at_socket, carries, adds_token, checks_file, copies, removes_copied, compacts, serves, carries_all, replays, reports_version, unlimited}
 use Rattle.command_line.specs.Words.{asked_in, misfit_in}
 use Rattle.command_line.specs.declared.arguments.Argument.TheVariants.{Org, Limit, Listening, Counting, Count}
 use Rattle.serve.specs.declared.steps.Admin.TheVariants.{OrgAdd, OrgRemove, TokenList}
@@ -104,6 +104,14 @@ removal_asked = refl
 removal_by_force : asked_in (codes "org-remove" ∷ codes "acme" ∷ codes "--force" ∷ codes "--db=t.db" ∷ []) ≡ Some (carries (codes "t.db") (OrgRemove (codes "acme") true))
 unfolding clap_on_literals chars is_utf8 encode
 removal_by_force = refl
+
+removal_of_a_copied_one : asked_in (codes "org-remove" ∷ codes "--db" ∷ codes "t.db" ∷ codes "--copied-to" ∷ codes "u.db" ∷ codes "acme" ∷ []) ≡ Some (removes_copied (codes "t.db") (codes "u.db") (codes "acme") false)
+unfolding clap_on_literals chars is_utf8 encode
+removal_of_a_copied_one = refl
+
+no_copy_named : asked_in (codes "org-remove" ∷ codes "--db" ∷ codes "t.db" ∷ codes "acme" ∷ codes "--copied-to" ∷ []) ≡ None
+unfolding clap_on_literals chars is_utf8 encode
+no_copy_named = refl
 
 no_name_to_remove : asked_in (codes "org-remove" ∷ codes "--db" ∷ codes "t.db" ∷ codes "--force" ∷ codes "Acme" ∷ []) ≡ None
 unfolding clap_on_literals chars is_utf8 encode

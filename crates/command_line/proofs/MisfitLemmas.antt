@@ -13,7 +13,7 @@ use Rattle.command_line.specs.Arguments.{arguments_at, arguments_of, arguments_o
 use Rattle.serve.specs.Bounds.{moment_of}
 use Rattle.command_line.specs.Bounds.{bounds_given, prefix_given, until_given}
 use Rattle.serve.specs.Parts.{limit_of, role_of, org_command, limit_command, remove_command, list_command, revoke_command}
-use Rattle.command_line.specs.Orders.{Given, address_asked, asked_with, at_port, command_in, command_on, compacting_asked, connections_of, copying_asked, count_asked, file_asked, limit_or_first, port_of, seconds_of, seconds_or, serving_asked, timeouts_asked, token_asked}
+use Rattle.command_line.specs.Orders.{Given, address_asked, asked_with, at_port, command_in, command_on, compacting_asked, connections_of, copying_asked, count_asked, file_asked, limit_or_first, port_of, removal_asked, removing_asked, seconds_of, seconds_or, serving_asked, timeouts_asked, token_asked}
 use Rattle.command_line.specs.declared.arguments.Argument.{Argument}
 use Rattle.command_line.specs.declared.arguments.Argument.TheVariants as argument
 
@@ -121,6 +121,15 @@ module _ (given : Given) (db : List ℕ) where
       (λ to is. some_then given.org _ (is_there is_org_name given.org named)
       (λ org is. some_where (is_org_name org) _ (passes is_org_name given.org org named is) refl))
 
+  removal_fits : (copied : Option (List ℕ)) (org : List ℕ) → is_org_name org ≡ true → is_some (removal_asked db copied org given.forces) ≡ true
+  removal_fits None org named = some_map (remove_command org given.forces) _ (some_where (is_org_name org) _ named refl)
+  removal_fits (Some copy) org named = some_where (is_org_name org) _ named refl
+
+  removing_leads : Leads given (argument.Db ∷ argument.Org ∷ []) (removing_asked db given)
+  removing_leads all =
+      let named = all.1.0 in
+      some_then given.org _ (is_there is_org_name given.org named) (λ org is. removal_fits given.copied org (passes is_org_name given.org org named is))
+
   compact_leads : Leads given (argument.Db ∷ argument.To ∷ []) (compacting_asked db given.to)
   compact_leads all = some_map given.to _ all.1.0
 
@@ -156,9 +165,6 @@ module _ (given : Given) (org : List ℕ) (is : given.org ≡ Some org) where
       (λ limit is_limit. some_where (is_org_name org) _ (fits_org all.1.0)
       (some_map (limit_of limit) _ (passes (λ word. is_some (limit_of word)) given.limit limit limited is_limit)))
 
-  remove_leads : Leads given (argument.Db ∷ argument.Org ∷ []) (remove_command org given.forces)
-  remove_leads all = some_where (is_org_name org) _ (fits_org all.1.0) refl
-
   list_leads : Leads given (argument.Db ∷ argument.Org ∷ []) (list_command org)
   list_leads all = some_where (is_org_name org) _ (fits_org all.1.0) refl
 
@@ -173,9 +179,8 @@ module _ (given : Given) (org : List ℕ) (is : given.org ≡ Some org) where
   on_leads command =
       either given (bytes_eq command (codes "org-add")) _ _ _ _ add_leads
       (either given (bytes_eq command (codes "org-limit")) _ _ _ _ limit_leads
-      (either given (bytes_eq command (codes "org-remove")) _ _ _ _ remove_leads
       (either given (bytes_eq command (codes "token-list")) _ _ _ _ list_leads
-      (either given (bytes_eq command (codes "token-revoke")) _ _ _ _ revoke_leads (λ all. cc)))))
+      (either given (bytes_eq command (codes "token-revoke")) _ _ _ _ revoke_leads (λ all. cc))))
 
 -- each of these commands is on an organization
 names_org : (given : Given) (command : List ℕ) → AllFit given (arguments_on command) → is_some given.org ≡ true
@@ -184,9 +189,8 @@ names_org given command =
     let named : option_map_or is_org_name given.org false ≡ true → is_some given.org ≡ true = is_there is_org_name given.org in
     choose Named (bytes_eq command (codes "org-add")) _ _ (λ all. named all.1.0)
     (choose Named (bytes_eq command (codes "org-limit")) _ _ (λ all. named all.1.0)
-    (choose Named (bytes_eq command (codes "org-remove")) _ _ (λ all. named all.1.0)
     (choose Named (bytes_eq command (codes "token-list")) _ _ (λ all. named all.1.0)
-    (choose Named (bytes_eq command (codes "token-revoke")) _ _ (λ all. named all.1.0) (λ all. cc)))))
+    (choose Named (bytes_eq command (codes "token-revoke")) _ _ (λ all. named all.1.0) (λ all. cc))))
 
 command_leads : (given : Given) (command : List ℕ) → Leads given (cond (bytes_eq command (codes "org-list")) (argument.Db ∷ []) (arguments_on command)) (command_in command given)
 command_leads given command =
@@ -202,7 +206,8 @@ file_leads given command db =
     (either given (bytes_eq command (codes "org-copy")) _ _ _ _ (copy_leads given db)
     (either given (bytes_eq command (codes "compact")) _ _ _ _ (compact_leads given db)
     (either given (bytes_eq command (codes "token-add")) _ _ _ _ (λ all. some_map (token_asked given) _ (token_leads given all))
-    (λ all. some_map (command_in command given) _ (command_leads given command all)))))))
+    (either given (bytes_eq command (codes "org-remove")) _ _ _ _ (removing_leads given db)
+    (λ all. some_map (command_in command given) _ (command_leads given command all))))))))
 
 -- each of these commands is on a file
 names_file : (given : Given) (command : List ℕ) → AllFit given (arguments_at command) → is_some given.db ≡ true
@@ -214,10 +219,10 @@ names_file given command =
     (choose Named (bytes_eq command (codes "org-copy")) _ _ (λ all. all.0)
     (choose Named (bytes_eq command (codes "compact")) _ _ (λ all. all.0)
     (choose Named (bytes_eq command (codes "token-add")) _ _ (λ all. all.0)
+    (choose Named (bytes_eq command (codes "org-remove")) _ _ (λ all. all.0)
     (choose Named (bytes_eq command (codes "org-list")) _ _ (λ all. all.0)
     (choose Named (bytes_eq command (codes "org-add")) _ _ (λ all. all.0)
     (choose Named (bytes_eq command (codes "org-limit")) _ _ (λ all. all.0)
-    (choose Named (bytes_eq command (codes "org-remove")) _ _ (λ all. all.0)
     (choose Named (bytes_eq command (codes "token-list")) _ _ (λ all. all.0)
     (choose Named (bytes_eq command (codes "token-revoke")) _ _ (λ all. all.0) (λ all. cc))))))))))))
 

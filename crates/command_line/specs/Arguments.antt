@@ -55,9 +55,8 @@ abbrev pub arguments_on : List ℕ → List Argument
 arguments_on command =
     cond (bytes_eq command (codes "org-add")) (argument.Db ∷ argument.Org ∷ argument.Limit ∷ [])
     (cond (bytes_eq command (codes "org-limit")) (argument.Db ∷ argument.Org ∷ argument.NewLimit ∷ [])
-    (cond (bytes_eq command (codes "org-remove")) (argument.Db ∷ argument.Org ∷ [])
     (cond (bytes_eq command (codes "token-list")) (argument.Db ∷ argument.Org ∷ [])
-    (cond (bytes_eq command (codes "token-revoke")) (argument.Db ∷ argument.Org ∷ argument.Name ∷ []) (argument.Command ∷ [])))))
+    (cond (bytes_eq command (codes "token-revoke")) (argument.Db ∷ argument.Org ∷ argument.Name ∷ []) (argument.Command ∷ []))))
 
 -- the arguments of a command on a file, in the order in which their values are judged
 abbrev pub arguments_at : List ℕ → List Argument
@@ -68,7 +67,8 @@ arguments_at command =
     (cond (bytes_eq command (codes "org-copy")) (argument.Db ∷ argument.To ∷ argument.Org ∷ [])
     (cond (bytes_eq command (codes "compact")) (argument.Db ∷ argument.To ∷ [])
     (cond (bytes_eq command (codes "token-add")) (argument.Db ∷ argument.Org ∷ argument.Name ∷ argument.Role ∷ argument.Until ∷ argument.Prefix ∷ [])
-    (cond (bytes_eq command (codes "org-list")) (argument.Db ∷ []) (arguments_on command)))))))
+    (cond (bytes_eq command (codes "org-remove")) (argument.Db ∷ argument.Org ∷ [])
+    (cond (bytes_eq command (codes "org-list")) (argument.Db ∷ []) (arguments_on command))))))))
 
 -- the arguments of a command
 abbrev pub arguments_of : List ℕ → List Argument

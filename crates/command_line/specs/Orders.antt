@@ -16,7 +16,7 @@ use Rattle.command_line.specs.declared.addresses.Address.TheVariants.{Port, Sock
 use Rattle.command_line.specs.declared.orders.NewToken.{NewToken}
 use Rattle.command_line.specs.declared.orders.Values.{Values}
 use Rattle.command_line.specs.declared.orders.Order.{Order}
-use Rattle.command_line.specs.declared.orders.Order.TheVariants.{Carry, AddToken, Check, Copy, Compact, Serve, CarryAll, Replay, Version}
+use Rattle.command_line.specs.declared.orders.Order.TheVariants.{Carry, AddToken, Check, Copy, RemoveCopied, Compact, Serve, CarryAll, Replay, Version}
 use Rattle.command_line.specs.declared.timeouts.Timeouts.{Timeouts}
 
 -- where a service listens: at a TCP port of 127.0.0.1, or at a Unix socket, by its path
@@ -39,6 +39,8 @@ pub data Asked : Type 0 where
   checks_file : List ℕ → Asked
   -- to copy an organization from one file to another: the two paths, and its name
   copies : List ℕ → List ℕ → List ℕ → Asked
+  -- to remove an organization from one file, if another one has the same: the two paths, its name, and whether this is forced
+  removes_copied : List ℕ → List ℕ → List ℕ → Bool → Asked
   -- to copy every organization from one file to another
   compacts : List ℕ → List ℕ → Asked
   -- to serve at a site: this many connections, each with these timeouts; whether the log is on; whether the tables are checked first; whether
@@ -55,6 +57,7 @@ pub data Asked : Type 0 where
 pub record Given : Type 0 where
   pub db : Option (List ℕ)
   pub to : Option (List ℕ)
+  pub copied : Option (List ℕ)
   pub org : Option (List ℕ)
   pub limit : Option (List ℕ)
   pub name : Option (List ℕ)
@@ -115,9 +118,8 @@ abbrev pub command_on : List ℕ → List ℕ → Given → Option Operator.Admi
 command_on command org given =
     cond (bytes_eq command (codes "org-add")) (org_command org (limit_or_first given.limit))
     (cond (bytes_eq command (codes "org-limit")) (option_and_then (λ limit. limit_command org (limit_of limit)) given.limit)
-    (cond (bytes_eq command (codes "org-remove")) (remove_command org given.forces)
     (cond (bytes_eq command (codes "token-list")) (list_command org)
-    (cond (bytes_eq command (codes "token-revoke")) (option_and_then (λ name. revoke_command org name) given.name) None))))
+    (cond (bytes_eq command (codes "token-revoke")) (option_and_then (λ name. revoke_command org name) given.name) None)))
 
 -- an operator's command that needs no secret
 abbrev pub command_in : List ℕ → Given → Option Operator.Admin
@@ -149,6 +151,14 @@ copy_in from to org = cond (is_org_name org) (Some (copies from to org)) None
 abbrev pub copying_asked : List ℕ → Given → Option Asked
 copying_asked db given = option_and_then (λ to. option_and_then (λ org. copy_in db to org) given.org) given.to
 
+-- a removal of one organization, if its name is valid: whatever other files have, or only if the file at this path has the same
+abbrev pub removal_asked : List ℕ → Option (List ℕ) → List ℕ → Bool → Option Asked
+removal_asked db None org is_forced = option_map (λ c. carries db c) (remove_command org is_forced)
+removal_asked db (Some copy) org is_forced = cond (is_org_name org) (Some (removes_copied db copy org is_forced)) None
+
+abbrev pub removing_asked : List ℕ → Given → Option Asked
+removing_asked db given = option_and_then (λ org. removal_asked db given.copied org given.forces) given.org
+
 abbrev pub compacting_asked : List ℕ → Option (List ℕ) → Option Asked
 compacting_asked db to = option_map (λ path. compacts db path) to
 
@@ -161,7 +171,8 @@ file_asked command db given =
     (cond (bytes_eq command (codes "org-copy")) (copying_asked db given)
     (cond (bytes_eq command (codes "compact")) (compacting_asked db given.to)
     (cond (bytes_eq command (codes "token-add")) (option_map (λ token. adds_token db token.org token.name token.role token.bounds) (token_asked given))
-    (option_map (λ c. carries db c) (command_in command given)))))))
+    (cond (bytes_eq command (codes "org-remove")) (removing_asked db given)
+    (option_map (λ c. carries db c) (command_in command given))))))))
 
 -- what a command of this name asks for with these values
 abbrev pub asked_with : List ℕ → Given → Option Asked
@@ -178,6 +189,7 @@ abbrev pub given_in : List Row → Given
 given_in rows = record {
   db = first_of (codes "db") rows;
   to = first_of (codes "to") rows;
+  copied = first_of (codes "copied-to") rows;
   org = first_of (codes "org") rows;
   limit = first_of (codes "limit") rows;
   name = first_of (codes "name") rows;
@@ -201,6 +213,7 @@ abbrev pub given_found : Found → Given
 given_found found = record {
   db = first_value found (codes "db");
   to = first_value found (codes "to");
+  copied = first_value found (codes "copied-to");
   org = first_value found (codes "org");
   limit = first_value found (codes "limit");
   name = first_value found (codes "name");
@@ -226,6 +239,7 @@ abbrev pub given_of : Values → Given
 given_of values = record {
   db = text_in values.db;
   to = text_in values.to;
+  copied = text_in values.copied;
   org = text_in values.org;
   limit = text_in values.limit;
   name = text_in values.name;
@@ -250,6 +264,7 @@ said_by (Carry db command) = carries db.now command
 said_by (AddToken db token) = adds_token db.now token.org token.name token.role token.bounds
 said_by (Check db) = checks_file db.now
 said_by (Copy from to org) = copies from.now to.now org
+said_by (RemoveCopied db copy org is_forced) = removes_copied db.now copy.now org is_forced
 said_by (Compact from to) = compacts from.now to.now
 said_by (Serve db address count timeouts logs checks operates) = serves db.now (site_of address) count timeouts logs checks operates
 said_by (CarryAll db) = carries_all db.now

@@ -56,9 +56,9 @@ org_limit = with_rule (with_rule (with_rule (new_app (codes "org-limit")) databa
 abbrev pub org_copy : App
 org_copy = with_rule (with_rule (with_rule (new_app (codes "org-copy")) database) target) organization
 
--- `org-remove --db PATH [--force] ORG`
+-- `org-remove --db PATH [--copied-to PATH] [--force] ORG`
 abbrev pub org_remove : App
-org_remove = with_rule (with_rule (with_rule (new_app (codes "org-remove")) database) (flag_rule (codes "force"))) organization
+org_remove = with_rule (with_rule (with_rule (with_rule (new_app (codes "org-remove")) database) (option_rule (codes "copied-to") false)) (flag_rule (codes "force"))) organization
 
 -- `org-list --db PATH`
 abbrev pub org_list : App

@@ -2,7 +2,7 @@
 ghost use Rattle.std.specs.Prelude.{◌≡◌, ◌≤◌, Option, Some, None, IfOk, IsErrOf, option_map, option_and_then, IfSome};
 ghost use Rattle.basis.specs.Numbers.{whole_of, within};
 ghost use Rattle.clap.specs.Words.{found_of};
-ghost use Rattle.command_line.specs.Orders.{limit_or_first, command_on, command_in, token_in, token_asked, seconds_or, timeouts_asked, serving_asked, address_asked, site_of, copy_in, copying_asked, compacting_asked, adds_token, file_asked, asked_with, flag_of, given_found, given_of, text_in, said_by, with_secret, port_of, count_asked, carries};
+ghost use Rattle.command_line.specs.Orders.{limit_or_first, command_on, command_in, token_in, token_asked, seconds_or, timeouts_asked, serving_asked, address_asked, site_of, copy_in, copying_asked, removal_asked, removing_asked, compacting_asked, adds_token, file_asked, asked_with, flag_of, given_found, given_of, text_in, said_by, with_secret, port_of, count_asked, carries};
 ghost use Rattle.command_line.specs.Bounds.{bounds_given};
 ghost use Rattle.serve.specs.Parts.{limit_of, limit_command, revoke_command};
 
@@ -102,6 +102,13 @@ pub enum Order<'a> {
         to: &'a str,
         org: OrgName,
     },
+    /// Remove an organization from one file, if another file has the same.
+    RemoveCopied {
+        db: &'a str,
+        copy: &'a str,
+        org: OrgName,
+        is_forced: bool,
+    },
     /// Copy every organization from one file to another.
     Compact {
         from: &'a str,
@@ -136,6 +143,7 @@ pub enum Order<'a> {
 pub struct Values<'a> {
     pub db: Option<&'a str>,
     pub to: Option<&'a str>,
+    pub copied: Option<&'a str>,
     pub org: Option<&'a str>,
     pub limit: Option<&'a str>,
     pub name: Option<&'a str>,
@@ -161,6 +169,7 @@ impl<'a> Values<'a> {
         Values {
             db: matches.get_str("db"),
             to: matches.get_str("to"),
+            copied: matches.get_str("copied-to"),
             org: matches.get_str("org"),
             limit: matches.get_str("limit"),
             name: matches.get_str("name"),
@@ -238,7 +247,6 @@ fn command_on(alloc: Global, command: &str, org: &str, values: &Values<'_>) -> R
     match command {
         "org-add" => parts::org_add(alloc, org, limit_or_first(values.limit)),
         "org-limit" => limit_command(alloc, org, values.limit),
-        "org-remove" => parts::org_remove(alloc, org, values.forces),
         "token-list" => parts::token_list(alloc, org),
         "token-revoke" => revoke_command(alloc, org, values.name),
         _ => Err(Unfit::Syntax),
@@ -365,6 +373,43 @@ fn copying<'a>(alloc: Global, db: &'a str, values: &Values<'a>) -> Result<Order<
     }
 }
 
+fn removal<'a>(
+    alloc: Global,
+    db: &'a str,
+    copy: Option<&'a str>,
+    org: &str,
+    is_forced: bool,
+) -> Result<Order<'a>, Unfit>
+    ensures ok { IfOk result (λ order. removal_asked db.entry.now (text_in copy.entry) org.now is_forced ≡ Some (said_by order)) }
+    ensures syntax { IsErrOf result Unfit.Syntax → removal_asked db.entry.now (text_in copy.entry) org.now is_forced ≡ None }
+{
+    match copy {
+        None => {
+            let command = parts::org_remove(alloc, org, is_forced)?;
+            Ok(Order::Carry { db, command })
+        }
+        Some(copy) => {
+            let org = OrgName::read(alloc, org)?;
+            Ok(Order::RemoveCopied {
+                db,
+                copy,
+                org,
+                is_forced,
+            })
+        }
+    }
+}
+
+fn removing<'a>(alloc: Global, db: &'a str, values: &Values<'a>) -> Result<Order<'a>, Unfit>
+    ensures ok { IfOk result (λ order. removing_asked db.entry.now (given_of values.now) ≡ Some (said_by order)) }
+    ensures syntax { IsErrOf result Unfit.Syntax → removing_asked db.entry.now (given_of values.now) ≡ None }
+{
+    match values.org {
+        Some(org) => removal(alloc, db, values.copied, org, values.forces),
+        None => Err(Unfit::Syntax),
+    }
+}
+
 fn compacting<'a>(db: &'a str, to: Option<&'a str>) -> Option<Order<'a>>
     ensures { option_map said_by result ≡ compacting_asked db.entry.now (text_in to.entry) }
 {
@@ -396,6 +441,7 @@ fn on_file<'a>(
         "org-copy" => copying(alloc, db, values),
         "compact" => compacting(db, values.to).ok_or(Unfit::Syntax),
         "token-add" => adding(alloc, db, values),
+        "org-remove" => removing(alloc, db, values),
         _ => carrying(alloc, command, db, values),
     }
 }

@@ -184,11 +184,17 @@ fn org_remove<'a>(alloc: Global) -> Result<Command<'a>, AllocError>
     ensures { IfOk result (λ command. IsCommand command org_remove) }
 {
     let about = "Removes an organization and everything in it";
+    let copied_help =
+        "Check this file's tables, and remove the organization only if this file holds the same with everything in it";
     let help = "Remove it even if a workspace is locked or a run is open";
-    let example = "Example: custody org-remove --db custody.db acme";
+    let example = "Example: custody org-remove --db custody.db --copied-to acme.db acme";
     let bare = command(alloc, "org-remove", about, example);
     let on_file = with_arg(bare, database(alloc, OLD_FILE));
-    let forcing = with_arg(on_file, flag(alloc, "force", help));
+    let copied = with_arg(
+        on_file,
+        option(alloc, "copied-to", false, "PATH", copied_help),
+    );
+    let forcing = with_arg(copied, flag(alloc, "force", help));
     with_arg(forcing, organization(alloc))
 }
 

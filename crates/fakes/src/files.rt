@@ -7,7 +7,7 @@ ghost use Rattle.program.specs.declared.reasons.OpenFault.TheVariants as fault;
 
 use basis::{Bytes, Down, Items, OrgName, Text};
 use machine::{AdminAnswer, Keep, PlainKeep};
-use program::environment::{Files, Opening};
+use program::environment::{CopyTask, Files, Opening};
 use program::reasons::{Cause, OpenFault};
 use program::replays::replay_over;
 use program::totals::{Findings, Totals};
@@ -144,6 +144,7 @@ impl Files<PlainKeep> for MemoryFile<'_> {
     fn copy(
         &self,
         _alloc: Global,
+        _task: CopyTask,
         _org: &OrgName,
         _from: &mut PlainKeep,
         _to: &mut PlainKeep,

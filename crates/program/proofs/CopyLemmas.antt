@@ -19,7 +19,7 @@ use Rattle.program.specs.declared.environment.Files as files
 use Rattle.program.specs.declared.reasons.Cause.{Cause}
 use Rattle.program.specs.declared.reasons.Cause.TheVariants.{Unfinished}
 use Rattle.program.specs.Moves.{org_copied, copied_into, Arrives, AllAreCopied, SomeAreCopied, IsFilled, lists_none, CopiesBetween}
-use Rattle.program.specs.declared.environment.Opening.TheVariants.{Target}
+use Rattle.program.specs.declared.environment.Opening.{Opening}
 use Rattle.program.specs.Outcomes.{Stream, Errors, stream, error_stream, IsSaid, filled_ending, ReportsCause, ReportsWord, Refuses, RefusesToOpen, RefusesSecond, OpensSound, OpensBoth, Closes, ClosesBoth, CopiesOver, IsCopied, IsCompacted}
 use Rattle.program.specs.Streams.{Reported}
 use Rattle.program.proofs.MoveLemmas.{copied_none, copied_left}
@@ -178,10 +178,10 @@ unfinished P errors (inr h) = inr (Unfinished, refl, h)
 
 module _ {K F : Type 0} (k : keep.Ghosts K) (f : files.Ghosts F K) where
   -- the second of two paths isn't opened, and the first is closed again
-  pub refuses_second : (from to : List ℕ) (old opened unopened new : F) (source : K) (e : Exit) (out said : Option (List ℕ)) (before noted reported after : Reported) → from ≢ to
-      → OpensSound k f from old opened source (error_stream before noted) → RefusesToOpen k f to Target opened unopened e (stream out said) (error_stream noted reported) → Closes k f from unopened new source (error_stream reported after)
-      → RefusesSecond k f from to old new e (stream out said) (error_stream before after)
-  refuses_second from to old opened unopened new source e out said before noted reported after differ first second closes = record {
+  pub refuses_second : (from to : List ℕ) (opening : Opening) (old opened unopened new : F) (source : K) (e : Exit) (out said : Option (List ℕ)) (before noted reported after : Reported) → from ≢ to
+      → OpensSound k f from old opened source (error_stream before noted) → RefusesToOpen k f to opening opened unopened e (stream out said) (error_stream noted reported) → Closes k f from unopened new source (error_stream reported after)
+      → RefusesSecond k f from to opening old new e (stream out said) (error_stream before after)
+  refuses_second from to opening old opened unopened new source e out said before noted reported after differ first second closes = record {
     differ = differ;
     source = source;
     opened = opened;
@@ -195,13 +195,13 @@ module _ {K F : Type 0} (k : keep.Ghosts K) (f : files.Ghosts F K) where
   }
 
   -- stores are opened at two paths, it is copied from one to the other, and they are closed
-  pub copies_over : (from to : List ℕ) (Becomes : K → Records → Records → Records → Errors → Type 0) (Fails : K → Cause → Type 0) (old worked new : F) (source source' target target' : K) (before noted reported after : Reported)
-      → OpensBoth k f from to old worked source target (error_stream before noted)
+  pub copies_over : (from to : List ℕ) (opening : Opening) (Becomes : K → Records → Records → Records → Errors → Type 0) (Fails : K → Cause → Type 0) (old worked new : F) (source source' target target' : K) (before noted reported after : Reported)
+      → OpensBoth k f from to opening old worked source target (error_stream before noted)
       → CopiesBetween k (λ s o n. Becomes target' s o n (error_stream noted reported)) source source' target target'
       → (reported ≡ noted) ⊎ ((why : Cause) × Fails target' why × ReportsCause why (error_stream noted reported))
       → ClosesBoth k f from to worked new source' target' (error_stream reported after)
-      → CopiesOver k f from to Becomes Fails old new (error_stream before after)
-  copies_over from to Becomes Fails old worked new source source' target target' before noted reported after opens copies why closes = record {
+      → CopiesOver k f from to opening Becomes Fails old new (error_stream before after)
+  copies_over from to opening Becomes Fails old worked new source source' target target' before noted reported after opens copies why closes = record {
     source_before = source;
     source_after = source';
     target_before = target;

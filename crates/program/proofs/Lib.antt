@@ -11,5 +11,6 @@ mod ServedLemmas
 pub mod ServiceLemmas
 mod MoveLemmas
 mod CopyLemmas
+mod RemoveLemmas
 mod BatchLemmas
 pub mod InputLemmas

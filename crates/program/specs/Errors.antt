@@ -3,7 +3,7 @@ use Rattle.std.specs.Prelude.{◌++◌, ℕ, List, [], ◌∷◌, Bool, true, fa
 use Rattle.serve.specs.declared.exchanges.LinkFault.{LinkFault}
 use Rattle.serve.specs.declared.exchanges.LinkFault.TheVariants.{Ended, Read, Continue, Write}
 use Rattle.program.specs.declared.reasons.Cause.{Cause}
-use Rattle.program.specs.declared.reasons.Cause.TheVariants.{InUse, NotPermitted, NoFile, NoFolder, NoTargetFolder, Missing, LogAlone, NoTables, Journal, Corrupt, Unsound, NoRoom, NoMemory, Disk, Store, Unfinished, Shut, Halted, Unknown, Input, PortTaken, PortNotPermitted, Port, SocketTaken, NoSocket, SocketNotPermitted, Socket, Accept, Clock, Log, Faults, SourceFaults, Encoding, NoNull}
+use Rattle.program.specs.declared.reasons.Cause.TheVariants.{InUse, NotPermitted, NoFile, NoFolder, NoTargetFolder, Missing, LogAlone, NoTables, Journal, Corrupt, Unsound, NoRoom, NoMemory, Disk, Store, Unfinished, Shut, Halted, Unknown, Input, PortTaken, PortNotPermitted, Port, SocketTaken, NoSocket, SocketNotPermitted, Socket, Accept, Clock, Log, Faults, SourceFaults, CopyFaults, NotCopied, Encoding, NoNull}
 use Rattle.program.specs.declared.reasons.OtherSchema.{OtherSchema}
 use Rattle.program.specs.declared.reasons.OtherSchema.TheVariants.{Version, Unversioned}
 use Rattle.program.specs.Streams.{Reported, Reports}
@@ -84,6 +84,8 @@ cause_line Clock = codes "custody: the clock could not be read, or it is out of 
 cause_line Log = codes "custody: the exchange log could not be written, so the service stops\n"
 cause_line Faults = codes "custody: the file's tables have faults, so the service does not start:\n"
 cause_line SourceFaults = codes "custody: the file's tables have faults, so nothing is copied:\n"
+cause_line CopyFaults = codes "custody: the tables of the --copied-to file have faults, so nothing is removed:\n"
+cause_line NotCopied = codes "custody: the --copied-to file does not hold the same organization, so nothing is removed\n"
 cause_line Encoding = codes "custody: an argument is not UTF-8\n"
 cause_line NoNull = codes "custody: a standard stream is closed, and /dev/null could not be opened\n"
 

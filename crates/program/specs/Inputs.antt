@@ -2,7 +2,7 @@
 -- them. The others read all of it.
 use Rattle.std.specs.Prelude.{◌≡◌, ◌⊎◌, ℕ, List, Bool, true, false, Option, Some}
 use Rattle.std.specs.Io.KnownBytes.{IsAtEnd}
-use Rattle.command_line.specs.Orders.{Asked, carries, adds_token, checks_file, copies, compacts, serves, carries_all, replays, reports_version}
+use Rattle.command_line.specs.Orders.{Asked, carries, adds_token, checks_file, copies, removes_copied, compacts, serves, carries_all, replays, reports_version}
 use Rattle.command_line.specs.Words.{asked_in}
 use Rattle.program.specs.declared.exits.Exit.{Exit}
 use Rattle.program.specs.declared.reasons.Cause.TheVariants as cause
@@ -31,6 +31,7 @@ LeavesInput (carries db command) old new e output errors = new ≡ old
 LeavesInput (adds_token db org name role bounds) old new e output errors = ReadsAll new e output errors
 LeavesInput (checks_file db) old new e output errors = new ≡ old
 LeavesInput (copies from to org) old new e output errors = new ≡ old
+LeavesInput (removes_copied db copy org is_forced) old new e output errors = new ≡ old
 LeavesInput (compacts from to) old new e output errors = new ≡ old
 LeavesInput (serves db site count timeouts logs checks operates) old new e output errors = ReadsAllIf operates old new e output errors
 LeavesInput (carries_all db) old new e output errors = ReadsAll new e output errors

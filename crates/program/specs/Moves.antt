@@ -1,5 +1,5 @@
 -- What happens to organizations that are copied from one store to another.
-use Rattle.std.specs.Prelude.{◌≡◌, ◌⊎◌, ◌++◌, ℕ, List, [], ◌∷◌, Bool, true, false, Option, Some, None}
+use Rattle.std.specs.Prelude.{◌≡◌, ◌≢◌, ◌⊎◌, ◌++◌, ℕ, List, [], ◌∷◌, Bool, true, false, Option, Some, None, Result, Ok, Err, ⊤}
 use Rattle.machine.specs.Effects.{effect}
 use Rattle.machine.specs.StoreCalls.{Unchanged}
 use Rattle.machine.specs.declared.keeps.Keep as keep
@@ -8,9 +8,13 @@ use Rattle.machine.specs.declared.keeps.AdminAnswer.{AdminAnswer}
 use Rattle.machine.specs.declared.keeps.AdminAnswer.TheVariants.{Done, Exists, Absent, InUse, Organizations, Tokens}
 use Rattle.machine.specs.declared.keeps.OrgRow.{OrgRow}
 use Rattle.machine.specs.declared.records.Organization.{Organization}
+use Rattle.machine.specs.Removal.{org_removed}
+use Rattle.program.specs.declared.environment.CopyTask.{CopyTask}
+use Rattle.program.specs.declared.environment.CopyTask.TheVariants.{Make, Compare}
+use Rattle.basis.specs.declared.memory.Down.{Down}
 use Rattle.serve.specs.Asks.{Ask, organization}
 use Rattle.serve.specs.Steps.{own_said, own_record}
-use Rattle.serve.specs.Service.{AreTexts, own_asks, replies_at, record_for}
+use Rattle.serve.specs.Service.{Stays, AreTexts, own_asks, replies_at, record_for}
 use Rattle.serve.specs.Runs.{IsOwnMachine}
 
 -- copying an organization: its record in the source, and its record in the target
@@ -23,6 +27,28 @@ org_copied (Some o) (Some p) = effect Exists (Some p)
 abbrev pub copied_into : Option Organization → Option Organization → Option Organization
 copied_into from None = from
 copied_into from (Some p) = Some p
+
+-- `Done` says that both records are equal
+abbrev pub SaysSame : AdminAnswer → Option Organization → Option Organization → Type 0
+SaysSame Done from there = from ≡ there
+SaysSame Exists from there = ⊤
+SaysSame Absent from there = ⊤
+SaysSame InUse from there = ⊤
+SaysSame (Organizations rows) from there = ⊤
+SaysSame (Tokens rows) from there = ⊤
+
+-- an organization is copied (`Make`), or its two records are compared: its record in the source, and its record in the target before and after
+abbrev pub AnswersTask : CopyTask → AdminAnswer → (from there new : Option Organization) → Type 0
+AnswersTask Make answer from there new = effect answer new ≡ org_copied from there
+AnswersTask Compare answer from there new = (new ≡ there) × SaysSame answer from there
+
+-- an organization is removed that has the same record in the source, and every other record is unchanged. Or its records differ (`None`), or
+-- an allocation or a store failed, and none is changed
+abbrev pub RemovesSame : Bool → List ℕ → Result (Option AdminAnswer) Down → (from old new : List ℕ → Option Organization) → Type 0
+RemovesSame is_forced org (Ok (Some answer)) from old new =
+    (from org ≡ old org) × (effect answer (new org) ≡ org_removed is_forced (old org)) × ((other : List ℕ) → other ≢ org → new other ≡ old other)
+RemovesSame is_forced org (Ok None) from old new = Stays old new
+RemovesSame is_forced org (Err refused) from old new = Stays old new
 
 -- an organization is copied in this way: the records of the source, and those of the target before and after
 abbrev pub Arrives : (from old new : List ℕ → Option Organization) → List ℕ → Type 0

@@ -34,8 +34,9 @@ use Rattle.program.specs.declared.environment.Opening.TheVariants as opening
 use Rattle.program.specs.declared.totals.Findings.{Findings}
 use Rattle.program.specs.declared.totals.Totals.{Totals}
 use Rattle.program.specs.Totals.{sound_text, version_text}
-use Rattle.command_line.specs.Orders.{Asked, Site, at_port, at_socket, carries, adds_token, checks_file, copies, compacts, serves, carries_all, replays, reports_version}
+use Rattle.command_line.specs.Orders.{Asked, Site, at_port, at_socket, carries, adds_token, checks_file, copies, removes_copied, compacts, serves, carries_all, replays, reports_version}
 use Rattle.program.specs.Listening.{AsksToListen, IsGivenFor}
+use Rattle.machine.specs.Removal.{org_removed}
 use Rattle.program.specs.Moves.{org_copied, IsFilled, SomeAreCopied, CopiesBetween}
 use Rattle.program.specs.Paths.{AllStay, OthersStay, OthersStayBut, LeavesVacant, makes}
 use Rattle.program.specs.Replies.{printed, bad_frame_text, answer_line, fault_lines, AreReplies, Replays}
@@ -191,6 +192,20 @@ IsCopied Fails org from old new e output errors =
     × ReportsWord answer e output × (errors.new ≡ errors.old))
     ⊎ (Stays old new × ((why : Cause) × Fails why × Refuses why e output errors))
 
+-- an organization was removed that had the same record in another store: the records are what the rule says, and the answer was printed. Or
+-- the records differed, or an allocation or a store failed, this cause was reported, and no record is seen to have changed
+abbrev pub IsRemovedCopied : (Cause → Type 0) → Bool → List ℕ → (from old new : List ℕ → Option Organization) → Exit → Stream → Errors → Type 0
+IsRemovedCopied Fails is_forced org from old new e output errors =
+    ((answer : AdminAnswer) × (from org ≡ old org) × (effect answer (new org) ≡ org_removed is_forced (old org)) × ((other : List ℕ) → other ≢ org → new other ≡ old other)
+    × ReportsWord answer e output × (errors.new ≡ errors.old))
+    ⊎ (Stays old new × ((why : Cause) × Fails why × Refuses why e output errors))
+
+-- the answer to a removal is printed; or that the records differ (`None`), or that an allocation or a store failed, with this cause
+abbrev pub ReportsRemoval : (Cause → Type 0) → Result (Option AdminAnswer) Down → Exit → Stream → Errors → Type 0
+ReportsRemoval Fails (Ok (Some answer)) e output errors = ReportsWord answer e output × (errors.new ≡ errors.old)
+ReportsRemoval Fails (Ok None) e output errors = (why : Cause) × Fails why × Refuses why e output errors
+ReportsRemoval Fails (Err refused) e output errors = (why : Cause) × Fails why × Refuses why e output errors
+
 -- every organization was copied to an empty target, and `ok` was printed. Or the target had some, none was copied, and that was printed. Or an
 -- allocation or a store failed before, which was reported, and only some were copied
 abbrev pub IsCompacted : (from old new : List ℕ → Option Organization) → Exit → Stream → Errors → Type 0
@@ -309,6 +324,7 @@ Does schema (carries db command) input e output errors = AnswersCommand command 
 Does schema (adds_token db org name role bounds) input e output errors = AddsToken input e output errors
 Does schema (checks_file db) input e output errors = AnswersFaults e output
 Does schema (copies from to org) input e output errors = AnswersLine e output
+Does schema (removes_copied db copy org is_forced) input e output errors = AnswersLine e output
 Does schema (compacts from to) input e output errors = AnswersFilled e output
 Does schema (serves db site count timeouts logs checks operates) input e output errors = ServesBehind site operates logs input e output errors
 Does schema (carries_all db) input e output errors = AnswersBatch input e output errors
@@ -533,18 +549,18 @@ module _ {K F : Type 0} (k : keep.Ghosts K) (f : files.Ghosts F K) where
     pub sound_ours : k.clean store → f.is_ours opened → k.sound opened × k.sound store
     pub keyed_ours : k.clean store → f.is_ours opened → k.keyed opened × k.keyed store
 
-  -- the source is not opened, or its tables have faults
-  abbrev pub RefusesSource : List ℕ → F → F → Exit → Stream → Errors → Type 0
-  RefusesSource path old new e output errors =
-      RefusesToOpen path opening.Existing old new e output errors ⊎ RefusesUnsound path cause.SourceFaults old new e output errors
+  -- the source is not opened, or its tables have faults, with this cause
+  abbrev pub RefusesSource : List ℕ → Cause → F → F → Exit → Stream → Errors → Type 0
+  RefusesSource path why old new e output errors =
+      RefusesToOpen path opening.Existing old new e output errors ⊎ RefusesUnsound path why old new e output errors
 
   -- stores were opened at two paths, one after the other; the first has no fault
-  pub record OpensBoth (from to : List ℕ) (old new : F) (source target : K) (errors : Errors) : Type 0 where
+  pub record OpensBoth (from to : List ℕ) (opening : Opening) (old new : F) (source target : K) (errors : Errors) : Type 0 where
     pub differ : from ≢ to
     pub mid : F
     pub noted : Reported
     pub first : OpensSound from old mid source (error_stream errors.old noted)
-    pub second : Opens to opening.Target mid new target (error_stream noted errors.new)
+    pub second : Opens to opening mid new target (error_stream noted errors.new)
 
   -- they were closed there, the second one first
   pub record ClosesBoth (from to : List ℕ) (old new : F) (source target : K) (errors : Errors) : Type 0 where
@@ -555,7 +571,7 @@ module _ {K F : Type 0} (k : keep.Ghosts K) (f : files.Ghosts F K) where
 
   -- a store was opened at one path, and the one at the other path is not opened. So the first was closed as it was, and nothing changed at any
   -- other path
-  pub record RefusesSecond (from to : List ℕ) (old new : F) (e : Exit) (output : Stream) (errors : Errors) : Type 0 where
+  pub record RefusesSecond (from to : List ℕ) (opening : Opening) (old new : F) (e : Exit) (output : Stream) (errors : Errors) : Type 0 where
     pub differ : from ≢ to
     pub source : K
     pub opened : F
@@ -563,19 +579,19 @@ module _ {K F : Type 0} (k : keep.Ghosts K) (f : files.Ghosts F K) where
     pub noted : Reported
     pub reported : Reported
     pub first : OpensSound from old opened source (error_stream errors.old noted)
-    pub second : RefusesToOpen to opening.Target opened unopened e output (error_stream noted reported)
+    pub second : RefusesToOpen to opening opened unopened e output (error_stream noted reported)
     pub closes : Closes from unopened new source (error_stream reported errors.new)
     pub others : OthersStay f.holds from old new
 
   -- one of two stores is not opened; or the paths are the same, and nothing is opened
-  abbrev pub RefusesBoth : List ℕ → List ℕ → F → F → Exit → Stream → Errors → Type 0
-  RefusesBoth from to old new e output errors =
+  abbrev pub RefusesBoth : List ℕ → List ℕ → Opening → Cause → F → F → Exit → Stream → Errors → Type 0
+  RefusesBoth from to opening why old new e output errors =
       ((from ≡ to) × (new ≡ old) × Refuses cause.InUse e output errors)
-      ⊎ (((from ≢ to) × RefusesSource from old new e output errors) ⊎ RefusesSecond from to old new e output errors)
+      ⊎ (((from ≢ to) × RefusesSource from why old new e output errors) ⊎ RefusesSecond from to opening old new e output errors)
 
-  -- it was copied from the store at one path, whose tables have no fault, to the store at another, and this became of the records, if the first
-  -- `is_ours`. What that left lies there now, and nothing else changed
-  pub record CopiesOver (from to : List ℕ) (Becomes : K → (from old new : List ℕ → Option Organization) → Errors → Type 0) (Fails : K → Cause → Type 0) (old new : F) (errors : Errors) : Type 0 where
+  -- the store at one path, whose tables have no fault, was read, and the one at another path was changed: this became of the records, if the
+  -- first `is_ours`. What that left lies there now, and nothing else changed
+  pub record CopiesOver (from to : List ℕ) (opening : Opening) (Becomes : K → (from old new : List ℕ → Option Organization) → Errors → Type 0) (Fails : K → Cause → Type 0) (old new : F) (errors : Errors) : Type 0 where
     pub source_before : K
     pub source_after : K
     pub target_before : K
@@ -583,7 +599,7 @@ module _ {K F : Type 0} (k : keep.Ghosts K) (f : files.Ghosts F K) where
     pub worked : F
     pub noted : Reported
     pub reported : Reported
-    pub opens : OpensBoth from to old worked source_before target_before (error_stream errors.old noted)
+    pub opens : OpensBoth from to opening old worked source_before target_before (error_stream errors.old noted)
     pub copies : CopiesBetween k (λ source before after. Becomes target_after source before after (error_stream noted reported)) source_before source_after target_before target_after
     pub ours : k.clean target_after → k.sound target_before → k.clean source_after → f.is_ours opens.first.opened
         → Becomes target_after (k.rows opens.first.opened) (k.rows target_before) (k.rows target_after) (error_stream noted reported)
@@ -596,14 +612,25 @@ module _ {K F : Type 0} (k : keep.Ghosts K) (f : files.Ghosts F K) where
   -- an organization is copied from the store at one path to the store at another
   abbrev pub CopiesAt : List ℕ → List ℕ → List ℕ → F → F → Exit → Stream → Errors → Type 0
   CopiesAt from to org old new e output errors =
-      CopiesOver from to (λ left source before after reported. IsCopied (HasFailed left) org source before after e output reported) HasFailed old new errors
-      ⊎ RefusesBoth from to old new e output errors
+      CopiesOver from to opening.Target (λ left source before after reported. IsCopied (HasFailed left) org source before after e output reported) HasFailed old new errors
+      ⊎ RefusesBoth from to opening.Target cause.SourceFaults old new e output errors
+
+  -- the records of an organization differ, or a store failed
+  abbrev pub DiffersOrFails : K → Cause → Type 0
+  DiffersOrFails after why = (why ≡ cause.NotCopied) ⊎ HasFailed after why
+
+  -- an organization is removed from the store at one path, if the store at another path, whose tables have no fault, has the same record. The
+  -- records there are unchanged
+  abbrev pub RemovesCopiedAt : List ℕ → List ℕ → Bool → List ℕ → F → F → Exit → Stream → Errors → Type 0
+  RemovesCopiedAt path copy is_forced org old new e output errors =
+      CopiesOver copy path opening.Existing (λ left from before after reported. IsRemovedCopied (DiffersOrFails left) is_forced org from before after e output reported) DiffersOrFails old new errors
+      ⊎ RefusesBoth copy path opening.Existing cause.CopyFaults old new e output errors
 
   -- every organization is copied in this way
   abbrev pub CompactsAt : List ℕ → List ℕ → F → F → Exit → Stream → Errors → Type 0
   CompactsAt from to old new e output errors =
-      CopiesOver from to (λ left source before after reported. IsCompacted source before after e output reported) (λ left why. why ≡ cause.Unfinished) old new errors
-      ⊎ RefusesBoth from to old new e output errors
+      CopiesOver from to opening.Target (λ left source before after reported. IsCompacted source before after e output reported) (λ left why. why ≡ cause.Unfinished) old new errors
+      ⊎ RefusesBoth from to opening.Target cause.SourceFaults old new e output errors
 
 -- the program's environment besides its streams: files, network and clock
 pub record Environment (F N C : Type 0) : Type 0 where
@@ -699,6 +726,8 @@ module _ {K F N C R W : Type 0} (k : keep.Ghosts K) (f : files.Ghosts F K) (n : 
       AddsTokenAt k f db (λ secret. TokenAdd org name role secret bounds) input old.files new.files e output errors × IsAlone old new
   Leaves (checks_file db) input old new e output errors = ChecksAt k f db old.files new.files e output errors × IsAlone old new
   Leaves (copies from to org) input old new e output errors = CopiesAt k f from to org old.files new.files e output errors × IsAlone old new
+  Leaves (removes_copied db copy org is_forced) input old new e output errors =
+      RemovesCopiedAt k f db copy is_forced org old.files new.files e output errors × IsAlone old new
   Leaves (compacts from to) input old new e output errors = CompactsAt k f from to old.files new.files e output errors × IsAlone old new
   Leaves (serves db site count timeouts logs checks operates) input old new e output errors =
       ServesWithDoor operates checks db site timeouts logs count input old new e output errors

@@ -8,7 +8,7 @@ ghost use Rattle.program.specs.Outcomes.{stream, error_stream, AnswersLine, Answ
 ghost use Rattle.program.specs.declared.reasons.Cause.{Cause as AnyCause};
 
 use crate::checking::check_first;
-use crate::environment::{Files, Opening};
+use crate::environment::{CopyTask, Files, Opening};
 use crate::exits::Exit;
 use crate::openings::{close_after, close_both, open_one};
 use crate::operating::failure;
@@ -20,22 +20,23 @@ use machine::{AdminAnswer, Keep, OrgRow};
 use std::alloc::Global;
 use std::io::Write;
 
-/// Opens the store at a path if its tables have no fault. Otherwise reports why not, and closes it.
+/// Opens the store at a path if its tables have no fault. Otherwise reports why not, with this cause for faults, and closes it.
 fn open_sound<K: Keep, F: Files<K>, O: Write, E: ErrorStream>(
     alloc: Global,
     files: &mut F,
     path: &str,
+    why: Cause,
     output: &mut O,
     errors: &mut E,
 ) -> Result<K, Exit>
     ensures opened { IfOk result (λ store. OpensSound K.Keep F.Files path.now files.old files.new store (error_stream (E.reported errors.old) (E.reported errors.new)) × (O.contents output.new ≡ O.contents output.old)) }
-    ensures refused { IfErr result (λ exit. RefusesSource K.Keep F.Files path.now files.old files.new exit (stream (O.contents output.old) (O.contents output.new)) (error_stream (E.reported errors.old) (E.reported errors.new))) }
+    ensures refused { IfErr result (λ exit. RefusesSource K.Keep F.Files path.now why files.old files.new exit (stream (O.contents output.old) (O.contents output.new)) (error_stream (E.reported errors.old) (E.reported errors.new))) }
 {
     let mut store = match open_one(files, path, Opening::Existing, output, errors) {
         Ok(store) => store,
         Err(exit) => return Err(exit),
     };
-    if check_first(alloc, files, &mut store, Cause::SourceFaults, errors) {
+    if check_first(alloc, files, &mut store, why, errors) {
         return Ok(store);
     }
     close_after(files, path, store, errors);
@@ -43,26 +44,28 @@ fn open_sound<K: Keep, F: Files<K>, O: Write, E: ErrorStream>(
 }
 
 /// Opens the stores at two different paths, the first one first, or reports why one was not opened. If the first one's tables
-/// have faults, the second is not opened. If the second is not opened, the first is closed.
-fn open_both<K: Keep, F: Files<K>, O: Write, E: ErrorStream>(
+/// have faults, the second is not opened, with this cause. If the second is not opened, the first is closed.
+pub fn open_both<K: Keep, F: Files<K>, O: Write, E: ErrorStream>(
     alloc: Global,
     files: &mut F,
     from: &str,
     to: &str,
+    opening: Opening,
+    why: Cause,
     output: &mut O,
     errors: &mut E,
 ) -> Result<(K, K), Exit>
-    ensures opened { IfOk result (λ stores. OpensBoth K.Keep F.Files from.now to.now files.old files.new stores.0 stores.1 (error_stream (E.reported errors.old) (E.reported errors.new)) × (O.contents output.new ≡ O.contents output.old)) }
-    ensures refused { IfErr result (λ exit. RefusesBoth K.Keep F.Files from.now to.now files.old files.new exit (stream (O.contents output.old) (O.contents output.new)) (error_stream (E.reported errors.old) (E.reported errors.new))) }
+    ensures opened { IfOk result (λ stores. OpensBoth K.Keep F.Files from.now to.now opening files.old files.new stores.0 stores.1 (error_stream (E.reported errors.old) (E.reported errors.new)) × (O.contents output.new ≡ O.contents output.old)) }
+    ensures refused { IfErr result (λ exit. RefusesBoth K.Keep F.Files from.now to.now opening why files.old files.new exit (stream (O.contents output.old) (O.contents output.new)) (error_stream (E.reported errors.old) (E.reported errors.new))) }
 {
     if from == to {
         return Err(refuse(output, errors, Cause::InUse));
     }
-    let source = match open_sound(alloc, files, from, output, errors) {
+    let source = match open_sound(alloc, files, from, why, output, errors) {
         Ok(source) => source,
         Err(exit) => return Err(exit),
     };
-    match open_one(files, to, Opening::Target, output, errors) {
+    match open_one(files, to, opening, output, errors) {
         Ok(target) => Ok((source, target)),
         Err(exit) => {
             close_after(files, from, source, errors);
@@ -106,11 +109,20 @@ pub fn copy_one<K: Keep, F: Files<K>, O: Write, E: ErrorStream>(
     ensures line { AnswersLine result (stream (O.contents output.old) (O.contents output.new)) }
     ensures copies { CopiesAt K.Keep F.Files from.now to.now org.now files.old files.new result (stream (O.contents output.old) (O.contents output.new)) (error_stream (E.reported errors.old) (E.reported errors.new)) }
 {
-    let (mut source, mut target) = match open_both(alloc, files, from, to, output, errors) {
+    let (mut source, mut target) = match open_both(
+        alloc,
+        files,
+        from,
+        to,
+        Opening::Target,
+        Cause::SourceFaults,
+        output,
+        errors,
+    ) {
         Ok(stores) => stores,
         Err(exit) => return exit,
     };
-    let answered = files.copy(alloc, org, &mut source, &mut target);
+    let answered = files.copy(alloc, CopyTask::Make, org, &mut source, &mut target);
     let exit = say_copied(files, &mut target, output, errors, &answered);
     close_both(files, from, source, to, target, errors);
     exit
@@ -129,7 +141,7 @@ fn copy_named<K: Keep, F: Files<K>>(
     let Ok(org) = OrgName::read(alloc, name) else {
         return Err(Down);
     };
-    match files.copy(alloc, &org, from, to) {
+    match files.copy(alloc, CopyTask::Make, &org, from, to) {
         Ok(_) => Ok(()),
         Err(down) => Err(down),
     }
@@ -239,7 +251,16 @@ pub fn compact<K: Keep, F: Files<K>, O: Write, E: ErrorStream>(
     ensures line { AnswersFilled result (stream (O.contents output.old) (O.contents output.new)) }
     ensures copies { CompactsAt K.Keep F.Files from.now to.now files.old files.new result (stream (O.contents output.old) (O.contents output.new)) (error_stream (E.reported errors.old) (E.reported errors.new)) }
 {
-    let (mut source, mut target) = match open_both(alloc, files, from, to, output, errors) {
+    let (mut source, mut target) = match open_both(
+        alloc,
+        files,
+        from,
+        to,
+        Opening::Target,
+        Cause::SourceFaults,
+        output,
+        errors,
+    ) {
         Ok(stores) => stores,
         Err(exit) => return exit,
     };

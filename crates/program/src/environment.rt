@@ -6,9 +6,8 @@ ghost use Rattle.command_line.specs.declared.timeouts.Timeouts.{Timeouts as AnyT
 ghost use Rattle.program.specs.declared.environment.Standing.{Standing as AnyStanding};
 ghost use Rattle.program.specs.declared.reasons.Cause.{Cause as AnyCause};
 ghost use Rattle.program.specs.declared.reasons.OpenFault.{OpenFault as AnyFault};
-ghost use Rattle.machine.specs.Effects.{effect};
 ghost use Rattle.machine.specs.StoreCalls.{Unchanged, LastsWhere};
-ghost use Rattle.program.specs.Moves.{org_copied};
+ghost use Rattle.program.specs.Moves.{AnswersTask};
 ghost use Rattle.program.specs.Paths.{AllStay, OthersStay, LeavesVacant, makes};
 ghost use Rattle.program.specs.declared.totals.Findings.{Findings as AnyFindings};
 ghost use Rattle.program.specs.Replies.{AreReplies};
@@ -33,6 +32,15 @@ pub enum Opening {
     Created,
     /// The database at `--to`. It is created if there is no file or an empty one.
     Target,
+}
+
+/// What is done with an organization in two stores.
+#[derive(Clone, Copy)]
+pub enum CopyTask {
+    /// It is copied from one to the other.
+    Make,
+    /// Its records in both are compared.
+    Compare,
 }
 
 /// The databases, each by its path. An open database is a `K`.
@@ -116,18 +124,19 @@ pub trait Files<K: Keep> {
         ensures unchanged { Unchanged K.rows K.clean K.sound K.keyed K.shielded store.old store.new }
         ensures sound { IfOk result (λ findings. findings.faults ≡ [] → K.clean store.new → is_ours store.old → K.sound store.old × K.keyed store.old) };
 
-    /// Copies an organization from one store to another, in one transaction of the target. The records of other organizations do
-    /// not change in either. Fails if an allocation or a store fails.
+    /// Copies an organization from one store to another, in one transaction of the target, or compares its records in both. The
+    /// records of other organizations do not change in either. Fails if an allocation or a store fails.
     fn copy(
         &self,
         alloc: Global,
+        task: CopyTask,
         org: &OrgName,
         from: &mut K,
         to: &mut K,
     ) -> Result<AdminAnswer, Down>
         ensures source { Unchanged K.rows K.clean K.sound K.keyed K.shielded from.old from.new }
         ensures lasts { LastsWhere (K.clean from.new × K.sound from.old) K.clean K.sound K.keyed K.shielded to.old to.new }
-        ensures own { K.clean to.new → K.sound to.old → K.clean from.new → K.sound from.old → IfOk result (λ answer. effect answer (K.rows to.new org.now) ≡ org_copied (K.rows from.old org.now) (K.rows to.old org.now)) }
+        ensures own { K.clean to.new → K.sound to.old → K.clean from.new → K.sound from.old → IfOk result (λ answer. AnswersTask task answer (K.rows from.old org.now) (K.rows to.old org.now) (K.rows to.new org.now)) }
         ensures others { K.clean to.new → K.sound to.old → K.clean from.new → K.sound from.old → (o : List ℕ) → o ≢ org.now → K.rows to.new o ≡ K.rows to.old o }
         ensures err { K.clean to.new → OnErr result ((o : List ℕ) → K.rows to.new o ≡ K.rows to.old o) };
 

@@ -16,6 +16,7 @@ mod logs;
 mod openings;
 mod operating;
 pub mod reasons;
+mod removing;
 pub mod replays;
 pub mod replies;
 pub mod running;

@@ -64,6 +64,10 @@ pub enum Cause {
     Faults,
     /// The tables of the file to copy from have faults.
     SourceFaults,
+    /// The tables of the file that should have a copy have faults.
+    CopyFaults,
+    /// The file that should have a copy of the organization does not have the same record.
+    NotCopied,
     /// An argument is not UTF-8.
     Encoding,
     /// A standard stream is closed, and `/dev/null` could not be opened in its place.
@@ -132,6 +136,12 @@ impl Cause {
                 "custody: the file's tables have faults, so the service does not start:\n",
             Cause::SourceFaults => {
                 "custody: the file's tables have faults, so nothing is copied:\n"
+            }
+            Cause::CopyFaults => {
+                "custody: the tables of the --copied-to file have faults, so nothing is removed:\n"
+            }
+            Cause::NotCopied => {
+                "custody: the --copied-to file does not hold the same organization, so nothing is removed\n"
             }
             Cause::Encoding => "custody: an argument is not UTF-8\n",
             Cause::NoNull =>

@@ -15,6 +15,7 @@ use crate::errors::note;
 use crate::exits::Exit;
 use crate::operating::{carry_out, read_and_add, say_why};
 use crate::reasons::Cause;
+use crate::removing::remove_copied;
 use crate::replays::replay_frames;
 use crate::replies::{print_version, refuse};
 use crate::starting::serve_with_door;
@@ -58,6 +59,12 @@ fn run_order<K: Keep, F: Files<K>, N: Connections, C: Clock, I: Read, O: Write, 
         }
         Order::Check { db } => check(alloc, files, db, output, errors),
         Order::Copy { from, to, org } => { copy_one(alloc, files, from, to, &org, output, errors) }
+        Order::RemoveCopied {
+            db,
+            copy,
+            org,
+            is_forced,
+        } => remove_copied(alloc, files, db, copy, &org, is_forced, output, errors),
         Order::Compact { from, to } => compact(alloc, files, from, to, output, errors),
         Order::Serve {
             db,

@@ -1,5 +1,5 @@
 -- What is answered where an organization is copied.
-use Rattle.std.proofs.Common.{◌≡◌, ap, Option, Some, None}
+use Rattle.std.proofs.Common.{◌≡◌, ap, Option, Some, None, Result, Ok, Err, OnErr}
 use Rattle.machine.specs.Effects.{effect}
 use Rattle.machine.specs.declared.keeps.AdminAnswer.{AdminAnswer}
 use Rattle.machine.specs.declared.keeps.AdminAnswer.TheVariants.{Done, Exists, Absent, InUse, Organizations, Tokens}
@@ -20,3 +20,8 @@ copied_by_rule Absent (Some o) before after c = absurd (cc c.0)
 copied_by_rule InUse from before after c = absurd c
 copied_by_rule (Organizations rows) from before after c = absurd c
 copied_by_rule (Tokens rows) from before after c = absurd c
+
+-- what holds in any case holds where a call failed
+pub on_failure : {X E P : Type 0} (result : Result X E) → P → OnErr result P
+on_failure (Ok x) is = tt
+on_failure (Err e) is = is

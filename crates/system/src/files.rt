@@ -30,7 +30,7 @@ use crate::tuning::{file_bytes, options};
 use basis::{Bytes, Down, OrgName};
 use machine::{AdminAnswer, Fault, Keep};
 use pages::ShaKey;
-use program::environment::{Files, Opening};
+use program::environment::{CopyTask, Files, Opening};
 use program::reasons::{Cause, OpenFault, OtherSchema};
 use program::totals::{Findings, Totals};
 use serve::Step;
@@ -360,11 +360,12 @@ impl<S: Start> Files<FileKeep<S>> for DiskFiles<'_, S> {
     fn copy(
         &self,
         alloc: Global,
+        task: CopyTask,
         org: &OrgName,
         from: &mut FileKeep<S>,
         to: &mut FileKeep<S>,
     ) -> Result<AdminAnswer, Down> {
-        copy_between(alloc, org, from, to)
+        copy_between(alloc, task, org, from, to)
     }
 
     fn close(&mut self, _path: &str, store: FileKeep<S>) -> Result<(), Down> {

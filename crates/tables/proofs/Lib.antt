@@ -55,6 +55,7 @@ pub mod GoneSteps
 pub mod LastGone
 pub mod WholeRows
 pub mod Copying
+pub mod Comparing
 pub mod Arriving
 pub mod Blank
 pub mod Brought

@@ -1,5 +1,6 @@
 -- Contracts between functions. Nobody has to believe this folder: the definitions beside it say what public functions promise.
 pub mod Imports
+pub mod Comparing
 pub mod Copies
 pub mod Counting
 pub mod Removals

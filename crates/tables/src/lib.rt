@@ -3,6 +3,7 @@
 
 mod askers;
 mod callers;
+mod comparisons;
 mod copies;
 mod counts;
 mod imports;
@@ -16,6 +17,7 @@ mod operators;
 mod points;
 mod removals;
 mod runs;
+mod sames;
 mod scans;
 mod sizes;
 mod steps;

@@ -15,7 +15,7 @@ ghost use Rattle.tables.specs.declared.store.TheConstants.{LONG_LOG};
 
 use crate::memo::Memo;
 use crate::opening::ready;
-use crate::{operators, points, scans, transactions};
+use crate::{comparisons, operators, points, scans, transactions};
 use basis::{Down, Items, OrgName, Text};
 use machine::{AdminAnswer, Fault, Keep};
 use pages::PageKey;
@@ -191,6 +191,25 @@ impl<S: Alter, K: PageKey> SqlKeep<S, K> {
                 self.seen = Snapshot::of(&self.conn);
                 Ok(answer)
             }
+            Err(_) => Err(Down),
+        }
+    }
+
+    /// Whether an organization has the same record in another store, or is in neither. Changes nothing. Fails if
+    /// memory or a store refuses.
+    pub fn is_same_in(
+        &mut self,
+        alloc: Global,
+        org: &OrgName,
+        other: &mut SqlKeep<S, K>,
+    ) -> Result<bool, Down>
+        ensures unchanged { Unchanged ⟦<SqlKeep<S, K> as Keep>⟧.rows ⟦<SqlKeep<S, K> as Keep>⟧.clean ⟦<SqlKeep<S, K> as Keep>⟧.sound ⟦<SqlKeep<S, K> as Keep>⟧.keyed ⟦<SqlKeep<S, K> as Keep>⟧.shielded self.old self.new }
+        ensures there { Unchanged ⟦<SqlKeep<S, K> as Keep>⟧.rows ⟦<SqlKeep<S, K> as Keep>⟧.clean ⟦<SqlKeep<S, K> as Keep>⟧.sound ⟦<SqlKeep<S, K> as Keep>⟧.keyed ⟦<SqlKeep<S, K> as Keep>⟧.shielded other.old other.new }
+        ensures same { ⟦<SqlKeep<S, K> as Keep>⟧.clean self.new → ⟦<SqlKeep<S, K> as Keep>⟧.sound self.old → ⟦<SqlKeep<S, K> as Keep>⟧.clean other.new → ⟦<SqlKeep<S, K> as Keep>⟧.sound other.old
+            → IfOk result (λ same. IsTrue same → ⟦<SqlKeep<S, K> as Keep>⟧.rows self.old org.now ≡ ⟦<SqlKeep<S, K> as Keep>⟧.rows other.old org.now) }
+    {
+        match comparisons::same_organization(alloc, &mut self.conn, &mut other.conn, org.as_str()) {
+            Ok(same) => Ok(same),
             Err(_) => Err(Down),
         }
     }

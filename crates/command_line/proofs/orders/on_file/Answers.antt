@@ -17,4 +17,5 @@ returns-in_default-clause-syntax c is =
     (passed (bytes_eq command (codes "org-copy")) _ _ (λ e. c.in_default.not-text ((bytes_eq-Decides command (codes "org-copy")).0 e))
     (passed (bytes_eq command (codes "compact")) _ _ (λ e. c.in_default.not-compact ((bytes_eq-Decides command (codes "compact")).0 e))
     (passed (bytes_eq command (codes "token-add")) _ _ (λ e. c.in_default.not-text-2 ((bytes_eq-Decides command (codes "token-add")).0 e))
-    (c.carrying.ensures.syntax is))))))
+    (passed (bytes_eq command (codes "org-remove")) _ _ (λ e. c.in_default.not-text-3 ((bytes_eq-Decides command (codes "org-remove")).0 e))
+    (c.carrying.ensures.syntax is)))))))

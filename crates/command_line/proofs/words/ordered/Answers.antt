@@ -31,7 +31,7 @@ same_unread found command given (Value argument) asked misfit is = (asked ∙ is
 same_unread found command given Down asked misfit is = tt
 
 values_agree : (f : Found) → given_found f ≡ given_in (rows_of f)
-values_agree f = rw (first_value-rows f (codes "db"), first_value-rows f (codes "to"), first_value-rows f (codes "org"), first_value-rows f (codes "limit"), first_value-rows f (codes "name"), first_value-rows f (codes "role"), first_value-rows f (codes "until"), first_value-rows f (codes "prefix"), first_value-rows f (codes "port"), first_value-rows f (codes "socket"), first_value-rows f (codes "count"), first_value-rows f (codes "idle"), first_value-rows f (codes "most"), first_value-rows f (codes "unlimited"), first_value-rows f (codes "log"), first_value-rows f (codes "check"), first_value-rows f (codes "operator"), first_value-rows f (codes "force")) refl
+values_agree f = rw (first_value-rows f (codes "db"), first_value-rows f (codes "to"), first_value-rows f (codes "copied-to"), first_value-rows f (codes "org"), first_value-rows f (codes "limit"), first_value-rows f (codes "name"), first_value-rows f (codes "role"), first_value-rows f (codes "until"), first_value-rows f (codes "prefix"), first_value-rows f (codes "port"), first_value-rows f (codes "socket"), first_value-rows f (codes "count"), first_value-rows f (codes "idle"), first_value-rows f (codes "most"), first_value-rows f (codes "unlimited"), first_value-rows f (codes "log"), first_value-rows f (codes "check"), first_value-rows f (codes "operator"), first_value-rows f (codes "force")) refl
 
 -- what is asked for, and the first misfit, of the command and the values that `clap` finds
 of_found : {X : Type 0} (F : Option (Text × List Row) → X) (G : Text → Given → X) → ((p : Text × List Row) → F (Some p) ≡ G p.0 (given_in p.1)) → (c : After-read_order) → F (subcommand_rows_of c.args.matches.now) ≡ G c.in-Some.name.now (given_of c.of.result)

@@ -1,4 +1,5 @@
 use Rattle.std.proofs.Common.{List, ℕ, Option, inl, inr, subst}
+use Rattle.program.specs.declared.environment.Opening.TheVariants.{Target}
 use Rattle.program.specs.Outcomes.{stream, error_stream, HasFailed, IsCopied}
 use Rattle.program.proofs.CopyLemmas.{copied, copies_checked, copies_over}
 use Rattle.program.proofs.copying.copy_one.Goals as goal
@@ -20,7 +21,7 @@ returns-clause-copies g c =
     let left = said.new.target in
     let fails = HasFailed g.K.Keep g.F.Files in
     let reported = error_stream (err c.open_both.new.errors) (err said.new.errors) in
-    inl (copies_over g.K.Keep g.F.Files c.args.from.now c.args.to.now (λ at from old new errors. IsCopied (fails at) org from old new said.result (stream (out c.args.output.now) (out said.new.output)) errors) fails
+    inl (copies_over g.K.Keep g.F.Files c.args.from.now c.args.to.now Target (λ at from old new errors. IsCopied (fails at) org from old new said.result (stream (out c.args.output.now) (out said.new.output)) errors) fails
     c.args.files.now c.open_both.new.files c.close_both.new.files source c.copy-answered.new.from target left
     (err c.args.errors.now) (err c.open_both.new.errors) (err said.new.errors) (err c.close_both.new.errors) c.in-Ok.ensures.opened.0
     (copies_checked g.K.Keep _ source c.copy-answered.new.from target copied_to left

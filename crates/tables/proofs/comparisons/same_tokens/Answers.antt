@@ -1,0 +1,19 @@
+use Rattle.sqlite.specs.declared.error.Error.{Error}
+use Rattle.tables.specs.Inner.Comparing.{entry_of}
+use Rattle.std.proofs.Common.{refl}
+use Rattle.tables.proofs.Comparing.{differ, mapped_all, none_yet, one_more}
+use Rattle.tables.proofs.comparisons.same_tokens.Goals as goal
+
+pub items-init : goal.items-init
+items-init g c = none_yet g.S.Store (entry_of c.args.org.now) c.args.list.now c.args.one.now c.args.other.now
+
+pub items-preserved : goal.items-preserved
+items-preserved g c =
+    one_more g.S.Store (entry_of c.args.org.now) c.args.list.now c.items.token-index c.token-item.result c.args.one.now c.items.one c.same_token.new.one c.args.other.now c.items.other c.same_token.new.other c.in_ok-same_token.field-0
+    c.items-test.true c.token-item.is c.if-not-branch.false c.items.invariant c.in_ok-same_token.ensures.first c.in_ok-same_token.ensures.second c.in_ok-same_token.ensures.same
+
+pub returns-then-not-branch-clause-same : goal.returns-then-not-branch-clause-same
+returns-then-not-branch-clause-same g c = differ g.S.Store Error _ c.args.one.now c.same_token.new.one c.args.other.now c.same_token.new.other _ refl
+
+pub returns-clause-same : goal.returns-clause-same
+returns-clause-same g c = mapped_all g.S.Store (entry_of c.args.org.now) c.args.list.now c.items.token-index c.args.one.now c.items.one c.args.other.now c.items.other c.items-test.false c.items.invariant
