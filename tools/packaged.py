@@ -26,6 +26,7 @@ PACKAGE = HERE + "/package"
 EPOCH = "1700000000"     # 2023-11-14 22:13:20 UTC
 DOC, SHARED, UNITS = "usr/share/doc/custody", "usr/share/custody", "usr/lib/systemd/system"
 JOURNAL = "usr/lib/systemd/journald@custody.conf.d/custody.conf"
+EXAMPLES = ["Caddyfile", "Containerfile", "corosync.conf", "custody.crm", "custody.res", "nginx.conf"]
 
 
 def right(what):
@@ -133,7 +134,7 @@ def files_due():
     due = {"usr/bin/custody": "-rwxr-xr-x"}
     due.update(("%s/%s" % (SHARED, name), "-rwxr-xr-x" if name != "functions.sh" else "-rw-r--r--") for name in operating(".sh"))
     plain = ["%s/%s" % (UNITS, name) for name in operating(".service", ".timer", ".socket", ".path", ".target")]
-    plain += ["%s/examples/%s" % (DOC, name) for name in ["Caddyfile", "Containerfile", "nginx.conf"]]
+    plain += ["%s/examples/%s" % (DOC, name) for name in EXAMPLES]
     plain += [JOURNAL, DOC + "/changelog.gz", DOC + "/copyright", "usr/lib/sysusers.d/custody.conf", "usr/lib/tmpfiles.d/custody.conf"]
     plain += ["usr/share/bash-completion/completions/custody", "usr/share/lintian/overrides/custody", "usr/share/man/man1/custody.1.gz"]
     plain += [place for _, place in pages()]
@@ -162,7 +163,7 @@ def has_contents(program):
     said("what both print", ran([package.file("usr/bin/custody"), "--version"])[:2], ran([program.path, "--version"])[:2])
     same = [("docs/operating/" + name, "%s/%s" % (SHARED, name)) for name in operating(".sh")]
     same += [("docs/operating/" + name, "%s/%s" % (UNITS, name)) for name in operating(".service", ".timer", ".socket", ".path", ".target")]
-    same += [("docs/operating/" + name, "%s/examples/%s" % (DOC, name)) for name in ["Caddyfile", "Containerfile", "nginx.conf"]]
+    same += [("docs/operating/" + name, "%s/examples/%s" % (DOC, name)) for name in EXAMPLES]
     same += [("docs/operating/journald@custody.conf", JOURNAL), *pages()]
     for path, place in same:
         content = package.read(place)

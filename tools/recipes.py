@@ -57,8 +57,8 @@ UNITS = ["/etc/systemd/system/", "/usr/lib/systemd/system/"]
 LEFT = {"rt ci ": "it proves everything, for hours"}
 # What builds the program: it leaves the given one.
 BUILDER = '#!/bin/sh\n[ "$1 $3" = "custody -O2" ] && cp /given "$2" && echo "$2"\n'
-# The heading whose blocks are not run: they need two machines, which tools/standby.py starts.
-PAIR = "A standby"
+# The headings whose blocks are not run: they need two machines, as tools/standby.py starts them.
+PAIR = ["A standby", "Failover by itself", "Failover by hand"]
 # The last line of a block, which never ends: it is run in a session of its own, and ended.
 ENDLESS = "exchanges -f "
 
@@ -360,7 +360,7 @@ class Page:
     def done(self):
         """How many blocks were taken: each, except those of a pair."""
         for place, (heading, text) in enumerate(self.blocks):
-            if heading == PAIR:
+            if heading in PAIR:
                 Shell.left.append("%s: %s (it needs two machines)" % (self.name, text.splitlines()[0]))
             elif place not in self.taken:
                 raise Wrong("%s, %s: nothing runs the block %s" % (self.name, heading, text))
