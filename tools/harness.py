@@ -76,7 +76,8 @@ BLAMES = re.compile(
 BLAMELESS = re.compile(
     rb"^custody: (?:another program has the file open|no permission to .*|the path does not lead to a file.*|the folder of the --.* file does not exist"
     rb"|there is no file at the path.*|the file is missing or empty.*|the file is a database without.*|a rollback journal lies.*|the file is damaged.*"
-    rb"|the file is not a database.*|the port is in use|could not listen .*|another program answers at the socket|something else than a socket.*|the file's tables have faults.*)$",
+    rb"|the file is not a database.*|the port is in use|could not listen .*|another program answers at the socket|something else than a socket.*|the file's tables have faults.*"
+    rb"|the --copied-to file does not hold.*|the tables of the --copied-to file have faults.*)$",
     re.M,
 )
 REPLIED_503 = re.compile(rb"^custody: connection \d+: .*; replied 503$", re.M)
