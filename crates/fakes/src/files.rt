@@ -53,7 +53,9 @@ fn lines_of(alloc: Global, faults: &[&str]) -> Result<Items<Text>, Down>
 
 impl<'a> MemoryFile<'a> {
     /// A path at which nothing lies yet.
-    pub fn new(alloc: Global, path: &'a str) -> MemoryFile<'a> {
+    pub fn new(alloc: Global, path: &'a str) -> MemoryFile<'a>
+        ensures vacant { ⟦<MemoryFile<'a> as Files<PlainKeep>>⟧.vacant result path.now }
+    {
         MemoryFile {
             alloc,
             path,

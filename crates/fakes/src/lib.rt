@@ -3,8 +3,10 @@
 
 mod clock;
 mod files;
+mod laws;
 mod peers;
 
 pub use clock::StandingClock;
 pub use files::MemoryFile;
+pub use laws::vacant_paths_are_served;
 pub use peers::MemoryPeers;
