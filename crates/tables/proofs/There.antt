@@ -13,7 +13,9 @@ use Rattle.statements.specs.Place.{IsOwn}
 use Rattle.statements.specs.Tables.{is_known, count_in, our_tables, schema_tables, tables_at}
 use Rattle.statements.proofs.Counts.{more_tables, most_tables}
 use Rattle.statements.proofs.Held.{tables_taken}
-use Rattle.tables.specs.Opening.{all_there}
+use Rattle.statements.specs.declared.making.TheConstants.{SCHEMA_VERSION}
+use Rattle.tables.specs.Opened.{RefusesOthers}
+use Rattle.tables.specs.Opening.{any_there, all_there, newest_there, has_edition, is_meta, is_edition, has_versions, has_our_columns, later_there, older_there, has_older}
 use Rattle.tables.specs.Stores.{is_in_schema}
 use Rattle.tables.specs.Versions.{HoldsSchema}
 
@@ -51,6 +53,54 @@ one_there m n s e f = by_order (nat_lt m n) (nat_lt n m) refl refl
     by_order true c below above = absurd (apart m n s (grind (arith, nat_tests)) e f)
     by_order false true below above = absurd (apart n m s (grind (arith, nat_tests)) f e)
     by_order false false below above = grind (arith, nat_tests)
+
+-- ---- no older version is there
+
+or_right : (a b : Bool) → b ≡ true → (a || b) ≡ true
+or_right true b e = refl
+or_right false b e = e
+
+older_is : (m n : ℕ) (s : Schema) → m < n → all_there m s ≡ true → older_there n s ≡ true
+older_is m zero s low e = absurd (omega (arith, low))
+older_is m (suc n) s low e = by_order (nat_lt m n) refl
+  where
+    by_order : (b : Bool) → nat_lt m n ≡ b → older_there (suc n) s ≡ true
+    by_order true below = ap (λ (b : Bool). b || all_there n s) (older_is m n s (grind (arith, nat_tests)) e)
+    by_order false below = or_right (older_there n s) (all_there n s) (subst (λ (k : ℕ). all_there k s ≡ true) (grind (arith, nat_tests)) e)
+
+later_is_older : (n : ℕ) (s : Schema) → later_there n s ≡ true → older_there (suc n) s ≡ true
+later_is_older zero s e = absurd (true≢false (sym e))
+later_is_older (suc zero) s e = absurd (true≢false (sym e))
+later_is_older (suc (suc n)) s e = by_earlier (later_there (suc n) s) refl e
+  where
+    by_earlier : (b : Bool) → later_there (suc n) s ≡ b → (b || all_there (suc (suc n)) s) ≡ true → older_there (suc (suc (suc n))) s ≡ true
+    by_earlier true is e = ap (λ (b : Bool). b || all_there (suc (suc n)) s) (later_is_older (suc n) s is)
+    by_earlier false is e = or_right (older_there (suc (suc n)) s) (all_there (suc (suc n)) s) e
+
+last_there : (n : ℕ) (s : Schema) → later_there n s ≡ true → older_there n s ≡ false → all_there n s ≡ true
+last_there n s e none = ap (λ (b : Bool). b || all_there n s) (sym none) ∙ later_is_older n s e
+
+holds : (b : Bool) → (b ≡ false → ⊥) → b ≡ true
+holds true h = refl
+holds false h = absurd (h refl)
+
+holds_if : (a b : Bool) → (a ≡ true → b ≡ false → ⊥) → (not a || b) ≡ true
+holds_if true b h = holds b (h refl)
+holds_if false b h = refl
+
+-- an open that upgrades none of an older version finds the newest, if it finds one of our tables and refuses nothing
+pub newest_stays : (s : Schema) → any_there s ≡ true → RefusesOthers s ⊥ → has_older s ≡ false → newest_there s ≡ true
+newest_stays s any refuses none = by_first (all_there 1 s) refl
+  where
+    columns : has_our_columns s ≡ true
+    columns = and_from _ _ (and_from _ _ (holds (is_meta s) (refuses.foreign any)) (holds (has_versions s) (refuses.older any))) (holds_if (has_edition s) (is_edition s) (refuses.edition any))
+
+    no_older : older_there SCHEMA_VERSION s ≡ false
+    no_older = ap (λ (b : Bool). b && older_there SCHEMA_VERSION s) (sym columns) ∙ none
+
+    by_first : (b : Bool) → all_there 1 s ≡ b → newest_there s ≡ true
+    by_first true is = absurd (true≢false (sym (older_is 1 SCHEMA_VERSION s (omega arith) is) ∙ no_older))
+    by_first false is = last_there SCHEMA_VERSION s (holds (has_edition s) (refuses.missing any is)) no_older
 
 -- ---- by their names
 

@@ -143,6 +143,21 @@ has_versions_at s (Some at) = has_versions_in (slice_get s.tables at)
 abbrev pub has_versions : Schema → Bool
 has_versions s = has_versions_at s (table_named s version_table.name)
 
+-- ---- whether an open would upgrade the tables, by the schema alone
+
+-- the tables that store the version, and version, have the columns of ours
+abbrev pub has_our_columns : Schema → Bool
+has_our_columns s = (is_meta s && has_versions s) && (not (has_edition s) || is_edition s)
+
+-- whether our tables are those of a version before this one
+abbrev pub older_there : ℕ → Schema → Bool
+older_there zero s = false
+older_there (suc n) s = older_there n s || all_there n s
+
+-- they are those of a version before the newest, and have our columns
+abbrev pub has_older : Schema → Bool
+has_older s = has_our_columns s && older_there SCHEMA_VERSION s
+
 -- ---- where the version is stored
 
 -- the version in meta, for tables of the first version; the version in edition, for those of each later one

@@ -25,5 +25,5 @@ mod store;
 mod transactions;
 mod versions;
 
-pub use opening::has_any_of_ours;
+pub use opening::{has_any_of_ours, older_version};
 pub use store::{SqlKeep, Unopened};

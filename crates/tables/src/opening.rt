@@ -1,5 +1,5 @@
 //! Prepares a database for a store.
-ghost use Rattle.std.specs.Prelude.{◌≡◌, ◌≤◌, ◌&&◌, true, false, not, is_some, ℕ, List, length, take, drop, slice_get, Option, IfSome, OnOk, OnErr, IfOk, IfErr};
+ghost use Rattle.std.specs.Prelude.{◌≡◌, ◌≤◌, ◌<◌, ◌&&◌, true, false, not, is_some, ℕ, List, length, take, drop, slice_get, Option, IfSome, OnOk, OnErr, IfOk, IfErr};
 ghost use Rattle.std.specs.List.{list_any, list_all};
 ghost use Rattle.std.specs.Str.{bytes_eq};
 ghost use Rattle.sqlite.specs.Held.{state};
@@ -8,7 +8,7 @@ ghost use Rattle.statements.specs.Place.{IsOwn};
 ghost use Rattle.statements.specs.Schema.{meta_table, version_table, edition_table};
 ghost use Rattle.statements.specs.Tables.{our_tables, table_counts, tables_at};
 ghost use Rattle.statements.specs.declared.making.TheConstants.{SCHEMA_VERSION};
-ghost use Rattle.tables.specs.Opening.{any_there, all_there, newest_there, has_edition, is_integer_column, is_null, is_plain_column, has_schema_version_columns, is_first_key, has_none, is_meta_table, is_meta, is_edition, have_names, version_names, has_versions, StoresVersionIn, StoredBy, IsOther, GivesBack};
+ghost use Rattle.tables.specs.Opening.{any_there, all_there, newest_there, has_edition, is_integer_column, is_null, is_plain_column, has_schema_version_columns, is_first_key, has_none, is_meta_table, is_meta, is_edition, have_names, version_names, has_versions, has_our_columns, older_there, has_older, StoresVersionIn, StoredBy, IsOther, GivesBack};
 ghost use Rattle.tables.specs.Stores.{is_in_schema};
 ghost use Rattle.tables.specs.Inner.Making.{is_there, IsMade, found_in, ReportsFound, FindsOurs, IsClimbed, IsOnWay};
 ghost use Rattle.tables.specs.Inner.Steps.{EndsIdle};
@@ -246,6 +246,40 @@ fn has_versions(schema: &Schema) -> bool
         },
         None => false,
     }
+}
+
+/// Whether the tables that store the version, and the table version, have the columns of ours.
+fn has_our_columns(schema: &Schema) -> bool
+    ensures { result ≡ has_our_columns schema.now }
+{
+    (is_meta(schema) && has_versions(schema))
+        && (later_there(schema).is_none() || is_edition(schema))
+}
+
+/// The version before the newest whose tables exist, if there is one.
+fn older_there(schema: &Schema) -> Option<u64>
+    ensures there { IfSome result (λ n. (n < SCHEMA_VERSION) × (all_there n schema.now ≡ true)) }
+    ensures reported { is_some result ≡ older_there SCHEMA_VERSION schema.now }
+{
+    for schema_version in FIRST..SCHEMA_VERSION {
+        if all_there(schema, schema_version) {
+            return Some(schema_version);
+        }
+    }
+    None
+}
+
+/// The version before the newest whose tables a database has, with our columns: an open would upgrade it. It reads only the
+/// schema.
+pub fn older_version<S: Alter>(conn: &Connection<S>) -> Option<u64>
+    ensures there { IfSome result (λ n. (n < SCHEMA_VERSION) × (all_there n (state S.Store conn.now).now.schema ≡ true)) }
+    ensures reported { is_some result ≡ has_older (state S.Store conn.now).now.schema }
+{
+    let schema = conn.schema();
+    if !has_our_columns(schema) {
+        return None;
+    }
+    older_there(schema)
 }
 
 /// What is found if the tables of a version exist and this version, or none, is stored.
