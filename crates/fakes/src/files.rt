@@ -80,6 +80,9 @@ impl Files<PlainKeep> for MemoryFile<'_> {
 
     ghost bare = { λ files path. (path ≡ files.path.now) × (files.store ≡ None) };
 
+    // It has no schema, so nothing is raised. Of other paths nothing is said.
+    ghost unraised = { λ files path store. path ≡ files.path.now → IsKeptStore ⟦<PlainKeep as Keep>⟧ files.store store };
+
     // Of other paths nothing is said.
     ghost lacks = { λ files path answer. path ≡ files.path.now → is_some files.store ≡ not answer };
 
@@ -118,7 +121,7 @@ impl Files<PlainKeep> for MemoryFile<'_> {
         match self.store.take() {
             Some(store) => Ok(store),
             None => match opening {
-                Opening::Existing => Err(OpenFault::Down(Cause::Missing)),
+                Opening::Read | Opening::Existing => Err(OpenFault::Down(Cause::Missing)),
                 Opening::Created | Opening::Target => Ok(PlainKeep::new(self.alloc)),
             },
         }

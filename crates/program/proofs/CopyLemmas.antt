@@ -20,7 +20,7 @@ use Rattle.program.specs.declared.reasons.Cause.{Cause}
 use Rattle.program.specs.declared.reasons.Cause.TheVariants.{Unfinished}
 use Rattle.program.specs.Moves.{org_copied, copied_into, Arrives, AllAreCopied, SomeAreCopied, IsFilled, lists_none, CopiesBetween}
 use Rattle.program.specs.declared.environment.Opening.{Opening}
-use Rattle.program.specs.Outcomes.{Stream, Errors, stream, error_stream, IsSaid, filled_ending, ReportsCause, ReportsWord, Refuses, RefusesToOpen, RefusesSecond, OpensSound, OpensBoth, Closes, ClosesBoth, CopiesOver, IsCopied, IsCompacted}
+use Rattle.program.specs.Outcomes.{Stream, Errors, stream, error_stream, IsSaid, filled_ending, ReportsCause, ReportsWord, Refuses, RefusesToOpen, RefusesSecond, OpensSource, OpensBoth, Closes, ClosesBoth, CopiesOver, IsCopied, IsCompacted}
 use Rattle.program.specs.Streams.{Reported}
 use Rattle.program.proofs.MoveLemmas.{copied_none, copied_left}
 use Rattle.program.proofs.EnvironmentLemmas.{same_records}
@@ -179,7 +179,7 @@ unfinished P errors (inr h) = inr (Unfinished, refl, h)
 module _ {K F : Type 0} (k : keep.Ghosts K) (f : files.Ghosts F K) where
   -- the second of two paths isn't opened, and the first is closed again
   pub refuses_second : (from to : List ℕ) (opening : Opening) (old opened unopened new : F) (source : K) (e : Exit) (out said : Option (List ℕ)) (before noted reported after : Reported) → from ≢ to
-      → OpensSound k f from old opened source (error_stream before noted) → RefusesToOpen k f to opening opened unopened e (stream out said) (error_stream noted reported) → Closes k f from unopened new source (error_stream reported after)
+      → OpensSource k f from old opened source (error_stream before noted) → RefusesToOpen k f to opening opened unopened e (stream out said) (error_stream noted reported) → Closes k f from unopened new source (error_stream reported after)
       → RefusesSecond k f from to opening old new e (stream out said) (error_stream before after)
   refuses_second from to opening old opened unopened new source e out said before noted reported after differ first second closes = record {
     differ = differ;

@@ -10,7 +10,8 @@ use Rattle.program.specs.declared.exits.Exit.{Exit}
 use Rattle.program.specs.declared.environment.Clock as clock
 use Rattle.program.specs.declared.environment.Connections as connections
 use Rattle.program.specs.declared.environment.Files as files
-use Rattle.program.specs.declared.environment.Opening.TheVariants.{Existing, Created}
+use Rattle.program.specs.declared.environment.Opening.{Opening}
+use Rattle.program.specs.declared.environment.Opening.TheVariants.{Read, Existing, Created}
 use Rattle.program.specs.declared.reasons.Cause.{Cause}
 use Rattle.program.specs.declared.totals.Findings.{Findings}
 use Rattle.program.specs.declared.serving.Terms.{Terms}
@@ -31,14 +32,14 @@ module _ {K F : Type 0} (k : keep.Ghosts K) (f : files.Ghosts F K) where
   none_found opened store found findings is none sound = subst (λ (r : Result Findings Down). IfOk r (λ findings. findings.faults ≡ [] → k.clean store → f.is_ours opened → k.sound opened × k.keyed opened)) is sound none
 
   -- a store is opened at a path, and a check finds no fault in its tables
-  pub opens_sound : (path : List ℕ) (why : Cause) (old mid : F) (opened store : K) (before noted known : Reported)
-      → Opens k f path Existing old mid opened (error_stream before noted) → ChecksFirst k f why opened true store (error_stream noted known)
-      → OpensSound k f path old mid store (error_stream before known)
-  opens_sound path why old mid opened store before noted known opens unchanged =
+  pub opens_sound : (path : List ℕ) (opening : Opening) (why : Cause) (old mid : F) (opened store : K) (before noted known : Reported)
+      → Opens k f path opening old mid opened (error_stream before noted) → ChecksFirst k f why opened true store (error_stream noted known)
+      → OpensSound k f path opening old mid store (error_stream before known)
+  opens_sound path opening why old mid opened store before noted known opens unchanged =
       let sound : k.clean store → f.is_ours opened → k.sound opened × k.keyed opened = none_found opened store unchanged.result unchanged.says.0.0 unchanged.says.0.1 unchanged.says.0.2 unchanged.sound in
       record {
         opened = opened;
-        opens = subst (λ (e : Reported). Opens k f path Existing old mid opened (error_stream before e)) (sym unchanged.says.1) opens;
+        opens = subst (λ (e : Reported). Opens k f path opening old mid opened (error_stream before e)) (sym unchanged.says.1) opens;
         unchanged = unchanged.unchanged;
         findings = unchanged.says.0.0;
         finds = subst (λ (r : Result Findings Down). f.finds opened r store) unchanged.says.0.1 unchanged.finds;
@@ -49,11 +50,11 @@ module _ {K F : Type 0} (k : keep.Ghosts K) (f : files.Ghosts F K) where
 
   -- a store is opened at a path, its tables are looked over, what is found is told, and it is closed there
   pub checks_at : (path : List ℕ) (old mid new : F) (opened store : K) (found : Result Findings Down) (e : Exit) (out heard said : Option (List ℕ)) (before noted reported after : Reported)
-      → Opens k f path Existing old mid opened (error_stream before noted) → heard ≡ out
+      → Opens k f path Read old mid opened (error_stream before noted) → heard ≡ out
       → Unchanged k.rows k.clean k.sound k.keyed k.shielded opened store → f.finds opened found store
       → IfOk found (λ findings. findings.faults ≡ [] → k.clean store → f.is_ours opened → k.sound opened × k.keyed opened)
       → ReportsFound found e (stream heard said) (error_stream noted reported) → Closes k f path mid new store (error_stream reported after)
-      → ChecksFile k f path (λ found reported. ReportsFound found e (stream out said) reported) old new (error_stream before after)
+      → ChecksFile k f path Read (λ found reported. ReportsFound found e (stream out said) reported) old new (error_stream before after)
   checks_at path old mid new opened store found e out heard said before noted reported after opens same unchanged finds sound reports closes = record {
     before = opened;
     after = store;
@@ -73,11 +74,11 @@ module _ {K F : Type 0} (k : keep.Ghosts K) (f : files.Ghosts F K) where
   }
 
   -- a store is opened at a path, a check finds faults in its tables or is refused, and it is closed there
-  pub checks_file : (path : List ℕ) (why : Cause) (old mid new : F) (opened store : K) (before noted known after : Reported)
-      → Opens k f path Existing old mid opened (error_stream before noted) → ChecksFirst k f why opened false store (error_stream noted known)
+  pub checks_file : (path : List ℕ) (opening : Opening) (why : Cause) (old mid new : F) (opened store : K) (before noted known after : Reported)
+      → Opens k f path opening old mid opened (error_stream before noted) → ChecksFirst k f why opened false store (error_stream noted known)
       → Closes k f path mid new store (error_stream known after)
-      → ChecksFile k f path (ReportsUnsound why) old new (error_stream before after)
-  checks_file path why old mid new opened store before noted known after opens unchanged closes = record {
+      → ChecksFile k f path opening (ReportsUnsound why) old new (error_stream before after)
+  checks_file path opening why old mid new opened store before noted known after opens unchanged closes = record {
     before = opened;
     after = store;
     worked = mid;
@@ -167,7 +168,7 @@ module _ {K F N C R W : Type 0} (k : keep.Ghosts K) (f : files.Ghosts F K) (n : 
 
   -- a store is opened at a path, a check finds no fault in its tables, and connections are answered from it
   pub serves_checked : (path : List ℕ) (bound : Result Site Cause) (terms : Terms) (count : ℕ) (old mid new : F) (network network' : N) (time time' : C) (store : K) (e : Exit) (out heard last : Option (List ℕ)) (before known after : Reported)
-      → OpensSound k f path old mid store (error_stream before known) → heard ≡ out
+      → OpensSound k f path Existing old mid store (error_stream before known) → heard ≡ out
       → ServesOpened k f n c i o path bound terms count store (environment mid network time) (environment new network' time') e (stream heard last) (error_stream known after)
       → ServesChecked k f n c i o path bound terms count (environment old network time) (environment new network' time') e (stream out last) (error_stream before after)
   serves_checked path bound terms count old mid new network network' time time' store e out heard last before known after opens same from = record {

@@ -5,7 +5,7 @@ use Rattle.serve.specs.declared.exchanges.LinkFault.TheVariants.{Ended, Read, Co
 use Rattle.program.specs.declared.reasons.Cause.{Cause}
 use Rattle.program.specs.declared.reasons.Cause.TheVariants.{InUse, NotPermitted, NoFile, NoFolder, NoTargetFolder, Missing, LogAlone, NoTables, Journal, Corrupt, Unsound, NoRoom, NoMemory, Disk, Store, Unfinished, Shut, Halted, Unknown, Input, PortTaken, PortNotPermitted, Port, SocketTaken, NoSocket, SocketNotPermitted, Socket, Accept, Clock, Log, Faults, SourceFaults, CopyFaults, NotCopied, Encoding, NoNull}
 use Rattle.program.specs.declared.reasons.OtherSchema.{OtherSchema}
-use Rattle.program.specs.declared.reasons.OtherSchema.TheVariants.{Version, Unversioned}
+use Rattle.program.specs.declared.reasons.OtherSchema.TheVariants.{Older, Version, Unversioned}
 use Rattle.program.specs.Streams.{Reported, Reports}
 
 -- the text for a link fault
@@ -97,15 +97,12 @@ memory_line bytes = codes "custody: out of memory while opening the file of " ++
 abbrev pub unprinted_line : List ℕ
 unprinted_line = codes "custody: not everything could be printed to standard output or standard error\n"
 
--- the end of the line about a version
-abbrev pub version_end : List ℕ
-version_end = codes " of the schema, which this program does not know, or its tables are different\n"
-
--- the line about a file that has this version, which is unknown, or has different tables
-abbrev pub version_line : ℕ → List ℕ
-version_line version = codes "custody: the file has version " ++ (decimal version ++ version_end)
+-- a line about a file that has this version, with this end
+abbrev pub version_line : ℕ → List ℕ → List ℕ
+version_line version end = codes "custody: the file has version " ++ (decimal version ++ end)
 
 -- the line for each cause of `refused schema`
 abbrev pub other_line : OtherSchema → List ℕ
-other_line (Version version) = version_line version
+other_line (Older version) = version_line version (codes " of the schema, an older one: serve or admin raises it\n")
+other_line (Version version) = version_line version (codes " of the schema, which this program does not know, or its tables are different\n")
 other_line Unversioned = codes "custody: the file has tables with this schema's names, but no schema version\n"

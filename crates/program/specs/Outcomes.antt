@@ -38,7 +38,7 @@ use Rattle.command_line.specs.Orders.{Asked, Site, at_port, at_socket, carries, 
 use Rattle.program.specs.Listening.{AsksToListen, IsGivenFor}
 use Rattle.machine.specs.Removal.{org_removed}
 use Rattle.program.specs.Moves.{org_copied, IsFilled, SomeAreCopied, CopiesBetween}
-use Rattle.program.specs.Paths.{AllStay, OthersStay, OthersStayBut, LeavesVacant, makes}
+use Rattle.program.specs.Paths.{AllStay, OthersStay, OthersStayBut, LeavesVacant, makes, raises}
 use Rattle.program.specs.Replies.{printed, bad_frame_text, answer_line, fault_lines, AreReplies, Replays}
 use Rattle.program.specs.Secrets.{secret_in}
 use Rattle.program.specs.Serving.{listening_line, Serves, ServesBound, state, AnswersBound}
@@ -421,11 +421,12 @@ module _ {K F : Type 0} (k : keep.Ghosts K) (f : files.Ghosts F K) where
       ⊎ ((other : OtherSchema) × f.refuses old path (fault.Schema other) × IsSaid exit.Schema e output.old output.new × Reports errors.old errors.new (other_line other))))
 
   -- a store was opened at a path, and its file reported on. Nothing changed at other paths. If no database may be created, one with our tables
-  -- was there
+  -- was there. If it is only read, the store has committed what was committed there
   pub record Opens (path : List ℕ) (opening : Opening) (old new : F) (store : K) (errors : Errors) : Type 0 where
     pub found : f.holds old path store
     pub existing : makes opening ≡ false → k.clean store → ¬ f.bare old path
     pub there : makes opening ≡ false → ¬ f.vacant old path
+    pub unraised : raises opening ≡ false → f.unraised old path store
     pub vacancies : LeavesVacant f.vacant (makes opening) path old new
     pub others : OthersStay f.holds path old new
     pub is_new : Bool
@@ -517,31 +518,31 @@ module _ {K F : Type 0} (k : keep.Ghosts K) (f : files.Ghosts F K) where
     pub sound : IfOk result (λ findings. findings.faults ≡ [] → k.clean after → f.is_ours before → k.sound before × k.keyed before)
     pub says : IsReported result errors
 
-  -- the store at a path was checked, which created no file. What the check left is there now, each record as before, and nothing else changed
-  pub record ChecksFile (path : List ℕ) (IsReported : Result Findings Down → Errors → Type 0) (old new : F) (errors : Errors) : Type 0 where
+  -- the store at a path was opened in this way and checked. What the check left is there now, each record as before, and nothing else changed
+  pub record ChecksFile (path : List ℕ) (opening : Opening) (IsReported : Result Findings Down → Errors → Type 0) (old new : F) (errors : Errors) : Type 0 where
     pub before : K
     pub after : K
     pub worked : F
     pub noted : Reported
     pub reported : Reported
-    pub opens : Opens path opening.Existing old worked before (error_stream errors.old noted)
+    pub opens : Opens path opening old worked before (error_stream errors.old noted)
     pub unchanged : ChecksStore IsReported before after (error_stream noted reported)
     pub closes : Closes path worked new after (error_stream reported errors.new)
     pub others : OthersStay f.holds path old new
 
-  -- the store at a path is checked, and the result is printed
+  -- the store at a path, which is only read, is checked, and the result is printed
   abbrev pub ChecksAt : List ℕ → F → F → Exit → Stream → Errors → Type 0
   ChecksAt path old new e output errors =
-      ChecksFile path (λ found reported. ReportsFound found e output reported) old new errors ⊎ RefusesToOpen path opening.Existing old new e output errors
+      ChecksFile path opening.Read (λ found reported. ReportsFound found e output reported) old new errors ⊎ RefusesToOpen path opening.Read old new e output errors
 
   -- the store at a path has faults, or its check fails, so nothing more is done, with this cause
-  abbrev pub RefusesUnsound : List ℕ → Cause → F → F → Exit → Stream → Errors → Type 0
-  RefusesUnsound path why old new e output errors = ChecksFile path (ReportsUnsound why) old new errors × IsSaid exit.Down e output.old output.new
+  abbrev pub RefusesUnsound : List ℕ → Opening → Cause → F → F → Exit → Stream → Errors → Type 0
+  RefusesUnsound path opening why old new e output errors = ChecksFile path opening (ReportsUnsound why) old new errors × IsSaid exit.Down e output.old output.new
 
-  -- a store was opened at a path, which created no file, and a check of its tables found no fault. So it is sound and keyed, if it `is_ours`
-  pub record OpensSound (path : List ℕ) (old new : F) (store : K) (errors : Errors) : Type 0 where
+  -- a store was opened at a path in this way, and a check of its tables found no fault. So it is sound and keyed, if it `is_ours`
+  pub record OpensSound (path : List ℕ) (opening : Opening) (old new : F) (store : K) (errors : Errors) : Type 0 where
     pub opened : K
-    pub opens : Opens path opening.Existing old new opened errors
+    pub opens : Opens path opening old new opened errors
     pub unchanged : Unchanged k.rows k.clean k.sound k.keyed k.shielded opened store
     pub findings : Findings
     pub finds : f.finds opened (Ok findings) store
@@ -549,17 +550,21 @@ module _ {K F : Type 0} (k : keep.Ghosts K) (f : files.Ghosts F K) where
     pub sound_ours : k.clean store → f.is_ours opened → k.sound opened × k.sound store
     pub keyed_ours : k.clean store → f.is_ours opened → k.keyed opened × k.keyed store
 
-  -- the source is not opened, or its tables have faults, with this cause
+  -- the same, of a store that is only read
+  abbrev pub OpensSource : List ℕ → F → F → K → Errors → Type 0
+  OpensSource path old new store errors = OpensSound path opening.Read old new store errors
+
+  -- the source, which is only read, is not opened, or its tables have faults, with this cause
   abbrev pub RefusesSource : List ℕ → Cause → F → F → Exit → Stream → Errors → Type 0
   RefusesSource path why old new e output errors =
-      RefusesToOpen path opening.Existing old new e output errors ⊎ RefusesUnsound path why old new e output errors
+      RefusesToOpen path opening.Read old new e output errors ⊎ RefusesUnsound path opening.Read why old new e output errors
 
-  -- stores were opened at two paths, one after the other; the first has no fault
+  -- stores were opened at two paths, one after the other; the first is only read, and has no fault
   pub record OpensBoth (from to : List ℕ) (opening : Opening) (old new : F) (source target : K) (errors : Errors) : Type 0 where
     pub differ : from ≢ to
     pub mid : F
     pub noted : Reported
-    pub first : OpensSound from old mid source (error_stream errors.old noted)
+    pub first : OpensSource from old mid source (error_stream errors.old noted)
     pub second : Opens to opening mid new target (error_stream noted errors.new)
 
   -- they were closed there, the second one first
@@ -578,7 +583,7 @@ module _ {K F : Type 0} (k : keep.Ghosts K) (f : files.Ghosts F K) where
     pub unopened : F
     pub noted : Reported
     pub reported : Reported
-    pub first : OpensSound from old opened source (error_stream errors.old noted)
+    pub first : OpensSource from old opened source (error_stream errors.old noted)
     pub second : RefusesToOpen to opening opened unopened e output (error_stream noted reported)
     pub closes : Closes from unopened new source (error_stream reported errors.new)
     pub others : OthersStay f.holds from old new
@@ -677,7 +682,7 @@ module _ {K F N C R W : Type 0} (k : keep.Ghosts K) (f : files.Ghosts F K) (n : 
     pub after : K
     pub worked : F
     pub noted : Reported
-    pub opens : OpensSound k f path old.files worked before (error_stream errors.old noted)
+    pub opens : OpensSound k f path opening.Existing old.files worked before (error_stream errors.old noted)
     pub lasts : Lasts k.clean k.sound k.keyed k.shielded before after
     pub served : Exit
     pub reported : Option (List ℕ)
@@ -699,7 +704,7 @@ module _ {K F N C R W : Type 0} (k : keep.Ghosts K) (f : files.Ghosts F K) (n : 
   ServesAsAsked false path bound terms count old new e output errors =
       ServesFrom path bound terms count old new e output errors ⊎ (RefusesToOpen k f path opening.Created old.files new.files e output errors × IsAlone old new)
   ServesAsAsked true path bound terms count old new e output errors =
-      (ServesChecked path bound terms count old new e output errors ⊎ (RefusesUnsound k f path cause.Faults old.files new.files e output errors × IsAlone old new))
+      (ServesChecked path bound terms count old new e output errors ⊎ (RefusesUnsound k f path opening.Existing cause.Faults old.files new.files e output errors × IsAlone old new))
       ⊎ (RefusesToOpen k f path opening.Existing old.files new.files e output errors × IsAlone old new)
 
   -- the network has been asked to listen at a site, with this result. A socket that cannot be had ends the start before the store is opened; of

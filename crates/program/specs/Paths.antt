@@ -1,7 +1,7 @@
 -- What is at paths, and what of it is unchanged. `holds` says that what a store has is what is at a path.
 use Rattle.std.specs.Prelude.{◌≢◌, ℕ, Bool, true, false, List}
 use Rattle.program.specs.declared.environment.Opening.{Opening}
-use Rattle.program.specs.declared.environment.Opening.TheVariants.{Existing, Created, Target}
+use Rattle.program.specs.declared.environment.Opening.TheVariants.{Read, Existing, Created, Target}
 
 -- what is at every path is unchanged
 abbrev pub AllStay : {F K : Type 0} → (F → List ℕ → K → Type 0) → F → F → Type 0
@@ -17,9 +17,17 @@ OthersStayBut {F} {K} holds from to old new = (other : List ℕ) (store : K) →
 
 -- whether a database may be created
 abbrev pub makes : Opening → Bool
+makes Read = false
 makes Existing = false
 makes Created = true
 makes Target = true
+
+-- whether a database of an older schema version may be raised to the newest
+abbrev pub raises : Opening → Bool
+raises Read = false
+raises Existing = true
+raises Created = true
+raises Target = true
 
 -- every path without a file, or with an empty one, is left so. Of this path, that is said only if no database may be created there
 abbrev pub LeavesVacant : {F : Type 0} → (F → List ℕ → Type 0) → Bool → List ℕ → F → F → Type 0

@@ -64,7 +64,7 @@ pub fn check<K: Keep, F: Files<K>, O: Write, E: ErrorStream>(
     ensures line { AnswersFaults result (stream (O.contents output.old) (O.contents output.new)) }
     ensures unchanged { ChecksAt K.Keep F.Files db.now files.old files.new result (stream (O.contents output.old) (O.contents output.new)) (error_stream (E.reported errors.old) (E.reported errors.new)) }
 {
-    let mut store = match open_one(files, db, Opening::Existing, output, errors) {
+    let mut store = match open_one(files, db, Opening::Read, output, errors) {
         Ok(store) => store,
         Err(exit) => return exit,
     };

@@ -4,7 +4,7 @@ ghost use Rattle.std.specs.List.{AllByRecursion};
 ghost use Rattle.machine.specs.Tokens.{ListsOrganizations};
 ghost use Rattle.machine.specs.StoreCalls.{Unchanged};
 ghost use Rattle.program.specs.Moves.{Arrives, AllAreCopied, SomeAreCopied, IsFilled, lists_none, CopiesBetween};
-ghost use Rattle.program.specs.Outcomes.{stream, error_stream, AnswersLine, AnswersFilled, filled_ending, IsSaid, CopiesAt, CompactsAt, ReportsWord, ReportsCause, Refuses, HasFailed, OpensSound, RefusesSource, OpensBoth, RefusesBoth};
+ghost use Rattle.program.specs.Outcomes.{stream, error_stream, AnswersLine, AnswersFilled, filled_ending, IsSaid, CopiesAt, CompactsAt, ReportsWord, ReportsCause, Refuses, HasFailed, OpensSource, RefusesSource, OpensBoth, RefusesBoth};
 ghost use Rattle.program.specs.declared.reasons.Cause.{Cause as AnyCause};
 
 use crate::checking::check_first;
@@ -20,7 +20,7 @@ use machine::{AdminAnswer, Keep, OrgRow};
 use std::alloc::Global;
 use std::io::Write;
 
-/// Opens the store at a path if its tables have no fault. Otherwise reports why not, with this cause for faults, and closes it.
+/// Opens the store at a path, to read it, if its tables have no fault. Otherwise reports why not, with this cause for faults, and closes it.
 fn open_sound<K: Keep, F: Files<K>, O: Write, E: ErrorStream>(
     alloc: Global,
     files: &mut F,
@@ -29,10 +29,10 @@ fn open_sound<K: Keep, F: Files<K>, O: Write, E: ErrorStream>(
     output: &mut O,
     errors: &mut E,
 ) -> Result<K, Exit>
-    ensures opened { IfOk result (λ store. OpensSound K.Keep F.Files path.now files.old files.new store (error_stream (E.reported errors.old) (E.reported errors.new)) × (O.contents output.new ≡ O.contents output.old)) }
+    ensures opened { IfOk result (λ store. OpensSource K.Keep F.Files path.now files.old files.new store (error_stream (E.reported errors.old) (E.reported errors.new)) × (O.contents output.new ≡ O.contents output.old)) }
     ensures refused { IfErr result (λ exit. RefusesSource K.Keep F.Files path.now why files.old files.new exit (stream (O.contents output.old) (O.contents output.new)) (error_stream (E.reported errors.old) (E.reported errors.new))) }
 {
-    let mut store = match open_one(files, path, Opening::Existing, output, errors) {
+    let mut store = match open_one(files, path, Opening::Read, output, errors) {
         Ok(store) => store,
         Err(exit) => return Err(exit),
     };

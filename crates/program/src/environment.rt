@@ -8,7 +8,7 @@ ghost use Rattle.program.specs.declared.reasons.Cause.{Cause as AnyCause};
 ghost use Rattle.program.specs.declared.reasons.OpenFault.{OpenFault as AnyFault};
 ghost use Rattle.machine.specs.StoreCalls.{Unchanged, LastsWhere};
 ghost use Rattle.program.specs.Moves.{AnswersTask};
-ghost use Rattle.program.specs.Paths.{AllStay, OthersStay, LeavesVacant, makes};
+ghost use Rattle.program.specs.Paths.{AllStay, OthersStay, LeavesVacant, makes, raises};
 ghost use Rattle.program.specs.declared.totals.Findings.{Findings as AnyFindings};
 ghost use Rattle.program.specs.Replies.{AreReplies};
 ghost use Rattle.program.specs.Checkpoints.{Checkpoints};
@@ -23,15 +23,40 @@ use std::alloc::Global;
 use std::net::Ipv4Addr;
 use wire::{Inlet, Outlet};
 
-/// Which path is opened, and whether a database may be created there.
-#[derive(Clone, Copy, PartialEq, Eq)]
+/// Which path is opened, and whether a database may be created there, or raised to the newest schema version.
+#[derive(Clone, Copy)]
 pub enum Opening {
+    /// A database that is only read: that of `check`, the source of copies, and that at `--copied-to`. It must exist and have
+    /// our tables, of the newest schema version.
+    Read,
     /// The database at `--db`. It must exist and have our tables.
     Existing,
     /// The database at `--db`. It is created if there is no file or an empty one.
     Created,
     /// The database at `--to`. It is created if there is no file or an empty one.
     Target,
+}
+
+impl Opening {
+    /// Whether a database may be created.
+    pub fn makes(self) -> bool
+        ensures { result ≡ makes self }
+    {
+        match self {
+            Opening::Read | Opening::Existing => false,
+            Opening::Created | Opening::Target => true,
+        }
+    }
+
+    /// Whether a database of an older schema version may be raised to the newest.
+    pub fn raises(self) -> bool
+        ensures { result ≡ raises self }
+    {
+        match self {
+            Opening::Read => false,
+            Opening::Existing | Opening::Created | Opening::Target => true,
+        }
+    }
 }
 
 /// What is done with an organization in two stores.
@@ -59,6 +84,9 @@ pub trait Files<K: Keep> {
 
     // There is no database with our tables at a path.
     ghost bare: { Self → List ℕ → Type 0 };
+
+    // A store has committed what was committed at a path: no table or row was changed, so none was raised.
+    ghost unraised: { Self → List ℕ → K → Type 0 };
 
     // Finds out whether there is nothing at a path.
     ghost lacks: { Self → List ℕ → Bool → Type 0 };
@@ -95,12 +123,14 @@ pub trait Files<K: Keep> {
         ensures { result ≡ newest };
 
     /// Opens the store at a path. If the database must exist, a missing one, or one without our tables, is refused, and nothing
-    /// is created. Otherwise a database without organizations is created if there is no file or an empty one. A file of another
-    /// schema version is not changed.
+    /// is created. Otherwise a database without organizations is created if there is no file or an empty one. A database of an
+    /// older schema version is refused if it is only read; otherwise it is raised to the newest. A file of another schema version
+    /// is not changed.
     fn open(&mut self, path: &str, opening: Opening) -> Result<K, OpenFault>
         ensures opened { IfOk result (λ store. holds self.old path.now store) }
         ensures existing { makes opening ≡ false → IfOk result (λ store. K.clean store → ¬ bare self.old path.now) }
         ensures there { makes opening ≡ false → OnOk result (¬ vacant self.old path.now) }
+        ensures unraised { raises opening ≡ false → IfOk result (unraised self.old path.now) }
         ensures vacancies { LeavesVacant vacant (makes opening) path.now self.old self.new }
         ensures others { OthersStay holds path.now self.old self.new }
         ensures refused { OnErr result (AllStay holds self.old self.new) }

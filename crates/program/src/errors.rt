@@ -1,6 +1,6 @@
 //! Texts of the error stream.
 ghost use Rattle.std.specs.Prelude.{◌++◌, ◌∷◌, [], List, ℕ, codes, decimal};
-ghost use Rattle.program.specs.Errors.{connection_line, cause_line, memory_line, other_line, version_line, version_end};
+ghost use Rattle.program.specs.Errors.{connection_line, cause_line, memory_line, other_line, version_line};
 ghost use Rattle.program.specs.Replies.{bad_frame_text, fault_lines};
 ghost use Rattle.program.specs.Streams.{Reported, Reports, ReportsBy};
 
@@ -160,29 +160,33 @@ pub fn report_memory<E: ErrorStream>(errors: &mut E, bytes: u64)
 const UNTOLD: &str =
     "custody: the file has tables with this schema's names, but no schema version\n";
 
-fn write_version<E: ErrorStream>(errors: &mut E, version: u64) -> io::Result<()>
-    ensures { ReportsBy (E.reported errors.old) (E.reported errors.new) (decimal version ++ version_end) result }
+/// The end of the line for a file whose version is unknown, or whose tables are different.
+const UNKNOWN_END: &str =
+    " of the schema, which this program does not know, or its tables are different\n";
+
+/// The end of the line for a file of an older version that would only be read.
+const OLDER_END: &str = " of the schema, an older one: serve or admin raises it\n";
+
+fn write_version<E: ErrorStream>(errors: &mut E, version: u64, end: &str) -> io::Result<()>
+    ensures { ReportsBy (E.reported errors.old) (E.reported errors.new) (decimal version ++ end.now) result }
 {
     let mut buffer = Buffer::new();
     let digits = buffer.format(version);
     write_text(errors, digits.as_bytes())?;
-    write_text(
-        errors,
-        b" of the schema, which this program does not know, or its tables are different\n",
-    )
+    write_text(errors, end.as_bytes())
 }
 
-fn note_version<E: ErrorStream>(errors: &mut E, version: u64) -> io::Result<()>
-    ensures { ReportsBy (E.reported errors.old) (E.reported errors.new) (version_line version) result }
+fn note_version<E: ErrorStream>(errors: &mut E, version: u64, end: &str) -> io::Result<()>
+    ensures { ReportsBy (E.reported errors.old) (E.reported errors.new) (version_line version end.now) result }
 {
     write_text(errors, b"custody: the file has version ")?;
-    write_version(errors, version)
+    write_version(errors, version, end)
 }
 
-fn report_version<E: ErrorStream>(errors: &mut E, version: u64)
-    ensures { Reports (E.reported errors.old) (E.reported errors.new) (version_line version) }
+fn report_version<E: ErrorStream>(errors: &mut E, version: u64, end: &str)
+    ensures { Reports (E.reported errors.old) (E.reported errors.new) (version_line version end.now) }
 {
-    let written = note_version(errors, version);
+    let written = note_version(errors, version, end);
     let _ = send_on(errors, written);
 }
 
@@ -191,7 +195,8 @@ pub fn report_other<E: ErrorStream>(errors: &mut E, other: OtherSchema)
     ensures { Reports (E.reported errors.old) (E.reported errors.new) (other_line other) }
 {
     match other {
-        OtherSchema::Version(version) => report_version(errors, version),
+        OtherSchema::Older(version) => report_version(errors, version, OLDER_END),
+        OtherSchema::Version(version) => report_version(errors, version, UNKNOWN_END),
         OtherSchema::Unversioned => report_unversioned(errors),
     }
 }

@@ -153,6 +153,8 @@ impl Cause {
 /// What a file of another schema contains.
 #[derive(Clone, Copy, PartialEq, Eq)]
 pub enum OtherSchema {
+    /// It has this schema version, an older one, which a command that only reads does not raise.
+    Older(u64),
     /// It has this schema version, which is unknown here, or its tables are different.
     Version(u64),
     /// It has tables with our names, but no schema version.

@@ -144,7 +144,7 @@ fn serve_checked<K: Keep, F: Files<K>, N: Connections, C: Clock, O: Write, E: Er
 ) -> Exit
     ensures line { ServesAt (λ site. bound_site bound.entry ≡ Ok site) terms.now.logs result (stream (O.contents output.old) (O.contents output.new)) }
     ensures serves { (ServesChecked K.Keep F.Files N.Connections C.Clock N.Reader.Inlet N.Writer.Outlet db.now (bound_site bound.entry) terms.now count (environment files.old network.old clock.old) (environment files.new network.new clock.new) result (stream (O.contents output.old) (O.contents output.new)) (error_stream (E.reported errors.old) (E.reported errors.new))
-        ⊎ (RefusesUnsound K.Keep F.Files db.now Cause.Faults files.old files.new result (stream (O.contents output.old) (O.contents output.new)) (error_stream (E.reported errors.old) (E.reported errors.new)) × IsAlone (environment files.old network.old clock.old) (environment files.new network.new clock.new)))
+        ⊎ (RefusesUnsound K.Keep F.Files db.now Opening.Existing Cause.Faults files.old files.new result (stream (O.contents output.old) (O.contents output.new)) (error_stream (E.reported errors.old) (E.reported errors.new)) × IsAlone (environment files.old network.old clock.old) (environment files.new network.new clock.new)))
         ⊎ (RefusesToOpen K.Keep F.Files db.now Opening.Existing files.old files.new result (stream (O.contents output.old) (O.contents output.new)) (error_stream (E.reported errors.old) (E.reported errors.new)) × IsAlone (environment files.old network.old clock.old) (environment files.new network.new clock.new)) }
 {
     let mut keep = match open_one(files, db, Opening::Existing, output, errors) {

@@ -1,5 +1,5 @@
 -- Why the system or SQLite refused a file, a port or a socket, in the program's words.
-use Rattle.std.specs.Prelude.{◌≡◌, nat_lt, if◌then◌else◌, Bool, true, false, Result, Ok, Err, ⊤}
+use Rattle.std.specs.Prelude.{◌≡◌, ◌<◌, nat_lt, if◌then◌else◌, Bool, true, false, Result, Ok, Err, ⊤}
 use Rattle.std.specs.IoError.{error_kind}
 use Rattle.std.specs.declared.io.ErrorKind.{ErrorKind}
 use Rattle.std.specs.declared.io.ErrorKind.TheVariants as kind
@@ -16,6 +16,9 @@ use Rattle.program.specs.declared.reasons.Cause.TheVariants.{InUse, NotPermitted
 use Rattle.program.specs.declared.environment.Standing.{Standing}
 use Rattle.program.specs.declared.environment.Standing.TheVariants as standing
 use Rattle.program.specs.declared.reasons.OpenFault.{OpenFault}
+use Rattle.program.specs.declared.reasons.OtherSchema.{OtherSchema}
+use Rattle.program.specs.declared.reasons.OtherSchema.TheVariants.{Older, Version, Unversioned}
+use Rattle.statements.specs.declared.making.TheConstants.{SCHEMA_VERSION}
 use Rattle.program.specs.declared.reasons.OpenFault.TheVariants.{Schema, Down, Memory}
 
 -- a failed call on a file
@@ -92,8 +95,14 @@ abbrev pub is_open_cause : Cause → Bool
 is_open_cause NoMemory = true
 is_open_cause cause = is_file_cause cause
 
+-- an older version is one before the newest
+abbrev pub IsOtherSchema : OtherSchema → Type 0
+IsOtherSchema (Older version) = version < SCHEMA_VERSION
+IsOtherSchema (Version version) = ⊤
+IsOtherSchema Unversioned = ⊤
+
 -- The result of opening the system's files: out of memory comes with the file's size, and every other cause is one of files.
 abbrev pub IsFileFault : OpenFault → Type 0
-IsFileFault (Schema other) = ⊤
+IsFileFault (Schema other) = IsOtherSchema other
 IsFileFault (Memory bytes) = ⊤
 IsFileFault (Down cause) = is_file_cause cause ≡ true

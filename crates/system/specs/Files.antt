@@ -32,6 +32,11 @@ pub record OpensOn (image : Image) (rows : List ℕ → Option Organization) (Is
 abbrev pub HadTables : Image → Type 0
 HadTables image = (found : Database) × IsDatabase found × ((trees : Trees) → HoldsDatabase image trees → found.trees ≡ trees) × (any_there found.schema ≡ true)
 
+-- The database in a file and its WAL was opened, and it had all tables of the newest version. This is what is committed: no table or row was changed.
+abbrev pub IsAsFound : Image → Database → Type 0
+IsAsFound image committed =
+    (found : Database) × IsDatabase found × ((trees : Trees) → HoldsDatabase image trees → found.trees ≡ trees) × (newest_there found.schema ≡ true) × (committed ≡ found)
+
 -- There is a database in the file with its WAL, and in the file without a WAL, as they read now and as a crash may leave them. It has the
 -- store's records, if the store is sound.
 pub record ClosesOn {D : Type 0} (g : disk.Ghosts D) (files : Files D) (rows : List ℕ → Option Organization) (IsSound : Type 0) : Type 0 where

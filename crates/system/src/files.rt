@@ -1,7 +1,7 @@
 //! Databases in files.
-ghost use Rattle.std.specs.Prelude.{◌≡◌, true, false, not, ⊤, is_some, [], IfOk, IfErr};
+ghost use Rattle.std.specs.Prelude.{◌≡◌, ◌<◌, true, false, not, ⊤, is_some, [], None, IfSome, IfOk, IfErr};
 ghost use Rattle.sqlite.specs.Held.{state};
-ghost use Rattle.tables.specs.Opening.{any_there};
+ghost use Rattle.tables.specs.Opening.{any_there, has_older};
 ghost use Rattle.sqlite_store.specs.FileStore.{view};
 ghost use Rattle.sqlite_wal.specs.Files.{image_at};
 ghost use Rattle.sqlite.specs.Files.{file_state, IsOpened, IsBlankAs};
@@ -13,9 +13,9 @@ ghost use Rattle.statements.specs.declared.making.TheConstants.{SCHEMA_VERSION};
 ghost use Rattle.tables.specs.Logs.{CopiesLog};
 ghost use Rattle.tables.specs.Opening.{IsFresh};
 ghost use Rattle.checks.specs.Standing.{HaveRows};
-ghost use Rattle.program.specs.Paths.{makes};
+ghost use Rattle.program.specs.Paths.{makes, raises};
 ghost use Rattle.system.specs.Causes.{IsFileFault, is_open_cause};
-ghost use Rattle.system.specs.Files.{OpensOn, HadTables, IsClosedOn};
+ghost use Rattle.system.specs.Files.{OpensOn, HadTables, IsAsFound, IsClosedOn};
 ghost use Rattle.system.specs.Shields.{AreCleanOrCollided};
 ghost use Rattle.system.specs.Totals.{ReportsOf, found_totals};
 
@@ -43,7 +43,7 @@ use std::alloc::Global;
 use std::os::unix::fs::MetadataExt;
 use std::rt::HostRuntime;
 use std::{fs, io};
-use tables::{SqlKeep, Unopened, has_any_of_ours};
+use tables::{SqlKeep, Unopened, has_any_of_ours, older_version};
 
 /// The store in a file, its pages named by SHA-256, which `start` stands for as it is opened.
 pub type FileKeep<S> = SqlKeep<FileStore<FileFrom<S>>, ShaKey>;
@@ -87,7 +87,7 @@ fn open_database<S: Start>(
         Ok(files) => files,
         Err(error) => return Err(pair_cause(error)),
     };
-    connect(rt.alloc(), files, options, opening != Opening::Existing)
+    connect(rt.alloc(), files, options, opening.makes())
 }
 
 /// The version that a row tells.
@@ -137,9 +137,10 @@ fn make_for(rt: &HostRuntime, path: &str, opening: Opening) -> Result<(), Cause>
     ensures why { IfErr result (λ cause. is_open_cause cause ≡ true) }
 {
     admit(rt, path, opening)?;
-    match opening {
-        Opening::Existing => Ok(()),
-        Opening::Created | Opening::Target => make(rt, path),
+    if opening.makes() {
+        make(rt, path)
+    } else {
+        Ok(())
     }
 }
 
@@ -147,15 +148,38 @@ fn make_for(rt: &HostRuntime, path: &str, opening: Opening) -> Result<(), Cause>
 fn admit_tables<S: Alter>(conn: &Connection<S>, opening: Opening) -> bool
     ensures { result ≡ true → makes opening ≡ false → any_there (state S.Store conn.now).now.schema ≡ true }
 {
-    match opening {
-        Opening::Existing => has_any_of_ours(conn),
-        Opening::Created | Opening::Target => true,
+    opening.makes() || has_any_of_ours(conn)
+}
+
+// The older version whose tables a database has, if it is only read. It is refused then, because a read raises nothing.
+fn refused_version<S: Alter>(conn: &Connection<S>, opening: Opening) -> Option<u64>
+    ensures older { IfSome result (λ version. version < SCHEMA_VERSION) }
+    ensures none { result ≡ None → raises opening ≡ false → has_older (state S.Store conn.now).now.schema ≡ false }
+{
+    if opening.raises() {
+        None
+    } else {
+        older_version(conn)
+    }
+}
+
+// Why a database with the tables of an older version is not read: it has that version, unless it states another.
+fn older_fault<S: Alter + Drop>(conn: Connection<S>, version: u64) -> OpenFault
+    ensures { version < SCHEMA_VERSION → IsFileFault result }
+{
+    let mut conn = conn;
+    match other_in(&mut conn) {
+        OtherSchema::Version(stated) if stated == version => {
+            OpenFault::Schema(OtherSchema::Older(version))
+        }
+        other => OpenFault::Schema(other),
     }
 }
 
 /// Opens the store in a file. A file that isn't there is made, if one is to be made there, for its owner alone and with no
 /// organization; one of another schema stays as it is. Nothing ties what is found to the path, but to what `start` stands for.
-/// Where no file is to be made, the database that was found had our tables.
+/// Where no file is to be made, the database that was found had our tables. If it is only read, one of an older version is refused, and the store
+/// has committed what was committed there.
 /// Where the disk answered the open's own reads as it should, the store is shielded from then on. That memory was refused is told with
 /// the file's size.
 pub fn open_file<S: Start>(
@@ -166,6 +190,7 @@ pub fn open_file<S: Start>(
 ) -> Result<FileKeep<S>, OpenFault>
     ensures opens { IfOk result (λ keep. ⟦<FileKeep<S> as Keep>⟧.clean keep → OpensOn (image_at S.Start) (⟦<FileKeep<S> as Keep>⟧.rows keep) (⟦<FileKeep<S> as Keep>⟧.sound keep)) }
     ensures tabled { makes opening ≡ false → IfOk result (λ keep. ⟦<FileKeep<S> as Keep>⟧.clean keep → HadTables (image_at S.Start)) }
+    ensures unraised { raises opening ≡ false → IfOk result (λ keep. ⟦<FileKeep<S> as Keep>⟧.clean keep → IsAsFound (image_at S.Start) (file_state keep.conn).committed) }
     ensures guarded { IfOk result (λ keep. ⟦<FileKeep<S> as Keep>⟧.clean keep → ⟦<FileKeep<S> as Keep>⟧.shielded keep) }
     ensures as_opened { IfOk result (λ keep. ⟦<FileKeep<S> as Keep>⟧.clean keep → IsFresh (file_state keep.seen.value).committed keep.memo (file_state keep.conn)) }
     ensures why { IfErr result IsFileFault }
@@ -182,9 +207,12 @@ pub fn open_file<S: Start>(
     if !admit_tables(&conn, opening) {
         return Err(OpenFault::Down(Cause::NoTables));
     }
-    match SqlKeep::open(conn) {
-        Ok(keep) => Ok(keep),
-        Err(unopened) => Err(unopened_fault(unopened)),
+    match refused_version(&conn, opening) {
+        Some(version) => Err(older_fault(conn, version)),
+        None => match SqlKeep::open(conn) {
+            Ok(keep) => Ok(keep),
+            Err(unopened) => Err(unopened_fault(unopened)),
+        },
     }
 }
 
@@ -288,6 +316,9 @@ impl<S: Start> Files<FileKeep<S>> for DiskFiles<'_, S> {
 
     // Until a file is opened, it is that of `start`, whatever path it has.
     ghost bare = { λ files _. (is_some files.start ≡ true) × ¬ HadTables (image_at S.Start) };
+
+    // Until a file is opened, it is that of `start`, whatever path it has.
+    ghost unraised = { λ files _ store. is_some files.start ≡ true → ⟦<FileKeep<S> as Keep>⟧.clean store → IsAsFound (image_at S.Start) (file_state store.conn).committed };
 
     // Nothing ties a path to what lies there.
     ghost lacks = { λ _ _ _. ⊤ };

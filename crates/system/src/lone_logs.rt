@@ -72,8 +72,8 @@ pub fn admit(rt: &HostRuntime, path: &str, opening: Opening) -> Result<(), Cause
     }
     match has_log(rt, path) {
         Ok(true) => Err(Cause::LogAlone),
-        Ok(false) if opening == Opening::Existing => Err(missing(rt, path)),
-        Ok(false) => Ok(()),
+        Ok(false) if opening.makes() => Ok(()),
+        Ok(false) => Err(missing(rt, path)),
         Err(error) => Err(crate::causes::system_cause(error.kind())),
     }
 }

@@ -1,11 +1,11 @@
 use Rattle.std.proofs.Common.{inl, inr}
-use Rattle.program.specs.declared.environment.Opening.TheVariants.{Existing}
+use Rattle.program.specs.declared.environment.Opening.TheVariants.{Read}
 use Rattle.program.proofs.OutcomeLemmas.{refused_by, refused_faults}
 use Rattle.program.proofs.EnvironmentLemmas.{checks_at}
 use Rattle.program.proofs.checking.check.Goals as goal
 
 pub returns-in-Err-clause-line : goal.returns-in-Err-clause-line
-returns-in-Err-clause-line g c = refused_faults c.in-Err.exit _ _ (refused_by g.K.Keep g.F.Files c.args.db.now Existing c.args.files.now c.open_one.new.files c.in-Err.exit (g.O.Write.contents c.args.output.now) (g.O.Write.contents c.open_one.new.output) (g.E.ErrorStream.reported c.args.errors.now) (g.E.ErrorStream.reported c.open_one.new.errors) c.in-Err.ensures.refused)
+returns-in-Err-clause-line g c = refused_faults c.in-Err.exit _ _ (refused_by g.K.Keep g.F.Files c.args.db.now Read c.args.files.now c.open_one.new.files c.in-Err.exit (g.O.Write.contents c.args.output.now) (g.O.Write.contents c.open_one.new.output) (g.E.ErrorStream.reported c.args.errors.now) (g.E.ErrorStream.reported c.open_one.new.errors) c.in-Err.ensures.refused)
 
 pub returns-in-Err-clause-unchanged : goal.returns-in-Err-clause-unchanged
 returns-in-Err-clause-unchanged g c = inr c.in-Err.ensures.refused

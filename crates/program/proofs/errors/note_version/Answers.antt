@@ -1,11 +1,10 @@
 use Rattle.std.proofs.Common.{codes, decimal, refl, ◌++◌}
-use Rattle.program.specs.Errors.{version_end}
 use Rattle.program.proofs.ErrorLemmas.{wrote_first, wrote_then}
 use Rattle.program.proofs.errors.note_version.Goals as goal
 
 pub returns : goal.returns
 returns g c = wrote_then (g.E.ErrorStream.reported c.args.errors.now) (g.E.ErrorStream.reported c.write_text.new.errors) (g.E.ErrorStream.reported c.write_version.new.errors)
-    (codes "custody: the file has version ") (codes "custody: the file has version ") (decimal c.args.version ++ version_end) c.write_version.result refl c.in_ok-write_text.ensures c.write_version.ensures
+    (codes "custody: the file has version ") (codes "custody: the file has version ") (decimal c.args.version ++ c.args.end.now) c.write_version.result refl c.in_ok-write_text.ensures c.write_version.ensures
 
 pub returns-in_err-write_text : goal.returns-in_err-write_text
-returns-in_err-write_text g c = wrote_first (g.E.ErrorStream.reported c.args.errors.now) (g.E.ErrorStream.reported c.write_text.new.errors) (codes "custody: the file has version ") (codes "custody: the file has version ") (decimal c.args.version ++ version_end) c.from_residual.result c.from_residual.ensures.0 refl c.in_err-write_text.ensures
+returns-in_err-write_text g c = wrote_first (g.E.ErrorStream.reported c.args.errors.now) (g.E.ErrorStream.reported c.write_text.new.errors) (codes "custody: the file has version ") (codes "custody: the file has version ") (decimal c.args.version ++ c.args.end.now) c.from_residual.result c.from_residual.ensures.0 refl c.in_err-write_text.ensures

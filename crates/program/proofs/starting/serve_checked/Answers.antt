@@ -22,7 +22,7 @@ returns-then-check_first-clause-serves g c =
     c.args.network.now c.serve_opened.new.network c.args.clock.now c.serve_opened.new.clock c.check_first.new.store c.serve_opened.result
     (out c.args.output.now) (out c.open_one.new.output) (out c.serve_opened.new.output)
     (err c.args.errors.now) (err c.check_first.new.errors) (err c.serve_opened.new.errors)
-    (opens_sound g.K.Keep g.F.Files c.args.db.now Faults c.args.files.now c.open_one.new.files c.in-Ok.keep c.check_first.new.store (err c.args.errors.now) (err c.open_one.new.errors) (err c.check_first.new.errors) c.in-Ok.ensures.opened.0 unchanged)
+    (opens_sound g.K.Keep g.F.Files c.args.db.now Existing Faults c.args.files.now c.open_one.new.files c.in-Ok.keep c.check_first.new.store (err c.args.errors.now) (err c.open_one.new.errors) (err c.check_first.new.errors) c.in-Ok.ensures.opened.0 unchanged)
     c.in-Ok.ensures.opened.1 c.serve_opened.ensures.serves))
 
 pub returns-clause-serves : goal.returns-clause-serves
@@ -32,7 +32,7 @@ returns-clause-serves g c =
     let unchanged = subst (λ (is_sound : Bool). ChecksFirst g.K.Keep g.F.Files Faults c.in-Ok.keep is_sound c.check_first.new.store (error_stream (err c.open_one.new.errors) (err c.check_first.new.errors))) c.if-check_first.false c.check_first.ensures in
     inl (inr (
       (
-        checks_file g.K.Keep g.F.Files c.args.db.now Faults c.args.files.now c.open_one.new.files c.close_after.new.files c.in-Ok.keep c.check_first.new.store
+        checks_file g.K.Keep g.F.Files c.args.db.now Existing Faults c.args.files.now c.open_one.new.files c.close_after.new.files c.in-Ok.keep c.check_first.new.store
             (err c.args.errors.now) (err c.open_one.new.errors) (err c.check_first.new.errors) (err c.close_after.new.errors)
             c.in-Ok.ensures.opened.0 unchanged c.close_after.ensures,
         said_behind Down c.say.result (out c.args.output.now) (out c.open_one.new.output) (out c.say.new.output) c.in-Ok.ensures.opened.1 c.say.ensures,

@@ -13,6 +13,13 @@ not_bare : {X E : Type 0} (M A H : Type 0) (Clean : X → Type 0) (result : Resu
 not_bare M A H Clean (Ok x) reported m = λ clean both. both.1 (reported m clean)
 not_bare M A H Clean (Err e) reported m = tt
 
+found_as : {X E : Type 0} (M P : Type 0) (Clean A : X → Type 0) (result : Result X E) → (M → IfOk result (λ x. Clean x → A x)) → M → IfOk result (λ x. P → Clean x → A x)
+found_as M P Clean A (Ok x) reported m = λ first. reported m
+found_as M P Clean A (Err e) reported m = tt
+
+pub returns-in-Some-clause-unraised : goal.returns-in-Some-clause-unraised
+returns-in-Some-clause-unraised g c = found_as _ _ _ _ c.open_file-opened.result c.open_file-opened.ensures.unraised
+
 none_vacant : {X E : Type 0} (result : Result X E) → OnOk result (¬ ⊥)
 none_vacant (Ok x) = λ never. never
 none_vacant (Err e) = tt
