@@ -10,6 +10,7 @@ name each. Our own definitions are ours however their texts are spelled, in what
 beside them. A row may have a number where ours have a flag: that is refused, too.
 
 Every command with --db, and each line of `admin`, has to answer `refused schema` to a file of another schema, and to leave it as it is.
+So have the commands that only read a file of an older schema (crates/stories/data), with its version; all others raise it.
 Lists of 1 to 100,000 rows are whole. It prints a line for each file, and ends with status 1 at the first that is wrong.
 """
 
@@ -17,11 +18,12 @@ import hashlib
 import itertools
 import os
 import re
+import shutil
 import sqlite3
 
 from doors import at_door, done
 from files import all_in, looking, making
-from harness import HERE, Service, Wrong, look_at, ok, request, said, secret_file
+from harness import HERE, Service, Wrong, bytes_of, look_at, ok, request, said, secret_file
 
 SOURCE = HERE + "/../crates/statements/src/making.rt"
 ORDER = ["META", "ORG", "TOKEN", "WS", "VERSION", "RUN", "RUN_INDEX", "PAGE", "VPAGE", "VPAGE_INDEX", "BOUND", "EDITION", "KEEPING"]
@@ -92,11 +94,18 @@ OTHER_SCHEMAS = [
     ("an older version than its tables", "UPDATE edition SET version = %d" % (NEWEST - 1), NEWEST - 1),
     ("a table too few", "DROP TABLE keeping", NEWEST),
     ("two tables too few", "DROP TABLE keeping; DROP TABLE bound", NEWEST),
+    ("a table too few, and a column more", "DROP TABLE keeping; ALTER TABLE version ADD COLUMN more TEXT; UPDATE edition SET version = %d" % (NEWEST - 1), NEWEST - 1),
     ("no version", "DELETE FROM edition", None),
     ("a column more", "ALTER TABLE version ADD COLUMN more TEXT", NEWEST),
 ]
 VERSION_LINE = b"custody: the file has version %d of the schema, which this program does not know, or its tables are different\n"
 NO_VERSION_LINE = b"custody: the file has tables with this schema's names, but no schema version\n"
+
+# Files of each older schema, the line that refuses to read one, and what `org-list` prints of each.
+OLDER = {version: HERE + "/../crates/stories/data/schema-%d.sqlite" % version for version in range(1, NEWEST)}
+OLDER_LINE = b"custody: the file has version %d of the schema, an older one: serve or admin raises it\n"
+LISTED_OLDER = b"acme 2 200\nbeta 1 3\nempty 0 0\n"
+
 # Lines of `admin`, each of which would print something.
 BATCHES = [b"org-add acme", b"org-limit acme 3", b"org-list", b"org-remove acme", b"org-remove acme force", b"token-add acme ci write writewritewrite1", b"token-list acme", b"token-revoke acme ci"]
 
@@ -267,6 +276,53 @@ def look_at_schemas(program):
         print("right: refused schema: %s, to %d commands" % (what, len(commands)))
 
 
+def reading(path, source):
+    """The words of each command that only reads a file; those of `org-remove` would change another one."""
+    for more in [], ["--force"]:
+        yield ["org-remove", "--db", source, "--copied-to", path, *more, "acme"]
+    yield ["check", "--db", path]
+    yield ["org-copy", "--db", path, "--to", "target.db", "acme"]
+    yield ["compact", "--db", path, "--to", "target.db"]
+
+
+def serves_one(program, path, *words):
+    """A service that answers one request, and ends."""
+    with Service(program, path, 1, *words) as service:
+        said("a request without a token", service.asked(request(b"GET /v1/acme/workspaces HTTP/1.1"))[:12], b"HTTP/1.1 401")
+        service.ends()
+
+
+def look_at_older(program):
+    """A file of an older schema: what only reads it refuses it, with its version, and changes no byte of it; what may change it raises it."""
+    maker = Maker(program, our_texts())
+    source = maker.made(maker.texts, more=WORKSPACE)
+    raising = {
+        "admin": lambda path: said("admin", program.run(["admin", "--db", path], b"org-list\n"), (0, LISTED_OLDER, b"")),
+        "org-list": lambda path: said("org-list", program.run(["org-list", "--db", path]), (0, LISTED_OLDER, b"")),
+        "org-copy, as its target": lambda path: said("org-copy", program.run(["org-copy", "--db", source, "--to", path, "acme"]), (1, b"refused exists\n", b"")),
+        "serve": lambda path: serves_one(program, path),
+        "serve --check": lambda path: serves_one(program, path, "--check"),
+    }
+    said("whether a source can be read", program.run(["check", "--db", source])[:2], (0, b"ok\norganizations 1 workspaces 1 versions 0 runs 0 newest -\n"))
+    for version, data in OLDER.items():
+        for name, raises in raising.items():
+            path = next(maker.names)
+            shutil.copyfile(data, program.folder + "/" + path)
+            os.chmod(program.folder + "/" + path, 0o600)
+            for words in reading(path, source):
+                said("%s, of schema %d" % (" ".join(words), version), program.run(words), (3, b"refused schema\n", OLDER_LINE % version))
+                said("the file behind %s" % words[0], bytes_of(program.folder + "/" + path) == bytes_of(data), True)
+                said("whether %s made a file" % words[0], os.path.exists(program.folder + "/target.db"), False)
+            raises(path)
+            said("check of what %s raised" % name, program.run(["check", "--db", path])[1].startswith(b"ok\norganizations 3 workspaces 3 "), True)
+            said("its list", program.run(["org-list", "--db", path]), (0, LISTED_OLDER, b""))
+            said("a copy of it", program.run(["compact", "--db", path, "--to", "target.db"])[:2], (0, b"ok\n"))
+            os.remove(program.folder + "/target.db")
+            os.remove(program.folder + "/target.db-wal")
+            print("right: a file of schema %d is read by no command, and raised by %s" % (version, name))
+    said("the organizations of the source", program.run(["org-list", "--db", source]), (0, b"acme 1 200\n", b""))
+
+
 def parts_of(service, kind, items, names):
     """A list of a service, part by part: each has its items, and says whether there are more."""
     after = b""
@@ -313,4 +369,4 @@ def look_at_rows(program):
 
 
 if __name__ == "__main__":
-    look_at(__doc__, look_at_ours, look_at_others, look_at_several, look_at_schemas, look_at_lists, look_at_rows)
+    look_at(__doc__, look_at_ours, look_at_others, look_at_several, look_at_schemas, look_at_older, look_at_lists, look_at_rows)

@@ -2,7 +2,7 @@
 # Puts a copy in the place of a service's database: checks it on the same disk, stops the service, moves the files, starts the service.
 #     restore.sh SERVICE FOLDER
 # SERVICE is `custody` or `custody@NAME`. FOLDER has custody.db, and its custody.db-wal if it has one; it stays as it is. The files that were
-# there go to a folder whose name is printed.
+# there go to a folder whose name is printed. The program has to be of the copy's schema: `check` raises none.
 set -eu
 service=$1 from=$2
 file=$(realpath -m "/var/lib/$(echo "$service" | tr @ /)/custody.db")     # custody follows symbolic links, too
