@@ -62,20 +62,20 @@ or_right false b e = e
 
 older_is : (m n : ℕ) (s : Schema) → m < n → all_there m s ≡ true → older_there n s ≡ true
 older_is m zero s low e = absurd (omega (arith, low))
-older_is m (suc n) s low e = by_order (nat_lt m n) refl
+older_is m (suc n) s low e = by_order (λ below. older_is m n s below e) (nat_lt m n) refl
   where
-    by_order : (b : Bool) → nat_lt m n ≡ b → older_there (suc n) s ≡ true
-    by_order true below = ap (λ (b : Bool). b || all_there n s) (older_is m n s (grind (arith, nat_tests)) e)
-    by_order false below = or_right (older_there n s) (all_there n s) (subst (λ (k : ℕ). all_there k s ≡ true) (grind (arith, nat_tests)) e)
+    by_order : (m < n → older_there n s ≡ true) → (b : Bool) → nat_lt m n ≡ b → older_there (suc n) s ≡ true
+    by_order before true below = ap (λ (b : Bool). b || all_there n s) (before (grind (arith, nat_tests)))
+    by_order before false below = or_right (older_there n s) (all_there n s) (subst (λ (k : ℕ). all_there k s ≡ true) (grind (arith, nat_tests)) e)
 
 later_is_older : (n : ℕ) (s : Schema) → later_there n s ≡ true → older_there (suc n) s ≡ true
 later_is_older zero s e = absurd (true≢false (sym e))
 later_is_older (suc zero) s e = absurd (true≢false (sym e))
-later_is_older (suc (suc n)) s e = by_earlier (later_there (suc n) s) refl e
+later_is_older (suc (suc n)) s e = by_earlier (later_is_older (suc n) s) (later_there (suc n) s) refl e
   where
-    by_earlier : (b : Bool) → later_there (suc n) s ≡ b → (b || all_there (suc (suc n)) s) ≡ true → older_there (suc (suc (suc n))) s ≡ true
-    by_earlier true is e = ap (λ (b : Bool). b || all_there (suc (suc n)) s) (later_is_older (suc n) s is)
-    by_earlier false is e = or_right (older_there (suc (suc n)) s) (all_there (suc (suc n)) s) e
+    by_earlier : (later_there (suc n) s ≡ true → older_there (suc (suc n)) s ≡ true) → (b : Bool) → later_there (suc n) s ≡ b → (b || all_there (suc (suc n)) s) ≡ true → older_there (suc (suc (suc n))) s ≡ true
+    by_earlier before true is e = ap (λ (b : Bool). b || all_there (suc (suc n)) s) (before is)
+    by_earlier before false is e = or_right (older_there (suc (suc n)) s) (all_there (suc (suc n)) s) e
 
 last_there : (n : ℕ) (s : Schema) → later_there n s ≡ true → older_there n s ≡ false → all_there n s ≡ true
 last_there n s e none = ap (λ (b : Bool). b || all_there n s) (sym none) ∙ later_is_older n s e
