@@ -269,8 +269,8 @@ fn older_there(schema: &Schema) -> Option<u64>
     None
 }
 
-/// The version before the newest whose tables a database has, with our columns: an open would upgrade it. It reads only the
-/// schema.
+/// The version before the newest whose tables a database has, with our columns. An open upgrades it if the database states this
+/// version. It reads only the schema.
 pub fn older_version<S: Alter>(conn: &Connection<S>) -> Option<u64>
     ensures there { IfSome result (λ n. (n < SCHEMA_VERSION) × (all_there n (state S.Store conn.now).now.schema ≡ true)) }
     ensures reported { is_some result ≡ has_older (state S.Store conn.now).now.schema }
