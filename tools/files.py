@@ -5,7 +5,7 @@
 
 A file behind a link is told of by its own mode and by that of its log. A file that isn't opened is told why. Where there is no
 file, or an empty one, only `org-add`, `serve` without `--check` and the target of a copy make one; and beside a log in which a
-change may stand nothing is made, and no byte changes. `check` tells how many rows there are as SQLite's own library counts them.
+change may stand nothing is made, and no byte changes. Nor does one where the log is older than the file, which no command opens. `check` tells how many rows there are as SQLite's own library counts them.
 One program at a time has a file, and of two that make one neither spoils it. A new file has pages of 1,024 bytes, each with its sum; one that
 an older program made keeps its own. A file that sqlite3 wrote to, and whose sums (those of SQLite's cksumvfs, which a new file has) it spoiled so,
 comes back by a dump. A write without room shuts no store; a fault of the disk that does ends the service, and a command tells
@@ -29,7 +29,7 @@ import subprocess
 import tempfile
 import time
 
-from harness import ANSWERED_503, DISK, DOWN, IN_USE, LOG_ALONE, LOG_STAYS, NEW_FILE, NO_FOLDER, PATIENCE, PORT_TAKEN, SECRET_FORM, SMALL_FILES, UNCHANGED, UNFINISHED
+from harness import ANSWERED_503, DISK, DOWN, IN_USE, LOG_ALONE, LOG_STAYS, NEW_FILE, NO_FOLDER, OLD_LOG, PATIENCE, PORT_TAKEN, SECRET_FORM, SMALL_FILES, UNCHANGED, UNFINISHED
 from harness import GET, MADE, PUT, Service, Wrong, bytes_of, compiled, free_port, look_at, ok, post, reply, request, said, small_files
 
 READABLE = b"custody: users other than its owner may read the file or its -wal: chmod 600 ends that\n"
@@ -390,6 +390,28 @@ def look_at_lone_logs(program):
             log.write(bytes(size))
         said("a log of %d bytes without its file" % size, program.run(["org-add", "--db", "least.db", "acme"]), due)
     print("right: a log of 568 bytes or more may have a page, and one of less none")
+
+
+def look_at_old_logs(program):
+    """A log that is older than its file is left as it is by every command, and so is the file; without that log, all is there."""
+    folder, texts = logged_alone(program, "old")
+    real, newest = folder + "/there/real.db", large_text(8, 6000)
+    old = bytes_of(real + "-wal")
+    with Service(program, "old/there/real.db", 1) as service:
+        said("one more state is posted", service.asked(post(newest)), ok())
+        service.ends()
+    said("whether its log is copied into the file", os.path.getsize(real + "-wal") <= EMPTY_LOG, True)
+    with open(real + "-wal", "wb") as log:
+        log.write(old)
+    for path in ("there/real.db", "link.db"):
+        refused_all(program, folder, "a log that is older than its file, by %s" % path, path, lambda path: [*looking(path), *making(path, program.folder + "/source.db")], OLD_LOG)
+    os.remove(real + "-wal")
+    with Service(program, "old/there/real.db", 1 + len(texts)) as service:
+        said("the newest state of the file", service.asked(GET), ok(newest))
+        for number, text in enumerate(texts, 1 + len(TEXTS)):
+            said("a state before it", service.asked(request(b"GET /v1/acme/versions/net/%d HTTP/1.1" % number)), ok(text))
+        service.ends()
+    print("right: without that log, the file has all %d states" % (len(TEXTS) + len(texts) + 1))
 
 
 def counted(path):
@@ -957,4 +979,4 @@ def look_at_synced(program):
 
 
 if __name__ == "__main__":
-    look_at(__doc__, look_at_modes, look_at_absent, look_at_lone_logs, look_at_totals, look_at_sizes, look_at_greatest, look_at_pages, look_at_owners, look_at_makers, look_at_reasons, look_at_numbers, look_at_spoiled, look_at_full, look_at_half, look_at_memory, look_at_stack, look_at_salts, look_at_want, look_at_log, look_at_killed_behind, look_at_shut, look_at_unsynced, look_at_synced)
+    look_at(__doc__, look_at_modes, look_at_absent, look_at_lone_logs, look_at_old_logs, look_at_totals, look_at_sizes, look_at_greatest, look_at_pages, look_at_owners, look_at_makers, look_at_reasons, look_at_numbers, look_at_spoiled, look_at_full, look_at_half, look_at_memory, look_at_stack, look_at_salts, look_at_want, look_at_log, look_at_killed_behind, look_at_shut, look_at_unsynced, look_at_synced)

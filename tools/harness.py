@@ -54,6 +54,7 @@ LOG_STAYS = b"custody: the WAL could not be copied into the file: keep the file 
 NEW_FILE = b"custody: there was no file at the path; a new one was created\n"
 NO_FOLDER = b"custody: the folder of the --db file does not exist\n"
 NO_SOCKET = b"custody: something else than a socket stands at the path of --socket\n"
+OLD_LOG = b"custody: the -wal beside the file is older than the file, or damaged: put the right one back\n"
 PORT_TAKEN = b"custody: the port is in use\n"
 READ_FAILED = b"custody: connection %d: a read failed\n"
 SECRET_FORM = b"custody: the secret must be one line of 16 to 64 ASCII letters or digits\n"
@@ -75,7 +76,7 @@ BLAMES = re.compile(
 )
 BLAMELESS = re.compile(
     rb"^custody: (?:another program has the file open|no permission to .*|the path does not lead to a file.*|the folder of the --.* file does not exist"
-    rb"|there is no file at the path.*|the file is missing or empty.*|the file is a database without.*|a rollback journal lies.*|the file is damaged.*"
+    rb"|there is no file at the path.*|the file is missing or empty.*|the -wal beside the file is older.*|the file is a database without.*|a rollback journal lies.*|the file is damaged.*"
     rb"|the file is not a database.*|the port is in use|could not listen .*|another program answers at the socket|something else than a socket.*|the file's tables have faults.*"
     rb"|the --copied-to file does not hold.*|the tables of the --copied-to file have faults.*)$",
     re.M,

@@ -3,7 +3,7 @@ use Rattle.std.specs.Prelude.{◌++◌, ℕ, List, [], ◌∷◌, Bool, true, fa
 use Rattle.serve.specs.declared.exchanges.LinkFault.{LinkFault}
 use Rattle.serve.specs.declared.exchanges.LinkFault.TheVariants.{Ended, Read, Continue, Write}
 use Rattle.program.specs.declared.reasons.Cause.{Cause}
-use Rattle.program.specs.declared.reasons.Cause.TheVariants.{InUse, NotPermitted, NoFile, NoFolder, NoTargetFolder, Missing, LogAlone, NoTables, Journal, Corrupt, Unsound, NoRoom, NoMemory, Disk, Store, Unfinished, Shut, Halted, Unknown, Input, PortTaken, PortNotPermitted, Port, SocketTaken, NoSocket, SocketNotPermitted, Socket, Accept, Clock, Log, Faults, SourceFaults, CopyFaults, NotCopied, Encoding, NoNull}
+use Rattle.program.specs.declared.reasons.Cause.TheVariants.{InUse, NotPermitted, NoFile, NoFolder, NoTargetFolder, Missing, LogAlone, OldLog, NoTables, Journal, Corrupt, Unsound, NoRoom, NoMemory, Disk, Store, Unfinished, Shut, Halted, Unknown, Input, PortTaken, PortNotPermitted, Port, SocketTaken, NoSocket, SocketNotPermitted, Socket, Accept, Clock, Log, Faults, SourceFaults, CopyFaults, NotCopied, Encoding, NoNull}
 use Rattle.program.specs.declared.reasons.OtherSchema.{OtherSchema}
 use Rattle.program.specs.declared.reasons.OtherSchema.TheVariants.{Older, Version, Unversioned}
 use Rattle.program.specs.Streams.{Reported, Reports}
@@ -59,6 +59,7 @@ cause_line NoFolder = codes "custody: the folder of the --db file does not exist
 cause_line NoTargetFolder = codes "custody: the folder of the --to file does not exist\n"
 cause_line Missing = codes "custody: there is no file at the path, or it is empty; only org-add, serve without --check, and --to create one\n"
 cause_line LogAlone = codes "custody: the file is missing or empty, and the -wal beside it may hold changes: put the file back\n"
+cause_line OldLog = codes "custody: the -wal beside the file is older than the file, or damaged: put the right one back\n"
 cause_line NoTables = codes "custody: the file is a database without custody's tables\n"
 cause_line Journal = codes "custody: a rollback journal lies beside the file: open the file with sqlite3 first\n"
 cause_line Corrupt = codes "custody: the file is damaged: a page's checksum or format is wrong\n"

@@ -19,6 +19,8 @@ pub enum Cause {
     Missing,
     /// There is no file at the path, or an empty one, but the WAL beside it may hold committed changes.
     LogAlone,
+    /// The WAL beside the file lacks changes that the file has.
+    OldLog,
     /// The file is a database without our tables.
     NoTables,
     /// A rollback journal of SQLite lies beside the file.
@@ -93,6 +95,9 @@ impl Cause {
             }
             Cause::LogAlone => {
                 "custody: the file is missing or empty, and the -wal beside it may hold changes: put the file back\n"
+            }
+            Cause::OldLog => {
+                "custody: the -wal beside the file is older than the file, or damaged: put the right one back\n"
             }
             Cause::NoTables => "custody: the file is a database without custody's tables\n",
             Cause::Journal => {

@@ -12,7 +12,7 @@ use Rattle.sqlite_std_file.specs.declared.pair.OpenError.TheVariants as pair
 use Rattle.sqlite_store.specs.declared.error.OpenError.{OpenError}
 use Rattle.sqlite_store.specs.declared.error.OpenError.TheVariants as begin
 use Rattle.program.specs.declared.reasons.Cause.{Cause}
-use Rattle.program.specs.declared.reasons.Cause.TheVariants.{InUse, NotPermitted, NoFile, NoFolder, Missing, LogAlone, NoTables, Journal, Corrupt, Unsound, NoRoom, NoMemory, Disk, Store, PortTaken, PortNotPermitted, Port, SocketNotPermitted, Socket}
+use Rattle.program.specs.declared.reasons.Cause.TheVariants.{InUse, NotPermitted, NoFile, NoFolder, Missing, LogAlone, OldLog, NoTables, Journal, Corrupt, Unsound, NoRoom, NoMemory, Disk, Store, PortTaken, PortNotPermitted, Port, SocketNotPermitted, Socket}
 use Rattle.program.specs.declared.environment.Standing.{Standing}
 use Rattle.program.specs.declared.environment.Standing.TheVariants as standing
 use Rattle.program.specs.declared.reasons.OpenFault.{OpenFault}
@@ -81,6 +81,7 @@ is_file_cause NoFile = true
 is_file_cause NoFolder = true
 is_file_cause Missing = true
 is_file_cause LogAlone = true
+is_file_cause OldLog = true
 is_file_cause NoTables = true
 is_file_cause Journal = true
 is_file_cause Corrupt = true

@@ -24,6 +24,7 @@ use crate::connecting::connect;
 use crate::copies::copy_between;
 use crate::lone_logs::admit;
 use crate::making::make;
+use crate::old_logs::refuse_old;
 use crate::pairs::Pair;
 use crate::replays::replayed;
 use crate::tuning::{file_bytes, options};
@@ -132,11 +133,12 @@ fn opening_fault(cause: Cause, bytes: u64) -> OpenFault
     }
 }
 
-// Makes the file, where one is to be made.
+// Makes the file, where one is to be made. A file beside a WAL of another time is refused.
 fn make_for(rt: &HostRuntime, path: &str, opening: Opening) -> Result<(), Cause>
     ensures why { IfErr result (λ cause. is_open_cause cause ≡ true) }
 {
     admit(rt, path, opening)?;
+    refuse_old(rt, path)?;
     if opening.makes() {
         make(rt, path)
     } else {

@@ -9,6 +9,7 @@ mod files;
 mod laws;
 mod lone_logs;
 mod making;
+mod old_logs;
 mod pairs;
 mod replays;
 mod running;
