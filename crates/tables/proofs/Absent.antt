@@ -1,13 +1,5 @@
 -- A workspace that has no row has no row of keeping.
-use Rattle.std.proofs.Common.{◌≡◌, ℕ, true, false, List, is_some, None, sym, ap, subst, ◌∙◌}
-use Rattle.std.specs.List.{AllByRecursion, list_any}
-use Rattle.std.proofs.lemmas.Bool.{false_from_ne_true}
-use Rattle.sqlite_keyed.proofs.ListLemmas.{all_weaker, none_from_any}
-use Rattle.sqlite_keyed.proofs.SliceLemmas.{any_is_found}
-use Rattle.statements.specs.Rows.{Kept, WsRow}
-use Rattle.statements.specs.Tables.{Tables}
-use Rattle.statements.specs.Changes.{is_ws, is_retention, HasNoRetention}
-use Rattle.statements.specs.Finds.{workspace_of, retention_of}
+use Rattle.tables.proofs.Outside.{◌≡◌, ℕ, true, false, List, is_some, None, sym, ap, subst, ◌∙◌, AllByRecursion, list_any, false_from_ne_true, all_weaker, none_from_any, any_is_found, Kept, WsRow, Tables, is_ws, is_retention, HasNoRetention, workspace_of, retention_of}
 use Rattle.statements.proofs.Fresh.{none_found}
 use Rattle.tables.specs.Sound.{IsSound}
 use Rattle.tables.proofs.Names.{pair_first, pair_second}

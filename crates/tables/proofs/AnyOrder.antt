@@ -1,25 +1,8 @@
 -- Rows of versions and of runs in another order: sound tables stay sound, and denote the same records.
-use Rattle.std.proofs.Common.{◌≡◌, ℕ, Bool, true, false, cond, ◌&&◌, ◌==◌, List, [], ◌∷◌, map, filter, find, Option, Some, option_map, IsSomeAnd, refl, sym, ap, subst, ◌∙◌, ◌<◌, Ordering, Less, Equal, Greater, is_eq, nat_cmp}
-use Rattle.std.specs.Str.{bytes_eq}
-use Rattle.std.specs.List.{AllByRecursion, list_any}
+use Rattle.tables.proofs.Outside.{◌≡◌, ℕ, Bool, true, false, cond, ◌&&◌, ◌==◌, List, [], ◌∷◌, map, filter, find, Option, Some, option_map, IsSomeAnd, refl, sym, ap, subst, ◌∙◌, ◌<◌, Ordering, Less, Equal, Greater, is_eq, nat_cmp, bytes_eq, AllByRecursion, list_any, IsTotalOrder, tied_itself, nat_cmp_total, unsigned_tied, ordering_reverse, from_entries, eqb-true, and_assoc, IsAscending, sort_by, insert_sorted, all_weaker, ascending_weaker, along_permutation, IsPermutation-filter, name_cmp, Kept, WsRow, VersionRow, RunRow, VpageRow, Tables, is_ws, is_ws_of, is_version_of, is_version, is_run_of, version_cmp, run_cmp, cap_of, workspace_of, size_of, pages_for, carried_whole, carried_text, carried_sound}
 use Rattle.std.specs.List.Sorted.{IsPermutation}
-use Rattle.std.specs.Cmp.{IsTotalOrder, tied_itself, nat_cmp_total, unsigned_tied}
-use Rattle.std.specs.Ordering.{ordering_reverse}
-use Rattle.std.specs.FinMap.{from_entries}
-use Rattle.std.proofs.lemmas.Bool.{eqb-true}
-use Rattle.std.proofs.Math.Bool.{and_assoc}
-use Rattle.sqlite_trees.specs.Tree.{IsAscending}
 use Rattle.sqlite_trees.proofs.ListLemmas.{all-permutation}
-use Rattle.sqlite_keyed.specs.Lists.{sort_by, insert_sorted}
-use Rattle.sqlite_keyed.proofs.ListLemmas.{all_weaker, ascending_weaker, along_permutation, IsPermutation-filter}
-use Rattle.machine.specs.Order.{name_cmp}
 use Rattle.statements.specs.declared.rows.Workspace.{Workspace as WorkspaceCells}
-use Rattle.statements.specs.Rows.{Kept, WsRow, VersionRow, RunRow, VpageRow}
-use Rattle.statements.specs.Tables.{Tables}
-use Rattle.statements.specs.Changes.{is_ws, is_ws_of, is_version_of, is_version, is_run_of}
-use Rattle.statements.specs.Finds.{version_cmp, run_cmp, cap_of, workspace_of, size_of}
-use Rattle.texts.specs.Texts.{pages_for}
-use Rattle.texts.proofs.TextLaws.{carried_whole, carried_text, carried_sound}
 use Rattle.tables.specs.Laws.{RowsStandInAnyOrder}
 use Rattle.tables.specs.Records.{version_of_cells, workspace_of_cells, retention_at, versions_at, runs_at, workspace_by, tokens_at, record_of}
 use Rattle.tables.specs.Sound.{IsPlaced, HasText, IsSound}

@@ -1,24 +1,6 @@
 -- What is read on one connection and written on another, one after the other.
-use Rattle.std.specs.Bool.{⊤}
-use Rattle.std.proofs.Common.{◌≡◌, ℕ, ◌+◌, ◌<◌, List, [], ◌∷◌, ◌++◌, map, take, length, get_or, Option, Some, Result, Ok, Err, OnOk, OnErr, refl, sym, ap, subst, ◌∙◌}
-use Rattle.std.specs.Option.{unwrap_or}
-use Rattle.std.proofs.lemmas.List.{take_more, map_more}
-use Rattle.std.proofs.lemmas.Option.{same_Some}
-use Rattle.sqlite_trees.specs.declared.store.Store.{Ghosts}
-use Rattle.sqlite.specs.Held.{Held, state}
-use Rattle.sqlite.specs.State.{State, HasCleanDisk, KeepsCommit}
-use Rattle.sqlite.specs.declared.transaction.Transaction.{Transaction}
-use Rattle.basis.specs.declared.roles.Bounds.{Bounds}
-use Rattle.machine.specs.declared.records.Token.{Token}
-use Rattle.machine.specs.declared.records.Workspace.{Workspace}
-use Rattle.statements.specs.declared.rows.NamedToken.{NamedToken}
-use Rattle.statements.specs.Changes.{token_added}
-use Rattle.statements.specs.Finds.{bound_of}
-use Rattle.statements.specs.Steps.{AnyRows, Writes, Sees}
-use Rattle.statements.specs.Tables.{Tables, Holds}
-use Rattle.pages.proofs.Sequences.{still_holds, steps_by}
+use Rattle.tables.proofs.Outside.{⊤, ◌≡◌, ℕ, ◌+◌, ◌<◌, List, [], ◌∷◌, ◌++◌, map, take, length, get_or, Option, Some, Result, Ok, Err, OnOk, OnErr, refl, sym, ap, subst, ◌∙◌, unwrap_or, take_more, map_more, same_Some, Ghosts, Held, state, State, HasCleanDisk, KeepsCommit, Transaction, Bounds, Token, Workspace, NamedToken, token_added, bound_of, AnyRows, Writes, Sees, Tables, Holds, still_holds, steps_by, when_done, sees_then}
 use Rattle.pages.proofs.Sights.{nothing_more}
-use Rattle.texts.proofs.Many.{when_done, sees_then}
 use Rattle.tables.specs.Records.{no_bounds, workspace_by}
 use Rattle.tables.specs.Sound.{IsSound}
 use Rattle.tables.specs.Inner.Imports.{TakesFrom, token_entry, token_come, tokens_come, TokenComes, TokensCome, WorkspaceComes, WorkspacesCome}

@@ -1,14 +1,5 @@
 -- Rows still belong to others after a change of either.
-use Rattle.std.proofs.Common.{◌≡◌, ℕ, Bool, true, false, not, ◌||◌, cond, List, [], ◌∷◌, ◌++◌, refl, sym, ap, subst, ◌∙◌}
-use Rattle.std.specs.List.{AllByRecursion, list_any}
-use Rattle.std.proofs.lemmas.Bool.{false_from_ne_true}
-use Rattle.sqlite_keyed.specs.Lists.{update_where, delete_where}
-use Rattle.sqlite_keyed.proofs.ListLemmas.{all_weaker, all_both, all-filter, all-append}
-use Rattle.sqlite_keyed.proofs.RuleLemmas.{apart_update, apart_delete}
-use Rattle.statements.specs.Rows.{Kept, Owned, OrgRow}
-use Rattle.statements.specs.Changes.{is_of, is_org, with_it}
-use Rattle.statements.specs.Belonging.{AreNamedApart, AreOfOrgs, AreAmong}
-use Rattle.statements.proofs.Found.{all_updated, apart_pushed, all_deleted}
+use Rattle.tables.proofs.Outside.{◌≡◌, ℕ, Bool, true, false, not, ◌||◌, cond, List, [], ◌∷◌, ◌++◌, refl, sym, ap, subst, ◌∙◌, AllByRecursion, list_any, false_from_ne_true, update_where, delete_where, all_weaker, all_both, all-filter, all-append, apart_update, apart_delete, Kept, Owned, OrgRow, is_of, is_org, with_it, AreNamedApart, AreOfOrgs, AreAmong, all_updated, apart_pushed, all_deleted}
 use Rattle.tables.proofs.Lists.{any_updated}
 use Rattle.tables.proofs.Names.{is_pair, pair_is, pair_first, pair_second, pair_apart}
 

@@ -1,7 +1,6 @@
 -- A database in which nothing was made has none of our tables.
-use Rattle.std.proofs.Common.{◌≡◌, ap, false}
+use Rattle.tables.proofs.Outside.{◌≡◌, ap, false, Database, IsDatabase}
 use Rattle.sqlite_catalog.proofs.ReadLemmas.{lists_once}
-use Rattle.sqlite.specs.Effect.{Database, IsDatabase}
 use Rattle.sqlite.specs.Files.{IsEmpty}
 use Rattle.sqlite.proofs.ListingLemmas.{empty_is_sound}
 use Rattle.sqlite_trees.specs.Objects.{catalog_tree}

@@ -1,38 +1,8 @@
 -- An organization that comes row by row into sound tables: they stay sound, and its record is in the end the one that it came from.
-use Rattle.std.specs.Bool.{⊤}
-use Rattle.std.proofs.Common.{◌≡◌, ◌≢◌, ℕ, ◌+◌, ◌≤◌, T, Bool, true, false, cond, List, [], ◌∷◌, map, filter, find, length, is_some, Option, Some, None, option_map, IsTrue, Result, Ok, refl, sym, ap, ap₂, subst, ◌∙◌, arith}
-use Rattle.std.proofs.lemmas.Option.{same_Some}
-use Rattle.std.specs.Str.{bytes_eq}
-use Rattle.std.specs.List.{AllByRecursion}
-use Rattle.std.specs.Ordering.{eq_by_cmp}
-use Rattle.std.specs.FinMap.{FinMap, from_entries, entries, entries_sorted, empty, get, insert, get-empty, get-entries, same_map, len, len-entries, len-empty, len-insert}
+use Rattle.tables.proofs.Outside.{⊤, ◌≡◌, ◌≢◌, ℕ, ◌+◌, ◌≤◌, T, Bool, true, false, cond, List, [], ◌∷◌, map, filter, find, length, is_some, Option, Some, None, option_map, IsTrue, Result, Ok, refl, sym, ap, ap₂, subst, ◌∙◌, arith, same_Some, bytes_eq, AllByRecursion, eq_by_cmp, FinMap, from_entries, entries, entries_sorted, empty, get, insert, get-empty, get-entries, same_map, len, len-entries, len-empty, len-insert, all_weaker, none_from_any, any_is_found, Ghosts, Held, Transaction, is_org_name, Bounds, equal_bytes, IsToken, IsLawfulOrganization, name_cmp, count_of, placed, new_organization, with_token, Token, Workspace, Organization, names_total, names_same, get_own, get_other, not_tied, below_apart, both_first, both_second, apart_from, NamedToken, Tables, is_org, is_token, is_digest_of, org_row_added, cap_of, role_of_name, role_of_digest, AnyRows, EqualsWhere, Writes, Sees, TokensApart, NamesApart, tokens_by_name, digest_token_row, digest_tokens_of, workspaces_by_name, workspace_names_of, found_passes, found_holds, apart_one}
 use Rattle.std.specs.FinMap.Entries.{find as find_entry, is_sorted, below_all}
-use Rattle.sqlite_keyed.proofs.ListLemmas.{all_weaker, none_from_any}
-use Rattle.sqlite_keyed.proofs.SliceLemmas.{any_is_found}
-use Rattle.sqlite_trees.specs.declared.store.Store.{Ghosts}
-use Rattle.sqlite.specs.Held.{Held}
-use Rattle.sqlite.specs.declared.transaction.Transaction.{Transaction}
-use Rattle.basis.specs.Names.{is_org_name}
-use Rattle.basis.specs.declared.roles.Bounds.{Bounds}
-use Rattle.basis.proofs.NameLemmas.{equal_bytes}
-use Rattle.machine.specs.Laws.{IsToken, IsLawfulOrganization}
-use Rattle.machine.specs.Order.{name_cmp}
-use Rattle.machine.specs.Records.{count_of, placed}
-use Rattle.machine.specs.Tokens.{new_organization, with_token}
-use Rattle.machine.specs.declared.records.Token.{Token}
-use Rattle.machine.specs.declared.records.Workspace.{Workspace}
-use Rattle.machine.specs.declared.records.Organization.{Organization}
-use Rattle.machine.proofs.MapLemmas.{names_total, names_same, get_own, get_other, not_tied, below_apart, both_first, both_second}
-use Rattle.machine.proofs.KeepLemmas.{apart_from}
 use Rattle.statements.specs.Rows.{Kept, OrgRow, TokenRow, Token as TokenCells}
 use Rattle.statements.specs.declared.rows.Workspace.{Workspace as WorkspaceCells}
-use Rattle.statements.specs.declared.rows.NamedToken.{NamedToken}
-use Rattle.statements.specs.Tables.{Tables}
-use Rattle.statements.specs.Changes.{is_org, is_token, is_digest_of, org_row_added}
-use Rattle.statements.specs.Finds.{cap_of, role_of_name, role_of_digest}
-use Rattle.statements.specs.Steps.{AnyRows, EqualsWhere, Writes, Sees}
-use Rattle.statements.specs.Listings.{TokensApart, NamesApart, tokens_by_name, digest_token_row, digest_tokens_of, workspaces_by_name, workspace_names_of}
-use Rattle.statements.proofs.Found.{found_passes, found_holds, apart_one}
 use Rattle.tables.specs.Records.{token_of_cells, bounds_at, token_at, is_token_of, tokens_at, workspace_at, workspace_by, workspaces_at, organization_at, record_of}
 use Rattle.tables.specs.Sound.{IsOrgRow, IsSoundWorkspace, IsSound}
 use Rattle.tables.specs.Inner.Imports.{TakesFrom, token_entry, token_come, tokens_come, TokensCome, WorkspacesCome, Brings}

@@ -1,16 +1,7 @@
 -- The records after a change of a workspace.
-use Rattle.std.proofs.Common.{◌≡◌, ◌≢◌, ℕ, nat_lt, List, Option, Some, None, IfSome, refl, sym, ap, subst, ◌∙◌}
-use Rattle.std.specs.FinMap.{get}
-use Rattle.machine.specs.Changes.{changed_by, IsDue}
-use Rattle.machine.specs.Laws.{IsLawful, IsLawfulIfThere}
-use Rattle.machine.specs.Records.{placed, seen_in, standing, count_of}
+use Rattle.tables.proofs.Outside.{◌≡◌, ◌≢◌, ℕ, nat_lt, List, Option, Some, None, IfSome, refl, sym, ap, subst, ◌∙◌, get, changed_by, IsDue, IsLawful, IsLawfulIfThere, placed, seen_in, standing, count_of, Change, Workspace, Organization, standing_is, Tables}
 use Rattle.machine.specs.Rules.{rules}
-use Rattle.machine.specs.declared.acts.Change.{Change}
-use Rattle.machine.specs.declared.records.Workspace.{Workspace}
-use Rattle.machine.specs.declared.records.Organization.{Organization}
 use Rattle.machine.proofs.RuleLemmas.{rules_are_lawful}
-use Rattle.machine.proofs.KeepLemmas.{standing_is}
-use Rattle.statements.specs.Tables.{Tables}
 use Rattle.tables.specs.Records.{workspace_by, record_of}
 use Rattle.tables.specs.Inner.Edits.{changed_rows, TakesEdit}
 use Rattle.tables.specs.Sound.{IsGapless, IsSound}

@@ -1,21 +1,9 @@
 -- From the version that a database has to the newest one, step by step.
-use Rattle.std.proofs.Common.{◌≡◌, ◌≢◌, ◌≤◌, inl, inr, ℕ, zero, suc, Bool, true, false, true≢false, List, Option, Some, None, IsTrue, refl, sym, ap, ◌∙◌, subst, arith}
+use Rattle.tables.proofs.Outside.{◌≡◌, ◌≢◌, ◌≤◌, inl, inr, ℕ, zero, suc, Bool, true, false, true≢false, List, Option, Some, None, IsTrue, refl, sym, ap, ◌∙◌, subst, arith, eqb-true, eq-eqb, nat_tests, same_Some, Table, Database, State, HasCleanDisk, IsUnchanged, KeepsCommit, known_within, later_has_edition, HasMeta, HasEdition, stored_schema_version, KeepsForeign, Kept, meta_table, edition_table, Tables, HoldsIn, schema_tables, tables_at, SCHEMA_VERSION}
 use Rattle.std.specs.Prelude.{if◌then◌else◌, ◌==◌}
-use Rattle.std.proofs.lemmas.Bool.{eqb-true, eq-eqb}
-use Rattle.std.proofs.lemmas.Bool.Decides.{nat_tests}
-use Rattle.std.proofs.lemmas.Option.{same_Some}
-use Rattle.sqlite_schema.specs.declared.schema.Table.{Table}
-use Rattle.sqlite.specs.Effect.{Database}
-use Rattle.sqlite.specs.State.{State, HasCleanDisk, IsUnchanged, KeepsCommit}
 use Rattle.sqlite.proofs.InsideLemmas.{keeps_then}
 use Rattle.statements.proofs.EditionTexts.{has_edition}
-use Rattle.statements.proofs.Counts.{known_within, later_has_edition}
 use Rattle.statements.proofs.MetaTexts.{has_meta}
-use Rattle.statements.specs.Making.{HasMeta, HasEdition, stored_schema_version, KeepsForeign}
-use Rattle.statements.specs.Rows.{Kept}
-use Rattle.statements.specs.Schema.{meta_table, edition_table}
-use Rattle.statements.specs.Tables.{Tables, HoldsIn, schema_tables, tables_at}
-use Rattle.statements.specs.declared.making.TheConstants.{SCHEMA_VERSION}
 use Rattle.tables.specs.declared.opening.Found.{Found}
 use Rattle.tables.specs.declared.opening.Found.TheVariants.{Nothing, Version, Other}
 use Rattle.tables.specs.Inner.Making.{IsReported, found_in, ReportsFound, FindsOurs, Climbs, IsClimbed, IsOnWay}

@@ -1,12 +1,5 @@
 -- A read of rows that wait for no commit is one at those that are committed.
-use Rattle.std.proofs.Common.{IsTrue, Result, Ok, Err, sym, subst}
-use Rattle.sqlite_trees.specs.declared.store.Store.{Ghosts}
-use Rattle.sqlite.specs.Effect.{Database}
-use Rattle.sqlite.specs.Held.{Held, state}
-use Rattle.sqlite.specs.State.{HasCleanDisk, KeepsCommit}
-use Rattle.statements.specs.Steps.{Queries, Sees}
-use Rattle.statements.specs.Tables.{Tables, Holds}
-use Rattle.texts.proofs.Many.{sees_by, sees_as, sees_then}
+use Rattle.tables.proofs.Outside.{IsTrue, Result, Ok, Err, sym, subst, Ghosts, Database, Held, state, HasCleanDisk, KeepsCommit, Queries, Sees, Tables, Holds, sees_by, sees_as, sees_then}
 use Rattle.tables.specs.Inner.Steps.{IsAllCommitted, ReadsCommitted}
 
 module _ {S : Type 0} (g : Ghosts S) where

@@ -1,30 +1,7 @@
 -- What is read on two connections, part by part, to see whether an organization is the same in both.
-use Rattle.std.specs.Bool.{⊤}
-use Rattle.std.proofs.Common.{◌≡◌, ℕ, ◌+◌, ◌<◌, ◌≤◌, Bool, true, false, List, [], ◌∷◌, ◌++◌, map, take, length, get_or, Option, Some, option_map, IsTrue, Result, Ok, Err, refl, sym, ap, subst, ◌∙◌}
-use Rattle.std.proofs.lemmas.List.{take_all, take_more}
-use Rattle.std.proofs.lemmas.Option.{same_Some}
-use Rattle.std.specs.List.{AllByRecursion}
-use Rattle.std.specs.FinMap.{FinMap, entries, entries_sorted, get-entries, same_map}
+use Rattle.tables.proofs.Outside.{⊤, ◌≡◌, ℕ, ◌+◌, ◌<◌, ◌≤◌, Bool, true, false, List, [], ◌∷◌, ◌++◌, map, take, length, get_or, Option, Some, option_map, IsTrue, Result, Ok, Err, refl, sym, ap, subst, ◌∙◌, take_all, take_more, same_Some, AllByRecursion, FinMap, entries, entries_sorted, get-entries, same_map, all_weaker, Ghosts, Database, Held, state, HasCleanDisk, name_cmp, Workspace, names_total, names_same, NamedToken, cap_of, bound_of, digest_tokens_of, workspace_names_of, Equals, Queries, Sees, Tables, Holds, tables_of, still_holds, sees_by, text_of, Bounds, unwrap_or}
 use Rattle.std.specs.FinMap.Entries.{find as find_entry}
-use Rattle.sqlite_keyed.proofs.ListLemmas.{all_weaker}
-use Rattle.sqlite_trees.specs.declared.store.Store.{Ghosts}
-use Rattle.sqlite.specs.Effect.{Database}
-use Rattle.sqlite.specs.Held.{Held, state}
-use Rattle.sqlite.specs.State.{HasCleanDisk}
-use Rattle.machine.specs.Order.{name_cmp}
 use Rattle.basis.specs.declared.rows.VersionRow.{VersionRow as Head}
-use Rattle.machine.specs.declared.records.Workspace.{Workspace}
-use Rattle.machine.proofs.MapLemmas.{names_total, names_same}
-use Rattle.statements.specs.declared.rows.NamedToken.{NamedToken}
-use Rattle.statements.specs.Finds.{cap_of, bound_of}
-use Rattle.statements.specs.Listings.{digest_tokens_of, workspace_names_of}
-use Rattle.statements.specs.Steps.{Equals, Queries, Sees}
-use Rattle.statements.specs.Tables.{Tables, Holds, tables_of}
-use Rattle.pages.proofs.Sequences.{still_holds}
-use Rattle.texts.proofs.Many.{sees_by}
-use Rattle.texts.specs.Texts.{text_of}
-use Rattle.basis.specs.declared.roles.Bounds.{Bounds}
-use Rattle.std.specs.Option.{unwrap_or}
 use Rattle.tables.specs.Records.{no_bounds, token_of_cells, version_of_cells, version_at, workspace_of_cells, workspace_by, tokens_at, workspaces_at, record_of}
 use Rattle.tables.specs.Sound.{IsSound}
 use Rattle.tables.specs.Stores.{records_of}

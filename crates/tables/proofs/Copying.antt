@@ -1,18 +1,6 @@
 -- Steps inside one transaction whose rows before and after stand in a relation, and what is read of another database meanwhile.
-use Rattle.std.specs.Bool.{⊤}
-use Rattle.std.proofs.Common.{◌≡◌, ◌+◌, ◌<◌, ℕ, List, [], ◌∷◌, ◌++◌, map, take, length, get_or, Result, Ok, Err, IsErr, OnOk, OnErr, refl, sym, ap, ◌∙◌}
-use Rattle.std.proofs.lemmas.List.{map_more}
-use Rattle.sqlite_trees.specs.declared.store.Store.{Ghosts}
-use Rattle.sqlite.specs.Held.{Held, state}
-use Rattle.sqlite.specs.State.{State, KeepsCommit}
-use Rattle.sqlite.specs.declared.transaction.Transaction.{Transaction}
+use Rattle.tables.proofs.Outside.{⊤, ◌≡◌, ◌+◌, ◌<◌, ℕ, List, [], ◌∷◌, ◌++◌, map, take, length, get_or, Result, Ok, Err, IsErr, OnOk, OnErr, refl, sym, ap, ◌∙◌, map_more, Ghosts, Held, state, State, KeepsCommit, Transaction, Version, AnyRows, Moves, Steps, Reports, Sees, Tables, Holds, as_it_is, text_of, when_done}
 use Rattle.basis.specs.declared.rows.VersionRow.{VersionRow as Head}
-use Rattle.machine.specs.declared.records.Version.{Version}
-use Rattle.statements.specs.Steps.{AnyRows, Moves, Steps, Reports, Sees}
-use Rattle.statements.specs.Tables.{Tables, Holds}
-use Rattle.pages.proofs.Sequences.{as_it_is}
-use Rattle.texts.specs.Texts.{text_of}
-use Rattle.texts.proofs.Many.{when_done}
 use Rattle.tables.specs.Records.{version_of_cells, version_at}
 use Rattle.tables.specs.Inner.Copies.{Relates, RelatedSteps, AreMadeBy}
 

@@ -1,20 +1,6 @@
 -- The count of workspaces stays within the greatest limit.
-use Rattle.std.proofs.Common.{◌≡◌, ◌⊎◌, inl, inr, ℕ, ◌+◌, ◌-◌, ◌<◌, ◌≤◌, nat_lt, Bool, true, false, cond, List, is_some, Option, Some, None, refl, sym, ap, subst, ◌∙◌, arith}
-use Rattle.std.specs.FinMap.{FinMap, get, len, len-insert, len-remove, len-entries}
-use Rattle.std.proofs.lemmas.Bool.{ltb-true}
-use Rattle.basis.specs.declared.rows.SettingsAsk.{SettingsAsk}
-use Rattle.machine.specs.Order.{name_cmp}
-use Rattle.machine.specs.Records.{standing, seen_by, seen_in, count_of, with_workspace, placed}
-use Rattle.machine.specs.Changes.{changed_by, IsDue}
+use Rattle.tables.proofs.Outside.{◌≡◌, ◌⊎◌, inl, inr, ℕ, ◌+◌, ◌-◌, ◌<◌, ◌≤◌, nat_lt, Bool, true, false, cond, List, is_some, Option, Some, None, refl, sym, ap, subst, ◌∙◌, arith, FinMap, get, len, len-insert, len-remove, len-entries, ltb-true, SettingsAsk, name_cmp, standing, seen_by, seen_in, count_of, with_workspace, placed, changed_by, IsDue, Act, PutWorkspace, Change, Workspace, Organization, standing_is, names_total, IsPut, Misses, put_or_missed}
 use Rattle.machine.specs.Rules.{Ruling, rules, rules_missing}
-use Rattle.machine.specs.declared.acts.Act.{Act}
-use Rattle.machine.specs.declared.acts.Act.TheVariants.{PutWorkspace}
-use Rattle.machine.specs.declared.acts.Change.{Change}
-use Rattle.machine.specs.declared.records.Workspace.{Workspace}
-use Rattle.machine.specs.declared.records.Organization.{Organization}
-use Rattle.machine.proofs.KeepLemmas.{standing_is}
-use Rattle.machine.proofs.MapLemmas.{names_total}
-use Rattle.machine.proofs.Rulings.{IsPut, Misses, put_or_missed}
 
 -- a workspace is made where there is room
 made_in_room : (act : Act) (room : Bool) (w : Workspace) → Some w ≡ (rules_missing act room).left → room ≡ true

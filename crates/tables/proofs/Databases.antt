@@ -1,13 +1,9 @@
 -- What a database denotes, by the tables that it holds.
-use Rattle.std.proofs.Common.{◌≡◌, ℕ, List, sym, ap, subst}
-use Rattle.sqlite.specs.Effect.{Database}
-use Rattle.statements.specs.Tables.{Tables, Holds, tables_of}
-use Rattle.statements.proofs.Decoding.{tables-held}
+use Rattle.tables.proofs.Outside.{◌≡◌, ℕ, List, sym, ap, subst, Database, Tables, Holds, tables_of, tables-held, SCHEMA_VERSION}
 use Rattle.tables.specs.Records.{record_of}
 use Rattle.tables.specs.Sound.{IsSound}
 use Rattle.tables.specs.Stores.{records_of, IsSoundStore}
 use Rattle.tables.specs.Versions.{HoldsSchema}
-use Rattle.statements.specs.declared.making.TheConstants.{SCHEMA_VERSION}
 
 -- a database that holds sound tables is sound
 pub store_by : (db : Database) (t : Tables) → Holds db t → IsSound t → IsSoundStore db

@@ -1,37 +1,7 @@
 -- An organization goes with all that it has: tables stay sound, it isn't there in the end, and every other one is as before.
-use Rattle.std.proofs.Common.{◌≡◌, ◌≢◌, ℕ, ◌≤◌, nat_lt, T, Bool, true, false, not, ◌&&◌, ◌||◌, cond, List, [], ◌∷◌, map, find, is_some, Option, Some, None, option_map, IsTrue, refl, sym, ap, subst, ◌∙◌}
-use Rattle.std.proofs.lemmas.Option.{same_Some}
-use Rattle.std.specs.Str.{bytes_eq}
-use Rattle.std.specs.List.{AllByRecursion, list_any}
-use Rattle.std.specs.FinMap.{FinMap, entries, entries_sorted, get, remove, get-entries, len-entries}
+use Rattle.tables.proofs.Outside.{◌≡◌, ◌≢◌, ℕ, ◌≤◌, nat_lt, T, Bool, true, false, not, ◌&&◌, ◌||◌, cond, List, [], ◌∷◌, map, find, is_some, Option, Some, None, option_map, IsTrue, refl, sym, ap, subst, ◌∙◌, same_Some, bytes_eq, AllByRecursion, list_any, FinMap, entries, entries_sorted, get, remove, get-entries, len-entries, all_weaker, all_both, all-filter, apart_delete, any_is_found, is_ws_name, equal_bytes, effect, IsLawful, name_cmp, count_of, with_workspace, placed, is_locked, is_in_use, has_use, org_removed, without_token, open_runs, Change, Remove, Done, Absent, InUse, Token, Workspace, Organization, removed_own, removed_other, both_first, both_second, apart_from, Kept, OrgRow, TokenRow, WsRow, NamedToken, Tables, is_org, is_token, is_ws, is_ws_of, org_row_removed, token_removed, cap_of, workspace_of, open_runs_of, find_deleted, find_left}
 use Rattle.std.specs.FinMap.Entries.{find as find_entry, is_sorted}
-use Rattle.sqlite_keyed.proofs.ListLemmas.{all_weaker, all_both, all-filter}
-use Rattle.sqlite_keyed.proofs.RuleLemmas.{apart_delete}
-use Rattle.sqlite_keyed.proofs.SliceLemmas.{any_is_found}
-use Rattle.basis.specs.Names.{is_ws_name}
-use Rattle.basis.proofs.NameLemmas.{equal_bytes}
-use Rattle.machine.specs.Effects.{effect}
-use Rattle.machine.specs.Laws.{IsLawful}
-use Rattle.machine.specs.Order.{name_cmp}
-use Rattle.machine.specs.Records.{count_of, with_workspace, placed}
-use Rattle.machine.specs.Removal.{is_locked, is_in_use, has_use, org_removed}
-use Rattle.machine.specs.Tokens.{without_token}
-use Rattle.machine.specs.Workspaces.{open_runs}
-use Rattle.machine.specs.declared.acts.Change.{Change}
-use Rattle.machine.specs.declared.acts.Edit.TheVariants.{Remove}
-use Rattle.machine.specs.declared.keeps.AdminAnswer.TheVariants.{Done, Absent, InUse}
-use Rattle.machine.specs.declared.records.Token.{Token}
-use Rattle.machine.specs.declared.records.Workspace.{Workspace}
-use Rattle.machine.specs.declared.records.Organization.{Organization}
-use Rattle.machine.proofs.MapLemmas.{removed_own, removed_other, both_first, both_second}
-use Rattle.machine.proofs.KeepLemmas.{apart_from}
-use Rattle.statements.specs.Rows.{Kept, OrgRow, TokenRow, WsRow}
-use Rattle.statements.specs.declared.rows.NamedToken.{NamedToken}
 use Rattle.statements.specs.declared.rows.Workspace.{Workspace as WorkspaceCells}
-use Rattle.statements.specs.Tables.{Tables}
-use Rattle.statements.specs.Changes.{is_org, is_token, is_ws, is_ws_of, org_row_removed, token_removed}
-use Rattle.statements.specs.Finds.{cap_of, workspace_of, open_runs_of}
-use Rattle.statements.proofs.Found.{find_deleted, find_left}
 use Rattle.tables.specs.Records.{is_token_of, token_at, tokens_at, workspace_at, workspace_by, workspaces_at, organization_at, record_of}
 use Rattle.tables.specs.Sound.{IsOrgRow, IsSoundWorkspace, IsSound}
 use Rattle.tables.specs.Inner.Imports.{token_entry}

@@ -1,33 +1,9 @@
 -- What the rows denote after a change of a workspace.
-use Rattle.std.proofs.Common.{◌≡◌, ℕ, ◌+◌, Bool, true, false, cond, List, [], ◌∷◌, ◌++◌, map, filter, find, is_some, Option, Some, None, option_map, refl, sym, ap, subst, ◌∙◌}
-use Rattle.std.specs.Option.{unwrap_or}
-use Rattle.basis.specs.declared.numbers.TheConstants.{FIRST_KEPT}
-use Rattle.basis.specs.declared.rows.RunSettings.{RunSettings}
-use Rattle.basis.specs.declared.rows.Settings.{Settings}
-use Rattle.basis.specs.declared.rows.RunAsk.{RunAsk}
-use Rattle.basis.specs.declared.runs.RunStatus.{RunStatus}
-use Rattle.basis.specs.declared.runs.RunStatus.TheVariants.{Pending, Planning}
-use Rattle.basis.specs.declared.runs.RunAction.{RunAction}
-use Rattle.std.specs.List.{list_any}
-use Rattle.sqlite_keyed.proofs.SliceLemmas.{any_is_found}
-use Rattle.statements.proofs.Found.{found_passes, found_holds}
-use Rattle.machine.specs.Settling.{begun, started, started_if}
-use Rattle.machine.specs.Changes.{left_above, edited, changed_by}
-use Rattle.machine.specs.Rules.{purged, locked, released, new_run, with_run, reported}
-use Rattle.machine.specs.Laws.{IsLawfulIfThere}
-use Rattle.machine.specs.Workspaces.{new_workspace}
-use Rattle.machine.specs.declared.acts.Edit.{Edit}
-use Rattle.machine.specs.declared.acts.Edit.TheVariants.{Make, Configure, Remove, AddVersion, Purge, Hold, Release, AddRun, Report}
-use Rattle.machine.specs.declared.acts.Change.{Change}
-use Rattle.machine.specs.declared.records.Version.{Version}
+use Rattle.tables.proofs.Outside.{◌≡◌, ℕ, ◌+◌, Bool, true, false, cond, List, [], ◌∷◌, ◌++◌, map, filter, find, is_some, Option, Some, None, option_map, refl, sym, ap, subst, ◌∙◌, unwrap_or, FIRST_KEPT, RunSettings, Settings, RunAsk, RunStatus, Pending, Planning, RunAction, list_any, any_is_found, found_passes, found_holds, begun, started, started_if, left_above, edited, changed_by, purged, locked, released, new_run, with_run, reported, IsLawfulIfThere, new_workspace, Edit, Make, Configure, Remove, AddVersion, Purge, Hold, Release, AddRun, Report, Change, Version, Workspace, Kept, WsRow, RetentionRow, VersionRow, RunRow, Tables, workspace_of, retention_of}
 use Rattle.basis.specs.declared.rows.RunRow.{RunRow as Run}
-use Rattle.machine.specs.declared.records.Workspace.{Workspace}
 use Rattle.basis.specs.declared.rows.Holder.TheVariants.{Nobody, Lock, Run as HeldByRun}
 use Rattle.statements.specs.declared.rows.Workspace.{Workspace as WorkspaceCells}
-use Rattle.statements.specs.Rows.{Kept, WsRow, RetentionRow, VersionRow, RunRow}
-use Rattle.statements.specs.Tables.{Tables}
 use Rattle.statements.specs.Changes.{is_ws, is_retention, is_run_of, with_run_settings, held_by, released_from, with_next_version, with_next_run, ws_changed, ws_added, runs_removed, run_made as new_run_cells, run_added, run_acted}
-use Rattle.statements.specs.Finds.{workspace_of, retention_of}
 use Rattle.tables.specs.Records.{version_at, workspace_of_cells, retention_at, workspace_by}
 use Rattle.tables.proofs.Ordered.{versions_in, runs_in, workspace_of_rows, ordered, workspace_ordered, changed_ordered}
 use Rattle.tables.specs.Inner.Edits.{all_gone, removed_rows, made_rows, settings_rows, configured_rows, numbered_rows, if_there, versioned_rows, run_put, run_counted, run_rows, freed_rows, edited_rows, started_rows, changed_rows, TakesVersion, TakesEdit}

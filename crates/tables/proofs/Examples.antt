@@ -1,35 +1,11 @@
 -- Worked rows and the records that they denote, computed by the definitions themselves.
-use Rattle.std.proofs.Common.{◌≡◌, ◌≤◌, ℕ, zero, suc, pos, take, ◌++◌, Bool, true, false, true≢false, cond, ◌&&◌, List, [], ◌∷◌, length, filter, find, Option, Some, None, option_map, refl, sym, ap, ◌∙◌, subst, arith}
+use Rattle.tables.proofs.Outside.{◌≡◌, ◌≤◌, ℕ, zero, suc, pos, take, ◌++◌, Bool, true, false, true≢false, cond, ◌&&◌, List, [], ◌∷◌, length, filter, find, Option, Some, None, option_map, refl, sym, ap, ◌∙◌, subst, arith, unwrap_or, bytes_eq, and_parts, same_Some, AllByRecursion, list_any, from_entries, empty, len-entries, RunStatus, RunAsk, Settings, Pending, Planning, Canceled, MAX_LIMIT, count_of, Make, Configure, Remove, AddVersion, Purge, Release, AddRun, Report, Version, equal_bytes, Token, Absent, Workspace, Organization, is_ws, org_capped, token_removed, Kept, OrgRow, WsRow, VersionRow, PageRow, VpageRow, column, version_table, Tables, raised}
 use Rattle.std.specs.Prelude.{◌==◌, codes}
-use Rattle.std.specs.Option.{unwrap_or}
-use Rattle.std.specs.Str.{bytes_eq}
-use Rattle.std.proofs.lemmas.Bool.{and_parts}
-use Rattle.std.proofs.lemmas.Option.{same_Some}
-use Rattle.std.specs.List.{AllByRecursion, list_any}
-use Rattle.std.specs.FinMap.{from_entries, empty, len-entries}
 use Rattle.basis.specs.declared.roles.Role.TheVariants.{Write}
-use Rattle.basis.specs.declared.runs.RunStatus.{RunStatus}
-use Rattle.basis.specs.declared.rows.RunAsk.{RunAsk}
-use Rattle.basis.specs.declared.rows.Settings.{Settings}
-use Rattle.basis.specs.declared.runs.RunStatus.TheVariants.{Pending, Planning, Canceled}
 use Rattle.basis.specs.declared.runs.RunAction.TheVariants.{Cancel}
-use Rattle.basis.specs.declared.numbers.TheConstants.{MAX_LIMIT}
-use Rattle.machine.specs.Records.{count_of}
-use Rattle.machine.specs.declared.acts.Edit.TheVariants.{Make, Configure, Remove, AddVersion, Purge, Release, AddRun, Report}
 use Rattle.basis.specs.declared.rows.Holder.TheVariants.{Nobody, Lock, Run as HoldingRun}
-use Rattle.machine.specs.declared.records.Version.{Version}
 use Rattle.basis.specs.declared.rows.RunRow.{RunRow as Run}
-use Rattle.basis.proofs.NameLemmas.{equal_bytes}
-use Rattle.machine.specs.declared.records.Token.{Token}
-use Rattle.machine.specs.declared.keeps.AdminAnswer.TheVariants.{Absent}
-use Rattle.machine.specs.declared.records.Workspace.{Workspace}
-use Rattle.machine.specs.declared.records.Organization.{Organization}
-use Rattle.statements.specs.Changes.{is_ws, org_capped, token_removed}
 use Rattle.sqlite_schema.specs.declared.schema.Kind.TheVariants.{Blob}
-use Rattle.statements.specs.Rows.{Kept, OrgRow, WsRow, VersionRow, PageRow, VpageRow}
-use Rattle.statements.specs.Schema.{column, version_table}
-use Rattle.statements.specs.Tables.{Tables}
-use Rattle.statements.specs.Making.{raised}
 use Rattle.tables.proofs.Finding.{entries_counted}
 use Rattle.tables.specs.Records.{record_of, organization_at, workspace_at, workspace_by}
 use Rattle.tables.specs.Opening.{has_versions_in}

@@ -1,11 +1,5 @@
 -- The rows of one table after the other.
-use Rattle.std.proofs.Common.{◌≡◌, ap, ◌∙◌, ℕ, List, Result, Ok}
-use Rattle.sqlite_trees.specs.declared.store.Store.{Ghosts}
-use Rattle.sqlite.specs.Held.{Held}
-use Rattle.statements.specs.declared.rows.Rows.{Rows}
-use Rattle.statements.specs.Steps.{Sees}
-use Rattle.statements.specs.Tables.{Tables}
-use Rattle.texts.proofs.Many.{sees_then}
+use Rattle.tables.proofs.Outside.{◌≡◌, ap, ◌∙◌, ℕ, List, Result, Ok, Ghosts, Held, Rows, Sees, Tables, sees_then}
 use Rattle.tables.specs.Scans.{AreRowsOf}
 use Rattle.tables.specs.Inner.Scans.{with_first, with_workspaces, with_others}
 

@@ -1,59 +1,20 @@
 -- What the queries find is the part of the record that it stands for.
-use Rattle.std.proofs.Common.{◌≡◌, ℕ, suc, ◌+◌, ◌-◌, ◌≤◌, ◌<◌, nat_le, Bool, true, false, not, ◌&&◌, ◌==◌, cond, List, [], ◌∷◌, map, filter, find, length, reverse, slice_get, min, is_some, Option, Some, None, option_map, IfSome, pos, Ordering, Equal, Greater, int_cmp, nat_cmp, is_gt, refl, sym, ap, subst, ap₂, ◌∙◌, arith}
-use Rattle.std.specs.Str.{bytes_eq}
-use Rattle.std.specs.Option.{unwrap_or, option_or}
-use Rattle.std.specs.List.{AllByRecursion, list_any}
-use Rattle.std.specs.FinMap.{from_entries, entries, get, get-from_entries, len-insert, len-entries, len-empty, len}
-use Rattle.std.proofs.lemmas.Bool.{eqb-true, eq-eqb, leb-false}
-use Rattle.std.proofs.lemmas.List.{take_all, length-map, length-reverse, get_or-reverse}
-use Rattle.std.specs.Ordering.{ordering_then}
+use Rattle.tables.proofs.Outside.{◌≡◌, ℕ, suc, ◌+◌, ◌-◌, ◌≤◌, ◌<◌, nat_le, Bool, true, false, not, ◌&&◌, ◌==◌, cond, List, [], ◌∷◌, map, filter, find, length, reverse, slice_get, min, is_some, Option, Some, None, option_map, IfSome, pos, Ordering, Equal, Greater, int_cmp, nat_cmp, is_gt, refl, sym, ap, subst, ap₂, ◌∙◌, arith, bytes_eq, unwrap_or, option_or, AllByRecursion, list_any, from_entries, entries, get, get-from_entries, len-insert, len-entries, len-empty, len, eqb-true, eq-eqb, leb-false, take_all, length-map, length-reverse, get_or-reverse, ordering_then, IsAscending, sort_by, filter_both, filter-sort_by, all_sorted, turned_round, slice_get-map, slice_get-get_or, same_Some, and_assoc, last_taken, none_up_to, AreApart, filter_same, filter_none, all_weaker, all_both, all-filter, slice_get-filter, find-slice, filter-slice, any_is_found, is_some-map, RunStatus, Pending, Planning, Planned, Applying, Applied, PlannedAndFinished, Errored, Discarded, Canceled, name_cmp, Rises, KeysDiffer, is_pending, first_waiting, is_waiting, newest, outgoing, is_numbered, run_of, has_key, is_keyed, keyed_run, holder_status, open_runs, find_last, version_of, has_version, version_text, is_text, if_needed, asked_run, newest_unit, outgoing_by, unit_by, unit_of, needs, Act, Version, Workspace, Organization, names_total, apart_from, Holder, equal_bytes, Kept, id_of, OrgRow, WsRow, VersionRow, RunRow, Tables, is_org, is_version_of, is_version, is_run_of, is_run_row, is_ws, is_ws_of, version_cmp, run_cmp, back_by_number, newest_of, size_of, first_waiting_of, status_at_number, workspace_of, workspaces_of, cap_of, found_passes, found_holds, none_found, pages_for, text_of, are_pieces, IsWhole, whole_size, same_is}
 use Rattle.std.specs.Cmp.{IsTotalOrder, ranked, tied_itself, nat_cmp_total, int_cmp_total, on_total, then_total, back_total as turned_total}
 use Rattle.std.proofs.lemmas.Int.{ints}
-use Rattle.sqlite_trees.specs.Tree.{IsAscending}
-use Rattle.sqlite_keyed.specs.Lists.{sort_by}
-use Rattle.statements.proofs.Sorting.{filter_both, filter-sort_by, all_sorted, turned_round}
-use Rattle.std.proofs.lemmas.Option.{slice_get-map, slice_get-get_or, same_Some}
-use Rattle.std.proofs.Math.Bool.{and_assoc}
-use Rattle.machine.proofs.CutLemmas.{last_taken, none_up_to}
-use Rattle.sqlite_keyed.specs.Rules.{AreApart}
-use Rattle.sqlite_keyed.proofs.ListLemmas.{filter_same, filter_none, all_weaker, all_both, all-filter, slice_get-filter}
-use Rattle.sqlite_keyed.proofs.SliceLemmas.{find-slice, filter-slice, any_is_found, is_some-map}
 use Rattle.basis.specs.Runs.{is_open}
-use Rattle.basis.specs.declared.runs.RunStatus.{RunStatus}
-use Rattle.basis.specs.declared.runs.RunStatus.TheVariants.{Pending, Planning, Planned, Applying, Applied, PlannedAndFinished, Errored, Discarded, Canceled}
-use Rattle.machine.specs.Order.{name_cmp}
-use Rattle.machine.specs.Laws.{Rises, KeysDiffer, is_pending}
-use Rattle.machine.specs.Settling.{first_waiting, is_waiting}
-use Rattle.machine.specs.Workspaces.{newest, outgoing, is_numbered, run_of, has_key, is_keyed, keyed_run, holder_status, open_runs}
 use Rattle.machine.specs.Records.{count_of, workspace_in as seen_workspace}
-use Rattle.machine.specs.Units.{find_last, version_of, has_version, version_text, is_text, if_needed, asked_run, newest_unit, outgoing_by, unit_by, unit_of}
-use Rattle.machine.specs.Needs.{needs}
-use Rattle.machine.specs.declared.acts.Act.{Act}
 use Rattle.machine.specs.declared.acts.Staying.{Staying}
 use Rattle.machine.specs.declared.acts.Staying.TheVariants.{StayAll, MakeRoom, StayAtMost}
 use Rattle.machine.specs.declared.acts.Unit.TheVariants.{Absent, Present}
-use Rattle.machine.specs.declared.records.Version.{Version}
 use Rattle.basis.specs.declared.rows.RunRow.{RunRow as Run}
-use Rattle.machine.specs.declared.records.Workspace.{Workspace}
-use Rattle.machine.specs.declared.records.Organization.{Organization}
-use Rattle.machine.proofs.MapLemmas.{names_total}
 use Rattle.machine.proofs.QueryLemmas.{version_of-newest}
-use Rattle.machine.proofs.KeepLemmas.{apart_from}
 use Rattle.basis.specs.declared.rows.VersionRow.{VersionRow as Head}
-use Rattle.basis.specs.declared.rows.Holder.{Holder}
 use Rattle.basis.specs.declared.rows.Holder.TheVariants.{Nobody, Lock, Run as HoldingRun}
-use Rattle.basis.proofs.NameLemmas.{equal_bytes}
 use Rattle.statements.specs.declared.rows.Workspace.{Workspace as WorkspaceCells}
-use Rattle.statements.specs.Rows.{Kept, id_of, OrgRow, WsRow, VersionRow, RunRow}
-use Rattle.statements.specs.Tables.{Tables}
-use Rattle.statements.specs.Changes.{is_org, is_version_of, is_version, is_run_of, is_run_row, is_ws, is_ws_of}
-use Rattle.statements.specs.Finds.{version_cmp, run_cmp, back_by_number, newest_of, size_of, first_waiting_of, status_at_number, workspace_of, workspaces_of, cap_of}
 use Rattle.statements.specs.Finds as finds
-use Rattle.statements.proofs.Found.{found_passes, found_holds, none_found}
 use Rattle.tables.specs.Records.{version_at, settings_of_cells, versions_at, runs_at, workspace_at, workspace_by, workspaces_at, organization_at, record_of}
 use Rattle.tables.specs.Sound.{HasNoGap, HasText, IsSound}
-use Rattle.texts.specs.Texts.{pages_for, text_of, are_pieces, IsWhole}
-use Rattle.texts.proofs.PieceLaws.{whole_size, same_is}
 use Rattle.tables.proofs.TextLists.{all_passing}
 use Rattle.tables.proofs.Sorted.{greater_is, sorted_anew, put_in_turn, found_sorted, count_sorted}
 use Rattle.tables.proofs.Ordered.{by_version, by_run, by_version_total, by_run_total, runs_total, versions_in, runs_in, versions_sorted, runs_sorted}

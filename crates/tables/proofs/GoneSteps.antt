@@ -1,8 +1,6 @@
 -- So many versions that go, one after the other, are all that go, where none is left behind them.
-use Rattle.std.proofs.Common.{◌≡◌, ◌≤◌, ℕ, zero, suc, ◌+◌, ◌-◌, List, Option, None, refl, sym, ap, ◌∙◌, arith}
+use Rattle.tables.proofs.Outside.{◌≡◌, ◌≤◌, ℕ, zero, suc, ◌+◌, ◌-◌, List, Option, None, refl, sym, ap, ◌∙◌, arith, Tables, oldest_below}
 use Rattle.basis.specs.declared.rows.VersionRow.{VersionRow as Head}
-use Rattle.statements.specs.Tables.{Tables}
-use Rattle.statements.specs.Finds.{oldest_below}
 use Rattle.tables.specs.Inner.Edits.{first_gone, oldest_gone, so_many_gone, most_gone, gone_below}
 
 module _ (org ws : List ℕ) (below : ℕ) (t : Tables) where

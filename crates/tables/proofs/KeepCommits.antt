@@ -1,14 +1,5 @@
 -- From steps inside a transaction to the transaction, which a commit ends.
-use Rattle.std.proofs.Common.{◌≡◌, ◌+◌, ℕ, inl, inr, true, false, [], IsTrue, Result, Ok, Err, IfErr, OnOk, OnErr, refl, sym, ◌∙◌, subst}
-use Rattle.sqlite_trees.specs.declared.store.Store.{Ghosts}
-use Rattle.sqlite.specs.Effect.{Database}
-use Rattle.sqlite.specs.Held.{Held, state}
-use Rattle.sqlite.specs.Steps.{FailsToCommit}
-use Rattle.sqlite.specs.State.{State, Shows, KeepsCounts, KeepsCommit}
-use Rattle.sqlite.specs.declared.error.Error.{Error}
-use Rattle.statements.specs.Steps.{AnyRows, Moves}
-use Rattle.statements.specs.Making.{Alters, HasSchema}
-use Rattle.statements.specs.Tables.{Tables, Holds}
+use Rattle.tables.proofs.Outside.{◌≡◌, ◌+◌, ℕ, inl, inr, true, false, [], IsTrue, Result, Ok, Err, IfErr, OnOk, OnErr, refl, sym, ◌∙◌, subst, Ghosts, Database, Held, state, FailsToCommit, State, Shows, KeepsCounts, KeepsCommit, Error, AnyRows, Moves, Alters, HasSchema, Tables, Holds}
 use Rattle.tables.specs.Inner.Imports.{CommitsRelated}
 use Rattle.tables.specs.Inner.Copies.{Relates}
 use Rattle.tables.specs.Inner.Steps.{IsAllCommitted, Commits}

@@ -1,14 +1,5 @@
 -- From what was looked at on two connections, and one transaction, to the copy of an organization.
-use Rattle.std.proofs.Common.{◌≡◌, ◌≢◌, ℕ, true, List, is_some, Option, Some, None, refl, sym, ap, subst, ◌∙◌}
-use Rattle.sqlite_trees.specs.declared.store.Store.{Ghosts}
-use Rattle.sqlite.specs.Effect.{Database}
-use Rattle.sqlite.specs.Held.{Held, state}
-use Rattle.sqlite.specs.State.{State, HasCleanDisk, IsUnchanged}
-use Rattle.machine.specs.declared.keeps.AdminAnswer.{AdminAnswer}
-use Rattle.machine.specs.declared.keeps.AdminAnswer.TheVariants.{Done, Exists, Absent}
-use Rattle.statements.specs.Finds.{cap_of}
-use Rattle.machine.specs.declared.records.Organization.{Organization}
-use Rattle.statements.specs.Tables.{Tables, Holds, tables_of}
+use Rattle.tables.proofs.Outside.{◌≡◌, ◌≢◌, ℕ, true, List, is_some, Option, Some, None, refl, sym, ap, subst, ◌∙◌, Ghosts, Database, Held, state, State, HasCleanDisk, IsUnchanged, AdminAnswer, Done, Exists, Absent, cap_of, Organization, Tables, Holds, tables_of}
 use Rattle.tables.specs.Copying.{IsCopied}
 use Rattle.tables.specs.Opening.{IsSoundKeep}
 use Rattle.tables.specs.Remembered.{nothing_kept}

@@ -1,19 +1,10 @@
 -- What is found by more than one query.
-use Rattle.std.proofs.Common.{◌≡◌, ℕ, List, Option, Some, None, is_some, IsSome, IfSome, option_map, Result, Ok, Err, OnOk, sym, ap, ◌∙◌, subst}
-use Rattle.std.specs.Option.{unwrap_or}
-use Rattle.sqlite_trees.specs.declared.store.Store.{Ghosts}
-use Rattle.sqlite.specs.Held.{Held}
-use Rattle.sqlite.specs.State.{State}
-use Rattle.basis.specs.declared.roles.Bounds.{Bounds}
+use Rattle.tables.proofs.Outside.{◌≡◌, ℕ, List, Option, Some, None, is_some, IsSome, IfSome, option_map, Result, Ok, Err, OnOk, sym, ap, ◌∙◌, subst, unwrap_or, Ghosts, Held, State, Bounds, bound_of, IsBoundedRoleOf, Equals, Sees, Tables, Holds, sees_then, sees_as}
 use Rattle.machine.specs.declared.keeps.TokenRow.{TokenRow}
 use Rattle.statements.specs.declared.rows.NamedRole.{NamedRole}
 use Rattle.statements.specs.declared.rows.BoundedRole.{BoundedRole}
-use Rattle.statements.specs.Finds.{bound_of, IsBoundedRoleOf}
-use Rattle.statements.specs.Steps.{Equals, Sees}
-use Rattle.statements.specs.Tables.{Tables, Holds}
 use Rattle.tables.specs.Records.{caller_with, no_bounds, IsBound}
 use Rattle.tables.specs.Inner.Lists.{token_row_in, asker_in}
-use Rattle.texts.proofs.Many.{sees_then, sees_as}
 
 module _ {S : Type 0} (g : Ghosts S) where
   -- what two looks, one after the other, find

@@ -1,9 +1,5 @@
 -- From a transaction to a store whose pages are under the keys of their bytes.
-use Rattle.std.proofs.Common.{ℕ, List, IsTrue, sym, subst}
-use Rattle.sqlite.specs.Effect.{Database}
-use Rattle.sqlite.specs.State.{State, IsUnchanged}
-use Rattle.statements.specs.Tables.{Tables, Holds, tables_of}
-use Rattle.statements.proofs.Decoding.{tables-held}
+use Rattle.tables.proofs.Outside.{ℕ, List, IsTrue, sym, subst, Database, State, IsUnchanged, Tables, Holds, tables_of, tables-held}
 use Rattle.tables.specs.Opening.{IsSoundKeep}
 use Rattle.tables.specs.Scans.{ArePagesKeyed}
 use Rattle.tables.specs.declared.memo.Memo.{Memo}

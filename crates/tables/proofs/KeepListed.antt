@@ -1,11 +1,5 @@
 -- A list that is made row by row, with a read of the tables for each.
-use Rattle.std.proofs.Common.{◌≡◌, ℕ, ◌+◌, ◌<◌, List, [], ◌∷◌, ◌++◌, map, take, length, get_or, Ok, sym, ap, ◌∙◌}
-use Rattle.std.proofs.lemmas.List.{map_more}
-use Rattle.sqlite_trees.specs.declared.store.Store.{Ghosts}
-use Rattle.sqlite.specs.Held.{Held}
-use Rattle.statements.specs.Steps.{Equals, Sees}
-use Rattle.statements.specs.Tables.{Tables}
-use Rattle.texts.proofs.Many.{sees_as}
+use Rattle.tables.proofs.Outside.{◌≡◌, ℕ, ◌+◌, ◌<◌, List, [], ◌∷◌, ◌++◌, map, take, length, get_or, Ok, sym, ap, ◌∙◌, map_more, Ghosts, Held, Equals, Sees, Tables, sees_as}
 use Rattle.tables.proofs.KeepFound.{seen_both}
 
 -- one row more, put behind the others

@@ -1,16 +1,5 @@
 -- From what was looked at and one transaction to a command.
-use Rattle.std.proofs.Common.{◌≡◌, ℕ, Bool, true, false, cond, List, is_some, is_none, Option, Some, None, IsTrue, sym, ap, subst}
-use Rattle.sqlite.specs.Effect.{Database}
-use Rattle.sqlite.specs.State.{State}
-use Rattle.basis.specs.declared.roles.Role.{Role}
-use Rattle.basis.specs.declared.roles.Bounds.{Bounds}
-use Rattle.machine.specs.Effects.{Effect, effect}
-use Rattle.machine.specs.declared.keeps.AdminAnswer.{AdminAnswer}
-use Rattle.machine.specs.declared.keeps.AdminAnswer.TheVariants.{Done, Exists, Absent}
-use Rattle.statements.specs.Changes.{org_row_added, org_capped, token_added, token_removed}
-use Rattle.statements.specs.Finds.{cap_of, role_of_name}
-use Rattle.statements.specs.Steps.{AnyRows, LeavesAsIs}
-use Rattle.statements.specs.Tables.{Tables, Holds}
+use Rattle.tables.proofs.Outside.{◌≡◌, ℕ, Bool, true, false, cond, List, is_some, is_none, Option, Some, None, IsTrue, sym, ap, subst, Database, State, Role, Bounds, Effect, effect, AdminAnswer, Done, Exists, Absent, org_row_added, org_capped, token_added, token_removed, cap_of, role_of_name, AnyRows, LeavesAsIs, Tables, Holds}
 use Rattle.tables.specs.Inner.Steps.{IsAllCommitted, Commits, org_managed_by, org_managed, limit_managed_by, limit_managed, is_taken, token_managed_by, token_managed, revocation_managed_by, revocation_managed}
 
 module _ (command : Tables → Effect AdminAnswer Tables) (a b d : State) (all_committed : IsAllCommitted a) where

@@ -1,9 +1,7 @@
 -- A store in memory.
-use Rattle.std.proofs.Common.{◌≡◌, false, refl, ap}
+use Rattle.tables.proofs.Outside.{◌≡◌, false, refl, ap, Held, state, HasCleanDisk}
 use Rattle.sqlite_trees.specs.View.{doubt}
 use Rattle.sqlite_trees.specs.declared.memory.MemStore.{MemStore}
-use Rattle.sqlite.specs.Held.{Held, state}
-use Rattle.sqlite.specs.State.{HasCleanDisk}
 use Rattle.sqlite.specs.Steps.{over_memory, IsEmpty}
 use Rattle.tables.specs.Opening.{any_there}
 

@@ -1,18 +1,6 @@
 -- Steps inside one transaction, one after the other.
-use Rattle.std.proofs.Common.{◌≡◌, ℕ, true, List, [], is_some, IsTrue, Option, Some, None, Result, Ok, Err, OnOk, OnErr, ◌∙◌}
-use Rattle.sqlite_trees.specs.declared.store.Store.{Ghosts}
-use Rattle.sqlite.specs.Held.{state}
-use Rattle.sqlite.specs.State.{State, HasCleanDisk, KeepsCommit}
-use Rattle.sqlite.specs.declared.transaction.Transaction.{Transaction}
-use Rattle.machine.specs.declared.records.Version.{Version}
+use Rattle.tables.proofs.Outside.{◌≡◌, ℕ, true, List, [], is_some, IsTrue, Option, Some, None, Result, Ok, Err, OnOk, OnErr, ◌∙◌, Ghosts, state, State, HasCleanDisk, KeepsCommit, Transaction, Version, workspace_of, size_of, AnyRows, Moves, Steps, Reports, Tables, Holds, moves_more, GoesOn, steps_then, moves_as}
 use Rattle.statements.specs.declared.rows.Workspace.{Workspace}
-use Rattle.statements.specs.Finds.{workspace_of, size_of}
-use Rattle.statements.specs.Steps.{AnyRows, Moves, Steps, Reports}
-use Rattle.statements.specs.Tables.{Tables, Holds}
-use Rattle.statements.proofs.Transactions.{moves_more}
-use Rattle.texts.specs.Texts.{GoesOn}
-use Rattle.pages.proofs.Sequences.{steps_then}
-use Rattle.texts.proofs.Many.{moves_as}
 use Rattle.tables.specs.Inner.Edits.{if_there, numbered_rows, FitsTwins, TakesVersion}
 
 -- where no page is put

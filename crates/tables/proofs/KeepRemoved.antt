@@ -1,23 +1,10 @@
 -- From what was looked at, and one transaction, to the removal of an organization.
-use Rattle.std.proofs.Common.{◌≡◌, ◌≢◌, ℕ, Bool, true, false, List, is_none, Option, Some, None, IsTrue, Ok, refl, sym, ap, subst, ◌∙◌}
-use Rattle.sqlite_trees.specs.declared.store.Store.{Ghosts}
-use Rattle.sqlite.specs.Effect.{Database}
-use Rattle.sqlite.specs.Held.{Held}
-use Rattle.sqlite.specs.State.{State}
-use Rattle.machine.specs.Effects.{effect}
-use Rattle.machine.specs.Removal.{org_removed}
-use Rattle.machine.specs.declared.keeps.AdminAnswer.{AdminAnswer}
-use Rattle.machine.specs.declared.keeps.AdminAnswer.TheVariants.{Done, Absent, InUse}
-use Rattle.statements.specs.declared.rows.NamedToken.{NamedToken}
-use Rattle.statements.specs.Finds.{cap_of}
-use Rattle.statements.specs.Steps.{Equals, Queries, Sees, LeavesAsIs}
-use Rattle.statements.specs.Tables.{Tables, Holds, tables_of}
+use Rattle.tables.proofs.Outside.{◌≡◌, ◌≢◌, ℕ, Bool, true, false, List, is_none, Option, Some, None, IsTrue, Ok, refl, sym, ap, subst, ◌∙◌, Ghosts, Database, Held, State, effect, org_removed, AdminAnswer, Done, Absent, InUse, NamedToken, cap_of, Equals, Queries, Sees, LeavesAsIs, Tables, Holds, tables_of, sees_by}
 use Rattle.tables.specs.Opening.{IsSoundKeep}
 use Rattle.tables.specs.Remembered.{nothing_kept}
 use Rattle.tables.specs.Scans.{ArePagesKeyed}
 use Rattle.tables.specs.Sound.{IsSound}
 use Rattle.tables.specs.Stores.{records_of}
-use Rattle.texts.proofs.Many.{sees_by}
 use Rattle.tables.specs.declared.memo.Memo.{Memo}
 use Rattle.tables.specs.declared.removals.Possessions.{Possessions}
 use Rattle.tables.specs.Inner.Imports.{CommitsRelated}

@@ -1,37 +1,15 @@
 -- From the rows of a connection to the records of its store.
-use Rattle.std.proofs.Common.{◌≡◌, ◌≢◌, ℕ, ◌<◌, List, [], map, Option, Some, IfSome, IsTrue, refl, sym, ap, ◌∙◌, subst}
-use Rattle.sqlite.specs.Effect.{Database}
-use Rattle.sqlite.specs.State.{State, KeepsCommit}
-use Rattle.basis.specs.Names.{is_ws_name}
-use Rattle.machine.specs.Records.{workspace_in, placed, seen_in}
-use Rattle.machine.specs.Changes.{changed_by, IsDue}
-use Rattle.machine.specs.Units.{unit_of, version_text}
-use Rattle.machine.specs.Needs.{Needed, needs}
+use Rattle.tables.proofs.Outside.{◌≡◌, ◌≢◌, ℕ, ◌<◌, List, [], map, Option, Some, IfSome, IsTrue, refl, sym, ap, ◌∙◌, subst, Database, State, KeepsCommit, is_ws_name, workspace_in, placed, seen_in, changed_by, IsDue, unit_of, version_text, Needed, needs, asker_of, get, Act, Change, Organization, AdminAnswer, edition_moved, AnyRows, Tables, Holds, tables_of, SCHEMA_VERSION, tables-held, unwrap_or, listing_of, AreOrganizations, OrgsApart, TokensApart, WorkspacesApart, VersionsApart, RunsApart}
 use Rattle.machine.specs.Tokens as tokens
-use Rattle.machine.specs.Tokens.{asker_of}
-use Rattle.std.specs.FinMap.{get}
-use Rattle.machine.specs.declared.acts.Act.{Act}
-use Rattle.machine.specs.declared.acts.Change.{Change}
-use Rattle.machine.specs.declared.records.Organization.{Organization}
-use Rattle.machine.specs.declared.keeps.AdminAnswer.{AdminAnswer}
 use Rattle.machine.specs.declared.keeps.TokenRow.{TokenRow}
-use Rattle.statements.specs.Changes.{edition_moved}
-use Rattle.statements.specs.Steps.{AnyRows}
-use Rattle.statements.specs.Tables.{Tables, Holds, tables_of}
-use Rattle.statements.specs.declared.making.TheConstants.{SCHEMA_VERSION}
-use Rattle.statements.proofs.Decoding.{tables-held}
 use Rattle.tables.specs.Inner.Edits.{changed_rows, TakesEdit}
 use Rattle.tables.specs.Records.{record_of}
-use Rattle.std.specs.Option.{unwrap_or}
-use Rattle.basis.specs.Listings.{listing_of}
 use Rattle.basis.specs.declared.rows.Listing.{Listing}
 use Rattle.basis.specs.declared.rows.RunRow.{RunRow}
 use Rattle.basis.specs.declared.rows.VersionRow.{VersionRow}
 use Rattle.basis.specs.declared.rows.WsRow.{WsRow}
 use Rattle.machine.specs.Showing as showing
-use Rattle.machine.specs.Tokens.{AreOrganizations}
 use Rattle.machine.specs.declared.keeps.OrgRow.{OrgRow}
-use Rattle.statements.specs.Listings.{OrgsApart, TokensApart, WorkspacesApart, VersionsApart, RunsApart}
 use Rattle.tables.specs.Inner.Lists.{versions_listed_in, runs_listed_in, workspaces_listed_in, asker_in, token_list_answer_in, organizations_listed_in}
 use Rattle.tables.specs.Inner.Units.{unit_in}
 use Rattle.tables.specs.Stores.{records_of}

@@ -1,36 +1,8 @@
 -- Sound tables stay sound.
-use Rattle.std.proofs.Common.{◌≡◌, ℕ, ◌≤◌, Bool, true, false, List, [], ◌∷◌, ◌++◌, find, length, is_some, Option, Some, None, IfSome, IsTrue, option_map, refl, sym, ap, subst, ◌∙◌, arith}
-use Rattle.std.proofs.lemmas.Option.{same_Some}
-use Rattle.std.specs.Str.{bytes_eq}
-use Rattle.std.specs.List.{AllByRecursion, list_any}
-use Rattle.std.specs.FinMap.{get, empty, len-entries, len-empty}
-use Rattle.sqlite_keyed.specs.Keyed.{next_key}
-use Rattle.sqlite_keyed.proofs.ListLemmas.{all_weaker, all-append, none_from_any}
-use Rattle.sqlite_keyed.proofs.SliceLemmas.{any_is_found, is_some-map}
-use Rattle.basis.specs.Names.{is_org_name, is_ws_name, is_prefix}
-use Rattle.basis.specs.declared.roles.Role.{Role}
-use Rattle.basis.specs.declared.roles.Bounds.{Bounds}
-use Rattle.basis.proofs.NameLemmas.{equal_bytes}
-use Rattle.machine.specs.Ranges.{IsMoment}
-use Rattle.machine.specs.Order.{name_cmp}
-use Rattle.machine.specs.Laws.{IsLawful, IsLawfulIfThere}
-use Rattle.machine.specs.Records.{seen_in, count_of, placed}
-use Rattle.machine.specs.Changes.{changed_by, IsDue}
-use Rattle.machine.specs.Tokens.{new_organization}
-use Rattle.machine.specs.declared.acts.Change.{Change}
-use Rattle.machine.specs.declared.records.Workspace.{Workspace}
-use Rattle.machine.specs.declared.records.Organization.{Organization}
-use Rattle.machine.proofs.KeepLemmas.{apart_from}
-use Rattle.statements.specs.Rows.{Kept, id_of, OrgRow, TokenRow, BoundRow}
-use Rattle.statements.specs.declared.making.TheConstants.{SCHEMA_VERSION}
-use Rattle.statements.specs.Tables.{Tables, no_rows}
-use Rattle.statements.specs.Changes.{is_org, is_token, is_digest_of, is_bound, org_row_added, token_added}
-use Rattle.statements.specs.Finds.{cap_of, role_of_name, role_of_digest}
-use Rattle.statements.proofs.Found.{apart_pushed}
+use Rattle.tables.proofs.Outside.{◌≡◌, ℕ, ◌≤◌, Bool, true, false, List, [], ◌∷◌, ◌++◌, find, length, is_some, Option, Some, None, IfSome, IsTrue, option_map, refl, sym, ap, subst, ◌∙◌, arith, same_Some, bytes_eq, AllByRecursion, list_any, get, empty, len-entries, len-empty, next_key, all_weaker, all-append, none_from_any, any_is_found, is_some-map, is_org_name, is_ws_name, is_prefix, Role, Bounds, equal_bytes, IsMoment, name_cmp, IsLawful, IsLawfulIfThere, seen_in, count_of, placed, changed_by, IsDue, new_organization, Change, Workspace, Organization, apart_from, Kept, id_of, OrgRow, TokenRow, BoundRow, SCHEMA_VERSION, Tables, no_rows, is_org, is_token, is_digest_of, is_bound, org_row_added, token_added, cap_of, role_of_name, role_of_digest, apart_pushed, carried_sound, no_rows_sound}
 use Rattle.tables.specs.Records.{workspace_by, tokens_at, organization_at, record_of}
 use Rattle.tables.specs.Sound.{StoresVersion, IsOrgRow, IsTokenRow, IsBoundRow, IsGapless, IsSoundWorkspace, IsSound, AreAccountsIn}
 use Rattle.tables.specs.Inner.Edits.{changed_rows, TakesEdit}
-use Rattle.texts.proofs.TextLaws.{carried_sound, no_rows_sound}
 use Rattle.tables.proofs.TextRows.{AreTexts, texts_carried, KeepsWorkspaces, workspace_carried, workspaces_carried}
 use Rattle.tables.proofs.KeptTexts.{changed_texts}
 use Rattle.tables.proofs.Names.{is_pair, pair_is, pair_first, pair_second, turned_apart}

@@ -1,28 +1,8 @@
 -- What is kept in memory of versions and tokens is so, and stays so.
-use Rattle.std.proofs.Common.{All, OnOk, OnErr, slice_index_or, ◌≡◌, ◌≢◌, ◌<◌, ◌++◌, [], ◌∷◌, length, Result, Ok, Err, ℕ, ◌==◌, ◌&&◌, Bool, true, false, cond, List, Option, Some, None, is_some, IfSome, option_map, refl, sym, ap, ◌∙◌, subst}
-use Rattle.std.specs.Str.{bytes_eq}
-use Rattle.std.specs.FinMap.{get}
-use Rattle.std.proofs.lemmas.Bool.{eqb-true}
-use Rattle.std.proofs.lemmas.Option.{same_Some}
-use Rattle.std.proofs.lemmas.List.Elements.{All-weaker, All-push}
-use Rattle.sqlite_keyed.proofs.SliceLemmas.{is_some-map}
+use Rattle.tables.proofs.Outside.{All, OnOk, OnErr, slice_index_or, ◌≡◌, ◌≢◌, ◌<◌, ◌++◌, [], ◌∷◌, length, Result, Ok, Err, ℕ, ◌==◌, ◌&&◌, Bool, true, false, cond, List, Option, Some, None, is_some, IfSome, option_map, refl, sym, ap, ◌∙◌, subst, bytes_eq, get, eqb-true, same_Some, All-weaker, All-push, is_some-map, equal_bytes, changed_by, Needed, workspace_in, placed, asker_of, version_text, if_needed, Change, Present, Organization, Version, apart_from, newest_of, size_of, workspace_of, first_waiting_of, open_runs_of, Tables, text_of}
 use Rattle.basis.specs.declared.rows.VersionRow.{VersionRow as Head}
-use Rattle.basis.proofs.NameLemmas.{equal_bytes}
-use Rattle.machine.specs.Changes.{changed_by}
-use Rattle.machine.specs.Needs.{Needed}
-use Rattle.machine.specs.Records.{workspace_in, placed}
-use Rattle.machine.specs.Tokens.{asker_of}
-use Rattle.machine.specs.Units.{version_text, if_needed}
-use Rattle.machine.specs.declared.acts.Change.{Change}
-use Rattle.machine.specs.declared.acts.Unit.TheVariants.{Present}
 use Rattle.machine.specs.declared.keeps.TokenRow.{TokenRow}
-use Rattle.machine.specs.declared.records.Organization.{Organization}
-use Rattle.machine.specs.declared.records.Version.{Version}
-use Rattle.machine.proofs.KeepLemmas.{apart_from}
-use Rattle.statements.specs.Finds.{newest_of, size_of, workspace_of, first_waiting_of, open_runs_of}
-use Rattle.statements.specs.Tables.{Tables}
 use Rattle.statements.specs.declared.rows.Workspace.{Workspace as WorkspaceCells}
-use Rattle.texts.specs.Texts.{text_of}
 use Rattle.tables.specs.Records.{settings_of_cells, workspace_at, workspace_by, record_of}
 use Rattle.tables.specs.Remembered.{IsSize, IsAsker, AreAskers, IsRemembered, nothing_kept}
 use Rattle.tables.specs.Sound.{IsSound}

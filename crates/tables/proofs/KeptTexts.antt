@@ -1,13 +1,6 @@
 -- What sound tables say of texts still holds after a change of a workspace.
-use Rattle.std.proofs.Common.{ℕ, Bool, true, false, List, Option, Some, None, refl}
-use Rattle.machine.specs.declared.acts.Edit.{Edit}
-use Rattle.machine.specs.declared.acts.Edit.TheVariants.{Make, Configure, Remove, AddVersion, Purge, Hold, Release, AddRun, Report}
-use Rattle.machine.specs.declared.acts.Change.{Change}
-use Rattle.basis.specs.declared.rows.Holder.TheVariants.{Lock}
+use Rattle.tables.proofs.Outside.{ℕ, Bool, true, false, List, Option, Some, None, refl, Edit, Make, Configure, Remove, AddVersion, Purge, Hold, Release, AddRun, Report, Change, Lock, Tables, held_by, released_from, ws_changed, run_acted, workspace_of}
 use Rattle.statements.specs.declared.rows.Workspace.{Workspace as WorkspaceCells}
-use Rattle.statements.specs.Tables.{Tables}
-use Rattle.statements.specs.Changes.{held_by, released_from, ws_changed, run_acted}
-use Rattle.statements.specs.Finds.{workspace_of}
 use Rattle.tables.specs.Sound.{IsSound}
 use Rattle.tables.specs.Inner.Edits.{all_gone, removed_rows, made_rows, if_there, run_put, run_counted, freed_rows, edited_rows, started_rows, changed_rows, TakesEdit}
 use Rattle.tables.proofs.TextRows.{AreTexts, texts_carried}

@@ -1,19 +1,7 @@
 -- Where each page has the key of its bytes, it has it after a change.
-use Rattle.std.specs.Bool.{⊤}
-use Rattle.std.proofs.Common.{ℕ, zero, suc, ◌+◌, true, false, List, [], ◌∷◌, length, Option, Some, None}
-use Rattle.basis.specs.declared.numbers.TheConstants.{MAX_NUMBER}
-use Rattle.basis.specs.declared.rows.RunAsk.{RunAsk}
-use Rattle.basis.specs.declared.rows.Settings.{Settings}
+use Rattle.tables.proofs.Outside.{⊤, ℕ, zero, suc, ◌+◌, true, false, List, [], ◌∷◌, length, Option, Some, None, MAX_NUMBER, RunAsk, Settings, Edit, Make, Configure, Remove, AddVersion, Purge, Hold, Release, AddRun, Report, Version, NamedToken, token_removed, version_removed, workspace_of, oldest_below, Tables, pages_for, KeysFit}
 use Rattle.basis.specs.declared.rows.VersionRow.{VersionRow as Head}
-use Rattle.machine.specs.declared.acts.Edit.{Edit}
-use Rattle.machine.specs.declared.acts.Edit.TheVariants.{Make, Configure, Remove, AddVersion, Purge, Hold, Release, AddRun, Report}
-use Rattle.machine.specs.declared.records.Version.{Version}
-use Rattle.statements.specs.declared.rows.NamedToken.{NamedToken}
 use Rattle.statements.specs.declared.rows.Workspace.{Workspace as WorkspaceCells}
-use Rattle.statements.specs.Changes.{token_removed, version_removed}
-use Rattle.statements.specs.Finds.{workspace_of, oldest_below}
-use Rattle.statements.specs.Tables.{Tables}
-use Rattle.texts.specs.Texts.{pages_for, KeysFit}
 use Rattle.texts.proofs.KeyedTexts.{added_keyed, removed_keyed}
 use Rattle.tables.specs.Scans.{ArePagesKeyed}
 use Rattle.tables.specs.Inner.Removals.{workspaces_gone, tokens_gone, all_gone_of}

@@ -1,14 +1,6 @@
 -- Steps and transactions that leave each page under the key of its bytes.
-use Rattle.std.proofs.Common.{◌≡◌, ℕ, List, Option, Some, None, Result, Ok, refl, sym, subst, ◌∙◌}
-use Rattle.std.specs.List.{AllByRecursion}
-use Rattle.sqlite_trees.specs.declared.store.Store.{Ghosts}
-use Rattle.sqlite.specs.declared.transaction.Transaction.{Transaction}
-use Rattle.basis.specs.declared.rows.Holder.{Holder}
+use Rattle.tables.proofs.Outside.{◌≡◌, ℕ, List, Option, Some, None, Result, Ok, refl, sym, subst, ◌∙◌, AllByRecursion, Ghosts, Transaction, Holder, Kept, PageRow, AnyRows, Steps, Tables, when_done}
 use Rattle.basis.specs.declared.rows.Holder.TheVariants.{Nobody, Lock, Run as HeldByRun}
-use Rattle.statements.specs.Rows.{Kept, PageRow}
-use Rattle.statements.specs.Steps.{AnyRows, Steps}
-use Rattle.statements.specs.Tables.{Tables}
-use Rattle.texts.proofs.Many.{when_done}
 use Rattle.tables.specs.Inner.Copies.{RelatedSteps, AreMadeBy, released_rows, held_rows}
 use Rattle.tables.specs.Inner.Keys.{KeepsKeys, KeepsPages}
 use Rattle.tables.proofs.Arriving.{related_as}

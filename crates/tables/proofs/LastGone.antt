@@ -1,20 +1,7 @@
 -- Behind the version with the number before a bound, none is left below it.
-use Rattle.std.proofs.Common.{◌≡◌, ◌≤◌, ℕ, ◌+◌, Bool, true, false, not, cond, List, [], ◌∷◌, filter, slice_get, Option, Some, None, option_map, refl, sym, ap, ◌∙◌, subst, arith, Ordering, is_gt}
-use Rattle.std.specs.Cmp.{IsTotalOrder, tied_itself}
-use Rattle.std.specs.List.{AllByRecursion}
-use Rattle.std.specs.Ordering.{ordering_reverse}
-use Rattle.std.proofs.lemmas.Bool.{ltb-true}
-use Rattle.std.proofs.lemmas.Cmp.{upto}
+use Rattle.tables.proofs.Outside.{◌≡◌, ◌≤◌, ℕ, ◌+◌, Bool, true, false, not, cond, List, [], ◌∷◌, filter, slice_get, Option, Some, None, option_map, refl, sym, ap, ◌∙◌, subst, arith, Ordering, is_gt, IsTotalOrder, tied_itself, AllByRecursion, ordering_reverse, ltb-true, upto, delete_where, insert_sorted, sort_by, all_weaker, all_both, is_version, is_version_below, version_removed, version_cmp, oldest_below, Kept, VersionRow, Tables, AtMost, text_removed_versions}
 use Rattle.std.proofs.lemmas.Map.Keys.{le_from_not_gt}
-use Rattle.sqlite_keyed.specs.Lists.{delete_where, insert_sorted, sort_by}
-use Rattle.sqlite_keyed.proofs.ListLemmas.{all_weaker, all_both}
 use Rattle.basis.specs.declared.rows.VersionRow.{VersionRow as Head}
-use Rattle.statements.specs.Changes.{is_version, is_version_below, version_removed}
-use Rattle.statements.specs.Finds.{version_cmp, oldest_below}
-use Rattle.statements.specs.Rows.{Kept, VersionRow}
-use Rattle.statements.specs.Tables.{Tables}
-use Rattle.statements.proofs.Sorting.{AtMost}
-use Rattle.texts.proofs.TextLaws.{text_removed_versions}
 use Rattle.tables.specs.Inner.Edits.{version_gone}
 use Rattle.tables.proofs.Ordered.{versions_total}
 use Rattle.tables.proofs.Sorted.{greater_is}

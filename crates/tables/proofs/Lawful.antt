@@ -1,20 +1,5 @@
 -- Sound tables denote lawful records.
-use Rattle.std.proofs.Common.{◌≡◌, ℕ, ◌≤◌, true, List, find, length, Option, Some, None, IfSome, option_map, IsTrue, refl, sym, ap, subst, ◌∙◌}
-use Rattle.std.specs.Str.{bytes_eq}
-use Rattle.std.specs.FinMap.{get}
-use Rattle.std.proofs.lemmas.Bool.{and_from}
-use Rattle.std.proofs.lemmas.Option.{same_Some}
-use Rattle.std.specs.Option.{unwrap_or}
-use Rattle.basis.specs.Names.{is_org_name, is_prefix}
-use Rattle.basis.specs.declared.roles.Bounds.{Bounds}
-use Rattle.machine.specs.Ranges.{IsMoment}
-use Rattle.machine.specs.declared.records.Token.{Token}
-use Rattle.machine.specs.declared.records.Organization.{Organization}
-use Rattle.statements.specs.Rows.{Kept, OrgRow, TokenRow, BoundRow}
-use Rattle.statements.specs.Tables.{Tables}
-use Rattle.statements.specs.Changes.{is_org, is_token, is_digest_of, is_bound}
-use Rattle.statements.specs.Finds.{cap_of, bound_in}
-use Rattle.statements.proofs.Found.{found_passes, found_holds, apart_one}
+use Rattle.tables.proofs.Outside.{◌≡◌, ℕ, ◌≤◌, true, List, find, length, Option, Some, None, IfSome, option_map, IsTrue, refl, sym, ap, subst, ◌∙◌, bytes_eq, get, and_from, same_Some, unwrap_or, is_org_name, is_prefix, Bounds, IsMoment, Token, Organization, Kept, OrgRow, TokenRow, BoundRow, Tables, is_org, is_token, is_digest_of, is_bound, cap_of, bound_in, found_passes, found_holds, apart_one}
 use Rattle.tables.specs.Records.{no_bounds, bounds_at, token_at, organization_at, record_of}
 use Rattle.tables.specs.Sound.{IsOrgRow, IsTokenRow, IsBoundRow, IsSound}
 use Rattle.tables.specs.Laws.{SoundTablesAreLawful}

@@ -27,6 +27,7 @@ pub mod Names
 pub mod NoGaps
 pub mod Managed
 pub mod OrgLists
+pub mod Outside
 pub mod Owned
 pub mod Parts
 pub mod Raising

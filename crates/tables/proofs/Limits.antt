@@ -1,22 +1,5 @@
 -- An organization with another limit.
-use Rattle.std.proofs.Common.{◌≡◌, ◌≢◌, ℕ, ◌≤◌, Bool, true, false, List, find, Option, Some, None, option_map, refl, sym, ap, subst, ◌∙◌}
-use Rattle.std.proofs.lemmas.Option.{same_Some}
-use Rattle.std.specs.Str.{bytes_eq}
-use Rattle.std.specs.List.{list_any}
-use Rattle.sqlite_keyed.specs.Lists.{update_where}
-use Rattle.sqlite_keyed.proofs.RuleLemmas.{apart_update}
-use Rattle.basis.proofs.NameLemmas.{equal_bytes}
-use Rattle.machine.specs.Effects.{effect}
-use Rattle.machine.specs.Records.{count_of}
-use Rattle.machine.specs.Tokens.{with_limit, org_limited}
-use Rattle.machine.specs.declared.keeps.AdminAnswer.TheVariants.{Done, Absent}
-use Rattle.machine.specs.declared.records.Organization.{Organization}
-use Rattle.machine.proofs.KeepLemmas.{apart_from}
-use Rattle.statements.specs.Rows.{Kept, OrgRow}
-use Rattle.statements.specs.Tables.{Tables}
-use Rattle.statements.specs.Changes.{is_org, org_capped}
-use Rattle.statements.specs.Finds.{cap_of}
-use Rattle.statements.proofs.Found.{find_changed, find_unchanged, all_updated}
+use Rattle.tables.proofs.Outside.{◌≡◌, ◌≢◌, ℕ, ◌≤◌, Bool, true, false, List, find, Option, Some, None, option_map, refl, sym, ap, subst, ◌∙◌, same_Some, bytes_eq, list_any, update_where, apart_update, equal_bytes, effect, count_of, with_limit, org_limited, Done, Absent, Organization, apart_from, Kept, OrgRow, Tables, is_org, org_capped, cap_of, find_changed, find_unchanged, all_updated}
 use Rattle.tables.specs.Records.{organization_at, record_of}
 use Rattle.tables.specs.Sound.{IsOrgRow, IsSound}
 use Rattle.tables.proofs.Belonging.{of_other_orgs}

@@ -1,43 +1,15 @@
 -- What the lists of a workspace's versions and runs, and of an organization's workspaces, show of the record.
-use Rattle.std.proofs.Common.{map-id, ◌≡◌, ℕ, ◌+◌, ◌==◌, ◌<◌, ◌≤◌, nat_lt, Bool, true, false, cond, ◌&&◌, List, [], ◌∷◌, map, filter, find, take, Option, Some, None, option_map, IsTrue, refl, sym, ap, subst, ◌∙◌, arith, Equal, nat_cmp, is_eq}
-use Rattle.std.specs.Str.{bytes_eq}
-use Rattle.std.specs.Option.{unwrap_or}
-use Rattle.std.specs.List.{AllByRecursion}
-use Rattle.std.specs.FinMap.{from_entries, entries, get, entries_sorted, get-entries, get-from_entries}
+use Rattle.tables.proofs.Outside.{map-id, ◌≡◌, ℕ, ◌+◌, ◌==◌, ◌<◌, ◌≤◌, nat_lt, Bool, true, false, cond, ◌&&◌, List, [], ◌∷◌, map, filter, find, take, Option, Some, None, option_map, IsTrue, refl, sym, ap, subst, ◌∙◌, arith, Equal, nat_cmp, is_eq, bytes_eq, unwrap_or, AllByRecursion, from_entries, entries, get, entries_sorted, get-entries, get-from_entries, take-map, ne_eqb, eqb-true, eq-eqb, and_assoc, and_comm, nat_cmp_total, tied_itself, unsigned_tied, AreApart, sort_by, all_weaker, ascending_weaker, sort_by-map, find-slice, is_ws_name, admits, listing_of, Rises, name_cmp, Version, Workspace, names_total, newest, Kept, WsRow, VersionRow, RunRow, Tables, is_ws_of, is_version_of, is_version, is_run_of, version_cmp, run_cmp, is_version_before, version_before, cap_of, workspace_of, all_sorted, IsWhole, whole_size}
 use Rattle.std.specs.FinMap.Entries.{find as find_entry}
-use Rattle.std.proofs.lemmas.List.{take-map}
-use Rattle.std.proofs.lemmas.Bool.{ne_eqb, eqb-true, eq-eqb}
-use Rattle.std.proofs.Math.Bool.{and_assoc, and_comm}
-use Rattle.std.specs.Cmp.{nat_cmp_total, tied_itself, unsigned_tied}
-use Rattle.sqlite_keyed.specs.Rules.{AreApart}
-use Rattle.sqlite_keyed.specs.Lists.{sort_by}
-use Rattle.sqlite_keyed.proofs.ListLemmas.{all_weaker, ascending_weaker}
-use Rattle.sqlite_keyed.proofs.SortLemmas.{sort_by-map}
-use Rattle.sqlite_keyed.proofs.SliceLemmas.{find-slice}
-use Rattle.basis.specs.Names.{is_ws_name, admits}
-use Rattle.basis.specs.Listings.{listing_of}
-use Rattle.machine.specs.Laws.{Rises}
-use Rattle.machine.specs.Order.{name_cmp}
 use Rattle.machine.specs.Records.{workspace_in as seen_workspace}
 use Rattle.machine.specs.Showing as showing
-use Rattle.machine.specs.declared.records.Version.{Version}
 use Rattle.basis.specs.declared.rows.RunRow.{RunRow as Run}
 use Rattle.basis.specs.declared.rows.VersionRow.{VersionRow as Head}
-use Rattle.machine.specs.declared.records.Workspace.{Workspace}
-use Rattle.machine.proofs.MapLemmas.{names_total}
-use Rattle.machine.specs.Workspaces.{newest}
 use Rattle.statements.specs.declared.rows.Workspace.{Workspace as WorkspaceCells}
-use Rattle.statements.specs.Rows.{Kept, WsRow, VersionRow, RunRow}
-use Rattle.statements.specs.Tables.{Tables}
-use Rattle.statements.specs.Changes.{is_ws_of, is_version_of, is_version, is_run_of}
-use Rattle.statements.specs.Finds.{version_cmp, run_cmp, is_version_before, version_before, cap_of, workspace_of}
 use Rattle.statements.specs.Listings.{is_behind, workspaces_by_name, named_row as named_at, WorkspacesApart, VersionsApart, RunsApart}
 use Rattle.statements.proofs.Conditions.{one_less_is}
-use Rattle.statements.proofs.Sorting.{all_sorted}
 use Rattle.tables.specs.Records.{settings_of_cells, retention_at, version_at, versions_at, runs_at, workspace_at, workspaces_at, organization_at, record_of}
 use Rattle.tables.specs.Sound.{IsSoundWorkspace, IsSound}
-use Rattle.texts.specs.Texts.{IsWhole}
-use Rattle.texts.proofs.PieceLaws.{whole_size}
 use Rattle.tables.proofs.TextRows.{AreTexts}
 use Rattle.tables.specs.Inner.Lists.{versions_listed_in, runs_listed_in, newest_number_in, newest_by, ws_row_in, workspaces_listed_in}
 use Rattle.tables.proofs.Sets.{entry_found}

@@ -1,9 +1,5 @@
 -- The versions above a number, and lists that are changed in places.
-use Rattle.std.proofs.Common.{◌≡◌, ℕ, ◌+◌, ◌<◌, ◌≤◌, nat_lt, Bool, true, false, not, ◌||◌, cond, List, [], ◌∷◌, filter, refl, ap, ◌∙◌, arith}
-use Rattle.std.proofs.lemmas.Bool.{lt-ltb, le-ltb, ltb-true, ltb-false}
-use Rattle.std.specs.List.{list_any}
-use Rattle.sqlite_keyed.specs.Lists.{update_where, delete_where}
-use Rattle.machine.specs.declared.records.Version.{Version}
+use Rattle.tables.proofs.Outside.{◌≡◌, ℕ, ◌+◌, ◌<◌, ◌≤◌, nat_lt, Bool, true, false, not, ◌||◌, cond, List, [], ◌∷◌, filter, refl, ap, ◌∙◌, arith, lt-ltb, le-ltb, ltb-true, ltb-false, list_any, update_where, delete_where, Version}
 
 not_below : (m n : ℕ) → not (nat_lt m (n + 1)) ≡ nat_lt n m
 not_below m n = by_test (nat_lt n m) refl

@@ -1,34 +1,12 @@
 -- The records after an operator's command, and the tokens of an organization by their digests.
-use Rattle.std.proofs.Common.{◌≡◌, ◌≢◌, ℕ, Bool, true, false, ◌&&◌, ◌||◌, cond, List, [], ◌∷◌, map, filter, find, is_some, Option, Some, None, option_map, refl, sym, ap, ap₂, subst, ◌∙◌, arith, length}
-use Rattle.std.specs.Option.{unwrap_or}
-use Rattle.std.specs.Str.{bytes_eq}
-use Rattle.std.specs.List.{AllByRecursion, list_any}
+use Rattle.tables.proofs.Outside.{◌≡◌, ◌≢◌, ℕ, Bool, true, false, ◌&&◌, ◌||◌, cond, List, [], ◌∷◌, map, filter, find, is_some, Option, Some, None, option_map, refl, sym, ap, ap₂, subst, ◌∙◌, arith, length, unwrap_or, bytes_eq, AllByRecursion, list_any, FinMap, from_entries, entries, get, insert, empty, entries-insert, get-entries, get-from_entries, same_map, len-entries, len-empty, next_key, AreApart, any_is_found, is_some-map, Role, Bounds, equal_bytes, name_cmp, effect, Done, Exists, Absent, Token, Organization, names_total, names_same, get_own, get_other, apart_from, Kept, id_of, OrgRow, TokenRow, BoundRow, WsRow, Tables, is_org, is_token, is_digest_of, is_bound, is_ws_of, cap_of, role_of_digest, role_of_name, named_role, bound_in, found_passes, find_pushed, find_pushed_other, found_holds, none_found}
 use Rattle.std.specs.Ordering.{is_eq}
 use Rattle.std.specs.declared.cmp.Ordering.{Ordering}
 use Rattle.std.specs.declared.cmp.Ordering.TheVariants.{Less, Equal, Greater}
-use Rattle.std.specs.FinMap.{FinMap, from_entries, entries, get, insert, empty, entries-insert, get-entries, get-from_entries, same_map, len-entries, len-empty}
 use Rattle.std.specs.FinMap.Entries.{find as find_entry, put, by_order}
-use Rattle.sqlite_keyed.specs.Keyed.{next_key}
-use Rattle.sqlite_keyed.specs.Rules.{AreApart}
-use Rattle.sqlite_keyed.proofs.SliceLemmas.{any_is_found, is_some-map}
-use Rattle.basis.specs.declared.roles.Role.{Role}
-use Rattle.basis.specs.declared.roles.Bounds.{Bounds}
-use Rattle.basis.proofs.NameLemmas.{equal_bytes}
-use Rattle.machine.specs.Order.{name_cmp}
-use Rattle.machine.specs.Effects.{effect}
 use Rattle.machine.specs.Tokens.{token_with, token_row, row_with, asker_of, new_organization, org_added, token_of, with_token, token_added}
-use Rattle.machine.specs.declared.keeps.AdminAnswer.TheVariants.{Done, Exists, Absent}
 use Rattle.machine.specs.declared.keeps.TokenRow.{TokenRow as AnyRow}
-use Rattle.machine.specs.declared.records.Token.{Token}
-use Rattle.machine.specs.declared.records.Organization.{Organization}
-use Rattle.machine.proofs.MapLemmas.{names_total, names_same, get_own, get_other}
-use Rattle.machine.proofs.KeepLemmas.{apart_from}
-use Rattle.statements.specs.Rows.{Kept, id_of, OrgRow, TokenRow, BoundRow, WsRow}
-use Rattle.statements.specs.Tables.{Tables}
-use Rattle.statements.specs.Changes.{is_org, is_token, is_digest_of, is_bound, is_ws_of}
 use Rattle.statements.specs.Changes as rows
-use Rattle.statements.specs.Finds.{cap_of, role_of_digest, role_of_name, named_role, bound_in}
-use Rattle.statements.proofs.Found.{found_passes, find_pushed, find_pushed_other, found_holds, none_found}
 use Rattle.tables.specs.Records.{no_bounds, bounds_at, token_of_cells, token_at, is_token_of, tokens_at, workspace_at, organization_at, record_of}
 use Rattle.tables.specs.Inner.Lists.{token_row_in, asker_in}
 use Rattle.tables.specs.Sound.{IsSound}

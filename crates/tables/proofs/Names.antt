@@ -1,16 +1,7 @@
 -- Tests of rows by names.
-use Rattle.std.proofs.Common.{◌≡◌, ◌≢◌, ℕ, true, false, List, refl, sym, subst, ◌∙◌}
-use Rattle.std.specs.Str.{bytes_eq}
-use Rattle.std.specs.Ordering.{eq_by_cmp}
-use Rattle.std.specs.Cmp.{eq_by_cmp_equiv}
-use Rattle.std.proofs.lemmas.Bool.{false_from_ne_true, and_from}
+use Rattle.tables.proofs.Outside.{◌≡◌, ◌≢◌, ℕ, true, false, List, refl, sym, subst, ◌∙◌, bytes_eq, eq_by_cmp, eq_by_cmp_equiv, false_from_ne_true, and_from, first_of_both, second_of_both, equal_bytes, name_cmp, names_total, apart_from}
 use Rattle.std.proofs.lemmas.Map.Text.{is_eq-slice_cmp}
 use Rattle.std.proofs.lemmas.Slice.Eq.{bytes_eq-Decides}
-use Rattle.sqlite_keyed.proofs.RuleLemmas.{first_of_both, second_of_both}
-use Rattle.basis.proofs.NameLemmas.{equal_bytes}
-use Rattle.machine.specs.Order.{name_cmp}
-use Rattle.machine.proofs.MapLemmas.{names_total}
-use Rattle.machine.proofs.KeepLemmas.{apart_from}
 pub use Rattle.tables.specs.Inner.Standing.{is_pair}
 
 pub name_is : (a : List ℕ) → bytes_eq a a ≡ true

@@ -1,19 +1,7 @@
 -- Versions without a gap: the rules leave none, and the number of the oldest ones that go follows from the next one.
-use Rattle.std.proofs.Common.{◌≡◌, ◌⊎◌, inl, inr, ℕ, zero, suc, ◌+◌, ◌-◌, ◌≤◌, Bool, true, false, cond, List, [], ◌∷◌, ◌++◌, length, map, take, drop, slice_get, Option, Some, None, option_map, is_some, IfSome, refl, sym, ap, subst, ◌∙◌, arith}
-use Rattle.basis.specs.declared.rows.SettingsAsk.{SettingsAsk}
-use Rattle.machine.specs.Laws.{Rises}
-use Rattle.machine.specs.Records.{Seen, missing, there, standing}
+use Rattle.tables.proofs.Outside.{◌≡◌, ◌⊎◌, inl, inr, ℕ, zero, suc, ◌+◌, ◌-◌, ◌≤◌, Bool, true, false, cond, List, [], ◌∷◌, ◌++◌, length, map, take, drop, slice_get, Option, Some, None, option_map, is_some, IfSome, refl, sym, ap, subst, ◌∙◌, arith, SettingsAsk, Rises, Seen, missing, there, standing, started_if, to_start, first_waiting, settled, version_of, newest, last_of, outgoing, Act, PutWorkspace, Version, Workspace, found_by_number, last_taken, none_up_to, there_is, IsPut, Misses, put_or_missed, Way, version_comes, versions_go, settings_come, lock_comes, lock_goes, run_comes, run_goes_on, Comes, it_stays, it_goes, it_changes, comes}
 use Rattle.machine.specs.Rules.{Outcome, Ruling, with_version, with_settings, rules_missing, rules}
-use Rattle.machine.specs.Settling.{started_if, to_start, first_waiting, settled}
-use Rattle.machine.specs.Units.{version_of}
-use Rattle.machine.specs.Workspaces.{newest, last_of, outgoing}
-use Rattle.machine.specs.declared.acts.Act.{Act}
-use Rattle.machine.specs.declared.acts.Act.TheVariants.{PutWorkspace}
-use Rattle.machine.specs.declared.records.Version.{Version}
-use Rattle.machine.specs.declared.records.Workspace.{Workspace}
-use Rattle.machine.proofs.CutLemmas.{found_by_number, last_taken, none_up_to, there_is}
 use Rattle.machine.proofs.LawLemmas.{number_left-is}
-use Rattle.machine.proofs.Rulings.{IsPut, Misses, put_or_missed, Way, version_comes, versions_go, settings_come, lock_comes, lock_goes, run_comes, run_goes_on, Comes, it_stays, it_goes, it_changes, comes}
 use Rattle.tables.specs.Sound.{HasNoGap, IsGapless}
 
 -- without a gap: a number more at the end, and the first ones gone

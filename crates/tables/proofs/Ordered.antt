@@ -1,27 +1,8 @@
 -- A workspace as its rows stand, and in the order of numbers.
-use Rattle.std.proofs.Common.{◌≡◌, ℕ, ◌+◌, nat_lt, cond, List, [], ◌∷◌, ◌++◌, map, filter, Option, Some, None, option_map, IfSome, refl, sym, ap, subst, ◌∙◌, ◌<◌, Ordering, Less, nat_cmp}
-use Rattle.std.specs.Cmp.{IsTotalOrder, nat_cmp_total, on_total, nat_cmp_is}
-use Rattle.sqlite_trees.specs.Tree.{IsAscending}
-use Rattle.sqlite_keyed.specs.Lists.{sort_by}
-use Rattle.sqlite_keyed.proofs.ListLemmas.{map-map, ascending_weaker, ascending_from_map}
-use Rattle.sqlite_keyed.proofs.SortLemmas.{sort_by-map}
+use Rattle.tables.proofs.Outside.{◌≡◌, ℕ, ◌+◌, nat_lt, cond, List, [], ◌∷◌, ◌++◌, map, filter, Option, Some, None, option_map, IfSome, refl, sym, ap, subst, ◌∙◌, ◌<◌, Ordering, Less, nat_cmp, IsTotalOrder, nat_cmp_total, on_total, nat_cmp_is, IsAscending, sort_by, map-map, ascending_weaker, ascending_from_map, sort_by-map, Rises, IsLawful, IsLawfulIfThere, left_above, edited, changed_by, begun, started_if, new_run, reported, Edit, Make, Configure, Remove, AddVersion, Purge, Hold, Release, AddRun, Report, Change, Version, Workspace, Kept, VersionRow, RunRow, Tables, is_version_of, is_run_of, version_cmp, run_cmp, workspace_of, sorted_already, filter-sort_by}
 use Rattle.basis.specs.declared.rows.RunRow.{RunRow as Run}
 use Rattle.basis.specs.declared.rows.Holder.TheVariants.{Nobody, Run as HoldingRun}
-use Rattle.machine.specs.Laws.{Rises, IsLawful, IsLawfulIfThere}
-use Rattle.machine.specs.Changes.{left_above, edited, changed_by}
-use Rattle.machine.specs.Settling.{begun, started_if}
-use Rattle.machine.specs.Rules.{new_run, reported}
-use Rattle.machine.specs.declared.acts.Edit.{Edit}
-use Rattle.machine.specs.declared.acts.Edit.TheVariants.{Make, Configure, Remove, AddVersion, Purge, Hold, Release, AddRun, Report}
-use Rattle.machine.specs.declared.acts.Change.{Change}
-use Rattle.machine.specs.declared.records.Version.{Version}
-use Rattle.machine.specs.declared.records.Workspace.{Workspace}
 use Rattle.statements.specs.declared.rows.Workspace.{Workspace as WorkspaceCells}
-use Rattle.statements.specs.Rows.{Kept, VersionRow, RunRow}
-use Rattle.statements.specs.Tables.{Tables}
-use Rattle.statements.specs.Changes.{is_version_of, is_run_of}
-use Rattle.statements.specs.Finds.{version_cmp, run_cmp, workspace_of}
-use Rattle.statements.proofs.Sorting.{sorted_already, filter-sort_by}
 use Rattle.tables.specs.Records.{version_at, workspace_of_cells, retention_at, versions_at, runs_at, workspace_by}
 use Rattle.tables.proofs.Ranks.{rising}
 use Rattle.tables.proofs.Sorted.{sorted_with, map-sorted}

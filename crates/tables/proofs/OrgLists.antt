@@ -1,18 +1,8 @@
 -- The list of all organizations.
-use Rattle.std.proofs.Common.{◌≡◌, ℕ, Bool, true, false, ◌||◌, cond, T, List, [], ◌∷◌, map, find, Option, Some, option_map, IsSomeAnd, refl, sym, ap, subst, ◌∙◌}
-use Rattle.std.specs.Str.{bytes_eq}
-use Rattle.std.specs.List.{AllByRecursion, list_any}
-use Rattle.std.specs.FinMap.{entries, get, entries_sorted, get-entries, get-from_entries}
+use Rattle.tables.proofs.Outside.{◌≡◌, ℕ, Bool, true, false, ◌||◌, cond, T, List, [], ◌∷◌, map, find, Option, Some, option_map, IsSomeAnd, refl, sym, ap, subst, ◌∙◌, bytes_eq, AllByRecursion, list_any, entries, get, entries_sorted, get-entries, get-from_entries, name_cmp, count_of, is_row_of, Ascend, ShowsOrganization, AreOrganizations, Organization, names_total, both_first, both_second, Tables, cap_of, workspaces_of}
 use Rattle.std.specs.FinMap.Entries.{find as find_entry, is_sorted}
-use Rattle.machine.specs.Order.{name_cmp}
-use Rattle.machine.specs.Records.{count_of}
-use Rattle.machine.specs.Tokens.{is_row_of, Ascend, ShowsOrganization, AreOrganizations}
 use Rattle.machine.specs.declared.keeps.OrgRow.{OrgRow}
-use Rattle.machine.specs.declared.records.Organization.{Organization}
-use Rattle.machine.proofs.MapLemmas.{names_total, both_first, both_second}
 use Rattle.statements.specs.Rows.{Kept, OrgRow as OrgCells}
-use Rattle.statements.specs.Tables.{Tables}
-use Rattle.statements.specs.Finds.{cap_of, workspaces_of}
 use Rattle.statements.specs.Listings.{caps, organization_row as cells_at}
 use Rattle.tables.specs.Records.{organization_at, record_of}
 use Rattle.tables.specs.Sound.{IsSound}

@@ -1,10 +1,5 @@
 -- From the schema of a connection to what is committed.
-use Rattle.std.proofs.Common.{◌≡◌, ◌↔◌, ◌∙◌, ℕ, List, [], ap, subst}
-use Rattle.std.specs.List.{AllByRecursion}
-use Rattle.sqlite_schema.specs.declared.schema.Schema.{Schema}
-use Rattle.sqlite.specs.Effect.{Database}
-use Rattle.sqlite.specs.State.{State, IsUnchanged}
-use Rattle.statements.specs.Tables.{our_tables, IsOurs}
+use Rattle.tables.proofs.Outside.{◌≡◌, ◌↔◌, ◌∙◌, ℕ, List, [], ap, subst, AllByRecursion, Schema, Database, State, IsUnchanged, our_tables, IsOurs}
 use Rattle.definitions.specs.Others.{IsOther, IsOwnOrNamed}
 use Rattle.tables.specs.Defined.{ReportsTables}
 use Rattle.tables.specs.Inner.Steps.{IsAllCommitted}

@@ -1,32 +1,11 @@
 -- Which rows stand apart, and which belong to a row that is there, after a change of a workspace.
-use Rattle.std.proofs.Common.{◌≡◌, ℕ, ◌+◌, Bool, true, false, cond, List, [], ◌∷◌, ◌++◌, find, filter, length, is_some, Option, Some, None, refl, sym, ap, subst, ◌∙◌, arith}
-use Rattle.std.specs.List.{AllByRecursion, list_any}
-use Rattle.sqlite_keyed.specs.Keyed.{next_key}
-use Rattle.sqlite_keyed.specs.Rules.{AreApart}
-use Rattle.sqlite_keyed.proofs.SliceLemmas.{any_is_found, is_some-map}
-use Rattle.basis.specs.declared.rows.RunAsk.{RunAsk}
-use Rattle.basis.specs.declared.rows.RunSettings.{RunSettings}
-use Rattle.basis.specs.declared.rows.Settings.{Settings}
-use Rattle.basis.specs.declared.runs.RunStatus.{RunStatus}
-use Rattle.basis.specs.declared.runs.RunStatus.TheVariants.{Pending, Planning}
-use Rattle.basis.specs.declared.runs.RunAction.{RunAction}
-use Rattle.machine.specs.declared.acts.Edit.{Edit}
-use Rattle.machine.specs.declared.acts.Edit.TheVariants.{Make, Configure, Remove, AddVersion, Purge, Hold, Release, AddRun, Report}
-use Rattle.machine.specs.declared.acts.Change.{Change}
-use Rattle.machine.specs.declared.records.Version.{Version}
+use Rattle.tables.proofs.Outside.{◌≡◌, ℕ, ◌+◌, Bool, true, false, cond, List, [], ◌∷◌, ◌++◌, find, filter, length, is_some, Option, Some, None, refl, sym, ap, subst, ◌∙◌, arith, AllByRecursion, list_any, next_key, AreApart, any_is_found, is_some-map, RunAsk, RunSettings, Settings, RunStatus, Pending, Planning, RunAction, Edit, Make, Configure, Remove, AddVersion, Purge, Hold, Release, AddRun, Report, Change, Version, Kept, id_of, OrgRow, WsRow, RetentionRow, RunRow, SCHEMA_VERSION, Tables, is_org, is_ws, is_retention, HasNoRetention, retention_changed, is_version_of, is_run_row, with_run_settings, held_by, released_from, with_next_version, with_next_run, ws_changed, ws_added, ws_removed, workspace_made, runs_removed, run_made, run_added, run_changed_to, run_acted, AreNamedApart, AreOfOrgs, AreAmong, workspace_of, left_above}
 use Rattle.basis.specs.declared.rows.Holder.TheVariants.{Nobody, Lock, Run as HeldByRun}
 use Rattle.statements.specs.declared.rows.Workspace.{Workspace as WorkspaceCells}
 use Rattle.basis.specs.declared.rows.RunRow.{RunRow as Run}
-use Rattle.statements.specs.Rows.{Kept, id_of, OrgRow, WsRow, RetentionRow, RunRow}
-use Rattle.statements.specs.declared.making.TheConstants.{SCHEMA_VERSION}
-use Rattle.statements.specs.Tables.{Tables}
-use Rattle.statements.specs.Changes.{is_org, is_ws, is_retention, HasNoRetention, retention_changed, is_version_of, is_run_row, with_run_settings, held_by, released_from, with_next_version, with_next_run, ws_changed, ws_added, ws_removed, workspace_made, runs_removed, run_made, run_added, run_changed_to, run_acted}
-use Rattle.statements.specs.Belonging.{AreNamedApart, AreOfOrgs, AreAmong}
-use Rattle.statements.specs.Finds.{workspace_of}
 use Rattle.tables.specs.Sound.{IsOrgRow, AreAccountsIn, IsSound}
 use Rattle.tables.specs.Inner.Edits.{all_gone, removed_rows, made_rows, settings_rows, configured_rows, numbered_rows, versioned_rows, if_there, run_put, run_counted, freed_rows, edited_rows, started_rows, changed_rows, TakesVersion, TakesEdit}
 use Rattle.tables.proofs.Ordered.{versions_in}
-use Rattle.machine.specs.Changes.{left_above}
 use Rattle.tables.proofs.Absent.{no_row, no_retention}
 use Rattle.tables.proofs.TextRows.{Becomes, versions_counted}
 use Rattle.tables.proofs.VersionEdits.{all_go, settings_leave, versions_come}

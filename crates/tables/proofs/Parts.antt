@@ -1,25 +1,7 @@
 -- What each write does to the rows and the runs of a workspace.
-use Rattle.std.proofs.Common.{◌≡◌, ℕ, Bool, true, false, ◌&&◌, ◌==◌, cond, List, [], ◌∷◌, ◌++◌, map, filter, find, is_some, Option, Some, None, option_map, refl, ap, ◌∙◌, sym}
-use Rattle.std.proofs.Math.Bool.{and_assoc}
-use Rattle.std.specs.Str.{bytes_eq}
-use Rattle.std.specs.Option.{unwrap_or}
-use Rattle.sqlite_keyed.specs.Keyed.{next_key}
-use Rattle.sqlite_keyed.proofs.ListLemmas.{map_same}
-use Rattle.sqlite_keyed.proofs.SliceLemmas.{slice-push_mine, slice-push_other, slice-delete_other, slice-update_mine, slice-update_other}
-use Rattle.basis.specs.declared.rows.RunSettings.{RunSettings}
-use Rattle.basis.specs.declared.runs.RunStatus.{RunStatus}
-use Rattle.basis.specs.declared.runs.RunStatus.TheVariants.{Planning}
-use Rattle.basis.specs.declared.runs.RunAction.{RunAction}
-use Rattle.machine.specs.Rules.{reported}
-use Rattle.machine.specs.Settling.{begun}
+use Rattle.tables.proofs.Outside.{◌≡◌, ℕ, Bool, true, false, ◌&&◌, ◌==◌, cond, List, [], ◌∷◌, ◌++◌, map, filter, find, is_some, Option, Some, None, option_map, refl, ap, ◌∙◌, sym, and_assoc, bytes_eq, unwrap_or, next_key, map_same, slice-push_mine, slice-push_other, slice-delete_other, slice-update_mine, slice-update_other, RunSettings, RunStatus, Planning, RunAction, reported, begun, Kept, id_of, WsRow, RetentionRow, RunRow, Tables, is_ws, is_retention, ws_changed, ws_added, ws_removed, retention_changed, workspace_made, is_run_of, is_run_row, run_changed_to, run_acted, run_added, runs_removed, workspace_of, retention_of, find_changed, find_unchanged, find_deleted, find_left, find_pushed, find_pushed_other, filter_deleted, FIRST_KEPT}
 use Rattle.basis.specs.declared.rows.RunRow.{RunRow as Run}
 use Rattle.statements.specs.declared.rows.Workspace.{Workspace as WorkspaceCells}
-use Rattle.statements.specs.Rows.{Kept, id_of, WsRow, RetentionRow, RunRow}
-use Rattle.statements.specs.Tables.{Tables}
-use Rattle.statements.specs.Changes.{is_ws, is_retention, ws_changed, ws_added, ws_removed, retention_changed, workspace_made, is_run_of, is_run_row, run_changed_to, run_acted, run_added, runs_removed}
-use Rattle.statements.specs.Finds.{workspace_of, retention_of}
-use Rattle.statements.proofs.Found.{find_changed, find_unchanged, find_deleted, find_left, find_pushed, find_pushed_other, filter_deleted}
-use Rattle.basis.specs.declared.numbers.TheConstants.{FIRST_KEPT}
 use Rattle.tables.specs.Records.{retention_at}
 use Rattle.tables.proofs.Ordered.{runs_in}
 use Rattle.tables.proofs.Names.{is_pair, pair_is, pair_apart}

@@ -1,32 +1,6 @@
 -- The tables of a version as those of the next: each token, and later each workspace, gets a row of its own, and no record changes.
-use Rattle.std.proofs.Common.{◌≡◌, ◌≤◌, ◌<◌, ℕ, zero, suc, arith, drop, not, Bool, true, false, ◌&&◌, ◌||◌, is_some, List, [], ◌∷◌, ◌++◌, map, filter, find, Option, Some, None, option_map, IfSome, IsTrue, refl, sym, ap, subst, ◌∙◌}
-use Rattle.std.specs.Option.{unwrap_or}
-use Rattle.std.specs.Str.{bytes_eq}
-use Rattle.std.specs.List.{AllByRecursion, list_any, list_all}
-use Rattle.std.specs.FinMap.{from_entries}
-use Rattle.std.proofs.lemmas.Bool.{and_parts, or_parts, or_from, not-true, or_right}
+use Rattle.tables.proofs.Outside.{◌≡◌, ◌≤◌, ◌<◌, ℕ, zero, suc, arith, drop, not, Bool, true, false, ◌&&◌, ◌||◌, is_some, List, [], ◌∷◌, ◌++◌, map, filter, find, Option, Some, None, option_map, IfSome, IsTrue, refl, sym, ap, subst, ◌∙◌, unwrap_or, bytes_eq, AllByRecursion, list_any, list_all, from_entries, and_parts, or_parts, or_from, not-true, or_right, Table, same_name, IsAscending, next_key, all_weaker, all-append, ascending-map, ascending_from_map, all_map, all_unmap, is_prefix, FIRST_KEPT, name_cmp, IsMoment, Database, Kept, id_of, TokenRow, WsRow, BoundRow, RetentionRow, Owned, AreNamedApart, AreAmong, SCHEMA_VERSION, Tables, HoldsIn, is_known, count_in, our_tables, later_tables, added_by, up_to, tables_of, tables_at, is_of, is_bound, is_retention, with_next, with_all, unbounded, kept_first, cap_of, bound_in, sequence_name, IsNotNamed, NamesNoOther, raised, Raises, next_version, more_tables, tables_at-held, found_holds, none_if}
 use Rattle.std.proofs.lemmas.List.{append-nil, append_assoc, map-append}
-use Rattle.sqlite_schema.specs.declared.schema.Table.{Table}
-use Rattle.sqlite_schema.specs.Names.{same_name}
-use Rattle.sqlite_trees.specs.Tree.{IsAscending}
-use Rattle.sqlite_keyed.specs.Keyed.{next_key}
-use Rattle.sqlite_keyed.proofs.ListLemmas.{all_weaker, all-append, ascending-map, ascending_from_map, all_map, all_unmap}
-use Rattle.basis.specs.Names.{is_prefix}
-use Rattle.basis.specs.declared.numbers.TheConstants.{FIRST_KEPT}
-use Rattle.machine.specs.Order.{name_cmp}
-use Rattle.machine.specs.Ranges.{IsMoment}
-use Rattle.sqlite.specs.Effect.{Database}
-use Rattle.statements.specs.Rows.{Kept, id_of, TokenRow, WsRow, BoundRow, RetentionRow, Owned}
-use Rattle.statements.specs.Belonging.{AreNamedApart, AreAmong}
-use Rattle.statements.specs.declared.making.TheConstants.{SCHEMA_VERSION}
-use Rattle.statements.specs.Tables.{Tables, HoldsIn, is_known, count_in, our_tables, later_tables, added_by, up_to, tables_of, tables_at}
-use Rattle.statements.specs.Changes.{is_of, is_bound, is_retention, with_next, with_all, unbounded, kept_first}
-use Rattle.statements.specs.Finds.{cap_of, bound_in}
-use Rattle.statements.specs.Making.{sequence_name, IsNotNamed, NamesNoOther, raised, Raises}
-use Rattle.statements.proofs.Counts.{next_version, more_tables}
-use Rattle.statements.proofs.Decoding.{tables_at-held}
-use Rattle.statements.proofs.Found.{found_holds}
-use Rattle.pages.proofs.Alone.{none_if}
 use Rattle.tables.specs.Records.{no_bounds, bounds_at, retention_at, token_of_cells, is_token_of, tokens_at, record_of}
 use Rattle.tables.specs.Sound.{IsBoundRow, IsSoundIn}
 use Rattle.tables.specs.Stores.{is_in_schema}

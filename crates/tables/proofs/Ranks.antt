@@ -1,21 +1,9 @@
 -- Rising numbers, the first rows of a list, and the entries of a map.
-use Rattle.std.proofs.Common.{◌≡◌, ℕ, ◌+◌, ◌<◌, ◌≤◌, nat_lt, Bool, true, false, cond, T, List, [], ◌∷◌, map, filter, take, length, min, find, ◌==◌, Option, Some, None, refl, sym, ap, subst, ◌∙◌, arith}
-use Rattle.std.specs.Str.{bytes_eq}
-use Rattle.std.specs.List.{AllByRecursion}
+use Rattle.tables.proofs.Outside.{◌≡◌, ℕ, ◌+◌, ◌<◌, ◌≤◌, nat_lt, Bool, true, false, cond, T, List, [], ◌∷◌, map, filter, take, length, min, find, ◌==◌, Option, Some, None, refl, sym, ap, subst, ◌∙◌, arith, bytes_eq, AllByRecursion, tied_itself, from_entries, entries, empty, entries-insert, len-entries, len-empty, eqb-true, lt-ltb, le-ltb, ltb-true, ltb-false, take-take, length-take, IsAscending, listing_of, equal_bytes, Rises, name_cmp, names_total, names_same, both_first, both_second}
 use Rattle.std.specs.Ordering.{is_lt, is_eq, eq_by_cmp}
-use Rattle.std.specs.Cmp.{tied_itself}
 use Rattle.std.specs.declared.cmp.Ordering.{Ordering}
 use Rattle.std.specs.declared.cmp.Ordering.TheVariants.{Less, Equal, Greater}
-use Rattle.std.specs.FinMap.{from_entries, entries, empty, entries-insert, len-entries, len-empty}
 use Rattle.std.specs.FinMap.Entries.{find as find_entry, put, is_sorted, below_all, by_order}
-use Rattle.std.proofs.lemmas.Bool.{eqb-true, lt-ltb, le-ltb, ltb-true, ltb-false}
-use Rattle.std.proofs.lemmas.List.{take-take, length-take}
-use Rattle.sqlite_trees.specs.Tree.{IsAscending}
-use Rattle.basis.specs.Listings.{listing_of}
-use Rattle.basis.proofs.NameLemmas.{equal_bytes}
-use Rattle.machine.specs.Laws.{Rises}
-use Rattle.machine.specs.Order.{name_cmp}
-use Rattle.machine.proofs.MapLemmas.{names_total, names_same, both_first, both_second}
 use Rattle.machine.proofs.PageLemmas.{holds_true}
 use Rattle.tables.specs.Inner.Lists.{newest_by}
 use Rattle.tables.proofs.Names.{tied}

@@ -1,19 +1,6 @@
 -- An operator's command on sound rows does what the rule says of its organization's record, and nothing else; so it is of the store.
-use Rattle.std.proofs.Common.{◌≡◌, ◌≢◌, ℕ, ◌≤◌, ◌||◌, List, length, is_some, Option, Some, None, IfSome, IsTrue, refl, sym, ◌∙◌, subst}
-use Rattle.sqlite.specs.Effect.{Database}
-use Rattle.sqlite.specs.State.{State}
-use Rattle.basis.specs.Names.{is_org_name, is_prefix}
-use Rattle.basis.specs.declared.roles.Role.{Role}
-use Rattle.basis.specs.declared.roles.Bounds.{Bounds}
-use Rattle.machine.specs.Ranges.{IsMoment}
-use Rattle.machine.specs.Effects.{Effect, effect}
+use Rattle.tables.proofs.Outside.{◌≡◌, ◌≢◌, ℕ, ◌≤◌, ◌||◌, List, length, is_some, Option, Some, None, IfSome, IsTrue, refl, sym, ◌∙◌, subst, Database, State, is_org_name, is_prefix, Role, Bounds, IsMoment, Effect, effect, token_of, Organization, AdminAnswer, Exists, Absent, cap_of, role_of_name, role_of_digest, Tables, Holds, tables_of}
 use Rattle.machine.specs.Tokens as tokens
-use Rattle.machine.specs.Tokens.{token_of}
-use Rattle.machine.specs.declared.records.Organization.{Organization}
-use Rattle.machine.specs.declared.keeps.AdminAnswer.{AdminAnswer}
-use Rattle.machine.specs.declared.keeps.AdminAnswer.TheVariants.{Exists, Absent}
-use Rattle.statements.specs.Finds.{cap_of, role_of_name, role_of_digest}
-use Rattle.statements.specs.Tables.{Tables, Holds, tables_of}
 use Rattle.tables.specs.Inner.Steps.{Commits, org_managed_by, org_managed, limit_managed_by, limit_managed, token_managed_by, token_managed, revocation_managed_by, revocation_managed}
 use Rattle.tables.specs.Opening.{IsSoundKeep}
 use Rattle.tables.specs.Records.{record_of}

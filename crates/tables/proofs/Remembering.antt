@@ -1,27 +1,7 @@
 -- What is kept in memory of an organization's workspaces stays so.
-use Rattle.std.proofs.Common.{◌≡◌, ◌≢◌, ℕ, ◌+◌, ◌-◌, nat_lt, Bool, true, false, cond, List, is_some, Option, Some, None, IfSome, option_map, refl, sym, ap, subst, ◌∙◌}
-use Rattle.std.proofs.lemmas.Option.{same_Some}
-use Rattle.std.specs.Str.{bytes_eq}
-use Rattle.std.specs.FinMap.{FinMap, get, len, len-insert, len-remove, len-entries}
-use Rattle.sqlite_keyed.proofs.SliceLemmas.{is_some-map}
-use Rattle.basis.specs.declared.numbers.TheConstants.{MAX_LIMIT}
-use Rattle.basis.proofs.NameLemmas.{equal_bytes}
-use Rattle.machine.specs.Order.{name_cmp}
-use Rattle.machine.specs.Needs.{needs}
-use Rattle.machine.specs.Records.{count_of, with_workspace, placed}
-use Rattle.machine.specs.Changes.{edited, changed_by}
-use Rattle.machine.specs.Settling.{started_if}
-use Rattle.machine.specs.Units.{unit_by, unit_of}
-use Rattle.machine.specs.declared.acts.Act.{Act}
-use Rattle.machine.specs.declared.acts.Change.{Change}
-use Rattle.machine.specs.declared.acts.Edit.{Edit}
-use Rattle.machine.specs.declared.acts.Edit.TheVariants.{Make, Configure, Remove, AddVersion, Purge, Hold, Release, AddRun, Report}
+use Rattle.tables.proofs.Outside.{◌≡◌, ◌≢◌, ℕ, ◌+◌, ◌-◌, nat_lt, Bool, true, false, cond, List, is_some, Option, Some, None, IfSome, option_map, refl, sym, ap, subst, ◌∙◌, same_Some, bytes_eq, FinMap, get, len, len-insert, len-remove, len-entries, is_some-map, MAX_LIMIT, equal_bytes, name_cmp, needs, count_of, with_workspace, placed, edited, changed_by, started_if, unit_by, unit_of, Act, Change, Edit, Make, Configure, Remove, AddVersion, Purge, Hold, Release, AddRun, Report, Organization, Workspace, own_workspace, other_workspace, apart_from, names_total}
 use Rattle.machine.specs.declared.acts.Unit.{Unit}
 use Rattle.machine.specs.declared.acts.Unit.TheVariants.{Absent, Present}
-use Rattle.machine.specs.declared.records.Organization.{Organization}
-use Rattle.machine.specs.declared.records.Workspace.{Workspace}
-use Rattle.machine.proofs.KeepLemmas.{own_workspace, other_workspace, apart_from}
-use Rattle.machine.proofs.MapLemmas.{names_total}
 use Rattle.tables.specs.declared.counts.WorkspaceCount.{WorkspaceCount}
 use Rattle.tables.specs.Counting.{IsCount, IsCachedCount}
 use Rattle.tables.specs.Inner.Counting.{known_of, count_after, one_more_of, edited_count, changed_count}

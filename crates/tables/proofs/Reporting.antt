@@ -1,16 +1,6 @@
 -- What tells the version stays, and is read.
-use Rattle.std.proofs.Common.{◌≡◌, ℕ, zero, suc, pos, Bool, true, false, List, Option, Some, None, option_map, refl, ap, ◌∙◌}
-use Rattle.sqlite_keyed.specs.Keyed.{get_by}
-use Rattle.machine.specs.declared.acts.Edit.{Edit}
-use Rattle.machine.specs.declared.acts.Edit.TheVariants.{Make, Configure, Remove, AddVersion, Purge, Hold, Release, AddRun, Report}
-use Rattle.machine.specs.declared.acts.Change.{Change}
+use Rattle.tables.proofs.Outside.{◌≡◌, ℕ, zero, suc, pos, Bool, true, false, List, Option, Some, None, option_map, refl, ap, ◌∙◌, get_by, Edit, Make, Configure, Remove, AddVersion, Purge, Hold, Release, AddRun, Report, Change, State, run_acted, workspace_of, SCHEMA_VERSION, Kept, id_of, Tables, tables_at}
 use Rattle.statements.specs.declared.rows.Workspace.{Workspace as WorkspaceCells}
-use Rattle.sqlite.specs.State.{State}
-use Rattle.statements.specs.Changes.{run_acted}
-use Rattle.statements.specs.Finds.{workspace_of}
-use Rattle.statements.specs.declared.making.TheConstants.{SCHEMA_VERSION}
-use Rattle.statements.specs.Rows.{Kept, id_of}
-use Rattle.statements.specs.Tables.{Tables, tables_at}
 use Rattle.tables.specs.Inner.Edits.{all_gone, settings_rows, configured_rows, numbered_rows, versioned_rows, if_there, run_put, run_counted, freed_rows, edited_rows, started_rows, changed_rows, TakesEdit}
 use Rattle.tables.specs.Sound.{StoresVersion, IsSound}
 use Rattle.tables.proofs.TextRows.{KeepsRest}

@@ -1,25 +1,5 @@
 -- An organization without one of its tokens.
-use Rattle.std.proofs.Common.{◌≡◌, ◌≢◌, ℕ, ◌≤◌, Bool, true, false, not, cond, List, find, is_some, Option, Some, None, option_map, refl, sym, ap, subst, ◌∙◌}
-use Rattle.std.proofs.lemmas.Option.{same_Some}
-use Rattle.std.specs.Str.{bytes_eq}
-use Rattle.std.specs.List.{list_any}
-use Rattle.std.specs.FinMap.{get, remove, same_map}
-use Rattle.sqlite_keyed.proofs.ListLemmas.{all-filter}
-use Rattle.sqlite_keyed.proofs.RuleLemmas.{apart_delete}
-use Rattle.basis.specs.declared.roles.Role.{Role}
-use Rattle.basis.proofs.NameLemmas.{equal_bytes}
-use Rattle.machine.specs.Effects.{effect}
-use Rattle.machine.specs.Records.{count_of}
-use Rattle.machine.specs.Tokens.{without_token, token_revoked}
-use Rattle.machine.specs.declared.keeps.AdminAnswer.TheVariants.{Done, Absent}
-use Rattle.machine.specs.declared.records.Organization.{Organization}
-use Rattle.machine.proofs.MapLemmas.{names_total, names_same, removed_own, removed_other}
-use Rattle.machine.proofs.KeepLemmas.{apart_from}
-use Rattle.statements.specs.Rows.{Kept, TokenRow}
-use Rattle.statements.specs.Tables.{Tables}
-use Rattle.statements.specs.Changes.{is_org, is_token, is_digest_of, is_bound, token_removed}
-use Rattle.statements.specs.Finds.{cap_of, role_of_name, bound_in}
-use Rattle.statements.proofs.Found.{found_passes, find_deleted, find_left, found_holds}
+use Rattle.tables.proofs.Outside.{◌≡◌, ◌≢◌, ℕ, ◌≤◌, Bool, true, false, not, cond, List, find, is_some, Option, Some, None, option_map, refl, sym, ap, subst, ◌∙◌, same_Some, bytes_eq, list_any, get, remove, same_map, all-filter, apart_delete, Role, equal_bytes, effect, count_of, without_token, token_revoked, Done, Absent, Organization, names_total, names_same, removed_own, removed_other, apart_from, Kept, TokenRow, Tables, is_org, is_token, is_digest_of, is_bound, token_removed, cap_of, role_of_name, bound_in, found_passes, find_deleted, find_left, found_holds}
 use Rattle.tables.specs.Records.{token_at, tokens_at, organization_at, record_of}
 use Rattle.tables.specs.Sound.{IsTokenRow, IsBoundRow, IsSound}
 use Rattle.tables.proofs.Belonging.{apart_gone, of_orgs_gone, both_left}

@@ -1,24 +1,8 @@
 -- From the rows of a workspace to the record of its organization.
-use Rattle.std.proofs.Common.{◌≡◌, ◌≢◌, ℕ, Bool, true, false, ◌&&◌, cond, List, [], ◌∷◌, map, filter, find, Option, Some, None, option_map, refl, sym, ap, subst, ◌∙◌}
-use Rattle.std.proofs.lemmas.Option.{same_Some}
-use Rattle.std.specs.Str.{bytes_eq}
-use Rattle.std.specs.FinMap.{get, same_map, get-from_entries}
+use Rattle.tables.proofs.Outside.{◌≡◌, ◌≢◌, ℕ, Bool, true, false, ◌&&◌, cond, List, [], ◌∷◌, map, filter, find, Option, Some, None, option_map, refl, sym, ap, subst, ◌∙◌, same_Some, bytes_eq, get, same_map, get-from_entries, name_cmp, with_workspace, placed, Version, equal_bytes, Workspace, Organization, names_total, names_same, own_workspace, other_workspace, apart_from, Kept, OrgRow, TokenRow, WsRow, Tables, is_org, is_token, is_ws, is_ws_of, cap_of, found_passes}
 use Rattle.std.specs.FinMap.Entries.{find as find_entry}
-use Rattle.machine.specs.Order.{name_cmp}
-use Rattle.machine.specs.Records.{with_workspace, placed}
-use Rattle.machine.specs.declared.records.Version.{Version}
 use Rattle.basis.specs.declared.rows.RunRow.{RunRow as Run}
-use Rattle.basis.proofs.NameLemmas.{equal_bytes}
-use Rattle.machine.specs.declared.records.Workspace.{Workspace}
-use Rattle.machine.specs.declared.records.Organization.{Organization}
-use Rattle.machine.proofs.MapLemmas.{names_total, names_same}
-use Rattle.machine.proofs.KeepLemmas.{own_workspace, other_workspace, apart_from}
 use Rattle.statements.specs.declared.rows.Workspace.{Workspace as WorkspaceCells}
-use Rattle.statements.specs.Rows.{Kept, OrgRow, TokenRow, WsRow}
-use Rattle.statements.specs.Tables.{Tables}
-use Rattle.statements.specs.Changes.{is_org, is_token, is_ws, is_ws_of}
-use Rattle.statements.specs.Finds.{cap_of}
-use Rattle.statements.proofs.Found.{found_passes}
 use Rattle.tables.specs.Records.{workspace_of_cells, workspace_at, workspace_by, is_token_of, token_at, tokens_at, workspaces_at, organization_at, record_of}
 use Rattle.tables.proofs.TextRows.{tokens_carried}
 use Rattle.tables.proofs.Names.{name_is, apart_name, is_pair, pair_second, tied}

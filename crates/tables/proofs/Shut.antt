@@ -1,12 +1,9 @@
 -- What a statement that isn't compiled tells of its connection.
-use Rattle.std.proofs.Common.{◌≡◌, ◌∙◌, sym, inl, inr, ℕ, false, List}
+use Rattle.tables.proofs.Outside.{◌≡◌, ◌∙◌, sym, inl, inr, ℕ, false, List, Error, SqliteFailure, State, IsUnchanged, IsNotRun, KeepsCommit, HasCause, store_error}
 use Rattle.sqlite_value.specs.Order.{Row}
 use Rattle.sqlite_trees.specs.declared.error.StoreError.{StoreError}
 use Rattle.sqlite_trees.specs.declared.error.StoreError.TheVariants.{OutOfMemory, Io, Corrupt, Full, Broken, Unstorable}
-use Rattle.sqlite.specs.declared.error.Error.{Error}
-use Rattle.sqlite.specs.declared.error.Error.TheVariants.{SqliteFailure}
 use Rattle.sqlite.specs.declared.error.ErrorCode.TheVariants.{Closed}
-use Rattle.sqlite.specs.State.{State, IsUnchanged, IsNotRun, KeepsCommit, HasCause, store_error}
 
 pub unchanged_keeps : (old new : State) → IsUnchanged old new → KeepsCommit old new
 unchanged_keeps old new same = record { was_open = λ _. same.0.was_open; committed = λ _. same.0.committed_is }

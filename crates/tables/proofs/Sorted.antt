@@ -1,15 +1,5 @@
 -- Lists in the order of a key: what is put in and taken out of them, and what is sorted once more.
-use Rattle.std.proofs.Common.{◌≡◌, Bool, true, false, cond, List, [], ◌∷◌, ◌++◌, map, filter, find, length, slice_get, append-nil, refl, sym, ap, ◌∙◌, Ordering, Less, Equal, Greater, is_eq, is_gt, true≢false}
-use Rattle.std.specs.List.{AllByRecursion}
-use Rattle.std.specs.Cmp.{IsTotalOrder}
-use Rattle.std.specs.Ordering.{ordering_reverse}
-use Rattle.std.proofs.lemmas.Cmp.{upto}
-use Rattle.std.proofs.lemmas.List.Sorted.{length_permutation}
-use Rattle.sqlite_trees.specs.Tree.{IsAscending}
-use Rattle.sqlite_keyed.specs.Lists.{sort_by, insert_sorted}
-use Rattle.sqlite_keyed.proofs.ListLemmas.{all_weaker, slice_get-filter}
-use Rattle.sqlite_keyed.proofs.SortLemmas.{IsPermutation-sort_by, sort_by-map}
-use Rattle.statements.proofs.Sorting.{AtMost, sorted_as_is, filter-sort_by}
+use Rattle.tables.proofs.Outside.{◌≡◌, Bool, true, false, cond, List, [], ◌∷◌, ◌++◌, map, filter, find, length, slice_get, append-nil, refl, sym, ap, ◌∙◌, Ordering, Less, Equal, Greater, is_eq, is_gt, true≢false, AllByRecursion, IsTotalOrder, ordering_reverse, upto, length_permutation, IsAscending, sort_by, insert_sorted, all_weaker, slice_get-filter, IsPermutation-sort_by, sort_by-map, AtMost, sorted_as_is, filter-sort_by}
 use Rattle.tables.proofs.TextLists.{all_passing}
 
 pub greater_is : (o : Ordering) → is_gt o ≡ true → o ≡ Greater

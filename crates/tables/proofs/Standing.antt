@@ -1,22 +1,9 @@
 -- A workspace comes into sound tables row by row: what its rows stand for so far, and that tables are sound in the end.
 use Rattle.std.proofs.Common.{◌≡◌, ◌≢◌, ◌≤◌, ℕ, true, List, [], ◌∷◌, ◌++◌, append-nil, append_assoc, Option, Some, None, option_map, IsTrue, refl, sym, ap, subst, ◌∙◌}
-use Rattle.std.specs.List.{list_any}
-use Rattle.basis.specs.Names.{is_ws_name}
-use Rattle.basis.specs.declared.rows.Holder.{Holder}
+use Rattle.tables.proofs.Outside.{list_any, is_ws_name, Holder, RunSettings, Settings, IsLawful, count_of, placed, new_workspace, Version, Workspace, Organization, Tables, is_ws, with_next_version, with_next_run, held_by, released_from, ws_changed, ws_added, run_added, workspace_of, size_of}
 use Rattle.basis.specs.declared.rows.Holder.TheVariants.{Nobody, Lock, Run as HeldByRun}
 use Rattle.basis.specs.declared.rows.RunRow.{RunRow as Run}
-use Rattle.basis.specs.declared.rows.RunSettings.{RunSettings}
-use Rattle.basis.specs.declared.rows.Settings.{Settings}
-use Rattle.machine.specs.Laws.{IsLawful}
-use Rattle.machine.specs.Records.{count_of, placed}
-use Rattle.machine.specs.Workspaces.{new_workspace}
-use Rattle.machine.specs.declared.records.Version.{Version}
-use Rattle.machine.specs.declared.records.Workspace.{Workspace}
-use Rattle.machine.specs.declared.records.Organization.{Organization}
 use Rattle.statements.specs.declared.rows.Workspace.{Workspace as WorkspaceCells}
-use Rattle.statements.specs.Tables.{Tables}
-use Rattle.statements.specs.Changes.{is_ws, with_next_version, with_next_run, held_by, released_from, ws_changed, ws_added, run_added}
-use Rattle.statements.specs.Finds.{workspace_of, size_of}
 use Rattle.tables.specs.Records.{workspace_of_cells, retention_at, record_of}
 use Rattle.tables.specs.Sound.{IsGapless, IsSound}
 use Rattle.tables.specs.Inner.Edits.{made_rows, added_rows, FitsTwins}

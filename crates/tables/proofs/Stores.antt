@@ -1,15 +1,5 @@
 -- The records of a database, and its soundness, once its rows have changed.
-use Rattle.std.proofs.Common.{◌≡◌, ◌≢◌, ℕ, pos, List, [], ◌∷◌, Some, None, IsTrue, refl, ◌∙◌}
-use Rattle.std.specs.FinMap.{get}
-use Rattle.sqlite.specs.Effect.{Database}
-use Rattle.basis.specs.Names.{is_ws_name}
-use Rattle.machine.specs.Laws.{AreLawful}
-use Rattle.machine.specs.Records.{placed, seen_in}
-use Rattle.machine.specs.Changes.{changed_by, IsDue}
-use Rattle.machine.specs.declared.acts.Change.{Change}
-use Rattle.machine.specs.declared.records.Organization.{Organization}
-use Rattle.statements.specs.declared.making.TheConstants.{SCHEMA_VERSION}
-use Rattle.statements.specs.Tables.{Tables, Holds, no_rows, tables_of}
+use Rattle.tables.proofs.Outside.{◌≡◌, ◌≢◌, ℕ, pos, List, [], ◌∷◌, Some, None, IsTrue, refl, ◌∙◌, get, Database, is_ws_name, AreLawful, placed, seen_in, changed_by, IsDue, Change, Organization, SCHEMA_VERSION, Tables, Holds, no_rows, tables_of}
 use Rattle.tables.specs.Inner.Edits.{changed_rows, TakesEdit}
 use Rattle.tables.specs.Stores.{records_of, IsSoundStore}
 use Rattle.tables.proofs.Databases.{store_by, records_by}

@@ -1,13 +1,5 @@
 -- Lists of which the least that passes goes, together with those that pass a narrower test with it.
-use Rattle.std.proofs.Common.{◌≡◌, ◌≤◌, suc, Bool, true, false, not, cond, List, [], ◌∷◌, filter, find, length, slice_get, Option, Some, None, refl, sym, ap, subst, ◌∙◌, arith, Ordering, Equal, is_gt}
-use Rattle.std.specs.Cmp.{IsTotalOrder}
-use Rattle.std.specs.List.{AllByRecursion}
-use Rattle.std.proofs.lemmas.List.Sorted.{length_permutation}
-use Rattle.sqlite_trees.specs.Tree.{IsAscending}
-use Rattle.sqlite_keyed.specs.Lists.{delete_where, sort_by}
-use Rattle.sqlite_keyed.proofs.ListLemmas.{all_weaker, all-filter, all-slice_get, filter-filter, slice_get-filter}
-use Rattle.sqlite_keyed.proofs.SortLemmas.{IsPermutation-sort_by}
-use Rattle.statements.proofs.Sorting.{AtMost, all_sorted, sorted_as_is, filter-sort_by}
+use Rattle.tables.proofs.Outside.{◌≡◌, ◌≤◌, suc, Bool, true, false, not, cond, List, [], ◌∷◌, filter, find, length, slice_get, Option, Some, None, refl, sym, ap, subst, ◌∙◌, arith, Ordering, Equal, is_gt, IsTotalOrder, AllByRecursion, length_permutation, IsAscending, delete_where, sort_by, all_weaker, all-filter, all-slice_get, filter-filter, slice_get-filter, IsPermutation-sort_by, AtMost, all_sorted, sorted_as_is, filter-sort_by}
 
 module _ {X : Type 0} where
   -- where none passes, none goes

@@ -1,31 +1,9 @@
 -- The texts of versions, as rows of versions come and go: what sound tables say of texts stays, and so does each other text.
-use Rattle.std.proofs.Common.{◌≡◌, ◌≤◌, ◌<◌, ℕ, zero, suc, ◌-◌, nat_lt, Bool, true, false, not, ◌&&◌, ◌==◌, cond, List, [], ◌∷◌, ◌++◌, map, filter, find, length, Option, Some, None, option_map, IsSomeAnd, refl, sym, ap, ap₂, subst, ◌∙◌, arith, Equal, nat_cmp}
-use Rattle.std.specs.Option.{unwrap_or}
-use Rattle.std.specs.Str.{bytes_eq}
-use Rattle.std.specs.List.{AllByRecursion, list_any}
-use Rattle.std.specs.Cmp.{tied_itself, nat_cmp_total}
-use Rattle.std.proofs.lemmas.Bool.{false_from_ne_true, and_from, and_parts, eqb-true, eq-eqb}
-use Rattle.sqlite_keyed.specs.Lists.{delete_where, sort_by}
-use Rattle.sqlite_keyed.specs.Keyed.{next_key}
-use Rattle.sqlite_keyed.proofs.ListLemmas.{all_weaker, all_both, all-filter, all-append, filter_same}
-use Rattle.sqlite_keyed.proofs.SliceLemmas.{slice-push_mine, slice-push_other, slice-delete_mine, slice-delete_other}
-use Rattle.std.proofs.lemmas.List.{length-map}
+use Rattle.tables.proofs.Outside.{◌≡◌, ◌≤◌, ◌<◌, ℕ, zero, suc, ◌-◌, nat_lt, Bool, true, false, not, ◌&&◌, ◌==◌, cond, List, [], ◌∷◌, ◌++◌, map, filter, find, length, Option, Some, None, option_map, IsSomeAnd, refl, sym, ap, ap₂, subst, ◌∙◌, arith, Equal, nat_cmp, unwrap_or, bytes_eq, AllByRecursion, list_any, tied_itself, nat_cmp_total, false_from_ne_true, and_from, and_parts, eqb-true, eq-eqb, delete_where, sort_by, next_key, all_weaker, all_both, all-filter, all-append, filter_same, slice-push_mine, slice-push_other, slice-delete_mine, slice-delete_other, length-map, Bounds, equal_bytes, Version, Kept, id_of, TokenRow, BoundRow, WsRow, VersionRow, RunRow, VpageRow, from_entries, name_cmp, Tables, is_bound, is_ws, is_ws_of, is_run_of, is_version_of, is_version, is_version_below, new_version, version_removed, version_cmp, run_cmp, bound_in, oldest_below, size_of, find_pushed, find_left, none_passes, none_found, all_deleted, is_place_of, pages_for, text_removed, text_of, IsWhole, HasNoPlaces, HasSoundPlaces, text_added_keeps, text_added_whole, text_added_text, text_added_others_whole, text_added_others_text, text_added_places, text_added_metas, text_added_orgs, text_added_tokens, text_added_wss, text_added_versions, text_added_runs, text_added_bounds, text_added_editions, text_added_retentions, text_removed_keeps, text_removed_others_whole, text_removed_others_text, text_removed_places, text_removed_none, text_removed_metas, text_removed_orgs, text_removed_tokens, text_removed_wss, text_removed_versions, text_removed_runs, text_removed_bounds, text_removed_editions, text_removed_retentions, carried_whole, carried_text, carried_sound}
 use Rattle.tables.proofs.Parts.{none_mapped, first_two}
-use Rattle.basis.specs.declared.roles.Bounds.{Bounds}
-use Rattle.basis.proofs.NameLemmas.{equal_bytes}
-use Rattle.machine.specs.declared.records.Version.{Version}
-use Rattle.statements.specs.Rows.{Kept, id_of, TokenRow, BoundRow, WsRow, VersionRow, RunRow, VpageRow}
 use Rattle.statements.specs.declared.rows.Workspace.{Workspace as WorkspaceCells}
-use Rattle.std.specs.FinMap.{from_entries}
-use Rattle.machine.specs.Order.{name_cmp}
-use Rattle.statements.specs.Tables.{Tables}
-use Rattle.statements.specs.Changes.{is_bound, is_ws, is_ws_of, is_run_of, is_version_of, is_version, is_version_below, new_version, version_removed}
-use Rattle.statements.specs.Finds.{version_cmp, run_cmp, bound_in, oldest_below, size_of}
-use Rattle.statements.proofs.Found.{find_pushed, find_left, none_passes, none_found, all_deleted}
 use Rattle.statements.proofs.Grown.{find_front}
-use Rattle.texts.specs.Texts.{is_place_of, pages_for, text_removed, text_of, IsWhole, HasNoPlaces, HasSoundPlaces}
 use Rattle.texts.proofs.PlaceLaws.{IsOtherVersion, version_parts, version_from}
-use Rattle.texts.proofs.TextLaws.{text_added_keeps, text_added_whole, text_added_text, text_added_others_whole, text_added_others_text, text_added_places, text_added_metas, text_added_orgs, text_added_tokens, text_added_wss, text_added_versions, text_added_runs, text_added_bounds, text_added_editions, text_added_retentions, text_removed_keeps, text_removed_others_whole, text_removed_others_text, text_removed_places, text_removed_none, text_removed_metas, text_removed_orgs, text_removed_tokens, text_removed_wss, text_removed_versions, text_removed_runs, text_removed_bounds, text_removed_editions, text_removed_retentions, carried_whole, carried_text, carried_sound}
 use Rattle.tables.specs.Records.{version_of_cells, no_bounds, token_of_cells, workspace_of_cells, retention_at, version_at, versions_at, workspace_by, is_token_of, tokens_at, workspaces_at, organization_at}
 use Rattle.tables.specs.Sound.{IsPlaced, HasText}
 use Rattle.tables.specs.Inner.Edits.{first_gone, so_many_gone, gone_below, row_added, added_rows, FitsTwins}

@@ -1,19 +1,7 @@
 -- Which tables are there in a database of each version.
-use Rattle.std.proofs.Common.{◌≡◌, ◌≤◌, ◌<◌, ℕ, zero, suc, nat_lt, Bool, true, false, true≢false, not, ◌&&◌, ◌||◌, is_some, List, length, [], ◌∷◌, take, drop, map, refl, sym, ap, ◌∙◌, subst, arith}
-use Rattle.std.specs.List.{AllByRecursion, list_any, list_all}
-use Rattle.std.proofs.lemmas.Bool.{and_from, and_parts}
-use Rattle.std.proofs.lemmas.List.{take-map, drop-map}
-use Rattle.std.proofs.lemmas.List.Folds.{list_all-map}
-use Rattle.std.proofs.lemmas.Bool.Decides.{nat_tests}
-use Rattle.sqlite_schema.specs.declared.schema.Schema.{Schema}
-use Rattle.sqlite_schema.specs.declared.schema.Table.{Table}
-use Rattle.sqlite_schema.specs.Names.{table_named}
-use Rattle.sqlite.specs.Effect.{Database}
+use Rattle.tables.proofs.Outside.{◌≡◌, ◌≤◌, ◌<◌, ℕ, zero, suc, nat_lt, Bool, true, false, true≢false, not, ◌&&◌, ◌||◌, is_some, List, length, [], ◌∷◌, take, drop, map, refl, sym, ap, ◌∙◌, subst, arith, AllByRecursion, list_any, list_all, and_from, and_parts, take-map, drop-map, list_all-map, nat_tests, Schema, Table, table_named, Database, is_known, count_in, our_tables, schema_tables, tables_at, more_tables, most_tables, SCHEMA_VERSION}
 use Rattle.statements.specs.Place.{IsOwn}
-use Rattle.statements.specs.Tables.{is_known, count_in, our_tables, schema_tables, tables_at}
-use Rattle.statements.proofs.Counts.{more_tables, most_tables}
 use Rattle.statements.proofs.Held.{tables_taken}
-use Rattle.statements.specs.declared.making.TheConstants.{SCHEMA_VERSION}
 use Rattle.tables.specs.Opened.{RefusesOthers}
 use Rattle.tables.specs.Opening.{any_there, all_there, newest_there, has_edition, is_meta, is_edition, has_versions, has_our_columns, later_there, older_there, has_older}
 use Rattle.tables.specs.Stores.{is_in_schema}

@@ -1,14 +1,5 @@
 -- One token comes or goes, with how far it reaches, and all others stay.
-use Rattle.std.proofs.Common.{◌≡◌, ◌≢◌, ℕ, false, List, find, Option, Some, None, option_map, sym, refl, ap, subst, ◌∙◌}
-use Rattle.std.specs.Option.{unwrap_or}
-use Rattle.std.specs.FinMap.{get, same_map}
-use Rattle.basis.specs.declared.roles.Bounds.{Bounds}
-use Rattle.machine.proofs.MapLemmas.{names_total, names_same}
-use Rattle.statements.specs.Rows.{Kept, TokenRow}
-use Rattle.statements.specs.Tables.{Tables}
-use Rattle.statements.specs.Changes.{is_token}
-use Rattle.statements.specs.Finds.{bound_of}
-use Rattle.statements.proofs.Found.{found_passes}
+use Rattle.tables.proofs.Outside.{◌≡◌, ◌≢◌, ℕ, false, List, find, Option, Some, None, option_map, sym, refl, ap, subst, ◌∙◌, unwrap_or, get, same_map, Bounds, names_total, names_same, Kept, TokenRow, Tables, is_token, bound_of, found_passes}
 use Rattle.tables.specs.Records.{no_bounds, bounds_at, token_of_cells, token_at, tokens_at}
 use Rattle.tables.proofs.Names.{is_pair, pair_first, pair_second}
 use Rattle.tables.proofs.Sets.{got_token, other_org}

@@ -1,16 +1,5 @@
 -- Looks at one after the other, until one is in use; and what goes one after the other.
-use Rattle.std.proofs.Common.{◌≡◌, ℕ, ◌≤◌, ◌<◌, ◌+◌, zero, suc, Bool, true, false, ◌||◌, List, [], ◌∷◌, ◌++◌, take, length, get_or, Ok, refl, sym, ap, subst, ◌∙◌}
-use Rattle.std.specs.List.{list_any}
-use Rattle.std.proofs.lemmas.List.{take_more, take_all}
-use Rattle.std.proofs.lemmas.List.Folds.{list_any-append}
-use Rattle.std.proofs.Math.Bool.{or-false}
-use Rattle.sqlite_trees.specs.declared.store.Store.{Ghosts}
-use Rattle.sqlite.specs.Held.{Held}
-use Rattle.statements.specs.declared.rows.NamedToken.{NamedToken}
-use Rattle.statements.specs.Changes.{token_removed}
-use Rattle.statements.specs.Steps.{Equals, Sees}
-use Rattle.statements.specs.Tables.{Tables}
-use Rattle.texts.proofs.Many.{sees_as}
+use Rattle.tables.proofs.Outside.{◌≡◌, ℕ, ◌≤◌, ◌<◌, ◌+◌, zero, suc, Bool, true, false, ◌||◌, List, [], ◌∷◌, ◌++◌, take, length, get_or, Ok, refl, sym, ap, subst, ◌∙◌, list_any, take_more, take_all, list_any-append, or-false, Ghosts, Held, NamedToken, token_removed, Equals, Sees, Tables, sees_as}
 use Rattle.tables.specs.Inner.Copies.{AreMadeBy}
 use Rattle.tables.specs.Inner.Removals.{workspaces_gone, tokens_gone}
 use Rattle.tables.specs.Inner.Edits.{removed_rows}

@@ -1,19 +1,6 @@
 -- What edits do to the versions of a workspace, and to their texts.
-use Rattle.std.proofs.Common.{◌≡◌, ◌≤◌, ℕ, ◌+◌, nat_lt, Bool, true, not, cond, List, [], ◌∷◌, ◌++◌, map, filter, find, length, Option, Some, None, option_map, refl, sym, ap, subst, ◌∙◌, arith}
-use Rattle.std.specs.List.{AllByRecursion, list_any}
-use Rattle.std.proofs.lemmas.Bool.{lt-ltb}
-use Rattle.std.proofs.lemmas.List.{length-append}
-use Rattle.sqlite_keyed.specs.Lists.{delete_where}
-use Rattle.basis.specs.declared.rows.Settings.{Settings}
-use Rattle.machine.specs.Laws.{Rises}
-use Rattle.machine.specs.Changes.{left_above}
-use Rattle.machine.specs.declared.records.Version.{Version}
+use Rattle.tables.proofs.Outside.{◌≡◌, ◌≤◌, ℕ, ◌+◌, nat_lt, Bool, true, not, cond, List, [], ◌∷◌, ◌++◌, map, filter, find, length, Option, Some, None, option_map, refl, sym, ap, subst, ◌∙◌, arith, AllByRecursion, list_any, lt-ltb, length-append, delete_where, Settings, Rises, left_above, Version, Tables, is_ws, with_next_version, workspace_of, Kept, WsRow, any_is_found, is_some-map}
 use Rattle.statements.specs.declared.rows.Workspace.{Workspace as WorkspaceCells}
-use Rattle.statements.specs.Tables.{Tables}
-use Rattle.statements.specs.Changes.{is_ws, with_next_version}
-use Rattle.statements.specs.Finds.{workspace_of}
-use Rattle.statements.specs.Rows.{Kept, WsRow}
-use Rattle.sqlite_keyed.proofs.SliceLemmas.{any_is_found, is_some-map}
 use Rattle.tables.specs.Records.{versions_at, workspace_at}
 use Rattle.tables.proofs.Sorted.{length_sorted, count_sorted}
 use Rattle.tables.proofs.Ordered.{by_version, by_version_total, versions_in, versions_sorted}

@@ -1,25 +1,8 @@
 -- A workspace is read whole: no more versions and runs are asked for than it may have, and so the limits of the lists cut nothing.
-use Rattle.std.proofs.Common.{◌≡◌, ℕ, ◌+◌, ◌<◌, ◌≤◌, nat_lt, Bool, cond, List, [], ◌∷◌, map, filter, take, length, Option, Some, option_map, Ok, refl, sym, ap, subst, ◌∙◌, arith}
-use Rattle.std.specs.Option.{unwrap_or}
-use Rattle.std.proofs.lemmas.Bool.{lt-ltb}
-use Rattle.std.proofs.lemmas.List.{length-map, take_all}
-use Rattle.sqlite_keyed.specs.Lists.{sort_by}
-use Rattle.sqlite_keyed.proofs.ListLemmas.{map-map}
-use Rattle.sqlite_trees.specs.declared.store.Store.{Ghosts}
-use Rattle.sqlite.specs.Held.{Held}
-use Rattle.basis.specs.declared.numbers.TheConstants.{FIRST_KEPT}
+use Rattle.tables.proofs.Outside.{◌≡◌, ℕ, ◌+◌, ◌<◌, ◌≤◌, nat_lt, Bool, cond, List, [], ◌∷◌, map, filter, take, length, Option, Some, option_map, Ok, refl, sym, ap, subst, ◌∙◌, arith, unwrap_or, lt-ltb, length-map, take_all, sort_by, map-map, Ghosts, Held, FIRST_KEPT, Rises, IsLawful, Version, Kept, VersionRow, Tables, Equals, EqualsWhere, Queries, Sees, is_version_of, version_cmp, workspace_of, retention_of, version_rows_after, run_rows_after, VersionsApart, RunsApart, sees_by, sees_as}
 use Rattle.basis.specs.declared.rows.RunRow.{RunRow as Run}
 use Rattle.basis.specs.declared.rows.VersionRow.{VersionRow as Head}
-use Rattle.machine.specs.Laws.{Rises, IsLawful}
-use Rattle.machine.specs.declared.records.Version.{Version}
 use Rattle.statements.specs.declared.rows.Workspace.{Workspace as WorkspaceCells}
-use Rattle.statements.specs.Rows.{Kept, VersionRow}
-use Rattle.statements.specs.Tables.{Tables}
-use Rattle.statements.specs.Steps.{Equals, EqualsWhere, Queries, Sees}
-use Rattle.statements.specs.Changes.{is_version_of}
-use Rattle.statements.specs.Finds.{version_cmp, workspace_of, retention_of}
-use Rattle.statements.specs.Listings.{version_rows_after, run_rows_after, VersionsApart, RunsApart}
-use Rattle.texts.proofs.Many.{sees_by, sees_as}
 use Rattle.tables.specs.Records.{retention_at, version_at, versions_at, runs_at, workspace_of_cells, workspace_at}
 use Rattle.tables.specs.Sound.{IsSound}
 use Rattle.tables.specs.Inner.Copies.{IsWhole}

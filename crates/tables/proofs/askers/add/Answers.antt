@@ -1,5 +1,4 @@
-use Rattle.std.proofs.Common.{All, sym, subst}
-use Rattle.std.proofs.lemmas.List.Elements.{All-drop}
+use Rattle.tables.proofs.Outside.{All, sym, subst, All-drop}
 use Rattle.tables.specs.Remembered.{IsAsker}
 use Rattle.tables.proofs.KeptInMemory.{pushed}
 use Rattle.tables.proofs.askers.add.Goals as goal

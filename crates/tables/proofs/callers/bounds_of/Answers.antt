@@ -1,13 +1,6 @@
-use Rattle.std.proofs.Common.{Option, Ok, sym, ap, ◌∙◌}
-use Rattle.std.specs.Option.{unwrap_or}
-use Rattle.sqlite.specs.Held.{state}
-use Rattle.sqlite.specs.declared.error.Error.{Error}
-use Rattle.basis.specs.declared.roles.Bounds.{Bounds}
-use Rattle.statements.specs.Finds.{bound_of}
+use Rattle.tables.proofs.Outside.{Option, Ok, sym, ap, ◌∙◌, unwrap_or, state, Error, Bounds, bound_of, Equals, sees_by, sees_as}
 use Rattle.tables.specs.Records.{no_bounds, bounds_at}
 use Rattle.tables.proofs.KeepFound.{found_there}
-use Rattle.statements.specs.Steps.{Equals}
-use Rattle.texts.proofs.Many.{sees_by, sees_as}
 use Rattle.tables.proofs.callers.bounds_of.Goals as goal
 
 pub returns-in-Some-clause-unchanged : goal.returns-in-Some-clause-unchanged

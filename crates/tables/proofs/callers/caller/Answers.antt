@@ -1,6 +1,4 @@
-use Rattle.std.proofs.Common.{Some, sym, ap, ◌∙◌, option_map}
-use Rattle.statements.specs.Finds.{IsBoundedRoleOf}
-use Rattle.statements.specs.Steps.{Equals}
+use Rattle.tables.proofs.Outside.{Some, sym, ap, ◌∙◌, option_map, IsBoundedRoleOf, Equals}
 use Rattle.tables.specs.Inner.Lists.{asker_in}
 use Rattle.tables.proofs.Committed.{committed_read}
 use Rattle.tables.proofs.KeepFound.{asker_by, asker_found, bound_found}

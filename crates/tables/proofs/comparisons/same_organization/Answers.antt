@@ -1,5 +1,4 @@
-use Rattle.sqlite.specs.declared.error.Error.{Error}
-use Rattle.std.proofs.Common.{rules, ◌≡◌}
+use Rattle.tables.proofs.Outside.{Error, rules, ◌≡◌}
 use Rattle.tables.proofs.Comparing.{organization_alike, organizations_differ}
 use Rattle.tables.specs.Inner.Comparing.{IsSameRecord}
 use Rattle.tables.proofs.comparisons.same_organization.Goals as goal

@@ -1,8 +1,4 @@
-use Rattle.sqlite.specs.declared.error.Error.{Error}
-use Rattle.std.proofs.Common.{Ok, refl}
-use Rattle.statements.specs.Listings.{TokensApart, digest_tokens_of}
-use Rattle.statements.specs.Steps.{EqualsWhere}
-use Rattle.texts.proofs.Many.{sees_by}
+use Rattle.tables.proofs.Outside.{Error, Ok, refl, TokensApart, digest_tokens_of, EqualsWhere, sees_by}
 use Rattle.tables.specs.Records.{tokens_at}
 use Rattle.tables.specs.Inner.Comparing.{AreAlike, AreMappedAlike, entry_of}
 use Rattle.tables.proofs.Comparing.{differ, looks_then, tokens_alike}

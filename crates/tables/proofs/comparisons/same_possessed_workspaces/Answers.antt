@@ -1,8 +1,4 @@
-use Rattle.sqlite.specs.declared.error.Error.{Error}
-use Rattle.std.proofs.Common.{Ok, refl}
-use Rattle.statements.specs.Listings.{NamesApart, workspace_names_of}
-use Rattle.statements.specs.Steps.{EqualsWhere}
-use Rattle.texts.proofs.Many.{sees_by}
+use Rattle.tables.proofs.Outside.{Error, Ok, refl, NamesApart, workspace_names_of, EqualsWhere, sees_by}
 use Rattle.tables.specs.Records.{workspaces_at, workspace_by}
 use Rattle.tables.specs.Inner.Comparing.{AreAlike, AreMappedAlike}
 use Rattle.tables.proofs.Comparing.{differ, looks_then, workspaces_alike}

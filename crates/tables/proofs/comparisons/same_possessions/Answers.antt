@@ -1,5 +1,4 @@
-use Rattle.sqlite.specs.declared.error.Error.{Error}
-use Rattle.std.proofs.Common.{refl}
+use Rattle.tables.proofs.Outside.{Error, refl}
 use Rattle.tables.specs.Records.{tokens_at, workspaces_at}
 use Rattle.tables.specs.Inner.Comparing.{AreAlike}
 use Rattle.tables.proofs.Comparing.{differ, agree_then}

@@ -1,6 +1,4 @@
-use Rattle.sqlite.specs.declared.error.Error.{Error}
-use Rattle.statements.specs.Steps.{Equals}
-use Rattle.texts.specs.Texts.{text_of}
+use Rattle.tables.proofs.Outside.{Error, Equals, text_of}
 use Rattle.tables.specs.Records.{version_at}
 use Rattle.tables.specs.Inner.Comparing.{AreAlike}
 use Rattle.tables.proofs.Comparing.{look_at_both, text_alike}

@@ -1,8 +1,4 @@
-use Rattle.sqlite.specs.declared.error.Error.{Error}
-use Rattle.std.proofs.Common.{Ok}
-use Rattle.statements.specs.Finds.{bound_of}
-use Rattle.statements.specs.Steps.{Equals}
-use Rattle.texts.proofs.Many.{sees_by}
+use Rattle.tables.proofs.Outside.{Error, Ok, bound_of, Equals, sees_by}
 use Rattle.tables.specs.Inner.Comparing.{AreAlike, entry_of}
 use Rattle.tables.proofs.Comparing.{look_at_both, token_alike}
 use Rattle.tables.proofs.comparisons.same_token.Goals as goal

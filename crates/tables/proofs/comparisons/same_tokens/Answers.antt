@@ -1,6 +1,5 @@
-use Rattle.sqlite.specs.declared.error.Error.{Error}
+use Rattle.tables.proofs.Outside.{Error, refl}
 use Rattle.tables.specs.Inner.Comparing.{entry_of}
-use Rattle.std.proofs.Common.{refl}
 use Rattle.tables.proofs.Comparing.{differ, mapped_all, none_yet, one_more}
 use Rattle.tables.proofs.comparisons.same_tokens.Goals as goal
 

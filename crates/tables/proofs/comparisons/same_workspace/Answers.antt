@@ -1,7 +1,5 @@
-use Rattle.sqlite.specs.declared.error.Error.{Error}
-use Rattle.std.proofs.Common.{refl}
+use Rattle.tables.proofs.Outside.{Error, refl, Tables}
 use Rattle.tables.specs.declared.loading.LoadedWorkspace.{LoadedWorkspace}
-use Rattle.statements.specs.Tables.{Tables}
 use Rattle.tables.specs.Records.{version_at, workspace_by}
 use Rattle.tables.specs.Sound.{IsSound}
 use Rattle.tables.specs.Inner.Comparing.{AreAlike, AreMappedAlike}

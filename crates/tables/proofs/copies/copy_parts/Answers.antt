@@ -1,5 +1,4 @@
-use Rattle.std.proofs.Common.{[], map, Ok, ap, ◌∙◌}
-use Rattle.texts.proofs.Many.{when_done}
+use Rattle.tables.proofs.Outside.{[], map, Ok, ap, ◌∙◌, when_done}
 use Rattle.tables.specs.Records.{version_at, workspace_of_cells}
 use Rattle.tables.specs.Inner.Copies.{Carries, with_versions, with_runs, Begins}
 use Rattle.tables.proofs.Copying.{never_done, related_failed, related_then}

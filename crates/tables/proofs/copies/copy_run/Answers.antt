@@ -1,8 +1,4 @@
-use Rattle.std.proofs.Common.{[], ◌∷◌, option_map, refl}
-use Rattle.statements.specs.Changes.{run_made, run_added}
-use Rattle.statements.specs.Steps.{AnyRows}
-use Rattle.pages.proofs.Sequences.{steps_by}
-use Rattle.texts.proofs.Many.{when_done}
+use Rattle.tables.proofs.Outside.{[], ◌∷◌, option_map, refl, run_made, run_added, AnyRows, steps_by, when_done}
 use Rattle.tables.specs.Inner.Copies.{Carries, with_runs}
 use Rattle.tables.proofs.Copying.{related_by}
 use Rattle.tables.proofs.KeyedSteps.{paged_by}

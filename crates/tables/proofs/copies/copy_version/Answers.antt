@@ -1,6 +1,4 @@
-use Rattle.std.proofs.Common.{◌≡◌, [], ◌∷◌, None}
-use Rattle.texts.proofs.Many.{when_done}
-use Rattle.statements.specs.Finds.{size_of}
+use Rattle.tables.proofs.Outside.{◌≡◌, [], ◌∷◌, None, when_done, size_of}
 use Rattle.tables.specs.Records.{version_of_cells}
 use Rattle.tables.specs.Inner.Copies.{Carries, with_versions}
 use Rattle.tables.specs.Inner.Edits.{added_rows, FitsTwins}

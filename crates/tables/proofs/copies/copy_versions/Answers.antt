@@ -1,8 +1,4 @@
-use Rattle.std.specs.Bool.{⊤}
-use Rattle.std.proofs.Common.{[], ◌∷◌, ◌++◌, Ok, refl}
-use Rattle.sqlite.specs.Held.{state}
-use Rattle.pages.proofs.Sequences.{still_holds}
-use Rattle.texts.proofs.Many.{sees_then}
+use Rattle.tables.proofs.Outside.{⊤, [], ◌∷◌, ◌++◌, Ok, refl, state, still_holds, sees_then}
 use Rattle.tables.specs.Records.{version_at}
 use Rattle.tables.specs.Inner.Copies.{Carries, with_versions}
 use Rattle.tables.specs.Inner.Keys.{KeepsKeys}

@@ -1,11 +1,4 @@
-use Rattle.std.specs.Bool.{⊤}
-use Rattle.std.proofs.Common.{◌≡◌, List, map, take, Ok}
-use Rattle.sqlite.specs.declared.error.Error.{Error}
-use Rattle.sqlite.specs.Held.{state}
-use Rattle.sqlite.specs.State.{HasCleanDisk}
-use Rattle.machine.specs.declared.records.Version.{Version}
-use Rattle.statements.specs.Steps.{Sees}
-use Rattle.statements.specs.Tables.{Tables, Holds}
+use Rattle.tables.proofs.Outside.{⊤, ◌≡◌, List, map, take, Ok, Error, state, HasCleanDisk, Version, Sees, Tables, Holds}
 use Rattle.tables.specs.Records.{version_at}
 use Rattle.tables.specs.Inner.Copies.{RelatedSteps, Carries, with_versions}
 use Rattle.tables.specs.Inner.Keys.{KeepsKeys}

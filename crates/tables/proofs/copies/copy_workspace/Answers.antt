@@ -1,9 +1,4 @@
-use Rattle.std.proofs.Common.{[], Some, sym, ap, ◌∙◌}
-use Rattle.std.proofs.lemmas.Result.{on_ok_weaker}
-use Rattle.sqlite.specs.Held.{state}
-use Rattle.machine.specs.Workspaces.{new_workspace}
-use Rattle.statements.specs.Rows.{run_settings_at}
-use Rattle.pages.proofs.Sequences.{still_holds}
+use Rattle.tables.proofs.Outside.{[], Some, sym, ap, ◌∙◌, on_ok_weaker, state, new_workspace, run_settings_at, still_holds}
 use Rattle.tables.proofs.Copying.{never_done, related_in_vain}
 use Rattle.tables.proofs.copies.copy_workspace.Goals as goal
 

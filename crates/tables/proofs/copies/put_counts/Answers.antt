@@ -1,6 +1,4 @@
-use Rattle.std.proofs.Common.{rules, ◌≡◌, Ok}
-use Rattle.statements.specs.Changes.{with_next_version, with_next_run, ws_changed}
-use Rattle.pages.proofs.Sequences.{steps_by, steps_then}
+use Rattle.tables.proofs.Outside.{rules, ◌≡◌, Ok, with_next_version, with_next_run, ws_changed, steps_by, steps_then}
 use Rattle.tables.proofs.copies.put_counts.Goals as goal
 
 pub returns : goal.returns

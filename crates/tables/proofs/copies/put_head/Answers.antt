@@ -1,7 +1,4 @@
-use Rattle.std.proofs.Common.{◌≡◌, [], None, Ok, refl, sym, ap, ◌∙◌, subst}
-use Rattle.statements.specs.Changes.{ws_added}
-use Rattle.statements.specs.Finds.{workspace_of}
-use Rattle.pages.proofs.Sequences.{steps_by}
+use Rattle.tables.proofs.Outside.{◌≡◌, [], None, Ok, refl, sym, ap, ◌∙◌, subst, ws_added, workspace_of, steps_by}
 use Rattle.tables.specs.Records.{workspace_of_cells}
 use Rattle.tables.specs.Inner.Copies.{AreMadeBy, released_rows, held_rows, counted_rows, Begins}
 use Rattle.tables.proofs.Copying.{AreMadeWhere, related_by, made_by_steps, made_then, related_then}

@@ -1,8 +1,5 @@
-use Rattle.std.proofs.Common.{◌≡◌, ℕ, List, refl}
-use Rattle.basis.specs.declared.rows.Holder.{Holder}
+use Rattle.tables.proofs.Outside.{◌≡◌, ℕ, List, refl, Holder, held_by, ws_changed, steps_by}
 use Rattle.basis.specs.declared.rows.Holder.TheVariants.{Nobody, Lock, Run as HeldByRun}
-use Rattle.statements.specs.Changes.{held_by, ws_changed}
-use Rattle.pages.proofs.Sequences.{steps_by}
 use Rattle.tables.specs.Inner.Copies.{AreMadeBy, held_rows}
 use Rattle.tables.proofs.Copying.{made_by_steps, related_none}
 use Rattle.tables.proofs.copies.put_holder.Goals as goal

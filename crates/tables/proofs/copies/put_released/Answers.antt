@@ -1,5 +1,4 @@
-use Rattle.std.proofs.Common.{refl}
-use Rattle.pages.proofs.Sequences.{steps_by}
+use Rattle.tables.proofs.Outside.{refl, steps_by}
 use Rattle.tables.specs.Inner.Copies.{AreMadeBy}
 use Rattle.tables.proofs.Copying.{made_by_steps, related_none}
 use Rattle.tables.proofs.copies.put_released.Goals as goal

@@ -1,5 +1,4 @@
-use Rattle.std.proofs.Common.{◌≡◌, ◌+◌, List, [], ◌∷◌, ◌++◌, take, Ok, sym, ap, ◌∙◌, subst}
-use Rattle.std.proofs.lemmas.List.{take_more}
+use Rattle.tables.proofs.Outside.{◌≡◌, ◌+◌, List, [], ◌∷◌, ◌++◌, take, Ok, sym, ap, ◌∙◌, subst, take_more}
 use Rattle.basis.specs.declared.rows.RunRow.{RunRow as Run}
 use Rattle.tables.specs.Inner.Copies.{Carries, with_runs}
 use Rattle.tables.proofs.Copying.{related_then}

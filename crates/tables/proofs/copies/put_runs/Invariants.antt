@@ -1,6 +1,4 @@
-use Rattle.std.specs.Bool.{⊤}
-use Rattle.std.proofs.Common.{take, Ok}
-use Rattle.sqlite.specs.declared.error.Error.{Error}
+use Rattle.tables.proofs.Outside.{⊤, take, Ok, Error}
 use Rattle.tables.specs.Inner.Copies.{RelatedSteps, Carries, with_runs}
 use Rattle.tables.specs.Inner.Keys.{KeepsPages}
 use Rattle.tables.proofs.copies.put_runs.Given as goal

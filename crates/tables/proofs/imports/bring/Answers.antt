@@ -1,10 +1,5 @@
-use Rattle.statements.specs.Listings.{TokensApart, NamesApart, digest_tokens_of, workspace_names_of}
-use Rattle.statements.specs.Steps.{EqualsWhere}
-use Rattle.texts.proofs.Many.{sees_by}
+use Rattle.tables.proofs.Outside.{TokensApart, NamesApart, digest_tokens_of, workspace_names_of, EqualsWhere, sees_by, Ok, org_row_added, steps_by}
 use Rattle.tables.proofs.Brought.{organization_taken}
-use Rattle.std.proofs.Common.{Ok}
-use Rattle.statements.specs.Changes.{org_row_added}
-use Rattle.pages.proofs.Sequences.{steps_by}
 use Rattle.tables.proofs.KeepFound.{seen_both}
 use Rattle.tables.proofs.KeyedSteps.{keyed_by, keyed_then, keyed_pages}
 use Rattle.tables.proofs.imports.bring.Goals as goal

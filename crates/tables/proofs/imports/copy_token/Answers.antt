@@ -1,7 +1,5 @@
-use Rattle.std.proofs.Common.{refl, sym, ◌∙◌}
-use Rattle.statements.specs.Changes.{token_added}
+use Rattle.tables.proofs.Outside.{refl, sym, ◌∙◌, token_added, steps_by}
 use Rattle.tables.specs.Inner.Imports.{TokenComes}
-use Rattle.pages.proofs.Sequences.{steps_by}
 use Rattle.tables.proofs.KeyedSteps.{paged_by}
 use Rattle.tables.proofs.Arriving.{token_is, takes_by}
 use Rattle.tables.proofs.imports.copy_token.Goals as goal

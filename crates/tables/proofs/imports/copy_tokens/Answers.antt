@@ -1,5 +1,4 @@
-use Rattle.std.specs.Bool.{⊤}
-use Rattle.std.proofs.Common.{◌+◌, take, arith, Ok}
+use Rattle.tables.proofs.Outside.{⊤, ◌+◌, take, arith, Ok}
 use Rattle.tables.specs.Inner.Imports.{TokenComes, TokensCome}
 use Rattle.tables.proofs.KeyedSteps.{paged_then}
 use Rattle.tables.proofs.Arriving.{tokens_more, takes_then, unchanged_on}

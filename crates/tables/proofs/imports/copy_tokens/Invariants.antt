@@ -1,7 +1,4 @@
-use Rattle.std.specs.Bool.{⊤}
-use Rattle.std.proofs.Common.{take, Ok}
-use Rattle.sqlite.specs.declared.error.Error.{Error}
-use Rattle.statements.specs.Steps.{Sees}
+use Rattle.tables.proofs.Outside.{⊤, take, Ok, Error, Sees}
 use Rattle.tables.specs.Inner.Copies.{RelatedSteps}
 use Rattle.tables.specs.Inner.Keys.{KeepsPages}
 use Rattle.tables.specs.Inner.Imports.{TakesFrom, TokensCome}

@@ -1,7 +1,4 @@
-use Rattle.std.specs.Bool.{⊤}
-use Rattle.std.proofs.Common.{◌≤◌, ◌+◌, ◌<◌, List, ℕ, length, take, arith, Ok, subst}
-use Rattle.std.proofs.lemmas.List.{take_all}
-use Rattle.sqlite.specs.declared.error.Error.{Error}
+use Rattle.tables.proofs.Outside.{⊤, ◌≤◌, ◌+◌, ◌<◌, List, ℕ, length, take, arith, Ok, subst, take_all, Error}
 use Rattle.tables.specs.Inner.Copies.{RelatedSteps}
 use Rattle.tables.specs.Inner.Imports.{TakesFrom, WorkspaceComes, WorkspacesCome}
 use Rattle.tables.proofs.KeyedSteps.{keyed_then}

@@ -1,7 +1,5 @@
-use Rattle.std.proofs.Common.{map, ap, ◌∙◌}
-use Rattle.statements.specs.Listings.{OrgsApart, organizations_in}
+use Rattle.tables.proofs.Outside.{map, ap, ◌∙◌, OrgsApart, organizations_in, Equals, EqualsWhere}
 use Rattle.tables.specs.Inner.Lists.{org_row_in, organizations_listed_in}
-use Rattle.statements.specs.Steps.{Equals, EqualsWhere}
 use Rattle.tables.proofs.Committed.{committed_read_then}
 use Rattle.tables.proofs.listings.list_of_organizations.Goals as goal
 

@@ -1,8 +1,5 @@
-use Rattle.std.proofs.Common.{ap, ◌∙◌}
-use Rattle.basis.specs.Listings.{listing_of}
-use Rattle.statements.specs.Listings.{RunsApart, run_rows_after}
+use Rattle.tables.proofs.Outside.{ap, ◌∙◌, listing_of, RunsApart, run_rows_after, EqualsWhere}
 use Rattle.tables.specs.Inner.Lists.{asked_rows}
-use Rattle.statements.specs.Steps.{EqualsWhere}
 use Rattle.tables.proofs.Committed.{committed_read}
 use Rattle.tables.proofs.listings.list_of_runs.Goals as goal
 

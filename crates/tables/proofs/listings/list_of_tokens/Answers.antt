@@ -1,8 +1,5 @@
-use Rattle.std.proofs.Common.{map, ap, ◌∙◌}
-use Rattle.statements.specs.Listings.{TokensApart, token_rows_of}
+use Rattle.tables.proofs.Outside.{map, ap, ◌∙◌, TokensApart, token_rows_of, Equals, EqualsWhere, sees_by, sees_then}
 use Rattle.tables.specs.Inner.Lists.{token_row_in, tokens_listed_in}
-use Rattle.statements.specs.Steps.{Equals, EqualsWhere}
-use Rattle.texts.proofs.Many.{sees_by, sees_then}
 use Rattle.tables.proofs.listings.list_of_tokens.Goals as goal
 
 pub returns : goal.returns

@@ -1,8 +1,5 @@
-use Rattle.std.proofs.Common.{map, ap, ◌∙◌}
-use Rattle.basis.specs.Listings.{listing_of}
-use Rattle.statements.specs.Listings.{WorkspacesApart, workspace_rows_after}
+use Rattle.tables.proofs.Outside.{map, ap, ◌∙◌, listing_of, WorkspacesApart, workspace_rows_after, Equals, EqualsWhere}
 use Rattle.tables.specs.Inner.Lists.{asked_rows, ws_row_in, workspaces_listed_in}
-use Rattle.statements.specs.Steps.{Equals, EqualsWhere}
 use Rattle.tables.proofs.Committed.{committed_read_then}
 use Rattle.tables.proofs.listings.list_of_workspaces.Goals as goal
 

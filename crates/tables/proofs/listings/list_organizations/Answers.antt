@@ -1,5 +1,4 @@
-use Rattle.std.proofs.Common.{[], ◌∷◌, ◌++◌, ap, ◌∙◌, arith}
-use Rattle.sqlite.specs.declared.error.Error.{Error}
+use Rattle.tables.proofs.Outside.{[], ◌∷◌, ◌++◌, ap, ◌∙◌, arith, Error}
 use Rattle.tables.specs.Inner.Lists.{org_row_in}
 use Rattle.tables.proofs.KeepListed.{seen_more}
 use Rattle.tables.proofs.listings.list_organizations.Goals as goal

@@ -1,5 +1,4 @@
-use Rattle.std.proofs.Common.{[], ◌∷◌, ◌++◌, arith, ap, ◌∙◌}
-use Rattle.sqlite.specs.declared.error.Error.{Error}
+use Rattle.tables.proofs.Outside.{[], ◌∷◌, ◌++◌, arith, ap, ◌∙◌, Error}
 use Rattle.tables.specs.Inner.Lists.{token_row_in}
 use Rattle.tables.proofs.KeepListed.{seen_more}
 use Rattle.tables.proofs.listings.list_tokens.Goals as goal

@@ -1,6 +1,4 @@
-use Rattle.std.proofs.Common.{take, map, Ok}
-use Rattle.sqlite.specs.declared.error.Error.{Error}
-use Rattle.statements.specs.Steps.{Equals, Sees}
+use Rattle.tables.proofs.Outside.{take, map, Ok, Error, Equals, Sees}
 use Rattle.tables.specs.Inner.Lists.{token_row_in}
 use Rattle.tables.proofs.listings.list_tokens.Given as goal
 

@@ -1,6 +1,4 @@
-use Rattle.std.proofs.Common.{arith}
-use Rattle.sqlite.specs.declared.error.Error.{Error}
-use Rattle.basis.specs.Listings.{listing_of}
+use Rattle.tables.proofs.Outside.{arith, Error, listing_of}
 use Rattle.tables.specs.Inner.Lists.{ws_row_in}
 use Rattle.tables.proofs.KeepListed.{seen_more}
 use Rattle.tables.proofs.listings.list_workspaces.Goals as goal

@@ -1,7 +1,4 @@
-use Rattle.std.proofs.Common.{take, map, Ok}
-use Rattle.sqlite.specs.declared.error.Error.{Error}
-use Rattle.basis.specs.Listings.{listing_of}
-use Rattle.statements.specs.Steps.{Equals, Sees}
+use Rattle.tables.proofs.Outside.{take, map, Ok, Error, listing_of, Equals, Sees}
 use Rattle.tables.specs.Inner.Lists.{ws_row_in}
 use Rattle.tables.proofs.listings.list_workspaces.Given as goal
 

@@ -1,12 +1,5 @@
-use Rattle.std.proofs.Common.{rules, ◌≡◌, ℕ, List, Option, Some, None, false, is_none, Ok, ap, ◌∙◌}
-use Rattle.sqlite.specs.declared.error.Error.{Error}
-use Rattle.machine.specs.declared.keeps.AdminAnswer.TheVariants.{Tokens}
+use Rattle.tables.proofs.Outside.{rules, ◌≡◌, ℕ, List, Option, Some, None, false, is_none, Ok, ap, ◌∙◌, Error, Tokens, cap_of, TokensApart, Equals, EqualsWhere, Tables, sees_by, sees_as}
 use Rattle.machine.specs.declared.keeps.TokenRow.{TokenRow}
-use Rattle.statements.specs.Finds.{cap_of}
-use Rattle.statements.specs.Listings.{TokensApart}
-use Rattle.statements.specs.Steps.{Equals, EqualsWhere}
-use Rattle.statements.specs.Tables.{Tables}
-use Rattle.texts.proofs.Many.{sees_by, sees_as}
 use Rattle.tables.specs.Inner.Lists.{tokens_listed_in, token_list_answer_by, token_list_answer_in}
 use Rattle.tables.proofs.Committed.{read_committed}
 use Rattle.tables.proofs.KeepFound.{seen_both}

@@ -1,12 +1,10 @@
 use Rattle.std.proofs.Common.{ℕ, Option, unwrap_or, ap, ◌∙◌}
-use Rattle.basis.specs.declared.numbers.TheConstants.{FIRST_KEPT}
+use Rattle.tables.proofs.Outside.{FIRST_KEPT, Equals, sees_as}
 use Rattle.basis.specs.declared.rows.WsRow.{WsRow}
 use Rattle.machine.specs.Showing.{holder_id}
 use Rattle.statements.specs.declared.rows.NamedWorkspace.{NamedWorkspace}
 use Rattle.tables.specs.Inner.Lists.{newest_shown_in}
 use Rattle.tables.specs.Records.{settings_of_cells}
-use Rattle.statements.specs.Steps.{Equals}
-use Rattle.texts.proofs.Many.{sees_as}
 use Rattle.tables.proofs.listings.ws_row.Goals as goal
 
 make : NamedWorkspace → Option ℕ → WsRow

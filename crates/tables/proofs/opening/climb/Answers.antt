@@ -1,6 +1,4 @@
-use Rattle.std.proofs.Common.{◌≡◌, ◌+◌, subst, arith}
-use Rattle.sqlite.specs.Held.{state}
-use Rattle.statements.specs.declared.making.TheConstants.{SCHEMA_VERSION}
+use Rattle.tables.proofs.Outside.{◌≡◌, ◌+◌, subst, arith, state, SCHEMA_VERSION}
 use Rattle.tables.specs.Inner.Making.{Climbs}
 use Rattle.tables.proofs.Climbing.{climbs_then}
 use Rattle.tables.proofs.opening.climb.Goals as goal

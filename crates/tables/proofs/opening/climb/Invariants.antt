@@ -1,5 +1,4 @@
-use Rattle.std.proofs.Common.{◌≡◌, false}
-use Rattle.sqlite.specs.Held.{state}
+use Rattle.tables.proofs.Outside.{◌≡◌, false, state}
 use Rattle.tables.proofs.Climbing.{ClimbsSoFar}
 use Rattle.tables.proofs.opening.climb.Given as goal
 

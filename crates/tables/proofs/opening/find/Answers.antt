@@ -1,6 +1,4 @@
-use Rattle.std.proofs.Common.{rules, ◌≡◌, true}
-use Rattle.std.proofs.lemmas.Result.{IfOk-weaker}
-use Rattle.sqlite.specs.Held.{state}
+use Rattle.tables.proofs.Outside.{rules, ◌≡◌, true, IfOk-weaker, state}
 use Rattle.tables.specs.Opening.{any_there}
 use Rattle.tables.proofs.Climbing.{finds_by}
 use Rattle.tables.proofs.opening.find.Goals as goal

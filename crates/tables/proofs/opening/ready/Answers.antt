@@ -1,6 +1,4 @@
-use Rattle.std.proofs.Common.{ap, ◌∙◌}
-use Rattle.sqlite.specs.Held.{state}
-use Rattle.statements.specs.declared.making.TheConstants.{SCHEMA_VERSION}
+use Rattle.tables.proofs.Outside.{ap, ◌∙◌, state, SCHEMA_VERSION}
 use Rattle.tables.proofs.There.{one_there}
 use Rattle.tables.proofs.Climbing.{climbed_by, reported_of, reported_as, kept_beside, gives_back}
 use Rattle.tables.proofs.opening.ready.Goals as goal

@@ -1,7 +1,4 @@
-use Rattle.std.proofs.Common.{rules, ◌≡◌, true, false, is_some, None}
-use Rattle.sqlite.specs.Held.{state}
-use Rattle.machine.specs.declared.keeps.AdminAnswer.TheVariants.{Exists, Absent}
-use Rattle.pages.proofs.Alone.{none_if}
+use Rattle.tables.proofs.Outside.{rules, ◌≡◌, true, false, is_some, None, state, Exists, Absent, none_if}
 use Rattle.tables.proofs.KeepCopied.{is_absent, is_there, copies_none, copies_one}
 use Rattle.tables.proofs.KeepKeyed.{keyed_unchanged, keyed_behind}
 use Rattle.tables.proofs.operators.copy.Goals as goal

@@ -1,9 +1,5 @@
-use Rattle.std.proofs.Common.{Bool, ◌||◌, Option, is_some}
-use Rattle.sqlite.specs.declared.error.Error.{Error}
-use Rattle.basis.specs.declared.roles.Role.{Role}
-use Rattle.statements.specs.Finds.{role_of_name, role_of_digest}
+use Rattle.tables.proofs.Outside.{Bool, ◌||◌, Option, is_some, Error, Role, role_of_name, role_of_digest, sees_by}
 use Rattle.tables.proofs.KeepFound.{seen_by_first}
-use Rattle.texts.proofs.Many.{sees_by}
 use Rattle.tables.proofs.operators.is_taken.Goals as goal
 
 either : Option Role → Option Role → Bool

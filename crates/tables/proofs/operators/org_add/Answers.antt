@@ -1,9 +1,5 @@
-use Rattle.std.proofs.Common.{rules, ◌≡◌, true, false, is_some}
-use Rattle.sqlite.specs.Held.{state}
-use Rattle.machine.specs.declared.keeps.AdminAnswer.TheVariants.{Done, Exists}
-use Rattle.statements.specs.Changes.{org_row_added}
+use Rattle.tables.proofs.Outside.{rules, ◌≡◌, true, false, is_some, state, Done, Exists, org_row_added, one_query}
 use Rattle.tables.specs.Inner.Steps.{org_managed}
-use Rattle.pages.proofs.Sequences.{one_query}
 use Rattle.tables.proofs.KeepManaged.{manages_none, manages_one, org_there, org_missing}
 use Rattle.tables.proofs.operators.org_add.Goals as goal
 

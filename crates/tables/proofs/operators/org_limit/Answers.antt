@@ -1,9 +1,5 @@
-use Rattle.std.proofs.Common.{rules, ◌≡◌, true, false, is_none}
-use Rattle.sqlite.specs.Held.{state}
-use Rattle.machine.specs.declared.keeps.AdminAnswer.TheVariants.{Done, Absent}
-use Rattle.statements.specs.Changes.{org_capped}
+use Rattle.tables.proofs.Outside.{rules, ◌≡◌, true, false, is_none, state, Done, Absent, org_capped, one_query}
 use Rattle.tables.specs.Inner.Steps.{limit_managed}
-use Rattle.pages.proofs.Sequences.{one_query}
 use Rattle.tables.proofs.KeepManaged.{manages_none, manages_one, limit_nowhere, limit_there}
 use Rattle.tables.proofs.operators.org_limit.Goals as goal
 

@@ -1,6 +1,4 @@
-use Rattle.std.proofs.Common.{rules, ◌≡◌, true, false, is_none}
-use Rattle.sqlite.specs.Held.{state}
-use Rattle.pages.proofs.Sequences.{one_query}
+use Rattle.tables.proofs.Outside.{rules, ◌≡◌, true, false, is_none, state, one_query}
 use Rattle.tables.proofs.KeepRemoved.{all_read, leaves_absent, leaves_kept, leaves_done}
 use Rattle.tables.proofs.operators.org_remove.Goals as goal
 

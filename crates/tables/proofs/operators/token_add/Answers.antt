@@ -1,12 +1,5 @@
-use Rattle.std.proofs.Common.{rules, ◌≡◌, true, false, cond, is_none, sym, subst}
-use Rattle.sqlite.specs.Effect.{Database}
-use Rattle.sqlite.specs.Held.{state}
-use Rattle.machine.specs.Effects.{effect}
-use Rattle.machine.specs.declared.keeps.AdminAnswer.TheVariants.{Done, Exists, Absent}
-use Rattle.statements.specs.Changes.{token_added}
-use Rattle.statements.specs.Tables.{Holds}
+use Rattle.tables.proofs.Outside.{rules, ◌≡◌, true, false, cond, is_none, sym, subst, Database, state, effect, Done, Exists, Absent, token_added, Holds, one_query, unchanged_then}
 use Rattle.tables.specs.Inner.Steps.{token_managed}
-use Rattle.pages.proofs.Sequences.{one_query, unchanged_then}
 use Rattle.tables.proofs.KeepManaged.{manages_none, manages_one, token_nowhere, token_there}
 use Rattle.tables.proofs.operators.token_add.Goals as goal
 

@@ -1,9 +1,5 @@
-use Rattle.std.proofs.Common.{rules, ◌≡◌, true, false, is_none}
-use Rattle.sqlite.specs.Held.{state}
-use Rattle.machine.specs.declared.keeps.AdminAnswer.TheVariants.{Done, Absent}
-use Rattle.statements.specs.Changes.{token_removed}
+use Rattle.tables.proofs.Outside.{rules, ◌≡◌, true, false, is_none, state, Done, Absent, token_removed, one_query}
 use Rattle.tables.specs.Inner.Steps.{revocation_managed}
-use Rattle.pages.proofs.Sequences.{one_query}
 use Rattle.tables.proofs.KeepManaged.{manages_none, manages_one, revocation_nowhere, revocation_there}
 use Rattle.tables.proofs.operators.token_revoke.Goals as goal
 

@@ -1,7 +1,4 @@
-use Rattle.std.proofs.Common.{ℕ, Option}
-use Rattle.sqlite.specs.declared.error.Error.{Error}
-use Rattle.machine.specs.Needs.{needed_of}
-use Rattle.machine.specs.Units.{if_needed}
+use Rattle.tables.proofs.Outside.{ℕ, Option, Error, needed_of, if_needed}
 use Rattle.tables.specs.Inner.Points.{runs_in, sized_in, size_asked}
 use Rattle.tables.specs.Inner.Units.{outgoing_in}
 use Rattle.tables.specs.declared.runs.RunsAround.{RunsAround}

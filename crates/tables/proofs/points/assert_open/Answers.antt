@@ -1,5 +1,4 @@
-use Rattle.std.proofs.Common.{[]}
-use Rattle.sqlite.specs.Held.{state}
+use Rattle.tables.proofs.Outside.{[], state}
 use Rattle.tables.proofs.Shut.{unchanged_keeps, not_run_keeps}
 use Rattle.tables.proofs.points.assert_open.Goals.{in-Ok, in-Err}
 use Rattle.tables.proofs.points.assert_open.Goals as goal

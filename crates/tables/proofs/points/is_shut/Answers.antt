@@ -1,6 +1,4 @@
-use Rattle.std.proofs.Common.{[], ◌∙◌, ap}
-use Rattle.sqlite.specs.Held.{state}
-use Rattle.sqlite.specs.declared.error.Error.TheVariants.{SqliteFailure}
+use Rattle.tables.proofs.Outside.{[], ◌∙◌, ap, state, SqliteFailure}
 use Rattle.tables.proofs.Shut.{unchanged_keeps, not_run_keeps, closed_shut}
 use Rattle.tables.proofs.points.is_shut.Goals.{in-Ok, in-Err-SqliteFailure-Closed, in-Err+in-Err}
 use Rattle.tables.proofs.points.is_shut.Goals as goal

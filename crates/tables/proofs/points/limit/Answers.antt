@@ -1,8 +1,4 @@
-use Rattle.std.proofs.Common.{ℕ, Option, ap, ◌∙◌}
-use Rattle.std.specs.Option.{unwrap_or}
-use Rattle.statements.specs.Finds.{cap_of}
-use Rattle.statements.specs.Steps.{Equals}
-use Rattle.texts.proofs.Many.{sees_by, sees_as}
+use Rattle.tables.proofs.Outside.{ℕ, Option, ap, ◌∙◌, unwrap_or, cap_of, Equals, sees_by, sees_as}
 use Rattle.tables.proofs.points.limit.Goals as goal
 
 pub returns : goal.returns

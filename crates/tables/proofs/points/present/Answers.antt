@@ -1,6 +1,4 @@
-use Rattle.std.proofs.Common.{ℕ}
-use Rattle.sqlite.specs.declared.error.Error.{Error}
-use Rattle.machine.specs.Needs.{needed_of}
+use Rattle.tables.proofs.Outside.{ℕ, Error, needed_of}
 use Rattle.statements.specs.declared.rows.Workspace.{Workspace as WorkspaceCells}
 use Rattle.tables.specs.Inner.Units.{retention_in}
 use Rattle.tables.specs.Inner.Points.{around_in, unit_from}

@@ -1,7 +1,4 @@
-use Rattle.std.proofs.Common.{sym, ap, ◌∙◌}
-use Rattle.machine.specs.Needs.{needed_of}
-use Rattle.statements.specs.Finds.{workspace_of}
-use Rattle.statements.specs.Steps.{Equals}
+use Rattle.tables.proofs.Outside.{sym, ap, ◌∙◌, needed_of, workspace_of, Equals}
 use Rattle.tables.specs.Inner.Points.{absent_in, present_in, unit_read_at, unit_read_in}
 use Rattle.tables.proofs.Committed.{committed_read_then}
 use Rattle.tables.proofs.KeptInMemory.{present_read}

@@ -1,8 +1,5 @@
-use Rattle.std.proofs.Common.{Option, Some, Ok, false, sym, ap, ◌∙◌}
-use Rattle.statements.specs.Finds.{workspace_of, open_runs_of}
-use Rattle.statements.specs.Steps.{Equals}
+use Rattle.tables.proofs.Outside.{Option, Some, Ok, false, sym, ap, ◌∙◌, workspace_of, open_runs_of, Equals, sees_by, sees_as}
 use Rattle.statements.specs.declared.rows.Workspace.{Workspace as WorkspaceCells}
-use Rattle.texts.proofs.Many.{sees_by, sees_as}
 use Rattle.tables.specs.Inner.Removals.{is_used_by, is_used_in}
 use Rattle.tables.proofs.KeepFound.{seen_both}
 use Rattle.tables.proofs.removals.is_in_use.Goals as goal

@@ -1,5 +1,4 @@
-use Rattle.std.proofs.Common.{◌≤◌, length, rules, ◌≡◌, true, false, arith}
-use Rattle.sqlite.specs.declared.error.Error.{Error}
+use Rattle.tables.proofs.Outside.{◌≤◌, length, rules, ◌≡◌, true, false, arith, Error}
 use Rattle.tables.specs.Inner.Removals.{is_used_in}
 use Rattle.tables.proofs.Using.{still_none, one_found, none_found}
 use Rattle.tables.proofs.removals.is_one_in_use.Goals as goal

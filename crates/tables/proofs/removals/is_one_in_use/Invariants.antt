@@ -1,7 +1,4 @@
-use Rattle.std.proofs.Common.{false, take, Ok}
-use Rattle.std.specs.List.{list_any}
-use Rattle.sqlite.specs.declared.error.Error.{Error}
-use Rattle.statements.specs.Steps.{Equals, Sees}
+use Rattle.tables.proofs.Outside.{false, take, Ok, list_any, Error, Equals, Sees}
 use Rattle.tables.specs.Inner.Removals.{is_used_in}
 use Rattle.tables.proofs.removals.is_one_in_use.Given as goal
 

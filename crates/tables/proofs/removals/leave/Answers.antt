@@ -1,6 +1,4 @@
-use Rattle.std.proofs.Common.{ap, ◌∙◌}
-use Rattle.statements.specs.Changes.{org_row_removed}
-use Rattle.pages.proofs.Sequences.{steps_by}
+use Rattle.tables.proofs.Outside.{ap, ◌∙◌, org_row_removed, steps_by}
 use Rattle.tables.specs.Inner.Copies.{AreMadeBy}
 use Rattle.tables.specs.Inner.Removals.{workspaces_gone, tokens_gone, all_gone_of}
 use Rattle.tables.proofs.Copying.{made_by_steps, related_then}

@@ -1,7 +1,4 @@
-use Rattle.std.proofs.Common.{Ok}
-use Rattle.statements.specs.Listings.{TokensApart, NamesApart, digest_tokens_of, workspace_names_of}
-use Rattle.statements.specs.Steps.{EqualsWhere}
-use Rattle.texts.proofs.Many.{sees_by, sees_as}
+use Rattle.tables.proofs.Outside.{Ok, TokensApart, NamesApart, digest_tokens_of, workspace_names_of, EqualsWhere, sees_by, sees_as}
 use Rattle.tables.specs.Inner.Removals.{AreAllOf}
 use Rattle.tables.specs.declared.removals.Possessions.{Possessions}
 use Rattle.tables.proofs.KeepFound.{seen_both}

@@ -1,10 +1,4 @@
-use Rattle.std.specs.Bool.{⊤}
-use Rattle.std.proofs.Common.{◌≤◌, ◌<◌, ◌+◌, List, length, take, arith, Ok, subst}
-use Rattle.std.proofs.lemmas.List.{take_all}
-use Rattle.sqlite.specs.declared.error.Error.{Error}
-use Rattle.statements.specs.declared.rows.NamedToken.{NamedToken}
-use Rattle.statements.specs.Changes.{token_removed}
-use Rattle.pages.proofs.Sequences.{steps_by}
+use Rattle.tables.proofs.Outside.{⊤, ◌≤◌, ◌<◌, ◌+◌, List, length, take, arith, Ok, subst, take_all, Error, NamedToken, token_removed, steps_by}
 use Rattle.tables.specs.Inner.Copies.{RelatedSteps, AreMadeBy}
 use Rattle.tables.specs.Inner.Removals.{tokens_gone}
 use Rattle.tables.proofs.Copying.{made_by_steps, related_then}

@@ -1,6 +1,4 @@
-use Rattle.std.specs.Bool.{⊤}
-use Rattle.std.proofs.Common.{take, Ok}
-use Rattle.sqlite.specs.declared.error.Error.{Error}
+use Rattle.tables.proofs.Outside.{⊤, take, Ok, Error}
 use Rattle.tables.specs.Inner.Copies.{RelatedSteps, AreMadeBy}
 use Rattle.tables.specs.Inner.Removals.{workspaces_gone}
 use Rattle.tables.proofs.removals.remove_workspaces.Given as goal

@@ -1,10 +1,5 @@
-use Rattle.std.proofs.Common.{ℕ, Option, cond}
-use Rattle.sqlite.specs.declared.error.Error.{Error}
-use Rattle.basis.specs.declared.runs.RunStatus.{RunStatus}
-use Rattle.machine.specs.Needs.{needed_of}
-use Rattle.machine.specs.Units.{if_needed}
+use Rattle.tables.proofs.Outside.{ℕ, Option, cond, Error, RunStatus, needed_of, if_needed, first_waiting_of, open_runs_of}
 use Rattle.basis.specs.declared.rows.RunRow.{RunRow as Run}
-use Rattle.statements.specs.Finds.{first_waiting_of, open_runs_of}
 use Rattle.tables.specs.Inner.Units.{holder_status_in, asked_run_in}
 use Rattle.tables.specs.declared.runs.RunsAround.{RunsAround}
 use Rattle.tables.proofs.KeepFound.{seen_four}

@@ -1,5 +1,4 @@
-use Rattle.std.proofs.Common.{◌≡◌, ap, ◌∙◌, Ok}
-use Rattle.texts.proofs.Many.{sees_then}
+use Rattle.tables.proofs.Outside.{◌≡◌, ap, ◌∙◌, Ok, sees_then}
 use Rattle.tables.specs.Scans.{AreRowsOf}
 use Rattle.tables.specs.Inner.Scans.{with_first, with_workspaces, with_others}
 use Rattle.tables.proofs.Filled.{filled_then, all_filled}

@@ -1,5 +1,4 @@
-use Rattle.statements.specs.declared.rows.Rows.{Rows}
-use Rattle.statements.specs.Tables.{Tables}
+use Rattle.tables.proofs.Outside.{Rows, Tables}
 use Rattle.tables.proofs.Filled.{filled_then}
 use Rattle.tables.proofs.scans.read_first.Goals as goal
 

@@ -1,6 +1,4 @@
-use Rattle.std.proofs.Common.{map}
-use Rattle.statements.specs.declared.rows.Rows.{Rows}
-use Rattle.statements.specs.Tables.{Tables}
+use Rattle.tables.proofs.Outside.{map, Rows, Tables}
 use Rattle.pages.specs.Heads.{head_in}
 use Rattle.tables.proofs.Filled.{filled_then}
 use Rattle.tables.proofs.scans.read_others.Goals as goal

@@ -1,6 +1,4 @@
-use Rattle.std.proofs.Common.{Ok}
-use Rattle.sqlite.specs.declared.error.Error.{Error}
-use Rattle.texts.proofs.Many.{sees_as}
+use Rattle.tables.proofs.Outside.{Ok, Error, sees_as}
 use Rattle.tables.specs.Scans.{AreRowsOf}
 use Rattle.tables.proofs.Committed.{read_committed}
 use Rattle.tables.proofs.scans.scan.Goals as goal

@@ -1,9 +1,6 @@
-use Rattle.texts.proofs.Many.{when_done}
-use Rattle.std.proofs.Common.{rules, ℕ, List, IsTrue, length, subst}
-use Rattle.sqlite.specs.Held.{state}
+use Rattle.tables.proofs.Outside.{when_done, rules, ℕ, List, IsTrue, length, subst, state, pages_for, text_added, TwinsFit, KeysFit, AddsText}
 use Rattle.tables.specs.Inner.Edits.{row_added, added_rows}
 use Rattle.tables.specs.Inner.Keys.{KeepsKeys}
-use Rattle.texts.specs.Texts.{pages_for, text_added, TwinsFit, KeysFit, AddsText}
 use Rattle.tables.proofs.Copying.{related_by}
 use Rattle.tables.proofs.KeyedRows.{version_keyed}
 use Rattle.tables.proofs.KeepMoves.{no_keys, steps_then_all, reported_then}

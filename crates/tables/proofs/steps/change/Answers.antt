@@ -1,5 +1,4 @@
-use Rattle.texts.proofs.Many.{when_done}
-use Rattle.pages.proofs.Sequences.{steps_then}
+use Rattle.tables.proofs.Outside.{when_done, steps_then}
 use Rattle.tables.proofs.KeyedSteps.{keyed_by, keyed_then}
 use Rattle.tables.proofs.steps.change.Goals as goal
 

@@ -1,5 +1,4 @@
-use Rattle.texts.proofs.Many.{when_done}
-use Rattle.pages.proofs.Sequences.{steps_by}
+use Rattle.tables.proofs.Outside.{when_done, steps_by}
 use Rattle.tables.specs.Inner.Edits.{edited_rows}
 use Rattle.tables.proofs.KeepMoves.{no_keys}
 use Rattle.tables.proofs.KeyedRows.{edited_keyed}

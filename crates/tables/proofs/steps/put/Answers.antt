@@ -1,6 +1,4 @@
-use Rattle.std.proofs.Common.{rules}
-use Rattle.texts.proofs.Many.{when_done}
-use Rattle.pages.proofs.Sequences.{steps_then}
+use Rattle.tables.proofs.Outside.{rules, when_done, steps_then}
 use Rattle.tables.specs.Inner.Edits.{numbered_rows}
 use Rattle.tables.proofs.KeepMoves.{no_keys, takes_by}
 use Rattle.tables.proofs.KeyedRows.{below_keyed}

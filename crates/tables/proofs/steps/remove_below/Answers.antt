@@ -1,6 +1,4 @@
-use Rattle.std.specs.Bool.{⊤}
-use Rattle.std.proofs.Common.{◌≡◌, ◌≤◌, ◌+◌, None, arith}
-use Rattle.statements.specs.Finds.{oldest_below}
+use Rattle.tables.proofs.Outside.{⊤, ◌≡◌, ◌≤◌, ◌+◌, None, arith, oldest_below}
 use Rattle.tables.specs.Inner.Edits.{oldest_gone, so_many_gone, most_gone, gone_below}
 use Rattle.tables.proofs.GoneSteps.{gone_one, gone_more, gone_all, ended, none_gone}
 use Rattle.tables.proofs.KeepMoves.{step_as, steps_as}

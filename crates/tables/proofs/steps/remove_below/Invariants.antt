@@ -1,7 +1,5 @@
-use Rattle.std.specs.Bool.{⊤}
-use Rattle.std.proofs.Common.{Ok}
+use Rattle.tables.proofs.Outside.{⊤, Ok, Steps}
 use Rattle.tables.specs.Inner.Edits.{so_many_gone}
-use Rattle.statements.specs.Steps.{Steps}
 use Rattle.tables.proofs.steps.remove_below.Given as goal
 
 -- so many versions are gone

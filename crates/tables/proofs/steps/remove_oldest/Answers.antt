@@ -1,9 +1,6 @@
-use Rattle.std.proofs.Common.{◌≡◌, ◌≤◌, ◌+◌, Option, Some, refl, sym, ap, ◌∙◌, arith}
-use Rattle.std.proofs.lemmas.Bool.{ltb-false}
+use Rattle.tables.proofs.Outside.{◌≡◌, ◌≤◌, ◌+◌, Option, Some, refl, sym, ap, ◌∙◌, arith, ltb-false, oldest_below, step_behind, step_none}
 use Rattle.basis.specs.declared.rows.VersionRow.{VersionRow as Head}
-use Rattle.statements.specs.Finds.{oldest_below}
 use Rattle.tables.specs.Inner.Edits.{first_gone, version_gone, oldest_gone}
-use Rattle.pages.proofs.Sequences.{step_behind, step_none}
 use Rattle.tables.proofs.GoneSteps.{none_stays}
 use Rattle.tables.proofs.KeepMoves.{step_as}
 use Rattle.tables.proofs.LastGone.{none_behind_last}

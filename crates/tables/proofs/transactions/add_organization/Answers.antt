@@ -1,8 +1,4 @@
-use Rattle.std.proofs.Common.{rules}
-use Rattle.sqlite.specs.Held.{state}
-use Rattle.sqlite.specs.State.{HasCleanDisk}
-use Rattle.statements.specs.Changes.{org_row_added}
-use Rattle.statements.proofs.Transactions.{clean_before}
+use Rattle.tables.proofs.Outside.{rules, state, HasCleanDisk, org_row_added, clean_before}
 use Rattle.tables.proofs.KeepCommits.{inside_by, commits_by}
 use Rattle.tables.proofs.transactions.add_organization.Goals as goal
 

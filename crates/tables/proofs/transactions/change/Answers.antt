@@ -1,9 +1,6 @@
-use Rattle.std.proofs.Common.{rules}
-use Rattle.sqlite.specs.Held.{state}
-use Rattle.sqlite.specs.State.{HasCleanDisk}
+use Rattle.tables.proofs.Outside.{rules, state, HasCleanDisk, clean_before}
 use Rattle.tables.specs.Inner.Edits.{changed_rows, TakesEdit}
 use Rattle.tables.specs.Inner.Keys.{KeepsKeys}
-use Rattle.statements.proofs.Transactions.{clean_before}
 use Rattle.tables.proofs.KeepCommits.{inside_by, commits_by, reported_committed, commits_reported, commits_related}
 use Rattle.tables.proofs.transactions.change.Goals as goal
 

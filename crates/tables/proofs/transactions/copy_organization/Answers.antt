@@ -1,8 +1,4 @@
-use Rattle.std.specs.Bool.{⊤}
-use Rattle.std.proofs.Common.{rules}
-use Rattle.sqlite.specs.Held.{state}
-use Rattle.sqlite.specs.State.{HasCleanDisk}
-use Rattle.statements.proofs.Transactions.{clean_before}
+use Rattle.tables.proofs.Outside.{⊤, rules, state, HasCleanDisk, clean_before}
 use Rattle.tables.specs.Inner.Imports.{TakesFrom, Brings}
 use Rattle.tables.specs.Inner.Keys.{KeepsKeys}
 use Rattle.tables.proofs.Arriving.{unchanged_as}

@@ -1,7 +1,4 @@
-use Rattle.std.proofs.Common.{rules}
-use Rattle.sqlite.specs.Held.{state}
-use Rattle.sqlite.specs.State.{HasCleanDisk}
-use Rattle.statements.proofs.Transactions.{clean_before}
+use Rattle.tables.proofs.Outside.{rules, state, HasCleanDisk, clean_before}
 use Rattle.tables.proofs.KeepCommits.{inside_by, made_by}
 use Rattle.tables.proofs.transactions.make.Goals as goal
 

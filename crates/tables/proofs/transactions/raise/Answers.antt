@@ -1,10 +1,5 @@
-use Rattle.std.proofs.Common.{◌≡◌, suc, ◌+◌, rules, subst, arith}
-use Rattle.sqlite.specs.Effect.{Database}
-use Rattle.sqlite.specs.Held.{state}
-use Rattle.sqlite.specs.State.{HasCleanDisk}
-use Rattle.statements.specs.Making.{Raises}
+use Rattle.tables.proofs.Outside.{◌≡◌, suc, ◌+◌, rules, subst, arith, Database, state, HasCleanDisk, Raises, clean_before}
 use Rattle.tables.specs.Versions.{Becomes, KeepsBeside}
-use Rattle.statements.proofs.Transactions.{clean_before}
 use Rattle.tables.proofs.KeepCommits.{inside_by, climbs_by}
 use Rattle.tables.proofs.Raising.{becomes_next}
 use Rattle.tables.proofs.transactions.raise.Goals as goal

@@ -1,7 +1,4 @@
-use Rattle.std.proofs.Common.{rules}
-use Rattle.sqlite.specs.Held.{state}
-use Rattle.sqlite.specs.State.{HasCleanDisk}
-use Rattle.statements.proofs.Transactions.{clean_before}
+use Rattle.tables.proofs.Outside.{rules, state, HasCleanDisk, clean_before}
 use Rattle.tables.specs.Inner.Copies.{AreMadeBy}
 use Rattle.tables.specs.Inner.Removals.{all_gone_of}
 use Rattle.tables.proofs.KeepCommits.{inside_by, commits_related}

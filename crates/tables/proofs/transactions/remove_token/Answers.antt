@@ -1,8 +1,4 @@
-use Rattle.std.proofs.Common.{rules}
-use Rattle.sqlite.specs.Held.{state}
-use Rattle.sqlite.specs.State.{HasCleanDisk}
-use Rattle.statements.specs.Changes.{token_removed}
-use Rattle.statements.proofs.Transactions.{clean_before}
+use Rattle.tables.proofs.Outside.{rules, state, HasCleanDisk, token_removed, clean_before}
 use Rattle.tables.proofs.KeepCommits.{inside_by, commits_by}
 use Rattle.tables.proofs.transactions.remove_token.Goals as goal
 

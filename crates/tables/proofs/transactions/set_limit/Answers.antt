@@ -1,8 +1,4 @@
-use Rattle.std.proofs.Common.{rules}
-use Rattle.sqlite.specs.Held.{state}
-use Rattle.sqlite.specs.State.{HasCleanDisk}
-use Rattle.statements.specs.Changes.{org_capped}
-use Rattle.statements.proofs.Transactions.{clean_before}
+use Rattle.tables.proofs.Outside.{rules, state, HasCleanDisk, org_capped, clean_before}
 use Rattle.tables.proofs.KeepCommits.{inside_by, commits_by}
 use Rattle.tables.proofs.transactions.set_limit.Goals as goal
 

@@ -1,9 +1,4 @@
-use Rattle.std.proofs.Common.{rules}
-use Rattle.sqlite.specs.Held.{state}
-use Rattle.sqlite.specs.State.{HasCleanDisk}
-use Rattle.statements.specs.Changes.{edition_moved}
-use Rattle.statements.specs.declared.making.TheConstants.{SCHEMA_VERSION}
-use Rattle.statements.proofs.Transactions.{clean_before}
+use Rattle.tables.proofs.Outside.{rules, state, HasCleanDisk, edition_moved, SCHEMA_VERSION, clean_before}
 use Rattle.tables.proofs.KeepCommits.{inside_by, commits_by}
 use Rattle.tables.proofs.transactions.touch_version.Goals as goal
 

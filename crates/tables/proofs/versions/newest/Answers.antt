@@ -1,10 +1,7 @@
-use Rattle.std.proofs.Common.{rules, ◌≡◌, true}
-use Rattle.sqlite.specs.declared.error.Error.{Error}
+use Rattle.tables.proofs.Outside.{rules, ◌≡◌, true, Error, newest_of, sees_by}
 use Rattle.std.specs.Option.{option_copied}
-use Rattle.statements.specs.Finds.{newest_of}
 use Rattle.tables.specs.Inner.Points.{sized_by}
 use Rattle.tables.proofs.KeepFound.{seen_mapped}
-use Rattle.texts.proofs.Many.{sees_by}
 use Rattle.tables.proofs.versions.newest.Goals as goal
 
 pub returns-in_ok-newest_as-in-Some : goal.returns-in_ok-newest_as-in-Some

@@ -1,9 +1,4 @@
-use Rattle.std.proofs.Common.{rules, ◌≡◌, ℕ, true, Option, ap, ◌∙◌}
-use Rattle.std.specs.Option.{unwrap_or}
-use Rattle.basis.specs.declared.numbers.TheConstants.{FIRST_KEPT}
-use Rattle.statements.specs.Finds.{retention_of}
-use Rattle.statements.specs.Steps.{Equals}
-use Rattle.texts.proofs.Many.{sees_by, sees_as}
+use Rattle.tables.proofs.Outside.{rules, ◌≡◌, ℕ, true, Option, ap, ◌∙◌, unwrap_or, FIRST_KEPT, retention_of, Equals, sees_by, sees_as}
 use Rattle.tables.proofs.versions.retention.Goals as goal
 
 pub returns : goal.returns

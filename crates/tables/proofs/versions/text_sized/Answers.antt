@@ -1,8 +1,4 @@
-use Rattle.std.proofs.Common.{Some, Ok, ap}
-use Rattle.sqlite.specs.declared.error.Error.{Error}
-use Rattle.statements.specs.Steps.{Equals}
-use Rattle.texts.specs.Texts.{text_of}
-use Rattle.texts.proofs.Many.{sees_as}
+use Rattle.tables.proofs.Outside.{Some, Ok, ap, Error, Equals, text_of, sees_as}
 use Rattle.tables.proofs.Committed.{read_committed}
 use Rattle.tables.proofs.versions.text_sized.Goals as goal
 

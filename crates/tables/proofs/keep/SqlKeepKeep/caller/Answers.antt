@@ -1,5 +1,4 @@
-use Rattle.std.proofs.Common.{refl}
-use Rattle.sqlite.specs.Held.{state}
+use Rattle.tables.proofs.Outside.{refl, state}
 use Rattle.tables.proofs.KeepShown.{asker_reported, asker_known, askers_stay, asker_keeps}
 use Rattle.tables.proofs.keep.SqlKeepKeep.caller.Goals as goal
 

@@ -1,6 +1,4 @@
-use Rattle.std.proofs.Common.{◌≤◌, subst}
-use Rattle.sqlite.specs.Held.{state}
-use Rattle.statements.specs.Tables.{tables_of}
+use Rattle.tables.proofs.Outside.{◌≤◌, subst, state, tables_of}
 use Rattle.tables.specs.Inner.Steps.{limit_managed}
 use Rattle.tables.proofs.Refining.{limit_refines, managed_own, managed_others, managed_keeps, managed_keyed}
 use Rattle.tables.proofs.keep.SqlKeepKeep.org_limit.Goals as goal

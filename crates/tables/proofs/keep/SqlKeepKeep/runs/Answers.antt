@@ -1,5 +1,4 @@
-use Rattle.std.proofs.Common.{arith}
-use Rattle.sqlite.specs.Held.{state}
+use Rattle.tables.proofs.Outside.{arith, state}
 use Rattle.tables.proofs.KeepShown.{runs_shown, no_runs_shown}
 use Rattle.tables.proofs.keep.SqlKeepKeep.runs.Goals as goal
 

@@ -1,5 +1,4 @@
-use Rattle.sqlite.specs.Held.{state}
-use Rattle.statements.specs.Tables.{tables_of}
+use Rattle.tables.proofs.Outside.{state, tables_of}
 use Rattle.tables.specs.Inner.Steps.{token_managed}
 use Rattle.tables.proofs.Refining.{token_refines, managed_own, managed_others, managed_keeps, managed_keyed}
 use Rattle.tables.proofs.keep.SqlKeepKeep.token_add.Goals as goal

@@ -1,6 +1,4 @@
-use Rattle.std.proofs.Common.{refl}
-use Rattle.sqlite.specs.Held.{state}
-use Rattle.machine.specs.Needs.{needed_of}
+use Rattle.tables.proofs.Outside.{refl, state, needed_of}
 use Rattle.tables.proofs.KeepShown.{unit_reported, unit_keeps}
 use Rattle.tables.proofs.keep.SqlKeepKeep.unit.Goals as goal
 

@@ -1,5 +1,4 @@
-use Rattle.std.proofs.Common.{arith}
-use Rattle.sqlite.specs.Held.{state}
+use Rattle.tables.proofs.Outside.{arith, state}
 use Rattle.tables.proofs.KeepShown.{versions_shown, no_versions_shown}
 use Rattle.tables.proofs.keep.SqlKeepKeep.versions.Goals as goal
 

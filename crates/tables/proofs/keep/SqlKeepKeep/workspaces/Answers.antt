@@ -1,5 +1,4 @@
-use Rattle.std.proofs.Common.{option_copied}
-use Rattle.sqlite.specs.Held.{state}
+use Rattle.tables.proofs.Outside.{option_copied, state}
 use Rattle.tables.proofs.KeepShown.{workspaces_shown}
 use Rattle.tables.proofs.keep.SqlKeepKeep.workspaces.Goals as goal
 

@@ -1,5 +1,4 @@
-use Rattle.std.proofs.Common.{ap}
-use Rattle.sqlite.specs.Effect.{Database}
+use Rattle.tables.proofs.Outside.{ap, Database}
 use Rattle.tables.specs.Stores.{records_of}
 use Rattle.tables.proofs.store.SqlKeep.close.Goals as goal
 

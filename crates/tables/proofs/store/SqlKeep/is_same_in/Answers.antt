@@ -1,5 +1,4 @@
-use Rattle.sqlite.specs.declared.error.Error.{Error}
-use Rattle.sqlite.specs.Held.{state}
+use Rattle.tables.proofs.Outside.{Error, state}
 use Rattle.tables.proofs.Comparing.{records_alike}
 use Rattle.tables.proofs.store.SqlKeep.is_same_in.Goals as goal
 

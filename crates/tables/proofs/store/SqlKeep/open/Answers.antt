@@ -1,10 +1,5 @@
-use Rattle.std.proofs.Common.{◌≡◌, List, refl, sym, ap, subst}
-use Rattle.std.specs.List.{AllByRecursion}
-use Rattle.sqlite.specs.Effect.{Database}
-use Rattle.sqlite.specs.Held.{state}
+use Rattle.tables.proofs.Outside.{◌≡◌, List, refl, sym, ap, subst, AllByRecursion, Database, state, Kept, PageRow, tables_of}
 use Rattle.tables.specs.Stores.{records_of, IsSoundStore}
-use Rattle.statements.specs.Rows.{Kept, PageRow}
-use Rattle.statements.specs.Tables.{tables_of}
 use Rattle.tables.specs.Scans.{ArePagesKeyed}
 use Rattle.tables.proofs.Databases.{store_is}
 use Rattle.tables.proofs.KeepKeyed.{keyed_held}
