@@ -288,7 +288,7 @@ def reading(path, source):
 def serves_one(program, path, *words):
     """A service that answers one request, and ends."""
     with Service(program, path, 1, *words) as service:
-        said("a request without a token", service.asked(request(b"GET /v1/acme/workspaces HTTP/1.1"))[:12], b"HTTP/1.1 401")
+        said("a list of workspaces", service.asked(request(b"GET /v1/acme/workspaces HTTP/1.1"))[:12], b"HTTP/1.1 200")
         service.ends()
 
 
@@ -319,7 +319,7 @@ def look_at_older(program):
             said("a copy of it", program.run(["compact", "--db", path, "--to", "target.db"])[:2], (0, b"ok\n"))
             os.remove(program.folder + "/target.db")
             os.remove(program.folder + "/target.db-wal")
-            print("right: a file of schema %d is read by no command, and raised by %s" % (version, name))
+            print("right: a file of schema %d is refused where it is only read, and raised by %s" % (version, name))
     said("the organizations of the source", program.run(["org-list", "--db", source]), (0, b"acme 1 200\n", b""))
 
 

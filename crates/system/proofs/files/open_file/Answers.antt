@@ -9,7 +9,7 @@ use Rattle.machine.specs.declared.records.Organization.{Organization}
 use Rattle.tables.proofs.Blank.{no_table}
 use Rattle.tables.proofs.There.{newest_stays}
 use Rattle.tables.specs.Opened.{RefusesOthers}
-use Rattle.tables.specs.Opening.{any_there, all_there, newest_there, has_edition, has_older}
+use Rattle.tables.specs.Opening.{any_there, all_there, newest_there, has_edition}
 use Rattle.tables.specs.Stores.{records_of, IsSoundStore}
 use Rattle.tables.specs.Versions.{HoldsSchema, schema_records}
 use Rattle.system.specs.Files.{OpensOn, HadTables, IsAsFound}
