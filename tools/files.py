@@ -754,14 +754,17 @@ def look_at_memory(program):
     print("right: a service has room for 20 MB of pages, and states of 4 MB take less than 13 MB more")
 
 
-# How deep a state may be nested.
-DEEPEST = 127
+# How deep a state may be nested, and how many bytes of stack the program takes.
+DEEPEST, STACK = 127, 256 << 10
 
 
 def look_at_stack(program):
-    """A service whose address space may not grow answers the state that needs the most stack: it has taken its stack before it listens."""
+    """A service has taken its stack before it listens, so that it answers the state that needs the most though its address space may not grow."""
     filled(program, "deep.db")
     with Service(program, "deep.db", 2) as service:
+        with open("/proc/%d/status" % service.process.pid, encoding="utf-8") as status:
+            taken = next(int(line.split()[1]) << 10 for line in status if line.startswith("VmStk:"))
+        said("whether the stack has %d bytes" % STACK, taken >= STACK, True)
         with open("/proc/%d/statm" % service.process.pid, encoding="ascii") as pages:
             size = int(pages.read().split()[0]) * resource.getpagesize()
         resource.prlimit(service.process.pid, resource.RLIMIT_AS, (size, size))

@@ -571,8 +571,9 @@ def look_at_logs(program):
 # A file that a running service has open
 # ----------------------------------------------------------------------------------------------------
 
-# So many workspaces, each with a state of so many bytes, have more pages than a service keeps in memory (128 MB).
-WORKSPACES, STATE_BYTES = 45, 4_000_000
+# So many workspaces, each with a state of so many bytes, have more pages than a service has in memory whose file was small when it
+# was opened (20 MB).
+WORKSPACES, STATE_BYTES = 15, 4_000_000
 
 
 def midst_of(content, text):
@@ -586,6 +587,7 @@ def swap_beneath(path, due):
     with open(path, "r+b") as file:
         content = file.read()
         at = [midst_of(content, text) for text in due]
+        said("whether each state is in the file", min(at) >= 0, True)
         for one, other in zip(at[0::2], at[1::2]):
             for number, from_number in ((one, other), (other, one)):
                 file.seek(number * PAGE)
@@ -597,10 +599,13 @@ def look_at_open_files(program):
     made(program, name)
     due = [b'{"serial":1,"lineage":"l1","x":"%s"}' % chance.randbytes(STATE_BYTES // 2).hex().encode() for _ in range(WORKSPACES)]
     places = [b"/%%s/large-%d" % number for number in range(WORKSPACES)]
-    taken(program, name, [("acme", b"PUT", place % b"workspaces", b"") for place in places])
-    taken(program, name, [("acme", b"POST", place % b"state", text) for place, text in zip(places, due)])
     questions = [("acme", b"GET", place % b"state", b"") for place in places]
-    with program.damaged(), Service(program, name, WORKSPACES) as service:
+    with program.damaged(), Service(program, name, 3 * WORKSPACES + 1) as service:
+        for place, text in zip(places, due):
+            accepted(service, ("acme", b"PUT", place % b"workspaces", b""))
+            accepted(service, ("acme", b"POST", place % b"state", text))
+        # What follows a state of 4 MB finds the log copied into the file.
+        said("the last state", service.answer(questions[-1]), ok(due[-1]))
         swap_beneath(program.folder + "/" + name, due)
         came = [service.answer(question) for question in questions]
         service.ends_with(0, 3)

@@ -12,9 +12,13 @@ const DB_PAGE_BYTES: u64 = 4_096;
 /// The fewest bytes a page may have.
 const LEAST_PAGE: u64 = 512;
 
-/// Of how many bytes of a file pages are kept in memory, at the least and at the most.
+/// How many bytes of pages have room in memory, at the least.
 const FEWEST_BYTES: u64 = 20_480_000;
 
+/// A file of at most so many bytes has room in memory whole, since an open reads each page several times: that halves its time.
+const MOST_WHOLE: u64 = 536_870_912;
+
+/// How many bytes of pages of a larger file have room.
 const MOST_BYTES: u64 = 134_217_728;
 
 /// How many bytes of changed pages a change has in memory. Behind them all go to the log, which they come to anyway.
@@ -54,6 +58,15 @@ pub fn first_options(rt: &HostRuntime) -> io::Result<Options> {
     Ok(options)
 }
 
+// How many bytes of pages of a file with so many bytes have room in memory.
+fn cached_bytes(bytes: u64) -> u64 {
+    if bytes <= MOST_WHOLE {
+        bytes.max(FEWEST_BYTES)
+    } else {
+        MOST_BYTES
+    }
+}
+
 /// What is kept in memory of the file at a path.
 pub fn options(rt: &HostRuntime, path: &str) -> io::Result<Options> {
     let mut options = Options::new(RandomState::new(rt)?.hash_one(&0u8));
@@ -61,7 +74,7 @@ pub fn options(rt: &HostRuntime, path: &str) -> io::Result<Options> {
         .unwrap_or(DB_PAGE_BYTES)
         .max(LEAST_PAGE);
     let bytes = file_bytes(rt, path).unwrap_or(0);
-    options.cache_pages = (bytes.clamp(FEWEST_BYTES, MOST_BYTES) / page) as usize;
+    options.cache_pages = (cached_bytes(bytes) / page) as usize;
     options.spill_pages = (MOST_HELD / page) as usize;
     options.checkpoint_frames = (LOG_BYTES / page) as usize;
     Ok(options)
