@@ -231,7 +231,7 @@ fn timeouts(idle: u64, most: u64) -> Result<Timeouts, Down> {
 }
 
 /// A check over sockets: the moment of its replies, the reply that is due to each peer that reads it, and the line.
-#[derive(Drop)]
+#[derive(Clone, Copy)]
 pub struct Bout<'s> {
     pub line: usize,
     pub at: u64,

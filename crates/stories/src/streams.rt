@@ -18,7 +18,7 @@ const UNPRINTED: &[u8] =
     b"custody: not everything could be printed to standard output or standard error\n";
 
 /// Words, and what is due on the streams.
-#[derive(Drop)]
+#[derive(Clone, Copy)]
 pub struct Reported<'s> {
     line: usize,
     at: u64,

@@ -48,26 +48,14 @@ pub struct AllRows {
     tables: Vec<Vec<Row>>,
 }
 
-fn push_workspace<S: Alter>(
+fn push_tables<S: Alter>(
     tables: &mut Vec<Vec<Row>>,
     conn: &mut Connection<S>,
-    org: &str,
-    ws: &str,
+    queries: &[&str],
+    params: &[ValueRef<'_>],
 ) -> Result<(), Error> {
-    for sql in OF_WORKSPACE {
-        let rows = conn.query_all(sql, params![org, ws])?;
-        tables.push(rows)?;
-    }
-    Ok(())
-}
-
-fn push_organization<S: Alter>(
-    tables: &mut Vec<Vec<Row>>,
-    conn: &mut Connection<S>,
-    org: &str,
-) -> Result<(), Error> {
-    for sql in OF_ORGANIZATION {
-        let rows = conn.query_all(sql, params![org])?;
+    for sql in queries {
+        let rows = conn.query_all(sql, params)?;
         tables.push(rows)?;
     }
     Ok(())
@@ -79,8 +67,8 @@ fn push_all<S: Alter>(
     org: &str,
     ws: &str,
 ) -> Result<(), Error> {
-    push_workspace(tables, conn, org, ws)?;
-    push_organization(tables, conn, org)
+    push_tables(tables, conn, OF_WORKSPACE, params![org, ws])?;
+    push_tables(tables, conn, OF_ORGANIZATION, params![org])
 }
 
 /// All rows of a workspace and of its organization.

@@ -5,7 +5,7 @@
 use crate::all_rows::{
     AllRows, NAMES, ORGANIZATION, RUNS, VERSIONS, greatest, read_all_rows, row_of, text_at,
 };
-use crate::asks::{acts_on, making, numbers_about};
+use crate::asks::{PLACES, acts_on, making, number_about};
 use crate::callers::{Digest, add_digests, are_callers};
 use crate::keys::FirstByte;
 use crate::listed::{are_runs, are_versions, are_workspaces};
@@ -182,6 +182,25 @@ fn is_text<K: Keep>(
     }
 }
 
+// Whether the workspaces that a prefix admits are listed after this one, or from the first on.
+fn lists_after<K: Keep>(
+    alloc: Global,
+    keep: &mut K,
+    named: &Named,
+    all_rows: &AllRows,
+    after: Option<&WsName>,
+    prefix: &WsPrefix,
+) -> Result<bool, Down> {
+    let name = match after {
+        Some(ws) => ws.as_str(),
+        None => "",
+    };
+    match keep.workspaces(alloc, &named.org, after, prefix) {
+        Ok(list) => Ok(are_workspaces(all_rows, name, prefix, &list)),
+        Err(down) => Err(down),
+    }
+}
+
 // Whether the workspaces that a prefix admits are listed, from the first on and after the one that is named.
 fn lists_workspaces<K: Keep>(
     alloc: Global,
@@ -190,12 +209,10 @@ fn lists_workspaces<K: Keep>(
     all_rows: &AllRows,
     prefix: &WsPrefix,
 ) -> Result<bool, Down> {
-    let list = keep.workspaces(alloc, &named.org, None, prefix)?;
-    if !are_workspaces(all_rows, "", prefix, &list) {
+    if !lists_after(alloc, keep, named, all_rows, None, prefix)? {
         return Ok(false);
     }
-    let list = keep.workspaces(alloc, &named.org, Some(&named.ws), prefix)?;
-    Ok(are_workspaces(all_rows, named.ws.as_str(), prefix, &list))
+    lists_after(alloc, keep, named, all_rows, Some(&named.ws), prefix)
 }
 
 // The same with the prefix that admits all, and with the first letter of the workspace that is named.
@@ -222,8 +239,9 @@ fn has_texts<K: Keep>(
     named: &Named,
     all_rows: &AllRows,
 ) -> Result<bool, Down> {
-    for value in numbers_about(greatest(all_rows.rows(VERSIONS))) {
-        if let Some(number) = Number::new(value) {
+    let newest = greatest(all_rows.rows(VERSIONS));
+    for place in 0..PLACES {
+        if let Some(number) = Number::new(number_about(newest, place)) {
             if !is_text(alloc, keep, named, all_rows, number)? {
                 return Ok(false);
             }
@@ -238,9 +256,11 @@ fn has_versions<K: Keep>(
     named: &Named,
     all_rows: &AllRows,
 ) -> Result<bool, Down> {
-    for after in numbers_about(greatest(all_rows.rows(VERSIONS))) {
-        let list = keep.versions(alloc, &named.org, &named.ws, after.saturating_sub(1))?;
-        if !are_versions(all_rows, after.saturating_sub(1), &list) {
+    let newest = greatest(all_rows.rows(VERSIONS));
+    for place in 0..PLACES {
+        let after = number_about(newest, place).saturating_sub(1);
+        let list = keep.versions(alloc, &named.org, &named.ws, after)?;
+        if !are_versions(all_rows, after, &list) {
             return Ok(false);
         }
     }
@@ -253,9 +273,11 @@ fn has_runs<K: Keep>(
     named: &Named,
     all_rows: &AllRows,
 ) -> Result<bool, Down> {
-    for after in numbers_about(greatest(all_rows.rows(RUNS))) {
-        let list = keep.runs(alloc, &named.org, &named.ws, after.saturating_sub(1))?;
-        if !are_runs(all_rows, after.saturating_sub(1), &list) {
+    let last = greatest(all_rows.rows(RUNS));
+    for place in 0..PLACES {
+        let after = number_about(last, place).saturating_sub(1);
+        let list = keep.runs(alloc, &named.org, &named.ws, after)?;
+        if !are_runs(all_rows, after, &list) {
             return Ok(false);
         }
     }
@@ -282,18 +304,41 @@ fn compare_lists<K: Keep>(
     Err(Failure::refused(named.line, why))
 }
 
-// What a store says before a further workspace is created: how many there are, which it may remember, and the limit.
+fn is_room_for<K: Keep>(
+    alloc: Global,
+    keep: &mut K,
+    named: &Named,
+    all_rows: &AllRows,
+    ws: &WsName,
+    act: &Act,
+) -> Result<bool, Down> {
+    match keep.unit(alloc, &named.org, ws, act) {
+        Ok(unit) => Ok(is_unmade(all_rows, &unit)),
+        Err(down) => Err(down),
+    }
+}
+
+// Whether a store says before a further workspace is created what the rows say: how many there are, which it may remember, and
+// the limit.
+fn is_room<K: Keep>(
+    alloc: Global,
+    keep: &mut K,
+    named: &Named,
+    all_rows: &AllRows,
+) -> Result<bool, Down> {
+    match WsName::read(alloc, NO_WORKSPACE) {
+        Ok(ws) => is_room_for(alloc, keep, named, all_rows, &ws, &making()),
+        Err(_) => Err(Down),
+    }
+}
+
 fn compare_room<K: Keep>(
     alloc: Global,
     keep: &mut K,
     named: &Named,
     all_rows: &AllRows,
 ) -> Result<(), Failure> {
-    let Ok(ws) = WsName::read(alloc, NO_WORKSPACE) else {
-        return Err(Failure::from(Down));
-    };
-    let unit = keep.unit(alloc, &named.org, &ws, &making())?;
-    if is_unmade(all_rows, &unit) {
+    if is_room(alloc, keep, named, all_rows)? {
         return Ok(());
     }
     Err(Failure::refused(
@@ -318,19 +363,27 @@ fn compare_all<K: Keep>(
     compare_lists(alloc, keep, named, all_rows)
 }
 
-// All rows of a workspace in a store, which is closed, opened again and given back.
-fn rows_of<S: Alter + Drop, K: PageKey>(
-    alloc: Global,
-    keep: SqlKeep<S, K>,
-    named: &Named,
-) -> Result<(SqlKeep<S, K>, AllRows), Failure> {
-    let (line, org, ws) = (named.line, named.org.as_str(), named.ws.as_str());
-    let mut conn = keep.close();
-    let read = read_all_rows(alloc, line, &mut conn, org, ws);
-    let keep = reopened(line, conn)?;
-    match read {
-        Ok(all_rows) => Ok((keep, all_rows)),
-        Err(failure) => Err(failure),
+/// Reads all rows of a workspace in stores. Each call gives the store back.
+trait ReadsRows<K: Keep + Drop> {
+    fn rows_of(&self, alloc: Global, keep: K, named: &Named) -> Result<(K, AllRows), Failure>;
+}
+
+impl<S: Alter + Drop, K: PageKey> ReadsRows<SqlKeep<S, K>> for Sql {
+    // The store is closed, and opened again.
+    fn rows_of(
+        &self,
+        alloc: Global,
+        keep: SqlKeep<S, K>,
+        named: &Named,
+    ) -> Result<(SqlKeep<S, K>, AllRows), Failure> {
+        let (line, org, ws) = (named.line, named.org.as_str(), named.ws.as_str());
+        let mut conn = keep.close();
+        let read = read_all_rows(alloc, line, &mut conn, org, ws);
+        let keep = reopened(line, conn)?;
+        match read {
+            Ok(all_rows) => Ok((keep, all_rows)),
+            Err(failure) => Err(failure),
+        }
     }
 }
 
@@ -354,15 +407,6 @@ fn other_than(alloc: Global, named: &Named, all_rows: &AllRows) -> Option<Named>
     }
 }
 
-/// A store that is never closed, and one that took the same steps, whose rows are read; with the digests of all tokens that these
-/// had.
-#[derive(Drop)]
-struct Pair<K> {
-    open: K,
-    read: K,
-    digests: Vec<Digest>,
-}
-
 // Compares the tokens that a store finds, also by the digests of those that are gone.
 fn compare_callers<K: Keep>(
     alloc: Global,
@@ -378,88 +422,74 @@ fn compare_callers<K: Keep>(
     Err(Failure::refused(named.line, "a token differs from the rows"))
 }
 
-// Compares the open store with the rows of the other one. If the named workspace does not exist, so is the first one that does.
-fn compared<S: Alter + Drop, K: PageKey>(
+// Compares the open store with the rows of the other one, which is given back. If the named workspace does not exist, so is the
+// first one that does.
+fn compared<K: Keep + Drop, R: ReadsRows<K>>(
     alloc: Global,
-    pair: Pair<SqlKeep<S, K>>,
+    reads: &R,
+    open: &mut K,
+    read: K,
+    digests: &mut Vec<Digest>,
     named: &Named,
-) -> Result<Pair<SqlKeep<S, K>>, Failure> {
-    let Pair {
-        open,
-        read,
-        digests,
-    } = pair;
-    let (mut open, mut digests) = (open, digests);
-    let (read, all_rows) = rows_of(alloc, read, named)?;
-    compare_callers(alloc, &mut open, named, &all_rows, &mut digests)?;
-    compare_all(alloc, &mut open, named, &all_rows)?;
+) -> Result<K, Failure> {
+    let (read, all_rows) = reads.rows_of(alloc, read, named)?;
+    compare_callers(alloc, open, named, &all_rows, digests)?;
+    compare_all(alloc, open, named, &all_rows)?;
     match other_than(alloc, named, &all_rows) {
-        Some(other) => {
-            let (read, all_rows) = rows_of(alloc, read, &other)?;
-            compare_all(alloc, &mut open, &other, &all_rows)?;
-            Ok(Pair {
-                open,
-                read,
-                digests,
-            })
-        }
-        None => Ok(Pair {
-            open,
-            read,
-            digests,
-        }),
+        Some(other) => compared_other(alloc, reads, open, read, &other),
+        None => Ok(read),
     }
 }
 
-// Takes steps over both.
-fn both_taken<K: Keep + Drop>(
+fn compared_other<K: Keep + Drop, R: ReadsRows<K>>(
     alloc: Global,
-    pair: Pair<K>,
-    play: &Play,
-    from: usize,
-    to: usize,
-) -> Result<Pair<K>, Failure> {
-    let Pair {
-        open,
-        read,
-        digests,
-    } = pair;
-    let open = taken_to(alloc, open, EACH, play, from, to)?;
-    let read = taken_to(alloc, read, EACH, play, from, to)?;
-    Ok(Pair {
-        open,
-        read,
-        digests,
-    })
+    reads: &R,
+    open: &mut K,
+    read: K,
+    other: &Named,
+) -> Result<K, Failure> {
+    let (read, all_rows) = reads.rows_of(alloc, read, other)?;
+    compare_all(alloc, open, other, &all_rows)?;
+    Ok(read)
 }
 
-fn compare_behind_each<S: Alter + Drop, K: PageKey>(
+// Takes steps over a store that is never closed, and over one whose rows are read.
+fn compare_behind_each<K: Keep + Drop, R: ReadsRows<K>>(
     alloc: Global,
-    pair: Pair<SqlKeep<S, K>>,
+    reads: &R,
+    open: K,
+    read: K,
     play: &Play,
 ) -> Result<(), Failure> {
-    let mut pair = both_taken(alloc, pair, play, 0, play.own)?;
+    let mut open = taken_to(alloc, open, EACH, play, 0, play.own)?;
+    let mut read = taken_to(alloc, read, EACH, play, 0, play.own)?;
+    // Of all tokens that they had.
+    let mut digests = Vec::new(alloc);
     for index in play.own..play.steps.len() {
-        pair = both_taken(alloc, pair, play, index, index.saturating_add(1))?;
+        let next = index.saturating_add(1);
+        open = taken_to(alloc, open, EACH, play, index, next)?;
+        read = taken_to(alloc, read, EACH, play, index, next)?;
         if let Some(named) = changed_by(alloc, play, index) {
-            pair = compared(alloc, pair, &named)?;
+            read = compared(alloc, reads, &mut open, read, &mut digests, &named)?;
         }
     }
     Ok(())
 }
 
+fn run_over<K: Keep + Drop, T: Makes<K> + ReadsRows<K>>(
+    alloc: Global,
+    tables: &T,
+    play: &Play,
+) -> Result<(), Failure> {
+    let open: K = tables.made(alloc)?;
+    let read: K = tables.made(alloc)?;
+    compare_behind_each(alloc, tables, open, read, play)
+}
+
 /// Takes a story's steps over tables whose pages have their first byte as their key, and compares what the store says with all
 /// rows, after each of the story's own steps that may have changed some.
 pub fn run_beside(alloc: Global, play: &Play) -> Result<(), Failure> {
-    let open: TablesBy<FirstByte> = Sql.made(alloc)?;
-    let read: TablesBy<FirstByte> = Sql.made(alloc)?;
-    let digests = Vec::new(alloc);
-    let pair = Pair {
-        open,
-        read,
-        digests,
-    };
-    match compare_behind_each(alloc, pair, play) {
+    match run_over::<TablesBy<FirstByte>, Sql>(alloc, &Sql, play) {
         Ok(()) => Ok(()),
         Err(failure) => Err(failure.on(WAY)),
     }

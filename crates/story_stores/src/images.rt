@@ -14,24 +14,14 @@ const WAYS: &[&str] = &["written", "synced", "torn"];
 
 // Writes a file whose path ends so.
 fn write_at(rt: &HostRuntime, path: &str, end: &str, bytes: &[u8]) -> io::Result<()> {
-    let path = format!(in rt.alloc(); "{path}.{end}")?;
+    let path = format!(in rt.alloc(); "{path}{end}")?;
     fs::write(rt, path.as_str(), bytes)
 }
 
-fn write_pair(rt: &HostRuntime, path: &str, image: &Image) -> io::Result<()> {
-    write_at(rt, path, "db", image.db.as_slice())?;
-    write_at(rt, path, "db-wal", image.log.as_slice())
-}
-
-fn write_around(rt: &HostRuntime, path: &str, around: (&[u8], &[u8])) -> io::Result<()> {
-    let (before, after) = around;
-    write_at(rt, path, "before", before)?;
-    write_at(rt, path, "after", after)
-}
-
-fn write_way(rt: &HostRuntime, path: &str, way: &str, image: &Image) -> io::Result<()> {
+fn write_image(rt: &HostRuntime, path: &str, way: &str, image: &Image) -> io::Result<()> {
     let path = format!(in rt.alloc(); "{path}-{way}")?;
-    write_pair(rt, path.as_str(), image)
+    write_at(rt, path.as_str(), ".db", image.db.as_slice())?;
+    write_at(rt, path.as_str(), ".db-wal", image.log.as_slice())
 }
 
 fn write_each(
@@ -41,9 +31,10 @@ fn write_each(
     around: (&[u8], &[u8]),
 ) -> io::Result<()> {
     for (way, image) in WAYS.iter().zip(images.iter()) {
-        write_way(rt, path, way, image)?;
+        write_image(rt, path, way, image)?;
     }
-    write_around(rt, path, around)
+    write_at(rt, path, ".before", around.0)?;
+    write_at(rt, path, ".after", around.1)
 }
 
 fn write_all(

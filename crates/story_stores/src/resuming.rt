@@ -66,12 +66,13 @@ fn resume<K: Keep + Drop>(
 fn resume_inspected<K: Keep + Drop, L: Inspects<K>>(
     rt: &HostRuntime,
     inspects: &L,
+    name: &'static str,
     keep: K,
     play: &Play,
     records: &[Vec<u8>],
 ) -> Result<K, Failure> {
     let keep = taken_to(rt.alloc(), keep, Way::Replay, play, 0, play.own)?;
-    said(say_next(rt, LOOKED))?;
+    said(say_next(rt, name))?;
     let (keep, replayed) = replay_over(rt.alloc(), keep, play);
     let gave_up = replayed?;
     said_taken(rt, play, gave_up)?;
@@ -101,11 +102,40 @@ fn check_end<K: Keep + Drop, L: Inspects<K>>(
 }
 
 // The contents of the tables before each own step and after the last.
-fn records_by<K: PageKey>(alloc: Global, play: &Play) -> Result<Vec<Vec<u8>>, Failure> {
-    let keep: TablesBy<K> = Sql.made(alloc)?;
+fn records_over<K: Keep + Drop, T: Makes<K> + Inspects<K>>(
+    alloc: Global,
+    tables: &T,
+    play: &Play,
+) -> Result<Vec<Vec<u8>>, Failure> {
+    let keep: K = tables.made(alloc)?;
     let keep = taken_to(alloc, keep, Way::Replay, play, 0, play.own)?;
-    let (_keep, records) = records_of(alloc, &Sql, keep, play, Way::Exchange(ALL), true)?;
+    let (_keep, records) = records_of(alloc, tables, keep, play, Way::Exchange(ALL), true)?;
     Ok(records)
+}
+
+fn records_by<K: PageKey>(alloc: Global, play: &Play) -> Result<Vec<Vec<u8>>, Failure> {
+    records_over::<TablesBy<K>, Sql>(alloc, &Sql, play)
+}
+
+// Whether the tables are inspected where the replay gave up, too.
+fn resume_over_tables<K: Keep + Drop, T: Makes<K> + Inspects<K>>(
+    rt: &HostRuntime,
+    tables: &T,
+    name: &'static str,
+    play: &Play,
+    records: &[Vec<u8>],
+    is_inspected: bool,
+) -> Result<(), Failure> {
+    let keep: K = tables.made(rt.alloc())?;
+    let resumed = if is_inspected {
+        resume_inspected(rt, tables, name, keep, play, records)
+    } else {
+        resume(rt, name, keep, play)
+    };
+    match resumed {
+        Ok(keep) => check_end(rt.alloc(), tables, keep, play, records),
+        Err(failure) => Err(failure),
+    }
 }
 
 fn resume_by<K: PageKey>(
@@ -113,24 +143,11 @@ fn resume_by<K: PageKey>(
     name: &'static str,
     play: &Play,
     records: &[Vec<u8>],
+    is_inspected: bool,
 ) -> Result<(), Failure> {
-    let keep: TablesBy<K> = Sql.made(rt.alloc())?;
-    let keep = resume(rt, name, keep, play)?;
-    match check_end(rt.alloc(), &Sql, keep, play, records) {
+    match resume_over_tables::<TablesBy<K>, Sql>(rt, &Sql, name, play, records, is_inspected) {
         Ok(()) => Ok(()),
         Err(failure) => Err(failure.on(name)),
-    }
-}
-
-fn inspect_by<K: PageKey>(
-    rt: &HostRuntime,
-    play: &Play,
-    records: &[Vec<u8>],
-) -> Result<(), Failure> {
-    let keep: TablesBy<K> = Sql.made(rt.alloc())?;
-    match resume_inspected(rt, &Sql, keep, play, records) {
-        Ok(keep) => check_end(rt.alloc(), &Sql, keep, play, records),
-        Err(failure) => Err(failure.on(LOOKED)),
     }
 }
 
@@ -141,7 +158,13 @@ pub fn run_resumed(rt: &HostRuntime, play: &Play) -> Result<(), Failure> {
     let by_sha = records_by::<ShaKey>(alloc, play)?;
     let by_first = records_by::<FirstByte>(alloc, play)?;
     resume(rt, "values", PlainKeep::new(alloc), play)?;
-    resume_by::<ShaKey>(rt, "tables", play, by_sha.as_slice())?;
-    resume_by::<FirstByte>(rt, "tables by first bytes", play, by_first.as_slice())?;
-    inspect_by::<FirstByte>(rt, play, by_first.as_slice())
+    resume_by::<ShaKey>(rt, "tables", play, by_sha.as_slice(), false)?;
+    resume_by::<FirstByte>(
+        rt,
+        "tables by first bytes",
+        play,
+        by_first.as_slice(),
+        false,
+    )?;
+    resume_by::<FirstByte>(rt, LOOKED, play, by_first.as_slice(), true)
 }

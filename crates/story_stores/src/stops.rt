@@ -210,10 +210,8 @@ fn run_from(
     records: &Records,
     counts: &mut Counts,
 ) -> Result<(), Failure> {
-    for is_log in [true, false] {
-        cut_each(rt, play, image, records, is_log, counts)?;
-    }
-    Ok(())
+    cut_each(rt, play, image, records, true, counts)?;
+    cut_each(rt, play, image, records, false, counts)
 }
 
 /// Tells a story's own steps over files in memory whose power is cut at each call of the one and of the other.
