@@ -10,6 +10,7 @@
 // what is sent or printed, `listens MODE NAME` for a Unix socket that begins to listen, with the mode at its path. NAME is how the system names the descriptor, without its folders.
 // FAILS=FILE: each sync fails as long as FILE exists. With ONCE=NUMBER only the sync of this number fails, from 1 on, and removes FILE.
 // FULL=FILE: a write at a place finds no room on the disk as long as FILE exists.
+// UNSEEN=FILE: each look at a path fails for want of memory of the system as long as FILE exists.
 // REFUSED='CALL NUMBER': each CALL fails by this number of errno: `open` (of a database, to be written), `pwrite`, or `bind`.
 #define _GNU_SOURCE
 #include <dlfcn.h>
@@ -92,6 +93,15 @@ int open(const char *path, int flags, ...) {
   mode_t mode = flags & O_CREAT ? va_arg(rest, mode_t) : 0;
   va_end(rest);
   return real(path, flags, mode);
+}
+
+int statx(int folder, const char *restrict path, int flags, unsigned mask, struct statx *restrict found) {
+  REAL(statx);
+  if (*path && exists("UNSEEN")) {
+    errno = ENOMEM;
+    return -1;
+  }
+  return real(folder, path, flags, mask, found);
 }
 
 int bind(int socket, const struct sockaddr *address, socklen_t length) {

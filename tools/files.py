@@ -12,7 +12,7 @@ comes back by a dump. A write without room shuts no store; a fault of the disk t
 that its change may have been made (calls.c makes one). A change is synced before its reply, and the log and the file before the
 other is written (calls.c tells that). Bodies of any size are answered, and the greatest value of each column is read as it was stored, by
 the program or by sqlite3. The log is copied into the file behind the reply to a state that fills it, and a service killed meanwhile has lost
-nothing. What damage does is looked at by flips.py. It prints a line for each thing that holds, and ends with status 1 at the
+nothing. A service whose file or log is moved, removed or replaced ends before it begins another exchange. What damage does is looked at by flips.py. It prints a line for each thing that holds, and ends with status 1 at the
 first that doesn't.
 """
 
@@ -27,9 +27,10 @@ import sqlite3
 import struct
 import subprocess
 import tempfile
+import threading
 import time
 
-from harness import ANSWERED_503, DISK, DOWN, IN_USE, LOG_ALONE, LOG_STAYS, NEW_FILE, NO_FOLDER, OLD_LOG, PATIENCE, PORT_TAKEN, SECRET_FORM, SMALL_FILES, UNCHANGED, UNFINISHED
+from harness import ANSWERED_503, DISK, DOWN, IN_USE, LOG_ALONE, LOG_STAYS, MOVED, NEW_FILE, NO_FOLDER, OLD_LOG, PATIENCE, PORT_TAKEN, SECRET_FORM, SMALL_FILES, UNCHANGED, UNFINISHED
 from harness import GET, MADE, PUT, Service, Wrong, bytes_of, compiled, free_port, look_at, ok, post, reply, request, said, small_files
 
 READABLE = b"custody: users other than its owner may read the file or its -wal: chmod 600 ends that\n"
@@ -877,6 +878,109 @@ def lists_in(program, folder):
     return found
 
 
+# The seconds for which a client posts states before the file goes.
+POSTED = 0.3
+
+
+def posts(service, acknowledged, serial):
+    """Posts states, each with the next serial, until one has no reply. Each acknowledged serial is added, with its moment."""
+    while True:
+        serial += 1
+        try:
+            came = service.asked(post(b'{"serial":%d}' % serial))
+        except OSError:
+            return
+        if not came:
+            return
+        said("a state under load", came, ok())
+        acknowledged.append((serial, time.monotonic()))
+
+
+def look_at_moved(program):
+    """A service whose file or log is moved, removed or replaced while states are posted: it ends, with the reason, and acknowledges nothing
+    from then on but the state that it was reading. What it acknowledged is in the file that it had opened, wherever that is now, unless it
+    was removed."""
+    folder = program.folder + "/moved"
+    path, log, away = folder + "/a.db", folder + "/a.db-wal", folder + "/away.db"
+
+    def is_replaced(old):
+        shutil.copy(old, folder + "/new")
+        os.rename(folder + "/new", old)
+
+    def is_linked():
+        os.rename(path, away)
+        os.symlink("away.db", path)
+
+    def leads_elsewhere():
+        shutil.copy(folder + "/real.db", folder + "/other.db")
+        os.symlink("other.db", folder + "/new")
+        os.rename(folder + "/new", path)
+
+    def is_emptied():
+        os.close(os.open(folder + "/new", os.O_CREAT | os.O_WRONLY, 0o600))
+        os.rename(folder + "/new", log)
+
+    # what is done; the name of the file in which everything is afterwards, if it is still somewhere
+    for what, done, left in [
+        ("the file is moved", lambda: os.rename(path, away), "moved/away.db"),
+        ("the file is removed", lambda: os.remove(path), None),
+        ("the file is replaced by a copy", lambda: is_replaced(path), None),
+        ("the file is moved, and a link put there", is_linked, "moved/away.db"),
+        ("the folder is moved", lambda: os.rename(folder, folder + "-away"), "moved-away/a.db"),
+        ("the link to the file leads to a copy", leads_elsewhere, "moved/real.db"),
+        ("the WAL is moved", lambda: os.rename(log, folder + "/away-wal"), "moved/a.db"),
+        ("the WAL is removed", lambda: os.remove(log), "moved/a.db"),
+        ("the WAL is replaced by an empty one", is_emptied, "moved/a.db"),
+        ("both are moved", lambda: (os.rename(path, away), os.rename(log, away + "-wal")), "moved/away.db"),
+    ]:
+        os.mkdir(folder)
+        filled(program, "moved/a.db")
+        if done is leads_elsewhere:
+            for end in ("", "-wal"):
+                os.rename(path + end, folder + "/real.db" + end)
+            os.symlink("real.db", path)
+        acknowledged = []
+        with Service(program, "moved/a.db", None) as service:
+            load = threading.Thread(target=posts, args=(service, acknowledged, len(TEXTS)))
+            load.start()
+            time.sleep(POSTED)
+            done()
+            gone = time.monotonic()
+            load.join(PATIENCE)
+            service.ends(3, b"refused down\n", MOVED)
+        late = sum(moment > gone for _, moment in acknowledged)
+        said("whether states were acknowledged before, and at most one since: %s" % what, (len(acknowledged) > late + 1, late < 2), (True, True))
+        if left:
+            said("no fault: %s" % what, program.run(["check", "--db", left])[:2], (0, b"ok\n" + counted(os.path.join(program.folder, left))))
+            with Service(program, left, 1) as service:
+                said("the newest state: %s" % what, service.asked(GET), ok(b'{"serial":%d}' % acknowledged[-1][0]))
+                service.ends()
+        print("right: %s under load: the service ends, and nothing that it acknowledged is missing%s" % (what, "" if left else ", but for what is deleted"))
+        for there in (folder, folder + "-away"):
+            shutil.rmtree(there, ignore_errors=True)
+
+
+def look_at_unseen(program):
+    """A service that cannot look at its files for want of memory goes on; one that nobody asks ends with the first that asks."""
+    filled(program, "unseen.db")
+    unseen = program.folder + "/unseen"
+    with Service(program, "unseen.db", None, env=dict(os.environ, LD_PRELOAD=compiled("calls", program.folder), UNSEEN=unseen)) as service:
+        open(unseen, "wb").close()
+        for serial in (3, 4):
+            said("a change while the files can't be looked at", service.asked(post(b'{"serial":%d}' % serial)), ok())
+        os.remove(unseen)
+        said("a read when they can", service.asked(GET), ok(b'{"serial":4}'))
+        os.rename(program.folder + "/unseen.db", program.folder + "/seen.db")
+        acknowledged = []
+        posts(service, acknowledged, 4)
+        said("what is acknowledged since the file was moved", acknowledged, [])
+        service.ends(3, b"refused down\n", MOVED)
+    with Service(program, "seen.db", 1) as service:
+        said("the newest state in the file that was moved", service.asked(GET), ok(b'{"serial":4}'))
+        service.ends()
+    print("right: files that can't be looked at are not moved, and of a moved one no further change is made")
+
+
 def look_at_unsynced(program):
     """A command, of whose calls that sync one fails, ends as it is due; or it tells that its change may have been made, where it may; and
     where it tells that no record changed, none did."""
@@ -982,4 +1086,4 @@ def look_at_synced(program):
 
 
 if __name__ == "__main__":
-    look_at(__doc__, look_at_modes, look_at_absent, look_at_lone_logs, look_at_old_logs, look_at_totals, look_at_sizes, look_at_greatest, look_at_pages, look_at_owners, look_at_makers, look_at_reasons, look_at_numbers, look_at_spoiled, look_at_full, look_at_half, look_at_memory, look_at_stack, look_at_salts, look_at_want, look_at_log, look_at_killed_behind, look_at_shut, look_at_unsynced, look_at_synced)
+    look_at(__doc__, look_at_modes, look_at_absent, look_at_lone_logs, look_at_old_logs, look_at_totals, look_at_sizes, look_at_greatest, look_at_pages, look_at_owners, look_at_makers, look_at_reasons, look_at_numbers, look_at_spoiled, look_at_full, look_at_half, look_at_memory, look_at_stack, look_at_salts, look_at_want, look_at_log, look_at_killed_behind, look_at_shut, look_at_moved, look_at_unseen, look_at_unsynced, look_at_synced)

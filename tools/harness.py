@@ -51,6 +51,7 @@ IN_USE = b"custody: another program has the file open\n"
 LEFT_EARLY = b"custody: connection %d: the peer closed the connection before its request was complete\n"
 LOG_ALONE = b"custody: the file is missing or empty, and the -wal beside it may hold changes: put the file back\n"
 LOG_STAYS = b"custody: the WAL could not be copied into the file: keep the file and its -wal together\n"
+MOVED = b"custody: the file at the path is gone or another one now, or its -wal is: put the right ones there before the next start\n"
 NEW_FILE = b"custody: there was no file at the path; a new one was created\n"
 NO_FOLDER = b"custody: the folder of the --db file does not exist\n"
 NO_SOCKET = b"custody: something else than a socket stands at the path of --socket\n"
@@ -76,7 +77,7 @@ BLAMES = re.compile(
 )
 BLAMELESS = re.compile(
     rb"^custody: (?:another program has the file open|no permission to .*|the path does not lead to a file.*|the folder of the --.* file does not exist"
-    rb"|there is no file at the path.*|the file is missing or empty.*|the -wal beside the file is older.*|the file is a database without.*|a rollback journal lies.*|the file is damaged.*"
+    rb"|there is no file at the path.*|the file is missing or empty.*|the -wal beside the file is older.*|the file at the path is gone.*|the file is a database without.*|a rollback journal lies.*|the file is damaged.*"
     rb"|the file is not a database.*|the port is in use|could not listen .*|another program answers at the socket|something else than a socket.*|the file's tables have faults.*"
     rb"|the --copied-to file does not hold.*|the tables of the --copied-to file have faults.*)$",
     re.M,

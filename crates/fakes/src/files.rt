@@ -5,7 +5,7 @@ ghost use Rattle.fakes.specs.Files.{IsKeptStore};
 ghost use Rattle.program.specs.declared.reasons.Cause.TheVariants as cause;
 ghost use Rattle.program.specs.declared.reasons.OpenFault.TheVariants as fault;
 
-use basis::{Bytes, Down, Items, OrgName, Text};
+use basis::{Bytes, Down, Items, Moment, OrgName, Text};
 use machine::{AdminAnswer, Keep, PlainKeep};
 use program::environment::{CopyTask, Files, Opening};
 use program::reasons::{Cause, OpenFault};
@@ -36,6 +36,8 @@ pub struct MemoryFile<'a> {
     pub keeps_log: bool,
     /// Whether others than its owner may read the file.
     pub is_readable: bool,
+    /// The moment, in seconds since 1970, from which on the file is no longer at its path, if it is moved.
+    pub moved: Option<u64>,
     /// What a check for faults finds: a line for each.
     pub faults: Vec<&'a str>,
 }
@@ -62,6 +64,7 @@ impl<'a> MemoryFile<'a> {
             store: None,
             keeps_log: false,
             is_readable: false,
+            moved: None,
             faults: Vec::new(alloc),
         }
     }
@@ -91,6 +94,9 @@ impl Files<PlainKeep> for MemoryFile<'_> {
 
     // A store in memory is never shut.
     ghost shuts = { λ store said after. (said ≡ Ok false) × (after ≡ store) };
+
+    // A definition without a value of the type can't name the field that says when it is moved.
+    ghost places = { λ _ _. ⊤ };
 
     // It has no WAL.
     ghost checkpoints = { λ store after. after ≡ store };
@@ -129,6 +135,13 @@ impl Files<PlainKeep> for MemoryFile<'_> {
 
     fn is_shut(&self, _store: &mut PlainKeep) -> Result<bool, Down> {
         Ok(false)
+    }
+
+    fn is_in_place(&self, at: Moment) -> bool {
+        match self.moved {
+            Some(moved) => at.seconds() < moved,
+            None => true,
+        }
     }
 
     fn checkpoint(&self, _store: &mut PlainKeep) -> Result<(), Down> {

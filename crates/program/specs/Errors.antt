@@ -3,7 +3,7 @@ use Rattle.std.specs.Prelude.{◌++◌, ℕ, List, [], ◌∷◌, Bool, true, fa
 use Rattle.serve.specs.declared.exchanges.LinkFault.{LinkFault}
 use Rattle.serve.specs.declared.exchanges.LinkFault.TheVariants.{Ended, Read, Continue, Write}
 use Rattle.program.specs.declared.reasons.Cause.{Cause}
-use Rattle.program.specs.declared.reasons.Cause.TheVariants.{InUse, NotPermitted, NoFile, NoFolder, NoTargetFolder, Missing, LogAlone, OldLog, NoTables, Journal, Corrupt, Unsound, NoRoom, NoMemory, Disk, Store, Unfinished, Shut, Halted, Unknown, Input, PortTaken, PortNotPermitted, Port, SocketTaken, NoSocket, SocketNotPermitted, Socket, Accept, Clock, Log, Faults, SourceFaults, CopyFaults, NotCopied, Encoding, NoNull}
+use Rattle.program.specs.declared.reasons.Cause.TheVariants.{InUse, NotPermitted, NoFile, NoFolder, NoTargetFolder, Missing, LogAlone, OldLog, NoTables, Journal, Corrupt, Unsound, NoRoom, NoMemory, Disk, Store, Unfinished, Shut, Halted, Unknown, Input, PortTaken, PortNotPermitted, Port, SocketTaken, NoSocket, SocketNotPermitted, Socket, Accept, Clock, Log, Moved, Faults, SourceFaults, CopyFaults, NotCopied, Encoding, NoNull}
 use Rattle.program.specs.declared.reasons.OtherSchema.{OtherSchema}
 use Rattle.program.specs.declared.reasons.OtherSchema.TheVariants.{Older, Version, Unversioned}
 use Rattle.program.specs.Streams.{Reported, Reports}
@@ -83,6 +83,7 @@ cause_line Socket = codes "custody: could not listen at the socket: its folder m
 cause_line Accept = codes "custody: a connection could not be accepted\n"
 cause_line Clock = codes "custody: the clock could not be read, or it is out of range\n"
 cause_line Log = codes "custody: the exchange log could not be written, so the service stops\n"
+cause_line Moved = codes "custody: the file at the path is gone or another one now, or its -wal is: put the right ones there before the next start\n"
 cause_line Faults = codes "custody: the file's tables have faults, so the service does not start:\n"
 cause_line SourceFaults = codes "custody: the file's tables have faults, so nothing is copied:\n"
 cause_line CopyFaults = codes "custody: the tables of the --copied-to file have faults, so nothing is removed:\n"

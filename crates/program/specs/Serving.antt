@@ -60,11 +60,13 @@ pub record State (N C K : Type 0) : Type 0 where
 abbrev pub state : {N C K : Type 0} → N → C → K → Reported → Option (List ℕ) → State N C K
 state network clock store errors output = record { network = network; clock = clock; store = store; errors = errors; output = output }
 
--- no connection is accepted with these timeouts, or the clock has no time for it, for this cause: the network and the clock before and after
-abbrev pub AcceptsNone : {N C R W : Type 0} → connections.Ghosts N R W → clock.Ghosts C → Timeouts → N → N → C → C → Cause → Type 0
-AcceptsNone {N} {C} {R} {W} n c timeouts network network' clock clock' why =
+-- no connection is accepted with these timeouts, or the clock has no time for it, or at that time the files are no longer at their path, for
+-- this cause: the network and the clock before and after
+abbrev pub AcceptsNone : {K F N C R W : Type 0} → files.Ghosts F K → connections.Ghosts N R W → clock.Ghosts C → Timeouts → N → N → C → C → Cause → Type 0
+AcceptsNone {K} {F} {N} {C} {R} {W} f n c timeouts network network' clock clock' why =
     ((refused : Down) × n.accepts network timeouts (Err refused) network' × (clock' ≡ clock) × (why ≡ cause.Accept))
-    ⊎ ((reader : R) × (writer : W) × n.accepts network timeouts (Ok (reader, writer)) network' × c.reports clock None clock' × (why ≡ cause.Clock))
+    ⊎ (((reader : R) × (writer : W) × n.accepts network timeouts (Ok (reader, writer)) network' × c.reports clock None clock' × (why ≡ cause.Clock))
+    ⊎ ((reader : R) × (writer : W) × (at : ℕ) × n.accepts network timeouts (Ok (reader, writer)) network' × c.reports clock (Some at) clock' × f.places at false × (why ≡ cause.Moved)))
 
 module _ {K N R W : Type 0} (k : keep.Ghosts K) (n : connections.Ghosts N R W) (i : inlet.Ghosts R) (o : outlet.Ghosts W) where
   -- the connection of this number, with these two sides, is answered by one exchange at this time. Whether it got the 503 of a failed
@@ -104,10 +106,12 @@ module _ {K N C R W : Type 0} (k : keep.Ghosts K) (n : connections.Ghosts N R W)
     pub answers : AnswersOne k n i o terms connection at is_down is_logged reader writer network new.network old.store new.store old.errors new.errors old.output new.output
 
 module _ {K F N C R W : Type 0} (k : keep.Ghosts K) (f : files.Ghosts F K) (n : connections.Ghosts N R W) (c : clock.Ghosts C) (i : inlet.Ghosts R) (o : outlet.Ghosts W) where
-  -- a connection is answered in this way, and then the store is looked after; whether a disk error has closed it is then known
+  -- the files are at their path, a connection is answered in this way, and then the store is looked after; whether a disk error has closed it is
+  -- then known
   pub record AnswersNext (terms : Terms) (connection at : ℕ) (is_shut is_logged : Bool) (old new : State N C K) : Type 0 where
     pub is_down : Bool
     pub store : K
+    pub placed : f.places at true
     pub answers : Answers k n c i o terms connection at is_down is_logged old (state new.network new.clock store new.errors new.output)
     pub after_reply : AfterReply k f is_down store is_shut new.store
 
@@ -117,15 +121,16 @@ module _ {K F N C R W : Type 0} (k : keep.Ghosts K) (f : files.Ghosts F K) (n : 
   AnswersAll terms connection [] old new = new ≡ old
   AnswersAll terms connection (at ∷ moments) old new = (mid : State N C K) × AnswersNext terms connection at false true old mid × AnswersAll terms (suc connection) moments mid new
 
-  -- no further connection is accepted, for this cause: an accept or the clock failed; or one more was answered, that of this number, and a
-  -- disk error has closed the store, or it has not and the log's line was not taken
+  -- no further connection is answered, for this cause: an accept or the clock failed, or the files were no longer at their path, and nothing
+  -- else changed; or one more was answered, that of this number, and a disk error has closed the store, or it has not and the log's line was
+  -- not taken
   abbrev pub EndsEarly : Terms → ℕ → State N C K → State N C K → Cause → Type 0
   EndsEarly terms connection last new why =
-      (AcceptsNone n c terms.timeouts last.network new.network last.clock new.clock why × (new.store ≡ last.store) × (new.errors ≡ last.errors) × (new.output ≡ last.output))
+      (AcceptsNone f n c terms.timeouts last.network new.network last.clock new.clock why × (new.store ≡ last.store) × (new.errors ≡ last.errors) × (new.output ≡ last.output))
       ⊎ (((at : ℕ) × (is_logged : Bool) × AnswersNext terms connection at true is_logged last new × (why ≡ cause.Shut))
       ⊎ ((at : ℕ) × AnswersNext terms connection at false false last new × (why ≡ cause.Log)))
 
-  -- the line with the site is printed, then this many connections are answered; or fewer, because no further one is accepted, and the error
+  -- the line with the site is printed, then this many connections are answered; or fewer, because no further one is, and the error
   -- stream gets the cause; or none, because the line could not be printed
   abbrev pub AnswersCount : Site → Terms → ℕ → State N C K → State N C K → Exit → Type 0
   AnswersCount site terms count old new exit.Done =
@@ -165,10 +170,10 @@ module _ {K F N C R W : Type 0} (k : keep.Ghosts K) (f : files.Ghosts F K) (n : 
   ServesAll terms connection [] old new = new ≡ old
   ServesAll terms connection (e ∷ es) old new = (mid : State N C K) × ServesNext terms connection e false true old mid × ServesAll terms (suc connection) es mid new
 
-  -- no further connection is accepted, for this cause, as `EndsEarly` says, and these are the exchanges since: none, or one
+  -- no further connection is answered, for this cause, as `EndsEarly` says, and these are the exchanges since: none, or one
   abbrev pub EndsServed : Terms → ℕ → List Exchange → State N C K → State N C K → Cause → Type 0
   EndsServed terms connection es last new why =
-      ((es ≡ []) × AcceptsNone n c terms.timeouts last.network new.network last.clock new.clock why × (new.store ≡ last.store) × (new.errors ≡ last.errors) × (new.output ≡ last.output))
+      ((es ≡ []) × AcceptsNone f n c terms.timeouts last.network new.network last.clock new.clock why × (new.store ≡ last.store) × (new.errors ≡ last.errors) × (new.output ≡ last.output))
       ⊎ (((e : Exchange) × (is_logged : Bool) × (es ≡ e ∷ []) × ServesNext terms connection e true is_logged last new × (why ≡ cause.Shut))
       ⊎ ((e : Exchange) × (es ≡ e ∷ []) × ServesNext terms connection e false false last new × (why ≡ cause.Log)))
 

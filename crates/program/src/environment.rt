@@ -97,6 +97,9 @@ pub trait Files<K: Keep> {
     // Finds out whether a disk error has closed a store: the store before and after.
     ghost shuts: { K → Result Bool AnyDown → K → Type 0 };
 
+    // Finds out, at a moment, whether the files of the open store are still at its path.
+    ghost places: { ℕ → Bool → Type 0 };
+
     // Copies a long WAL of a store into its file: the store before and after.
     ghost checkpoints: { K → K → Type 0 };
 
@@ -140,6 +143,11 @@ pub trait Files<K: Keep> {
     fn is_shut(&self, store: &mut K) -> Result<bool, Down>
         ensures reported { shuts store.old result store.new }
         ensures unchanged { Unchanged K.rows K.clean K.sound K.keyed K.shielded store.old store.new };
+
+    /// Whether the file of the store that was opened first and its WAL are still at its path, at this moment: neither was moved,
+    /// removed or replaced. What cannot be found out counts as in place.
+    fn is_in_place(&self, at: Moment) -> bool
+        ensures { places at result };
 
     /// Checkpoints a long WAL: copies it into its file, so that the next change does not have to. No record of a sound store
     /// changes. Fails if an allocation or the store fails.

@@ -62,6 +62,8 @@ pub enum Cause {
     Clock,
     /// A line of the exchange log could not be written completely.
     Log,
+    /// The file of the open store or its WAL was moved, removed or replaced.
+    Moved,
     /// The file's tables have faults.
     Faults,
     /// The tables of the file to copy from have faults.
@@ -136,6 +138,9 @@ impl Cause {
             Cause::Clock => "custody: the clock could not be read, or it is out of range\n",
             Cause::Log => {
                 "custody: the exchange log could not be written, so the service stops\n"
+            }
+            Cause::Moved => {
+                "custody: the file at the path is gone or another one now, or its -wal is: put the right ones there before the next start\n"
             }
             Cause::Faults =>
                 "custody: the file's tables have faults, so the service does not start:\n",

@@ -163,28 +163,37 @@ fn print_listening<O: Write>(output: &mut O, address: Address<'_>) -> io::Result
     output.flush()
 }
 
-fn accept<N: Connections, C: Clock>(
+// Accepts a connection, reads the clock, and looks whether the files are still at their path: otherwise the connection is closed
+// unread, because what its exchange changed would be missing after the next start.
+fn accept<K: Keep, F: Files<K>, N: Connections, C: Clock>(
+    files: &F,
     network: &mut N,
     timeouts: &Timeouts,
     clock: &mut C,
 ) -> Result<(N::Reader, N::Writer, Moment), Cause>
     ensures sound { IfOk result (λ found. (N.Reader.broken found.0 ≡ false) × (N.Writer.broken found.1 ≡ false)) }
     ensures accepted { IfOk result (λ found. N.accepts network.old timeouts.now (Ok (found.0, found.1)) network.new × C.reports clock.old (Some found.2) clock.new) }
-    ensures refused { IfErr result (AcceptsNone N.Connections C.Clock timeouts.now network.old network.new clock.old clock.new) }
+    ensures placed { IfOk result (λ found. F.places found.2 true) }
+    ensures refused { IfErr result (AcceptsNone F.Files N.Connections C.Clock timeouts.now network.old network.new clock.old clock.new) }
 {
     let (reader, writer) = match network.accept(timeouts) {
         Ok(sides) => sides,
         Err(_) => return Err(Cause::Accept),
     };
-    match clock.now() {
-        Some(now) => Ok((reader, writer, now)),
-        None => Err(Cause::Clock),
+    let Some(now) = clock.now() else {
+        return Err(Cause::Clock);
+    };
+    if files.is_in_place(now) {
+        Ok((reader, writer, now))
+    } else {
+        Err(Cause::Moved)
     }
 }
 
 // Accepts the next connection, answers it and ends it. Returns whether the log line was taken.
-fn answer_next<K: Keep, N: Connections, C: Clock, O: Write, E: ErrorStream>(
+fn answer_next<K: Keep, F: Files<K>, N: Connections, C: Clock, O: Write, E: ErrorStream>(
     alloc: Global,
+    files: &F,
     network: &mut N,
     terms: &Terms,
     service: &mut Service<K>,
@@ -194,10 +203,11 @@ fn answer_next<K: Keep, N: Connections, C: Clock, O: Write, E: ErrorStream>(
     errors: &mut E,
 ) -> Result<bool, Cause>
     ensures lasts { Lasts K.clean K.sound K.keyed K.shielded service.old.keep service.new.keep }
-    ensures answers { IfOk result (λ is_logged. (at : ℕ) × Answers K.Keep N.Connections C.Clock N.Reader.Inlet N.Writer.Outlet terms.now connection at service.new.was_down is_logged (state network.old clock.old service.old.keep (E.reported errors.old) (O.contents output.old)) (state network.new clock.new service.new.keep (E.reported errors.new) (O.contents output.new))) }
-    ensures refused { IfErr result (λ cause. AcceptsNone N.Connections C.Clock terms.now.timeouts network.old network.new clock.old clock.new cause × (service.new.keep ≡ service.old.keep) × (E.reported errors.new ≡ E.reported errors.old) × (O.contents output.new ≡ O.contents output.old)) }
+    ensures answers { IfOk result (λ is_logged. (at : ℕ) × F.places at true × Answers K.Keep N.Connections C.Clock N.Reader.Inlet N.Writer.Outlet terms.now connection at service.new.was_down is_logged (state network.old clock.old service.old.keep (E.reported errors.old) (O.contents output.old)) (state network.new clock.new service.new.keep (E.reported errors.new) (O.contents output.new))) }
+    ensures refused { IfErr result (λ cause. AcceptsNone F.Files N.Connections C.Clock terms.now.timeouts network.old network.new clock.old clock.new cause × (service.new.keep ≡ service.old.keep) × (E.reported errors.new ≡ E.reported errors.old) × (O.contents output.new ≡ O.contents output.old)) }
 {
-    let (reader, writer, now) = accept(network, &terms.timeouts, clock)?;
+    let (reader, writer, now) =
+        accept::<K, F, N, C>(files, network, &terms.timeouts, clock)?;
     Ok(serve_one(
         alloc, service, now, network, reader, writer, terms, connection, output, errors,
     ))
@@ -235,7 +245,7 @@ fn serve_next<K: Keep, F: Files<K>, N: Connections, C: Clock, O: Write, E: Error
     ensures refused { IfErr result (EndsEarly K.Keep F.Files N.Connections C.Clock N.Reader.Inlet N.Writer.Outlet terms.now connection (state network.old clock.old service.old.keep (E.reported errors.old) (O.contents output.old)) (state network.new clock.new service.new.keep (E.reported errors.new) (O.contents output.new))) }
 {
     let is_logged = answer_next(
-        alloc, network, terms, service, clock, connection, output, errors,
+        alloc, files, network, terms, service, clock, connection, output, errors,
     )?;
     if after_reply(files, service) {
         Err(Cause::Shut)
@@ -291,8 +301,8 @@ fn answer_all<K: Keep, F: Files<K>, N: Connections, C: Clock, O: Write, E: Error
 /// Prints the address, then answers this many connections, one after the other, each with one exchange. The network already
 /// listens there. A connection that ends in a link fault or a timeout still counts, and a line of the error stream
 /// reports it. A 503 for a failed allocation or store is reported, too. It stops, with a line that says why, if an accept fails,
-/// the clock is out of range, or a disk error has closed the store. If the terms have the log on, it prints one line per exchange
-/// to standard output, and stops if a line cannot be written completely.
+/// the clock is out of range, the store's files are no longer at their path, or a disk error has closed the store. If the terms
+/// have the log on, it prints one line per exchange to standard output, and stops if a line cannot be written completely.
 pub fn serve_loop<K: Keep, F: Files<K>, N: Connections, C: Clock, O: Write, E: ErrorStream>(
     alloc: Global,
     files: &F,

@@ -2,6 +2,7 @@
 use crate::programs::{Does, Left, answer_of, compare_left, split, words_of};
 use crate::streams::{Reported, break_streams};
 use basis::Moment;
+use basis::numbers::whole_number;
 use fakes::{MemoryFile, MemoryPeers, StandingClock};
 use program::replays::run_frames;
 use program::running::run_words;
@@ -145,6 +146,7 @@ impl<'s> Memory<'s> {
         };
         self.has_no_clock = false;
         self.file.keeps_log = false;
+        self.file.moved = None;
         self.file.faults = Vec::new(alloc);
         compare_got(alloc, due.as_slice(), &peers)?;
         Ok(Left {
@@ -196,12 +198,23 @@ impl<'s> Memory<'s> {
             self.file.faults.push(fault)?;
             return Ok(());
         }
+        if let Some(("place", from)) = what.split_once(' ') {
+            let Some(from) = whole_number(from) else {
+                return Err(Failure::from(
+                    head.unread("from which moment on the file is not at its path"),
+                ));
+            };
+            self.file.moved = Some(from);
+            return Ok(());
+        }
         match what {
             "clock" => self.has_no_clock = true,
             "log" => self.file.keeps_log = true,
             "output" => self.is_unflushed = true,
             _ => {
-                return Err(Failure::from(head.unread("a clock, a log, an output or tables break")));
+                return Err(Failure::from(head.unread(
+                    "a clock, a log, an output, a place or tables break",
+                )));
             }
         }
         Ok(())

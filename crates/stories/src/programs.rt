@@ -23,7 +23,7 @@ pub enum Does {
     IsAbsent,
     IsSame,
     Connects,
-    /// The clock, the log of the database or the output fails the next command, or its tables have a fault.
+    /// The clock, the log of the database or the output fails the next command, its file is moved, or its tables have a fault.
     Breaks,
     /// A file that cannot be read.
     Hides,
@@ -307,7 +307,7 @@ impl Files {
             Some((Does::Takes, port)) => self.take_port(rt, head, port),
             Some((Does::Runs, words)) => run_step(rt, head, words, parts),
             Some((Does::Connects | Does::Breaks, _)) => Err(Failure::from(head.unread(
-                "no file is made or looked at where peers connect, or a clock, a log, an output or tables break",
+                "no file is made or looked at where peers connect, or a clock, a log, an output, a place or tables break",
             ))),
             None => Err(Failure::from(head.unread(
                 "a story of the program has steps of the program alone",

@@ -28,7 +28,7 @@ use crate::old_logs::refuse_old;
 use crate::pairs::Pair;
 use crate::replays::replayed;
 use crate::tuning::{file_bytes, options};
-use basis::{Bytes, Down, OrgName};
+use basis::{Bytes, Down, Moment, OrgName};
 use machine::{AdminAnswer, Fault, Keep};
 use pages::ShaKey;
 use program::environment::{CopyTask, Files, Opening};
@@ -331,6 +331,9 @@ impl<S: Start> Files<FileKeep<S>> for DiskFiles<'_, S> {
     // A store is shut where its connection is, while its disk kept what it promised.
     ghost shuts = { λ store said after. ⟦<FileKeep<S> as Keep>⟧.clean after → IfOk said (λ is_shut. (file_state store.conn).is_open ≡ not is_shut) };
 
+    // Nothing ties a path to what is looked at there.
+    ghost places = { λ _ _. ⊤ };
+
     // What was written is counted, and no longer once a long log was copied. How long the log is, and where its pages lie, no
     // clause of the kit tells.
     ghost checkpoints = { λ old new. CopiesLog old.logged new.logged old new };
@@ -377,6 +380,14 @@ impl<S: Start> Files<FileKeep<S>> for DiskFiles<'_, S> {
 
     fn is_shut(&self, store: &mut FileKeep<S>) -> Result<bool, Down> {
         store.is_shut()
+    }
+
+    // Files that could not be looked at when they were opened count as in place.
+    fn is_in_place(&self, _at: Moment) -> bool {
+        match &self.first {
+            Some(first) => first.is_in_place(self.rt),
+            None => true,
+        }
     }
 
     fn checkpoint(&self, store: &mut FileKeep<S>) -> Result<(), Down> {
