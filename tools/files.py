@@ -471,12 +471,14 @@ LOCK_ID, LINEAGE, SERIAL, KEY, MESSAGE, NUMBER = "l" * 128, "n" * 256, 2**63 - 1
 LOCK_TEXT = sized(b'{"ID":"%s","Info":"' % LOCK_ID.encode(), b'"}', MOST_OTHERS)
 STATE = b'{"serial":%d,"lineage":"%s"}' % (SERIAL, LINEAGE.encode())
 
-# What sqlite3 sets in a copy, which no requests reach.
+# What sqlite3 sets in a copy, which no requests reach. No run may be missing, so only a file that `check` does not pass has the greatest
+# number of a run.
 SET = """
-    UPDATE ws SET next_version = %d, next_run = %d WHERE name = 'numbers';
+    UPDATE ws SET next_version = %d WHERE name = 'numbers';
     UPDATE version SET created = %d;
     UPDATE run SET created = %d;
-""" % (NUMBER, NUMBER, ENDS, ENDS)
+""" % (NUMBER, ENDS, ENDS)
+SET_RUN = "UPDATE ws SET next_run = %d WHERE name = 'numbers';" % NUMBER
 
 # Of each column, the greatest number or the most bytes that stand there. (`twin`, `uses` and `place` have no limit, or that of a state.)
 GREATEST = {
@@ -542,16 +544,18 @@ def greatest_read(numbers=()):
     ]
 
 
-# The last numbers, and that there is none behind them. What is made by requests has the moment of the clock.
-LAST_NUMBERS = [
-    ("GET", "workspaces/numbers", b"", workspace_shown("numbers", "run-%d" % NUMBER, version=NUMBER)),
-    ("GET", "versions/numbers/%d" % NUMBER, b"", b'{"serial":7}'),
-    ("GET", "versions/numbers", b"", listed(version_shown(NUMBER, b'{"serial":7}', 7, ""))),
-    ("GET", "runs/numbers", b"", listed(run_shown(NUMBER, "applying", "confirm"))),
-    ("GET", "runs/numbers/%d" % NUMBER, b"", run_shown(NUMBER, "applying", "confirm")),
-    ("POST", "state/numbers?ID=run-%d" % NUMBER, b'{"serial":8}', b'409 {"error":"limit"}'),
-    ("POST", "runs/numbers", b"", b'409 {"error":"limit"}'),
-]
+def last_numbers(run):
+    """What is read of the last version and of this run, and that no number follows the greatest. What requests made has the moment of the clock."""
+    is_last = [("POST", "runs/numbers", b"", b'409 {"error":"limit"}')] if run == NUMBER else []
+    return [
+        ("GET", "workspaces/numbers", b"", workspace_shown("numbers", "run-%d" % run, version=NUMBER)),
+        ("GET", "versions/numbers/%d" % NUMBER, b"", b'{"serial":7}'),
+        ("GET", "versions/numbers", b"", listed(version_shown(NUMBER, b'{"serial":7}', 7, ""))),
+        ("GET", "runs/numbers", b"", listed(run_shown(run, "applying", "confirm"))),
+        ("GET", "runs/numbers/%d" % run, b"", run_shown(run, "applying", "confirm")),
+        ("POST", "state/numbers?ID=run-%d" % run, b'{"serial":8}', b'409 {"error":"limit"}'),
+        *is_last,
+    ]
 
 
 def told_of(wrong, service, method, name, body):
@@ -583,8 +587,8 @@ def read_all(program, what, path, asked, words=()):
         raise Wrong("%s: %s" % (what, "; ".join(wrong)))
 
 
-def greatest(program, path):
-    """A file with the greatest values, and a copy that sqlite3 made, in which the next numbers and the moments are the greatest."""
+def greatest(program, path, run=1):
+    """A file with the greatest values, and a copy that sqlite3 made, in which the next version and the moments are the greatest, and the next run is this one."""
     for words, given in [
         (["org-add", "--db", path, "--limit", "100000", TEAM], b""),
         (["token-add", "--db", path, "--until", str(ENDS), "--prefix", LONG_NAME, TEAM, HOLDER, "admin"], SECRET_64 + b"\n"),
@@ -613,10 +617,10 @@ def greatest(program, path):
     _, dump = next(dumps_of(program.folder + "/" + path))
     copy = "set-" + path
     with contextlib.closing(sqlite3.connect(program.folder + "/" + copy, isolation_level=None)) as fresh:
-        fresh.executescript(dump + SET)
+        fresh.executescript(dump + SET + (SET_RUN if run == NUMBER else ""))
     os.chmod(program.folder + "/" + copy, 0o600)
     made = [("POST", "state/numbers", b'{"serial":7}', b"")]
-    made += [("POST", "runs/numbers" + step, b"", run_shown(NUMBER, *due)) for step, due in [("", ("planning", None)), ("/%d/actions/planned" % NUMBER, ("planned", "planned")), ("/%d/actions/confirm" % NUMBER, ("applying", "confirm"))]]
+    made += [("POST", "runs/numbers" + step, b"", run_shown(run, *due)) for step, due in [("", ("planning", None)), ("/%d/actions/planned" % run, ("planned", "planned")), ("/%d/actions/confirm" % run, ("applying", "confirm"))]]
     read_all(program, "the last numbers", copy, made)
     return copy
 
@@ -625,8 +629,11 @@ def look_at_greatest(program):
     """The greatest value of each column is stored, and read as it was: by requests, and with numbers and moments that sqlite3 set in a copy."""
     copy = greatest(program, "greatest.db")
     for words in ((), ("--check",)):
-        read_all(program, "the greatest values", copy, greatest_read(LAST_NUMBERS), words)
+        read_all(program, "the greatest values", copy, greatest_read(last_numbers(1)), words)
     said("no fault in them", program.run(["check", "--db", copy]), (0, b"ok\n" + counted(program.folder + "/" + copy), b""))
+    copy = greatest(program, "last-run.db", NUMBER)
+    read_all(program, "the greatest number of a run", copy, greatest_read(last_numbers(NUMBER)))
+    said("the runs before it are missing", program.run(["check", "--db", copy])[:2], (1, b"fault missing-run %s numbers 1\n" % TEAM.encode()))
     with contextlib.closing(sqlite3.connect("file:%s/%s?mode=ro&immutable=1" % (program.folder, copy), uri=True)) as database:
         for table, columns in GREATEST.items():
             for column, due in columns.items():

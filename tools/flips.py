@@ -310,6 +310,10 @@ MANY_WORKSPACES += "; " + many("INSERT INTO keeping SELECT 'acme', 'w' || n, 5 F
 # What is changed by SQL in a file whose tables are sound, and the lines that `check` tells then, each once for each row that breaks a
 # law, by the laws (tables/specs/Sound.antt); none where the open refuses the file, or a row can't be read.
 NET, APP, HELD = "org = 'acme' AND ws = 'net'", "org = 'acme' AND ws = 'app'", "org = 'beta' AND ws = 'app'"
+# Three runs, which ended, in a workspace that has none.
+RUNS = many("INSERT INTO run SELECT 'beta', 'net', n, 1, NULL, '', 0, 8, 6 FROM many", 3)
+RUNS += "; UPDATE ws SET next_run = 4 WHERE org = 'beta' AND name = 'net'"
+THEIR = "org = 'beta' AND ws = 'net'"
 BREAKS = [
     ("UPDATE version SET size = size + 1 WHERE %s AND number = 2" % NET, [b"text acme net 2"]),
     ("UPDATE version SET size = 1152921504606846976 WHERE %s AND number = 2" % NET, [b"text acme net 2"]),
@@ -352,8 +356,13 @@ BREAKS = [
     ("UPDATE run SET plan_only = 1 WHERE %s AND number = 1" % NET, [b"runs acme net 1"]),
     ("UPDATE run SET number = 0 WHERE %s AND number = 1" % NET, None),
     ("UPDATE run SET status = 9 WHERE %s AND number = 1" % NET, None),
-    ("DELETE FROM run WHERE %s AND number = 2" % HELD, [b"runs beta app -"]),
-    ("UPDATE run SET ws = 'nat' WHERE %s" % HELD, [b"ownerless beta nat 1", b"ownerless beta nat 2", b"runs beta app -"]),
+    ("DELETE FROM run WHERE %s AND number = 2" % HELD, [b"runs beta app -", b"missing-run beta app 2"]),
+    ("UPDATE run SET ws = 'nat' WHERE %s" % HELD, [b"ownerless beta nat 1", b"ownerless beta nat 2", b"runs beta app -", b"missing-run beta app 1"]),
+    ("DELETE FROM run", [b"runs acme net -", b"runs beta app -", b"missing-run acme net 1", b"missing-run beta app 1"]),
+    ("%s; DELETE FROM run WHERE %s" % (RUNS, THEIR), [b"missing-run beta net 1"]),
+    ("%s; DELETE FROM run WHERE %s AND number = 2" % (RUNS, THEIR), [b"missing-run beta net 2"]),
+    ("%s; DELETE FROM run WHERE %s AND number = 3" % (RUNS, THEIR), [b"missing-run beta net 3"]),
+    ("%s; UPDATE ws SET next_run = 9 WHERE org = 'beta' AND name = 'net'" % RUNS, [b"missing-run beta net 4"]),
     ("DELETE FROM bound WHERE org = 'acme'", [b"unbounded acme root -"]),
     ("UPDATE bound SET prefix = 'a b' WHERE org = 'acme'", [b"range acme root -"]),
     ("UPDATE bound SET until = -1 WHERE org = 'acme'", None),
@@ -368,7 +377,7 @@ BREAKS = [
     ("UPDATE org SET cap = 100001 WHERE name = 'beta'", None),
     ("INSERT INTO meta VALUES (1, 1)", [b"version - - -"]),
     ("UPDATE ws SET released = 'run-1' WHERE org = 'acme' AND name = 'net'", [b"unlawful acme net -"]),
-    ("UPDATE ws SET next_run = 4294967297 WHERE org = 'beta' AND name = 'net'", [b"unlawful beta net -"]),
+    ("UPDATE ws SET next_run = 4294967297 WHERE org = 'beta' AND name = 'net'", [b"unlawful beta net -", b"missing-run beta net 1"]),
     (MANY_WORKSPACES, [b"too-many acme - -"]),
     (many("INSERT INTO org SELECT 'Org' || n, 5 FROM many", 49), [b"range Org%d - -" % number for number in range(1, 50)]),
     (many("INSERT INTO org SELECT 'Org' || n, 5 FROM many", 50), [b"range Org%d - -" % number for number in range(1, 51)]),
@@ -441,6 +450,8 @@ def not_copied(program, what, name, why):
 def look_at_rows(program, plain):
     write(program, "sound.db", plain)
     said("check of sound tables", program.run(["check", "--db", "sound.db"])[:2], (0, b"ok\n" + counted(program.folder + "/sound.db")))
+    broken(program, "sound.db", plain, RUNS)
+    said("check of three runs more", program.run(["check", "--db", "sound.db"])[:2], (0, b"ok\n" + counted(program.folder + "/sound.db")))
     refused, most = 0, 0
     breaks = [(broken, (text,), line) for text, line in BREAKS] + [(with_twins, (table, text), None) for table, text in TWICE]
     for breaking, words, line in breaks:

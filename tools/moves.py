@@ -34,7 +34,7 @@ import tempfile
 
 import refusals
 import stories
-from files import LAST_NUMBERS, MISSING, TEAM, greatest, greatest_read, read_all
+from files import MISSING, TEAM, greatest, greatest_read, last_numbers, read_all
 from harness import DISK, IN_USE, LOG_ALONE, LOG_STAYS, NEW_FILE, UNFINISHED, Service, Wrong, bytes_of, compiled, look_at, request, said
 
 STORY = "a long history of two organizations that share texts"
@@ -552,7 +552,7 @@ def look_at_many_versions(program):
             if further:
                 said("how it goes on", [came.startswith(b"HTTP/1.1 200 ") for came in ask(program, new, [(b"acme", one) for one in further])], [True] * len(further))
             else:
-                read_all(program, "the greatest values behind " + copy[0], "copy.db", greatest_read(LAST_NUMBERS))
+                read_all(program, "the greatest values behind " + copy[0], "copy.db", greatest_read(last_numbers(1)))
             forget(new)
     print("right: org-copy and compact behind %d versions, and of the greatest value of each column" % VERSIONS)
     forget(*(program.folder + "/" + name for name in (path, "greatest.db", great)))

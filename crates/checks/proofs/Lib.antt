@@ -6,6 +6,7 @@ pub mod InTables
 pub mod JudgingLemmas
 pub mod KeyLemmas
 pub mod Lent
+pub mod MissingLemmas
 pub mod NumberLemmas
 pub mod PageKeys
 pub mod PlacesLemmas

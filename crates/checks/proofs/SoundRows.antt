@@ -6,6 +6,7 @@ use Rattle.tables.specs.Scans.{AreRowsOf, ArePagesKeyed}
 use Rattle.tables.specs.Sound.{IsSound}
 use Rattle.checks.specs.Judging.{Judges}
 use Rattle.checks.specs.Faults.{rows_of, OfRows, OfTables, IsFaultOf}
+use Rattle.checks.specs.Missing.{HasEveryRun}
 use Rattle.checks.specs.declared.found.Found.{Found}
 use Rattle.checks.specs.Inner.Counts.{AreFew}
 use Rattle.checks.specs.Inner.Places.{AreTextsSound}
@@ -77,7 +78,9 @@ module _ (key_of : List ℕ → List ℕ) (t : Tables) where
   texts_from s keyed = record { places = s.places; keyed = keyed; placed = s.placed; texts = s.texts }
 
   -- the checks at rows, and those at tables, look for what is promised
-  pub judges_sound : (rows : Rows) (x y z : Found) → AreRowsOf key_of t rows → Judges (OfRows rows) (AreRowsFit rows) x y → Judges (OfTables rows) (AreTextsSound key_of t × AreFew t.wss × AreLawfulWss t) y z → Judges (IsFaultOf rows) (IsSound t × ArePagesKeyed key_of t) x z
+  pub judges_sound : (rows : Rows) (x y z : Found) → AreRowsOf key_of t rows → Judges (OfRows rows) (AreRowsFit rows) x y → Judges (OfTables rows) (AreTextsSound key_of t × AreFew t.wss × AreLawfulWss t × HasEveryRun t) y z
+      → Judges (IsFaultOf rows) (IsSound t × ArePagesKeyed key_of t × HasEveryRun t) x z
   judges_sound rows x y z are one two =
-      judges_as x z (λ laws. (sound_to laws.0 laws.1.0 laws.1.1 laws.1.2, laws.1.0.keyed)) (λ laws. (rows_from laws.0, (texts_from laws.0 laws.1, rows_by_counts t laws.0.wss_apart laws.0.wss_owned laws.0.counts, rows_by_name t laws.0.wss_apart laws.0.workspaces)))
+      judges_as x z (λ laws. (sound_to laws.0 laws.1.0 laws.1.1 laws.1.2, laws.1.0.keyed, laws.1.3))
+      (λ laws. (rows_from laws.0, (texts_from laws.0 laws.1, rows_by_counts t laws.0.wss_apart laws.0.wss_owned laws.0.counts, rows_by_name t laws.0.wss_apart laws.0.workspaces, laws.2)))
       (judges_both x y z (subst (λ (r : Rows). Judges (OfRows rows) (AreRowsFit r) x y) (rows_are key_of t rows are) one) two)

@@ -19,6 +19,7 @@ use Rattle.checks.specs.declared.stores.Findings.{Findings}
 use Rattle.checks.specs.Judging.{noted, OfSome, Decides, AreReported}
 use Rattle.checks.specs.Faults.{table_fault, IsFaultOf}
 use Rattle.checks.specs.Lines.{fault_line, ReportsEach, ReportsFaults}
+use Rattle.checks.specs.Missing.{HasEveryRun}
 use Rattle.checks.specs.Standing.{HaveRows, ReportsStore}
 use Rattle.checks.specs.Totals.{AreTotalsOf}
 use Rattle.checks.specs.Inner.Stores.{ReportsTables, ChecksRows}
@@ -73,11 +74,11 @@ tables_reported old new names lines faults named holds clean reported are = reco
 
 -- the lines of the faults of rows
 pub rows_reported : (rows : Rows) (found : Found) (lines : List (List ℕ)) → lines ≡ map fault_line found.faults
-    → ((key_of : List ℕ → List ℕ) (t : Tables) → AreRowsOf key_of t rows → Decides (IsSound t × ArePagesKeyed key_of t) found) → AreReported (IsFaultOf rows) found.faults → ReportsFaults rows lines
+    → ((key_of : List ℕ → List ℕ) (t : Tables) → AreRowsOf key_of t rows → Decides (IsSound t × ArePagesKeyed key_of t × HasEveryRun t) found) → AreReported (IsFaultOf rows) found.faults → ReportsFaults rows lines
 rows_reported rows found lines are decides reported = record {
   each = record { faults = found.faults; reported = reported; lines_are = are };
   holds = λ none key_of t rows_of. (decides key_of t rows_of).holds (map_none fault_line found.faults (sym are ∙ none));
-  clean = λ key_of t rows_of sound keyed. are ∙ none_listed fault_line found.faults ((decides key_of t rows_of).clean (sound, keyed));
+  clean = λ key_of t rows_of sound keyed every. are ∙ none_listed fault_line found.faults ((decides key_of t rows_of).clean (sound, keyed, every));
 }
 
 each_few : {S : Fault → Type 0} (lines : List (List ℕ)) → ReportsEach S lines → length lines ≤ 50

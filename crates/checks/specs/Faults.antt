@@ -5,7 +5,7 @@ use Rattle.std.specs.List.{list_any}
 use Rattle.basis.specs.declared.numbers.TheConstants.{MAX_LIMIT}
 use Rattle.basis.specs.declared.rows.VersionRow.{VersionRow as Version}
 use Rattle.basis.specs.declared.rows.RunRow.{RunRow as Run}
-use Rattle.statements.specs.Rows.{Kept, Owned, OrgRow, TokenRow, BoundRow, WsRow, VersionRow, VpageRow}
+use Rattle.statements.specs.Rows.{Kept, Owned, OrgRow, TokenRow, BoundRow, WsRow, VersionRow, RunRow, VpageRow}
 use Rattle.statements.specs.Tables.{Tables}
 use Rattle.statements.specs.Changes.{is_of, is_org, is_digest_of}
 use Rattle.statements.specs.declared.rows.PageHead.{PageHead}
@@ -19,6 +19,7 @@ use Rattle.checks.specs.declared.found.FaultKind.{FaultKind}
 use Rattle.checks.specs.declared.found.FaultKind.TheVariants as kind
 use Rattle.checks.specs.Judging.{fault_of, Breaks, OfSome, OfClash}
 use Rattle.checks.specs.Workspaces.{count_in}
+use Rattle.checks.specs.Missing.{IsFirstMissing}
 use Rattle.checks.specs.Pages.{IsPlacedIn, NamesPage, IsCountedIn, HasTextIn}
 use Rattle.checks.specs.Versions.{are_versions, unfit_version}
 use Rattle.checks.specs.Runs.{are_runs, unfit_run}
@@ -142,6 +143,13 @@ OfWorkspace ks vs rs x f =
 abbrev pub OfWorkspaces : Rows → Fault → Type 0
 OfWorkspaces r = OfSome (λ x. OfWorkspace (its_of x.1.org x.1.name r.retentions) (its_of x.1.org x.1.name r.versions) (its_of x.1.org x.1.name r.runs) x.1) r.wss
 
+-- a run of the workspace is missing; it names the lowest one
+abbrev pub LacksRun : List (Kept RunRow) → WsRow → Fault → Type 0
+LacksRun runs x f = (n : ℕ) × IsFirstMissing runs x n × (f ≡ fault_of kind.MissingRun x.org x.name (Some n))
+
+abbrev pub RunsMissing : List (Kept RunRow) → List (Kept WsRow) → Fault → Type 0
+RunsMissing runs = OfSome (λ x. LacksRun runs x.1)
+
 -- ---- all of them
 
 abbrev pub OfNames : Rows → Fault → Type 0
@@ -168,7 +176,7 @@ abbrev pub OfTexts : List PageHead → List (Kept VersionRow) → List (Kept Vpa
 OfTexts heads versions vpages f = SamePages heads f ⊎ SamePlaces vpages f ⊎ OfPages heads versions vpages f
 
 abbrev pub OfTables : Rows → Fault → Type 0
-OfTables r f = OfTexts r.pages r.versions r.vpages f ⊎ TooMany r.wss f ⊎ OfWorkspaces r f
+OfTables r f = OfTexts r.pages r.versions r.vpages f ⊎ TooMany r.wss f ⊎ OfWorkspaces r f ⊎ RunsMissing r.runs r.wss f
 
 -- a fault of these rows: its kind says which law they break, its names and its number where
 abbrev pub IsFaultOf : Rows → Fault → Type 0

@@ -4,6 +4,7 @@ pub mod Firsts
 pub mod Groups
 pub mod Heads
 pub mod Keys
+pub mod Missing
 pub mod FaultChecks
 pub mod Places
 pub mod Stores

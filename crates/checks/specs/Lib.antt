@@ -2,6 +2,7 @@ pub mod Faults
 pub mod Inner
 pub mod Judging
 pub mod Lines
+pub mod Missing
 pub mod Pages
 pub mod Runs
 pub mod Standing

@@ -11,6 +11,7 @@ use Rattle.checks.specs.declared.found.FaultKind.{FaultKind}
 use Rattle.checks.specs.declared.found.FaultKind.TheVariants as kind
 use Rattle.checks.specs.Judging.{AreReported}
 use Rattle.checks.specs.Faults.{IsFaultOf}
+use Rattle.checks.specs.Missing.{HasEveryRun}
 
 abbrev pub fault_word : FaultKind → List ℕ
 fault_word kind.Table = codes "table"
@@ -25,6 +26,7 @@ fault_word kind.TooMany = codes "too-many"
 fault_word kind.Unlawful = codes "unlawful"
 fault_word kind.Versions = codes "versions"
 fault_word kind.Runs = codes "runs"
+fault_word kind.MissingRun = codes "missing-run"
 fault_word kind.Text = codes "text"
 fault_word kind.Place = codes "place"
 fault_word kind.Uses = codes "uses"
@@ -50,8 +52,9 @@ pub record ReportsEach (Says : Fault → Type 0) (lines : List (List ℕ)) : Typ
   pub reported : AreReported Says faults
   pub lines_are : lines ≡ map fault_line faults
 
--- The lines of the faults of rows: none exactly if the tables that have these rows are sound, and each page's key is that of its bytes.
+-- The lines of the faults of rows: none exactly if the tables that have these rows are sound, each page's key is that of its bytes, and no run
+-- is missing.
 pub record ReportsFaults (rows : Rows) (lines : List (List ℕ)) : Type 0 where
   pub each : ReportsEach (IsFaultOf rows) lines
-  pub holds : lines ≡ [] → (key_of : List ℕ → List ℕ) (t : Tables) → AreRowsOf key_of t rows → IsSound t × ArePagesKeyed key_of t
-  pub clean : (key_of : List ℕ → List ℕ) (t : Tables) → AreRowsOf key_of t rows → IsSound t → ArePagesKeyed key_of t → lines ≡ []
+  pub holds : lines ≡ [] → (key_of : List ℕ → List ℕ) (t : Tables) → AreRowsOf key_of t rows → IsSound t × ArePagesKeyed key_of t × HasEveryRun t
+  pub clean : (key_of : List ℕ → List ℕ) (t : Tables) → AreRowsOf key_of t rows → IsSound t → ArePagesKeyed key_of t → HasEveryRun t → lines ≡ []

@@ -5,6 +5,7 @@ ghost use Rattle.tables.specs.Scans.{AreRowsOf, ArePagesKeyed};
 ghost use Rattle.tables.specs.Sound.{IsSound};
 ghost use Rattle.checks.specs.Judging.{Adds, Judges, Decides, AreReported};
 ghost use Rattle.checks.specs.Faults.{OfNames, OfOthers, OfTokens, OfOwned, OfRanges, OfRows, OfTables, IsFaultOf};
+ghost use Rattle.checks.specs.Missing.{HasEveryRun};
 ghost use Rattle.checks.specs.Inner.Counts.{AreFew};
 ghost use Rattle.checks.specs.Inner.Places.{AreTextsSound};
 ghost use Rattle.checks.specs.Inner.Workspaces.{AreLawfulWss};
@@ -13,6 +14,7 @@ ghost use Rattle.checks.specs.Inner.FaultChecks.{AreNamesApart, AreOthersApart, 
 use crate::counts::judge_counts;
 use crate::found::{FaultKind, Found};
 use crate::keys::{digests_apart, names_apart, orgs_apart};
+use crate::missing::judge_missing;
 use crate::owners::{all_among, all_of_orgs};
 use crate::places::judge_pages;
 use crate::ranges::{bounds_in_range, orgs_in_range, tokens_in_range};
@@ -104,29 +106,31 @@ fn judge_rows(alloc: Global, rows: &Rows, found: &mut Found) -> Result<(), Down>
     judge_ranges(alloc, rows, found)
 }
 
-/// Texts and their pages, how many workspaces there are, and what each is.
+/// Texts and their pages, how many workspaces there are, what each is, and whether each of its runs is there.
 fn judge_tables(alloc: Global, rows: &Rows, found: &mut Found) -> Result<(), Down>
-    ensures judges { OnOk result ((key_of : List ℕ → List ℕ) (t : Tables) → AreRowsOf key_of t rows.now → Judges (OfTables rows.now) (AreTextsSound key_of t × AreFew t.wss × AreLawfulWss t) found.old found.new) }
+    ensures judges { OnOk result ((key_of : List ℕ → List ℕ) (t : Tables) → AreRowsOf key_of t rows.now → Judges (OfTables rows.now) (AreTextsSound key_of t × AreFew t.wss × AreLawfulWss t × HasEveryRun t) found.old found.new) }
     ensures adds { OnOk result (Adds (OfTables rows.now) found.old.faults found.new.faults) }
 {
     let (versions, vpages) = (rows.versions.as_slice(), rows.vpages.as_slice());
+    let (wss, runs) = (rows.wss.as_slice(), rows.runs.as_slice());
     judge_pages(alloc, rows.pages.as_slice(), versions, vpages, found)?;
-    judge_counts(alloc, rows.wss.as_slice(), found)?;
-    judge_workspaces(alloc, rows, found)
+    judge_counts(alloc, wss, found)?;
+    judge_workspaces(alloc, rows, found)?;
+    judge_missing(alloc, wss, runs, found)
 }
 
 fn judge(alloc: Global, rows: &Rows, found: &mut Found) -> Result<(), Down>
-    ensures judges { OnOk result ((key_of : List ℕ → List ℕ) (t : Tables) → AreRowsOf key_of t rows.now → Judges (IsFaultOf rows.now) (IsSound t × ArePagesKeyed key_of t) found.old found.new) }
+    ensures judges { OnOk result ((key_of : List ℕ → List ℕ) (t : Tables) → AreRowsOf key_of t rows.now → Judges (IsFaultOf rows.now) (IsSound t × ArePagesKeyed key_of t × HasEveryRun t) found.old found.new) }
     ensures adds { OnOk result (Adds (IsFaultOf rows.now) found.old.faults found.new.faults) }
 {
     judge_rows(alloc, rows, found)?;
     judge_tables(alloc, rows, found)
 }
 
-/// The faults of the rows: none exactly where the tables are sound, and each page's key is that of its bytes. They are all
-/// where they are fewer than `MAX_FAULTS`.
+/// The faults of the rows: none exactly if the tables are sound, each page's key is that of its bytes, and no run is
+/// missing. They are all if they are fewer than `MAX_FAULTS`.
 pub fn faults(alloc: Global, rows: &Rows) -> Result<Found, Down>
-    ensures decides { IfOk result (λ found. (key_of : List ℕ → List ℕ) (t : Tables) → AreRowsOf key_of t rows.now → Decides (IsSound t × ArePagesKeyed key_of t) found) }
+    ensures decides { IfOk result (λ found. (key_of : List ℕ → List ℕ) (t : Tables) → AreRowsOf key_of t rows.now → Decides (IsSound t × ArePagesKeyed key_of t × HasEveryRun t) found) }
     ensures reported { IfOk result (λ found. AreReported (IsFaultOf rows.now) found.faults) }
 {
     let mut found = Found::new(alloc);

@@ -35,6 +35,8 @@ pub enum FaultKind {
     Versions,
     /// Its runs break the rules: their numbers, statuses, keys, or which one holds.
     Runs,
+    /// A run of the workspace is missing. The number is the lowest one that is.
+    MissingRun,
     /// A version's text is not complete: one of its pages is missing, or has another size.
     Text,
     /// A row of `vpage` has a place that its version's text does not have.

@@ -10,6 +10,7 @@ mod groups;
 mod heads;
 mod keys;
 mod lines;
+mod missing;
 mod owners;
 mod places;
 mod ranges;

@@ -25,6 +25,7 @@ impl FaultKind {
             FaultKind::Unlawful => "unlawful",
             FaultKind::Versions => "versions",
             FaultKind::Runs => "runs",
+            FaultKind::MissingRun => "missing-run",
             FaultKind::Text => "text",
             FaultKind::Place => "place",
             FaultKind::Uses => "uses",

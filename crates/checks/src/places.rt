@@ -23,8 +23,8 @@ use std::alloc::Global;
 use std::collections::BTreeMap;
 use texts::PAGE_BYTES;
 
-/// The key of a place of a version's text.
-fn place_key<'a>(org: &'a Text, ws: &'a Text, number: u64, place: u64) -> RowKey<'a>
+/// The key of a place of a version's text; at place 0, of the version, or of a run.
+pub(crate) fn place_key<'a>(org: &'a Text, ws: &'a Text, number: u64, place: u64) -> RowKey<'a>
     ensures { IsKeyOf result org.now ws.now number place }
 {
     RowKey {

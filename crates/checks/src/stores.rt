@@ -79,8 +79,8 @@ fn check_rows<S: Alter, K: PageKey>(
 }
 
 /// Checks a store. Returns one line per fault, at most 50, and the numbers of rows. There is no line exactly if our tables exist
-/// as they are defined, are sound, and each page's key is that of its bytes. If tables are defined differently, only they are
-/// reported. Fails if an allocation or the store fails.
+/// as they are defined, are sound, each page's key is that of its bytes, and no run is missing. If tables are defined
+/// differently, only they are reported. Fails if an allocation or the store fails.
 pub fn check<S: Alter, K: PageKey>(
     keep: &mut SqlKeep<S, K>,
     alloc: Global,

@@ -12,8 +12,8 @@ use Rattle.program.specs.declared.totals.Totals.{Totals}
 abbrev pub found_totals : Totals → checks.Totals
 found_totals t = record { organizations = t.organizations; workspaces = t.workspaces; versions = t.versions; runs = t.runs; newest = t.newest }
 
--- No fault was found exactly if the tables of the database are ours and sound, and each page's key is the SHA-256 of its bytes; and these are
--- the numbers of their rows.
+-- No fault was found exactly if the tables of the database are ours and sound, each page's key is the SHA-256 of its bytes, and no run is
+-- missing; and these are the numbers of their rows.
 pub record ReportsOf (db : Database) (findings : Findings) : Type 0 where
   pub faults : ReportsStore sha256 db findings.faults
   pub totals : (t : Tables) → Holds db t → AreTotalsOf t (found_totals findings.totals)

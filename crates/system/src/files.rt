@@ -338,8 +338,8 @@ impl<S: Start> Files<FileKeep<S>> for DiskFiles<'_, S> {
     // clause of the kit tells.
     ghost checkpoints = { λ old new. CopiesLog old.logged new.logged old new };
 
-    // No fault is found exactly where the tables are ours and sound and each page's key is the SHA-256 of its bytes, while the disk
-    // kept what it promised; and the numbers are those of their rows.
+    // No fault is found exactly if the tables are ours and sound, each page's key is the SHA-256 of its bytes, and no run is
+    // missing, while the disk kept what it promised; and the numbers are those of their rows.
     ghost finds = { λ store said after. ⟦<FileKeep<S> as Keep>⟧.clean after → IfOk said (ReportsOf (file_state store.conn).committed) };
 
     ghost newest = { SCHEMA_VERSION };
