@@ -118,7 +118,7 @@ LISTED = [
     "INSERT INTO org VALUES ('o1', 100000)",
     "INSERT INTO token SELECT 'o1', 't' || n, sha('secretsecret' || (100000 + n)), 2 FROM many",
     "INSERT INTO bound SELECT 'o1', 't' || n, NULL, '' FROM many",
-    "INSERT INTO ws SELECT 'o1', 'w' || n, 0, 0, NULL, NULL, NULL, NULL, 1, iif(n = 1, (SELECT max(n) + 1 FROM many), 1) FROM many",
+    "INSERT INTO ws SELECT 'o1', 'w' || n, 0, 0, NULL, NULL, NULL, NULL, 1, iif(n = 1, (SELECT min(max(n), 1001) + 1 FROM many), 1) FROM many",
     "INSERT INTO keeping SELECT 'o1', 'w' || n, 100 FROM many",
     "INSERT INTO run SELECT 'o1', 'w1', n, 0, NULL, '', 0, 4, 4 FROM many WHERE n <= 1001",
 ]
@@ -136,13 +136,14 @@ ROWS = [
     ("a flag below 0", "INSERT INTO ws VALUES ('acme', 'net', -1, 0, NULL, NULL, NULL, NULL, 1, 1)"),
     ("a number below 0", "INSERT INTO ws VALUES ('acme', 'net', 0, 0, NULL, NULL, NULL, NULL, -1, 1)"),
 ]
-# What is beside a workspace of ours, and which row of a run is no other's.
+# What is beside a workspace of ours with a run, and which row of a run is none that we write.
 WORKSPACE = [
     "INSERT INTO org VALUES ('acme', 200)",
     "INSERT INTO ws VALUES ('acme', 'net', 0, 0, NULL, NULL, NULL, NULL, 1, 2)",
+    "INSERT INTO run VALUES ('acme', 'net', 1, 0, NULL, '', 0, 4, 4)",
     "INSERT INTO keeping VALUES ('acme', 'net', 100)",
 ]
-FLAG_OF_A_RUN = "INSERT INTO run VALUES ('acme', 'net', 1, 7, NULL, '', 0, 8, 6)"
+FLAG_OF_A_RUN = "INSERT INTO run VALUES ('acme', 'net', 2, 7, NULL, '', 0, 8, 6)"
 
 
 def our_texts():
@@ -303,7 +304,7 @@ def look_at_older(program):
         "serve": lambda path: serves_one(program, path),
         "serve --check": lambda path: serves_one(program, path, "--check"),
     }
-    said("whether a source can be read", program.run(["check", "--db", source])[:2], (0, b"ok\norganizations 1 workspaces 1 versions 0 runs 0 newest -\n"))
+    said("whether a source can be read", program.run(["check", "--db", source])[:2], (0, b"ok\norganizations 1 workspaces 1 versions 0 runs 1 newest -\n"))
     for version, data in OLDER.items():
         for name, raises in raising.items():
             path = next(maker.names)

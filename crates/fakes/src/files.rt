@@ -1,5 +1,5 @@
 //! A database in memory, in the place of one in a file.
-ghost use Rattle.std.specs.Prelude.{◌≡◌, ◌≢◌, ◌⊎◌, Some, None, Ok, IfOk, false, not, is_some, map};
+ghost use Rattle.std.specs.Prelude.{⊤, ◌≡◌, ◌≢◌, ◌⊎◌, Some, None, Ok, IfOk, false, not, is_some, map};
 ghost use Rattle.fakes.specs.declared.files.TheConstants.{SCHEMA_VERSION};
 ghost use Rattle.fakes.specs.Files.{IsKeptStore};
 ghost use Rattle.program.specs.declared.reasons.Cause.TheVariants as cause;

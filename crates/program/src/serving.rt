@@ -206,8 +206,7 @@ fn answer_next<K: Keep, F: Files<K>, N: Connections, C: Clock, O: Write, E: Erro
     ensures answers { IfOk result (λ is_logged. (at : ℕ) × F.places at true × Answers K.Keep N.Connections C.Clock N.Reader.Inlet N.Writer.Outlet terms.now connection at service.new.was_down is_logged (state network.old clock.old service.old.keep (E.reported errors.old) (O.contents output.old)) (state network.new clock.new service.new.keep (E.reported errors.new) (O.contents output.new))) }
     ensures refused { IfErr result (λ cause. AcceptsNone F.Files N.Connections C.Clock terms.now.timeouts network.old network.new clock.old clock.new cause × (service.new.keep ≡ service.old.keep) × (E.reported errors.new ≡ E.reported errors.old) × (O.contents output.new ≡ O.contents output.old)) }
 {
-    let (reader, writer, now) =
-        accept::<K, F, N, C>(files, network, &terms.timeouts, clock)?;
+    let (reader, writer, now) = accept::<K, F, N, C>(files, network, &terms.timeouts, clock)?;
     Ok(serve_one(
         alloc, service, now, network, reader, writer, terms, connection, output, errors,
     ))

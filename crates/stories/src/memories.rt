@@ -200,9 +200,9 @@ impl<'s> Memory<'s> {
         }
         if let Some(("place", from)) = what.split_once(' ') {
             let Some(from) = whole_number(from) else {
-                return Err(Failure::from(
-                    head.unread("from which moment on the file is not at its path"),
-                ));
+                return Err(Failure::from(head.unread(
+                    "from which moment on the file is not at its path",
+                )));
             };
             self.file.moved = Some(from);
             return Ok(());

@@ -14,7 +14,7 @@ ghost use Rattle.tables.specs.Logs.{CopiesLog};
 ghost use Rattle.tables.specs.Opening.{IsFresh};
 ghost use Rattle.checks.specs.Standing.{HaveRows};
 ghost use Rattle.program.specs.Paths.{makes, raises};
-ghost use Rattle.system.specs.Causes.{IsFileFault, is_open_cause};
+ghost use Rattle.system.specs.Causes.{IsFileFault, IsOtherSchema, is_open_cause};
 ghost use Rattle.system.specs.Files.{OpensOn, HadTables, IsAsFound, IsClosedOn};
 ghost use Rattle.system.specs.Shields.{AreCleanOrCollided};
 ghost use Rattle.system.specs.Totals.{ReportsOf, found_totals};
@@ -92,7 +92,9 @@ fn open_database<S: Start>(
 }
 
 /// The version that a row tells.
-fn version_in(row: &Row) -> OtherSchema {
+fn version_in(row: &Row) -> OtherSchema
+    ensures { IsOtherSchema result }
+{
     match row.get::<i64>(0) {
         Ok(version) => OtherSchema::Version(version.unsigned_abs()),
         Err(_) => OtherSchema::Unversioned,
@@ -101,7 +103,9 @@ fn version_in(row: &Row) -> OtherSchema {
 
 /// What a database of another schema has: the version that its first row of edition tells, or of meta, where no table has
 /// that name.
-fn other_in<S: Alter>(conn: &mut Connection<S>) -> OtherSchema {
+fn other_in<S: Alter>(conn: &mut Connection<S>) -> OtherSchema
+    ensures { IsOtherSchema result }
+{
     match conn.query_row("SELECT version FROM edition", &[]) {
         Ok(row) => version_in(&row),
         Err(Error::SqlInputError(_)) => match conn.query_row("SELECT version FROM meta", &[]) {

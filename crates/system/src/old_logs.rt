@@ -39,7 +39,11 @@ fn after(head: &[u8; HEADER], before: (u32, u32), frame: &[u8]) -> Option<((u32,
         return None;
     }
     let big = head[3] == BIG;
-    let sum = checksum_of(big, checksum_of(big, before, &frame[..8]), &frame[FRAME_HEADER..]);
+    let sum = checksum_of(
+        big,
+        checksum_of(big, before, &frame[..8]),
+        &frame[FRAME_HEADER..],
+    );
     if sum != (number(&frame[16..20]), number(&frame[20..24])) {
         return None;
     }

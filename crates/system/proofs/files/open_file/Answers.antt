@@ -8,15 +8,14 @@ use Rattle.sqlite.specs.State.{State, IsLive, Opens}
 use Rattle.machine.specs.declared.records.Organization.{Organization}
 use Rattle.tables.proofs.Blank.{no_table}
 use Rattle.tables.proofs.There.{newest_stays}
+use Rattle.tables.specs.Opening.{any_there, all_there, newest_there, has_edition, has_older}
 use Rattle.tables.specs.Opened.{RefusesOthers}
-use Rattle.tables.specs.Opening.{any_there, all_there, newest_there, has_edition}
 use Rattle.tables.specs.Stores.{records_of, IsSoundStore}
 use Rattle.tables.specs.Versions.{HoldsSchema, schema_records}
 use Rattle.system.specs.Files.{OpensOn, HadTables, IsAsFound}
 use Rattle.program.specs.declared.environment.Opening.{Opening}
 use Rattle.program.specs.declared.environment.Opening.TheVariants.{Read, Existing, Created, Target}
 use Rattle.program.specs.Paths.{makes, raises}
-use Rattle.sqlite_schema.specs.declared.schema.Schema.{Schema}
 use Rattle.system.proofs.files.open_file.Goals as goal
 
 -- what is only read is not made
@@ -56,19 +55,22 @@ opens_on s image rows IsSound finds opens live missing there climbed fresh = rec
 had_tables : (s : State) (image : Image) → FindsIn image s → Opens s → IsLive s → any_there s.now.schema ≡ true → HadTables image
 had_tables s image finds opens live there = (s.now, (live opens.is_open).0, (λ trees held. ap (λ (db : Database). db.trees) opens.clean ∙ finds.holds trees held), there)
 
--- what an open refuses is not there where it is opened
-none_refused : (s : Schema) (A : Type 0) → RefusesOthers s (A × ⊥) → RefusesOthers s ⊥
-none_refused s A r = record { foreign = λ e f. (r.foreign e f).1; edition = λ e f h. (r.edition e f h).1; missing = λ e f h. (r.missing e f h).1; older = λ e f. (r.older e f).1 }
-
 as_found : (s : State) (image : Image) (committed : Database) → FindsIn image s → Opens s → IsLive s → newest_there s.now.schema ≡ true → committed ≡ s.now → IsAsFound image committed
 as_found s image committed finds opens live there same = (s.now, (live opens.is_open).0, (λ trees held. ap (λ (db : Database). db.trees) opens.clean ∙ finds.holds trees held), there, same)
 
+newest_opened : (s : State) → Opens s → any_there s.now.schema ≡ true → RefusesOthers s.now.schema ⊥ → has_older s.now.schema ≡ false → newest_there s.now.schema ≡ true
+newest_opened s opens = newest_stays s.now.schema
+
+-- what is opened has nothing that an open refuses
 pub returns-in-Ok-open-clause-unraised : goal.returns-in-Ok-open-clause-unraised
 returns-in-Ok-open-clause-unraised g c raises clean =
     let disk = c.in-Ok-open.ensures.so_far clean in
     let is = c.in-Ok-open.ensures.opened clean in
     let any = c.admit_tables.ensures c.if-not-admit_tables.false (never_makes c.args.opening raises) in
-    let newest = newest_stays _ any (none_refused _ _ c.in-Ok-open.ensures.refuses) (c.refused_version.ensures.none c.in-None.is raises) in
+    let refuses = c.in-Ok-open.ensures.refuses in
+    let newest = newest_opened _ (c.in-Ok-open_database.ensures.opened disk).0 any
+    (record { foreign = λ e f. (refuses.foreign e f).1; edition = λ e f h. (refuses.edition e f h).1; missing = λ e f h. (refuses.missing e f h).1; older = λ e f. (refuses.older e f).1 })
+    (c.in-None.ensures.none refl raises) in
     as_found _ _ _ (c.in-Ok-open_database.ensures.found disk) (c.in-Ok-open_database.ensures.opened disk).0 (c.in-Ok-open_database.ensures.opened disk).1 newest (is.stays newest)
 
 pub returns-in-Ok-open-clause-tabled : goal.returns-in-Ok-open-clause-tabled
