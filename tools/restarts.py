@@ -1,0 +1,147 @@
+#!/usr/bin/env python3
+"""A service over a large file is stopped and started again, as by systemd, while clients lock, read, post and unlock: none may fail.
+
+    python3 tools/restarts.py PROGRAM [--megabytes N] [--clients N] [--restarts N] [--seconds S] [--folder FOLDER]
+
+PROGRAM is crates/custody/out/custody. A file of N megabytes (500) is made by states of 1 MB, in FOLDER. Each of the clients (40) does
+what Terraform's `http` backend does for an apply: LOCK, GET, POST, UNLOCK, and sends each request again as it does by itself, twice,
+after 1 and 2 seconds. The service gets SIGTERM at each restart (3), S seconds (8) after it has begun to answer. At the end each
+workspace has to have the state that was acknowledged last. It prints how long restarts took, and the longest wait of a request."""
+import argparse
+import os
+import socket
+import subprocess
+import sys
+import tempfile
+import threading
+import time
+
+from harness import NEW_FILE, Program, Wrong, request, said
+
+# What Terraform waits before it sends a request again, in seconds, and systemd before it starts a service again.
+PAUSES, RESTART = (1, 2), 0.1
+# Bytes of each state that fills the file, and of each that a client posts.
+FILLER, STATE = 1_000_000, 4_000
+
+
+class Socket:
+    """The service at its Unix socket."""
+
+    def __init__(self, program, name):
+        self.program, self.path = program, program.new_socket()
+        self.words = ["serve", "--db", name, "--socket", self.path, "--unlimited"]
+        self.begin()
+
+    def begin(self):
+        self.process = self.program.start(self.words, errors=subprocess.DEVNULL)
+        said("the first line", self.process.stdout.readline(), b"listening %s\n" % self.path.encode())
+
+    def end(self):
+        self.process.terminate()
+        self.process.wait()
+
+    def once(self, sent):
+        """The reply to a request; OSError if there is none."""
+        with socket.socket(socket.AF_UNIX) as peer:
+            peer.connect(self.path)
+            peer.sendall(sent)
+            reply = b"".join(iter(lambda: peer.recv(1 << 20), b""))
+        if not reply:
+            raise OSError("no reply")
+        return reply
+
+    def asked(self, sent):
+        """The reply to a request that is sent again as Terraform does, and how long it took."""
+        begun = time.monotonic()
+        for pause in (*PAUSES, None):
+            try:
+                reply = self.once(sent)
+                if not reply.startswith(b"HTTP/1.1 5"):
+                    return reply, time.monotonic() - begun
+            except OSError as error:
+                reply = repr(error).encode()
+            if pause is None:
+                raise Wrong("%s: %s" % (sent[:60], reply[:200]))
+            time.sleep(pause)
+
+
+def state(serial, size):
+    return b'{"version":4,"serial":%d,"lineage":"l","x":"%s"}' % (serial, os.urandom(size // 2).hex().encode())
+
+
+def is_done(service, head, body, waits):
+    reply, took = service.asked(request(head + b" HTTP/1.1", body))
+    waits.append(took)
+    if not reply.startswith((b"HTTP/1.1 200 ", b"HTTP/1.1 204 ")):
+        raise Wrong("%s: %s" % (head, reply[:200]))
+    return reply
+
+
+def apply_on(service, number, ended, last, waits, faults):
+    """One client's applies, until they are to end."""
+    path = b"/v1/acme/state/net-%d" % number
+    try:
+        while not ended.is_set():
+            serial = last[number][0] + 1
+            lock, text = b'{"ID":"apply-%d-%d"}' % (number, serial), state(serial, STATE)
+            is_done(service, b"LOCK " + path, lock, waits)
+            is_done(service, b"GET " + path, b"", waits)
+            is_done(service, b"POST %s?ID=apply-%d-%d" % (path, number, serial), text, waits)
+            last[number] = serial, text
+            is_done(service, b"UNLOCK " + path, lock, waits)
+    except Wrong as fault:
+        faults.append(fault)
+
+
+def main():
+    words = argparse.ArgumentParser(description=__doc__.partition("\n")[0])
+    words.add_argument("program")
+    words.add_argument("--megabytes", type=int, default=500)
+    words.add_argument("--clients", type=int, default=40)
+    words.add_argument("--restarts", type=int, default=3)
+    words.add_argument("--seconds", type=float, default=8)
+    words.add_argument("--folder")
+    words = words.parse_args()
+    if words.folder:
+        tempfile.tempdir = words.folder
+    with Program(words.program) as program:
+        said("an organization", program.run(["org-add", "--db", "large.db", "acme"]), (0, b"ok\n", NEW_FILE))
+        said("a token", program.run(["token-add", "--db", "large.db", "acme", "root", "admin"], b"adminadminadmin1\n")[0], 0)
+        service, waits = Socket(program, "large.db"), []
+        for number in range(words.megabytes):
+            if number % 90 == 0:
+                is_done(service, b"PUT /v1/acme/workspaces/large-%d" % (number // 90), b"", waits)
+            is_done(service, b"POST /v1/acme/state/large-%d" % (number // 90), state(number + 1, FILLER), waits)
+        for number in range(words.clients):
+            is_done(service, b"PUT /v1/acme/workspaces/net-%d" % number, b"", waits)
+        ended, last, waits, faults, took = threading.Event(), {number: (0, b"") for number in range(words.clients)}, [], [], []
+        clients = [threading.Thread(target=apply_on, args=(service, number, ended, last, waits, faults)) for number in range(words.clients)]
+        for client in clients:
+            client.start()
+        for _ in range(words.restarts):
+            time.sleep(words.seconds)
+            service.end()
+            begun = time.monotonic()
+            time.sleep(RESTART)
+            service.begin()
+            took.append(time.monotonic() - begun)
+        time.sleep(words.seconds)
+        ended.set()
+        for client in clients:
+            client.join()
+        if faults:
+            raise Wrong("of %d clients %d failed: %s" % (words.clients, len(faults), faults[0]))
+        for number, (serial, text) in last.items():
+            if serial == 0 or not is_done(service, b"GET /v1/acme/state/net-%d" % number, b"", waits).endswith(b"\r\n\r\n" + text):
+                raise Wrong("net-%d does not have the state %d that was acknowledged last" % (number, serial))
+        service.end()
+        size = os.path.getsize(program.folder + "/large.db") / 1e6
+        print("right: %d applies of %d clients over a file of %.0f MB, none failed or lost; restarts of %s s; the longest wait of a request %.1f s" % (sum(serial for serial, _ in last.values()), words.clients, size, ", ".join("%.1f" % it for it in took), max(waits)))
+
+
+if __name__ == "__main__":
+    try:
+        main()
+    except Wrong as fault:
+        print("WRONG: %s" % fault)
+        sys.exit(1)
