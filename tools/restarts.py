@@ -93,6 +93,54 @@ def apply_on(service, number, ended, last, waits, faults):
         faults.append(fault)
 
 
+def begun(program, megabytes, clients):
+    """The service over a file of so many megabytes, with a workspace for each client."""
+    said("an organization", program.run(["org-add", "--db", "large.db", "acme"]), (0, b"ok\n", NEW_FILE))
+    said("a token", program.run(["token-add", "--db", "large.db", "acme", "root", "admin"], b"adminadminadmin1\n")[0], 0)
+    service, waits = Socket(program, "large.db"), []
+    for number in range(megabytes):
+        if number % 90 == 0:
+            is_done(service, b"PUT /v1/acme/workspaces/large-%d" % (number // 90), b"", waits)
+        is_done(service, b"POST /v1/acme/state/large-%d" % (number // 90), state(number + 1, FILLER), waits)
+    for number in range(clients):
+        is_done(service, b"PUT /v1/acme/workspaces/net-%d" % number, b"", waits)
+    return service
+
+
+def restarted(service, restarts, seconds):
+    """How long each restart took, in seconds."""
+    took = []
+    for _ in range(restarts):
+        time.sleep(seconds)
+        service.end()
+        begun_at = time.monotonic()
+        time.sleep(RESTART)
+        service.begin()
+        took.append(time.monotonic() - begun_at)
+    time.sleep(seconds)
+    return took
+
+
+def look_at_restarts(program, words):
+    service = begun(program, words.megabytes, words.clients)
+    ended, last, waits, faults = threading.Event(), {number: (0, b"") for number in range(words.clients)}, [], []
+    clients = [threading.Thread(target=apply_on, args=(service, number, ended, last, waits, faults)) for number in range(words.clients)]
+    for client in clients:
+        client.start()
+    took = restarted(service, words.restarts, words.seconds)
+    ended.set()
+    for client in clients:
+        client.join()
+    if faults:
+        raise Wrong("of %d clients %d failed: %s" % (words.clients, len(faults), faults[0]))
+    for number, (serial, text) in last.items():
+        if serial == 0 or not is_done(service, b"GET /v1/acme/state/net-%d" % number, b"", waits).endswith(b"\r\n\r\n" + text):
+            raise Wrong("net-%d does not have the state %d that was acknowledged last" % (number, serial))
+    service.end()
+    size, applies = os.path.getsize(program.folder + "/large.db") / 1e6, sum(serial for serial, _ in last.values())
+    print("right: %d applies of %d clients over a file of %.0f MB, none failed or lost; restarts of %s s; the longest wait of a request %.1f s" % (applies, words.clients, size, ", ".join("%.1f" % it for it in took), max(waits)))
+
+
 def main():
     words = argparse.ArgumentParser(description=__doc__.partition("\n")[0])
     words.add_argument("program")
@@ -105,38 +153,7 @@ def main():
     if words.folder:
         tempfile.tempdir = words.folder
     with Program(words.program) as program:
-        said("an organization", program.run(["org-add", "--db", "large.db", "acme"]), (0, b"ok\n", NEW_FILE))
-        said("a token", program.run(["token-add", "--db", "large.db", "acme", "root", "admin"], b"adminadminadmin1\n")[0], 0)
-        service, waits = Socket(program, "large.db"), []
-        for number in range(words.megabytes):
-            if number % 90 == 0:
-                is_done(service, b"PUT /v1/acme/workspaces/large-%d" % (number // 90), b"", waits)
-            is_done(service, b"POST /v1/acme/state/large-%d" % (number // 90), state(number + 1, FILLER), waits)
-        for number in range(words.clients):
-            is_done(service, b"PUT /v1/acme/workspaces/net-%d" % number, b"", waits)
-        ended, last, waits, faults, took = threading.Event(), {number: (0, b"") for number in range(words.clients)}, [], [], []
-        clients = [threading.Thread(target=apply_on, args=(service, number, ended, last, waits, faults)) for number in range(words.clients)]
-        for client in clients:
-            client.start()
-        for _ in range(words.restarts):
-            time.sleep(words.seconds)
-            service.end()
-            begun = time.monotonic()
-            time.sleep(RESTART)
-            service.begin()
-            took.append(time.monotonic() - begun)
-        time.sleep(words.seconds)
-        ended.set()
-        for client in clients:
-            client.join()
-        if faults:
-            raise Wrong("of %d clients %d failed: %s" % (words.clients, len(faults), faults[0]))
-        for number, (serial, text) in last.items():
-            if serial == 0 or not is_done(service, b"GET /v1/acme/state/net-%d" % number, b"", waits).endswith(b"\r\n\r\n" + text):
-                raise Wrong("net-%d does not have the state %d that was acknowledged last" % (number, serial))
-        service.end()
-        size = os.path.getsize(program.folder + "/large.db") / 1e6
-        print("right: %d applies of %d clients over a file of %.0f MB, none failed or lost; restarts of %s s; the longest wait of a request %.1f s" % (sum(serial for serial, _ in last.values()), words.clients, size, ", ".join("%.1f" % it for it in took), max(waits)))
+        look_at_restarts(program, words)
 
 
 if __name__ == "__main__":
