@@ -2,7 +2,7 @@
 """Tests the operator's door of a service: `serve --operator`, by requests over 127.0.0.1 and exact replies; and `admin`.
 
     python3 tools/doors.py CUSTODY    the program as `rt ci` or `rt run` leaves it
-    python3 tools/doors.py story      prints the stories of the door: two of the program, with the same requests, replies and lines of the log; and those of a store
+    python3 tools/doors.py story      prints the stories of the door: three of the program, with the same requests, replies and lines of the log; and those of a store
 
 It prints a line for each thing that holds, and ends with status 1 at the first that does not.
 """
@@ -20,7 +20,7 @@ import subprocess
 import sys
 import threading
 
-from harness import MADE, NEW_FILE, SECRET_FORM, Service, Wrong, free_port, look_at, ok, reply, said, secret_file, wait_until
+from harness import MADE, NEW_FILE, PATIENCE, SECRET_FORM, Service, Wrong, free_port, look_at, ok, reply, said, secret_file, wait_until
 from harness import OPERATOR as SECRET
 from model import AT, CONTINUE, KEYS
 
@@ -29,6 +29,8 @@ ADMIN = b"Bearer acme.adminadminadmin1"
 # How many clients work while the operator does, and how many rounds each has to complete before and after.
 CLIENTS, ROUNDS = 40, 3
 DATE = b"Tue, 14 Nov 2023 22:13:20 GMT"
+# The most bytes of a WAL that has no change: its header.
+BARE_WAL = 41
 # Commands and requests behind each of which SQLite reads the rows of a running service. Commands come in the first half of each hundred,
 # because they make the service forget.
 MEMORY_STEPS = 2_000
@@ -47,6 +49,32 @@ REFUSED = {
 STATUSES = {b"ok\n": b"200 OK", b"refused exists\n": b"409 Conflict", b"refused absent\n": b"404 Not Found", b"refused in-use\n": b"409 Conflict"}
 NO_FILE = b"custody: there is no file at the path, or it is empty; only org-add, serve without --check, and --to create one\n"
 BAD_LINE, STOPPED = b"custody: bad line %d\n", b"custody: stopped at line %d\n"
+RETURN = b"custody: the line ends with a carriage return: each line must end with LF, not with CR LF\n"
+# Lines that are no commands, and what the program says of each.
+FAULTS = {
+    b"org-add \xff": b"the line is not UTF-8",
+    b"org-list" + b" " * 4089: b"the line has more than 4096 bytes",
+    b"no command": b"the line does not begin with a command that admin --help lists",
+    b" # no remark": b"the line does not begin with a command that admin --help lists",
+    b"org-add": b"the line must be: org-add ORG [LIMIT], with one space between words",
+    b"org-add acme  7": b"the line must be: org-add ORG [LIMIT], with one space between words",
+    b"org-limit acme": b"the line must be: org-limit ORG N, with one space between words",
+    b"org-remove acme --force": b"the line must be: org-remove ORG [force], with one space between words",
+    b"org-list # no remark": b"the line must be: org-list, without other words",
+    b"token-add acme ci write": b"the line must be: token-add ORG NAME ROLE SECRET [until=SECONDS] [prefix=TEXT], with one space between words",
+    b"token-add acme ci write %s prefix=a until=1" % TOKEN: b"the line must be: token-add ORG NAME ROLE SECRET [until=SECONDS] [prefix=TEXT], with one space between words",
+    b"token-list": b"the line must be: token-list ORG, with one space between words",
+    b"token-revoke acme": b"the line must be: token-revoke ORG NAME, with one space between words",
+    b"token-list Acme": b"the value of ORG must be 1 to 40 of a-z, 0-9 and '-', starting with a letter",
+    b"token-add Acme CI all short until=x": b"the value of ORG must be 1 to 40 of a-z, 0-9 and '-', starting with a letter",
+    b"token-add acme CI all short until=x": b"the value of NAME must be 1 to 40 of a-z, 0-9 and '-', starting with a letter",
+    b"token-add acme ci all short until=x": b"the value of ROLE must be read, write or admin",
+    b"token-add acme ci read short until=x": b"the value of SECRET must be 16 to 64 ASCII letters or digits",
+    b"token-add acme ci read %s until=x" % TOKEN: b"the value of until= must be 0 to 253402300799 without a leading zero",
+    b"token-add acme ci read %s until=1 prefix=." % TOKEN: b"the value of prefix= must be 0 to 90 ASCII letters, digits, '-' and '_'",
+    b"org-add acme 007": b"the value of LIMIT must be 0 to 100000 without a leading zero",
+    b"org-limit acme +7": b"the value of N must be 0 to 100000 without a leading zero",
+}
 NO_TOKEN = reply(b'401 Unauthorized\r\nWWW-Authenticate: Bearer realm="custody", error="invalid_token"', b'{"error":"bad-token"}')
 
 
@@ -163,6 +191,19 @@ def cuts():
     yield listed()
 
 
+def stops():
+    """What does not stop a service, and `stop`, which does. Nothing of it changes a record."""
+    for line, word in [(b"GET /operator HTTP/1.1", "no-method"), (b"POST /operator?stop HTTP/1.1", "bad-query")]:
+        yield turned("stop by %s" % line.decode(), at_door(b"stop", line=line), word)
+    for secret in [None, SECRET, b"Bearer " + SECRET, b"Operator " + SECRET[:-1], b"Operator " + SECRET + b"1"]:
+        yield turned("stop with the field %s" % secret, at_door(b"stop", secret=secret), "bad-token")
+    yield turned("stop with another MD5", at_door(b"stop", b"Content-MD5: " + base64.b64encode(bytes(16))), "bad-digest")
+    for body in [b"stop now", b"stop ", b" stop", b"Stop", b"STOP", b"stop\n\n", b"stop\r\n", b"stop\nstop", b"stop\0", b"stops", b"sto", b"admin stop"]:
+        yield turned("the body %s" % body, at_door(body), "bad-body")
+    yield listed()
+    yield done(b"stop\n", b"ok\n", "stop")
+
+
 class Door(Service):
     """A service with an open door, and with a log unless `words` are others."""
 
@@ -200,6 +241,58 @@ def look_at_exchanges(program):
             print("right: %s, with the log's line of each (%d)" % (what, door.place))
 
 
+def ends_in_order(door, path, rest=b""):
+    """A stopped service ends with status 0, and leaves no change in its WAL; nobody listens any more. `rest` came on standard output."""
+    said("the status of a stopped service", door.process.wait(PATIENCE), 0)
+    said("the rest of its standard output", door.process.stdout.read(), rest)
+    wal = "%s/%s-wal" % (door.program.folder, path)
+    said("whether its WAL has a change", os.path.exists(wal) and os.path.getsize(wal) > BARE_WAL, False)
+    try:
+        door.peer().close()
+    except ConnectionRefusedError:
+        return
+    raise Wrong("somebody listens where the service was stopped")
+
+
+def look_at_stop(program):
+    """`stop` with the secret ends a service in order; nothing else does. Twice, over one file: with the log, and without it."""
+    with Door(program, "s.db") as door:
+        for one in stops():
+            door.answers(one)
+        ends_in_order(door, "s.db")
+    with Door(program, "s.db", ()) as door:
+        door.commands((b"org-add acme", b"ok\n"), (b"stop", b"ok\n"))
+        ends_in_order(door, "s.db")
+    program.is_due("the file of a stopped service", ["org-list", "--db", "s.db"], 0, b"acme 0 200\n")
+    said("stop as a word of the program", program.run(["stop", "--db", "s.db"], b"")[:2], (2, b"refused usage\n"))
+    program.is_due("stop as a line of admin", ["admin", "--db", "s.db"], 2, b"refused usage\n", BAD_LINE % 1 + b"custody: %s\n" % FAULTS[b"no command"], b"stop\n")
+    print("right: stop with the secret ends a service with status 0, and leaves no change in its WAL; nothing else ends it (%d)" % door.place)
+
+
+def look_at_stop_under_work(program):
+    """While clients work, the service is stopped. What it acknowledged is in the file alone."""
+    with Door(program, "u.db", ()) as door:
+        door.commands((b"org-add acme", b"ok\n"), (b"token-add acme root admin adminadminadmin1", b"ok\n"))
+        names, stop = [b"n%03d" % place for place in range(CLIENTS)], threading.Event()
+        for name in names:
+            said("a new workspace", door.asked(message(b"PUT /v1/acme/workspaces/%s HTTP/1.1" % name, secret=ADMIN)), ok(MADE.replace(b"net", name)))
+        clients = [Client(door, name, stop) for name in names]
+        for one in clients:
+            one.start()
+        wait_until(lambda: all(one.failed or one.rounds >= ROUNDS for one in clients), "a client doesn't get on")
+        door.commands((b"stop", b"ok\n"))
+        ends_in_order(door, "u.db")
+        for one in clients:
+            one.join()
+        said("the requests that were answered otherwise", [str(one.failed) for one in clients if isinstance(one.failed, Wrong) and not str(one.failed).endswith(": b''")], [])
+    shutil.copyfile(program.folder + "/u.db", program.folder + "/alone.db")
+    with contextlib.closing(sqlite3.connect(program.folder + "/alone.db")) as database:
+        newest = dict(database.execute("SELECT ws, max(serial) FROM version GROUP BY ws").fetchall())
+    lost = [one.path.decode() for one in clients if newest[one.path[-4:].decode()] < one.posted]
+    said("the states that were acknowledged, and are not in the file", lost, [])
+    print("right: stopped while %d clients work, a service leaves all that it acknowledged in the file alone" % CLIENTS)
+
+
 def look_at_closed_door(program):
     """Without the flag nobody is let in."""
     with Service(program, "t.db", 1) as service:
@@ -212,12 +305,17 @@ def look_at_batches(program):
     words, before = ["admin", "--db", "b.db"], sorted(os.listdir(program.folder))
     program.is_due("no commands", words, 0, b"")
     program.is_due("a first command that creates no file", words, 3, b"refused down\n", NO_FILE, b"org-list\n")
-    program.is_due("a line that is not UTF-8", words, 2, b"refused usage\n", BAD_LINE % 2, b"org-add acme\norg-add \xff\norg-list\n")
-    program.is_due("a line that is not a command", words, 2, b"refused usage\n", BAD_LINE % 2, b"org-add acme\nno command\norg-list\n")
+    for line, fault in FAULTS.items():
+        said_of = BAD_LINE % 4 + b"custody: %s\n" % fault
+        program.is_due("a line that is not a command: %r" % line, words, 2, b"refused usage\n", said_of, b"# teams\n\norg-add acme\n%s\nno command\n" % line)
+        program.is_due("the same at the end: %r" % line, words, 2, b"refused usage\n", said_of, b"# teams\n\norg-add acme\n%s" % line)
+    for line in [b"org-list", b"", b"# teams", b"no command"]:
+        program.is_due("a line that ends with CR LF: %r" % line, words, 2, b"refused usage\n", BAD_LINE % 2 + RETURN, b"org-add acme\n%s\r\norg-list\n" % line)
+    program.is_due("nothing but lines that are skipped", words, 0, b"", b"", b"# org-add acme\n\n#\n#\r\xff %s" % (b"#" * 5000))
     said("what lies in the folder", sorted(os.listdir(program.folder)), before)
     given = b"org-add acme\ntoken-add acme ci write %s\norg-list\ntoken-list acme" % TOKEN
     program.is_due("commands", words, 0, b"ok\nok\nacme 0 200\nci write - -\n", NEW_FILE, given)
-    program.is_due("commands up to one that is refused", words, 1, b"ok\nrefused exists\n", STOPPED % 2, b"org-limit acme 3\norg-add acme\norg-remove acme\n")
+    program.is_due("commands up to one that is refused", words, 1, b"ok\nrefused exists\n", STOPPED % 4, b"# twice\norg-limit acme 3\n\norg-add acme\norg-remove acme\n")
     program.is_due("what they did", ["org-list", "--db", "b.db"], 0, b"acme 0 3\n")
     print("right: admin carries out the commands on standard input in order, and says at which line it stops")
 
@@ -329,6 +427,7 @@ class Client(threading.Thread):
     def __init__(self, service, name, stop):
         super().__init__(daemon=True)
         self.service, self.path, self.stop, self.rounds, self.failed = service, b"/v1/acme/state/%s" % name, stop, 0, None
+        self.posted = -1    # the serial of the last state that was acknowledged
 
     def run(self):
         own = self.path[-4:]
@@ -339,6 +438,8 @@ class Client(threading.Thread):
                     came = self.service.asked(message(b"%s %s%s HTTP/1.1" % (method, self.path, query), body, secret=ADMIN))
                     if not came.startswith(b"HTTP/1.1 200 "):
                         raise Wrong("%s of %s: %s" % (method.decode(), self.path.decode(), came))
+                    if method == b"POST":
+                        self.posted = self.rounds
                 self.rounds += 1
         except (Wrong, OSError) as wrong:
             self.failed = wrong
@@ -402,13 +503,14 @@ def log_of(place, row):
     return json.dumps({**row, "at": AT, "connection": place}, sort_keys=True, separators=(",", ":"))
 
 
-def story(name, exchanges):
+def story(name, exchanges, more=0):
+    """`more` is how much greater the count is than the number of exchanges."""
     exchanges = list(exchanges)
     lines = ["story %s" % name, "file m.db", ""]
     for one in exchanges:
         due = one.due.replace(b"Date: DATE", b"Date: " + DATE)
         lines += ["peer", *pieces(one.sent), "=", *pieces(due), ""]
-    lines += ["$ serve --db m.db --port 8090 --count %d --log --operator" % len(exchanges), "| " + SECRET.decode(), "= 0", "| listening 127.0.0.1:8090"]
+    lines += ["$ serve --db m.db --port 8090 --count %d --log --operator" % (len(exchanges) + more), "| " + SECRET.decode(), "= 0", "| listening 127.0.0.1:8090"]
     lines += ["| " + log_of(place, one.row) for place, one in enumerate(exchanges, 1)]
     return [*lines, "|", "?", "| custody: there was no file at the path; a new one was created", "|", ""]
 
@@ -467,6 +569,7 @@ def over_links():
     yield done(b"token-list gamma", b"ci write - -\n", None)
     yield done(b"token-revoke gamma ci", b"ok\n", None)
     yield done(b"org-remove acme force", b"ok\n", None)
+    yield done(b"stop", b"ok\n", None)
     yield done(b"org-list", b"beta 0 200\ngamma 0 200\n", None)
 
 
@@ -520,7 +623,8 @@ def stories():
     return [
         *story("operator's commands come by the door", commands()),
         *story("the door turns away what has no secret or no command", refusals()),
-        *stored("each command at the operator's door, over a store", ["links refused"], commands()),
+        *story("stop at the operator's door ends the service before its count", stops(), 1),
+        *stored("each command at the operator's door, over a store", ["links refused"], [*commands(), done(b"stop", b"ok\n", None), listed()]),
         *stored("commands at the operator's door over links that break", [after, "links cut reads writes again"], over_links()),
         *stored("commands at the operator's door over power that is cut", [after, "stops"], over_cuts()),
         *stored("what a store's door turns away changes nothing", [after], [*refusals(THERE), *taken_for_another()]),
@@ -533,4 +637,4 @@ if __name__ == "__main__":
     if sys.argv[1:] == ["story"]:
         print("\n".join(stories()))
     else:
-        look_at(__doc__, look_at_secrets, look_at_exchanges, look_at_closed_door, look_at_batches, look_at_memory, look_at_work)
+        look_at(__doc__, look_at_secrets, look_at_exchanges, look_at_stop, look_at_stop_under_work, look_at_closed_door, look_at_batches, look_at_memory, look_at_work)

@@ -424,7 +424,8 @@ def counted(path):
         with contextlib.closing(sqlite3.connect(room + "/copy.db")) as database:
             numbers = [database.execute("SELECT count(*) FROM " + table).fetchone()[0] for table in ("org", "ws", "version", "run")]
             (newest,) = database.execute("SELECT max(created) FROM version").fetchone()
-    return b"organizations %d workspaces %d versions %d runs %d newest %s\n" % (*numbers, b"-" if newest is None else b"%d" % newest)
+            (made,) = database.execute("SELECT coalesce(sum(next_version - 1), 0) FROM ws").fetchone()
+    return b"organizations %d workspaces %d versions %d runs %d made %d newest %s\n" % (*numbers, made, b"-" if newest is None else b"%d" % newest)
 
 
 # The bytes of bodies: around the sizes of pages and of other bodies, and the most of a state.
@@ -650,7 +651,7 @@ def look_at_totals(program):
     path, check = program.folder + "/many.db", ["check", "--db", "many.db"]
     filled(program, "many.db")
     program.is_due("of a small file the rows are told", check, 0, b"ok\n" + counted(path))
-    with Service(program, "many.db", 3 * MANY + 1) as service:
+    with Service(program, "many.db", 3 * MANY + 3) as service:
         asked = [b"PUT /v1/acme/workspaces/w-%d HTTP/1.1" % number for number in range(MANY)]
         asked += [b"POST /v1/acme/runs/w-%d HTTP/1.1" % (number % 3) for number in range(MANY)]
         for line in asked:
@@ -658,11 +659,14 @@ def look_at_totals(program):
         said("more versions may be", service.asked(request(b"PUT /v1/acme/workspaces/net HTTP/1.1", b'{"keep_versions":1000}'))[:12], b"HTTP/1.1 200")
         for number in range(MANY):
             said("a state", service.asked(post(b'{"serial":%d}' % (number + 3))), ok())
+        for line, body in [(b"POST /v1/acme/state/w-5 HTTP/1.1", STATE), (b"DELETE /v1/acme/state/w-5 HTTP/1.1", b"")]:
+            said("a state that is purged", service.asked(request(line, body)), ok())
         service.ends()
     for number in range(MANY):
         said("an organization", program.run(["org-add", "--db", "many.db", "o-%d" % number])[:2], (0, b"ok\n"))
     line = counted(path)
-    said("how many there are", line.rpartition(b" newest ")[0], b"organizations %d workspaces %d versions %d runs %d" % (1 + MANY, 1 + MANY, 2 + MANY, MANY))
+    said("how many there are", line.rpartition(b" made ")[0], b"organizations %d workspaces %d versions %d runs %d" % (1 + MANY, 1 + MANY, 2 + MANY, MANY))
+    said("how many versions were ever made", line.split()[9], b"%d" % (3 + MANY))
     program.is_due("of a file with many rows all are told", check, 0, b"ok\n" + line)
     for name, dump in dumps_of(path):
         with contextlib.closing(sqlite3.connect(program.folder + "/many-" + name, isolation_level=None)) as fresh:

@@ -304,7 +304,7 @@ def look_at_older(program):
         "serve": lambda path: serves_one(program, path),
         "serve --check": lambda path: serves_one(program, path, "--check"),
     }
-    said("whether a source can be read", program.run(["check", "--db", source])[:2], (0, b"ok\norganizations 1 workspaces 1 versions 0 runs 1 newest -\n"))
+    said("whether a source can be read", program.run(["check", "--db", source])[:2], (0, b"ok\norganizations 1 workspaces 1 versions 0 runs 1 made 0 newest -\n"))
     for version, data in OLDER.items():
         for name, raises in raising.items():
             path = next(maker.names)

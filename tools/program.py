@@ -148,7 +148,7 @@ def look_at_closed(program):
         lines = output.splitlines()
         said("what it prints", (len(lines), lines[:1]), (0, []) if 1 in streams else (6, [b"listening 127.0.0.1:%d" % port]))
         said("what it tells", told, b"" if 2 in streams else LEFT_EARLY % 1 + LEFT_EARLY % 3 + LEFT_EARLY % 5)
-    program.is_due("the file is whole behind them", ["check", "--db", "t.db"], 0, b"ok\norganizations 1 workspaces 0 versions 0 runs 0 newest -\n")
+    program.is_due("the file is whole behind them", ["check", "--db", "t.db"], 0, b"ok\norganizations 1 workspaces 0 versions 0 runs 0 made 0 newest -\n")
     print("right: a service is the same, whichever of its streams are closed, and its peers get their replies alone")
 
 
@@ -208,7 +208,7 @@ def look_at_unlimited(program):
         _, *printed = service.left()
     said("what it printed", printed, [b"", b""])
     status, output, errors = program.run(["check", "--db", "t.db"])
-    said("the file that it leaves", (status, output.startswith(b"ok\norganizations 1 workspaces 1 versions 1 runs 0 newest "), errors), (0, True, b""))
+    said("the file that it leaves", (status, output.startswith(b"ok\norganizations 1 workspaces 1 versions 1 runs 0 made 1 newest "), errors), (0, True, b""))
     print("right: %d connections were answered by a service without a count, and it went on" % UNLIMITED)
 
 

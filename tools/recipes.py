@@ -188,10 +188,18 @@ class Unit:
         with self.lock:
             process, self.process = self.process, None
         if process:
+            self.ends_in_order(process)
             process.terminate()
             process.wait()
             if self.runs:
                 shutil.rmtree(self.runs)
+
+    def ends_in_order(self, process):
+        """Runs what the unit has for a stop, as root and with the service's process, for as long as systemd lets it."""
+        for words in self.settings().get("ExecStop", []):
+            words = shlex.split(words.lstrip("-+"))
+            with contextlib.suppress(subprocess.TimeoutExpired):
+                subprocess.run(words, env={"PATH": PATH, "MAINPID": str(process.pid)}, stdin=subprocess.DEVNULL, timeout=90, check=False)
 
     def show(self, what):
         return {"MainPID": self.process.pid if self.process else 0, "NRestarts": self.restarts}[what]
@@ -565,7 +573,7 @@ class Work(threading.Thread):
 # The pages
 # ----------------------------------------------------------------------------------------------------
 
-COUNTS = r"^ok\norganizations \d+ workspaces \d+ versions \d+ runs \d+ newest \d+$"
+COUNTS = r"^ok\norganizations \d+ workspaces \d+ versions \d+ runs \d+ made \d+ newest \d+$"
 SOCKET = "/run/custody/socket"
 LOCK = '{"ID":"5f2c","Operation":"OperationTypeApply","Who":"ann@laptop","Created":"2026-01-31T04:00:00Z"}'
 

@@ -1,5 +1,6 @@
 #!/usr/bin/env python3
-"""Lists the lemmas and definitions that nothing names, and the names that a file imports and doesn't use.
+"""Lists the lemmas and definitions that nothing names, the names that a file imports and doesn't use, and those that it imports
+from a file of ours which doesn't have them.
 
     python3 tools/unused.py        prints each; ends with status 1 where there is one
 
@@ -62,6 +63,17 @@ def imports(texts):
     return taken, idle + [row for row in passed if row[1] not in taken[module(row[0])]]
 
 
+def missing(texts):
+    """Each name that is imported from a file which doesn't have it."""
+    counted = {module(path): names(text) for path, text in texts.items() if path.endswith(".antt")}
+    for path, text in texts.items():
+        for _, source, listed, _ in USE.findall(text):
+            for one in filter(None, map(str.strip, (listed or "").split(","))):
+                first = one.partition(" as ")[0]
+                if source in counted and WORD.fullmatch(first) and not counted[source][first]:
+                    yield path, first, source
+
+
 def items(path, text, taken):
     """What the file defines that nothing names, neither in it nor elsewhere."""
     body = ANY_USE.sub("", text)
@@ -75,7 +87,7 @@ def main():
     paths = sorted(path for path in glob.glob("crates/**/*", recursive=True) if path.endswith((".rt", ".antt")) and "/out/" not in path)
     texts = {path: read(path) for path in paths}
     taken, idle = imports(texts)
-    found = ["%s: %s is imported and not named" % row for row in idle]
+    found = ["%s: %s is imported and not named" % row for row in idle] + ["%s: %s is imported from %s, which does not have it" % row for row in missing(texts)]
     for path, text in texts.items():
         if path.endswith(".antt") and not OWN_PROOF.search(path) and "Examples" not in path:
             found += ["%s: nothing names %s" % (path, name) for name in items(path, text, taken)]

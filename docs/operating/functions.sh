@@ -178,7 +178,7 @@ add_organization() {
         ! printf '%s\n' "$answer" | grep -q "^$org " || { echo "the one service has $org: apart.sh moves it" >&2; return 1; }
     fi
     if [ ! -e "$file" ]; then
-        install -d -m 700 -o custody -g custody "${file%/*}" && runuser -u custody -- touch "$file" || return
+        install -d -m 700 -o custody -g custody "${file%/*}" && (umask 077 && runuser -u custody -- touch "$file") || return
     fi
     start_service "$org" || return
     if [ "$org" != none ]; then

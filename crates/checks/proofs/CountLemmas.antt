@@ -1,13 +1,5 @@
 -- One workspace more is counted.
-use Rattle.std.proofs.Common.{◌≡◌, ℕ, ◌+◌, ◌≤◌, ◌==◌, Bool, true, false, not, cond, ◌<◌, nat_lt, List, [], ◌∷◌, ◌++◌, filter, length, take, IsTrue, refl, sym, ap, ◌∙◌, subst, arith, length-append, true≢false, ◌⊎◌, inl, inr}
-use Rattle.std.specs.Str.{bytes_eq}
-use Rattle.std.proofs.lemmas.Bool.{eqb-true, eq-eqb, ne_eqb, ltb-true, ltb-false, not-false, false_from_ne_true}
-use Rattle.std.proofs.lemmas.List.{length-take-le}
-use Rattle.std.proofs.lemmas.List.Elements.{filter-append}
-use Rattle.std.proofs.lemmas.List.Filters.{length-filter_both}
-use Rattle.basis.proofs.NameLemmas.{equal_bytes}
-use Rattle.statements.specs.Rows.{Kept, WsRow}
-use Rattle.statements.specs.Changes.{is_ws_of}
+use Rattle.checks.proofs.Outside.{◌≡◌, ℕ, ◌+◌, ◌≤◌, ◌==◌, Bool, true, false, not, cond, ◌<◌, nat_lt, List, [], ◌∷◌, ◌++◌, filter, length, take, IsTrue, refl, sym, ap, ◌∙◌, subst, arith, length-append, true≢false, ◌⊎◌, inl, inr, bytes_eq, eqb-true, eq-eqb, ne_eqb, ltb-true, ltb-false, not-false, false_from_ne_true, length-take-le, filter-append, length-filter_both, equal_bytes, Kept, WsRow, is_ws_of}
 use Rattle.checks.specs.declared.found.Found.{Found}
 use Rattle.checks.specs.declared.found.Fault.{Fault}
 use Rattle.checks.specs.declared.found.FaultKind.TheVariants as kind

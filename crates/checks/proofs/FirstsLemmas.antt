@@ -1,17 +1,11 @@
 -- Maps from keys of rows.
 use Rattle.std.proofs.Common.{◌≡◌, ◌∙◌, ℕ, Bool, true, false, cond, List, [], Some, None, refl, sym, ap, eqb-true, ◌+◌, arith}
 use Rattle.std.specs.Prelude.{◌&&◌, ◌==◌, Option, is_some, unwrap_or}
-use Rattle.std.specs.Option.{option_or}
-use Rattle.std.specs.Str.{bytes_eq}
+use Rattle.checks.proofs.Outside.{option_or, bytes_eq, BTreeMap, get, is_at, unsigned_ties, is_eq-slice_cmp, bytes_eq-Decides, and_parts}
 use Rattle.std.specs.declared.cmp.Ordering.{Ordering}
 use Rattle.std.specs.declared.cmp.Ordering.TheVariants.{Less, Equal, Greater}
 use Rattle.std.specs.Ordering.{ordering_then, is_eq}
-use Rattle.std.specs.BTreeMap.{BTreeMap, get, is_at}
 use Rattle.std.specs.Map.{lookup}
-use Rattle.std.specs.Cmp.{unsigned_ties}
-use Rattle.std.proofs.lemmas.Map.Text.{is_eq-slice_cmp}
-use Rattle.std.proofs.lemmas.Slice.Eq.{bytes_eq-Decides}
-use Rattle.std.proofs.lemmas.Bool.{and_parts}
 use Rattle.checks.specs.declared.keys.RowKey.{RowKey}
 use Rattle.checks.specs.Inner.Keys.{is_key}
 use Rattle.checks.specs.Inner.Firsts.{key_cmp, key_of_parts, value_at, KeepsFirst, AddsOne, IsKeyOf}

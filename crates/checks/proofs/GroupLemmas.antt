@@ -1,13 +1,5 @@
 -- Rows by their workspaces.
-use Rattle.std.proofs.Common.{◌≡◌, ℕ, ◌+◌, ◌<◌, Bool, true, false, cond, ◌&&◌, ◌==◌, List, [], ◌∷◌, ◌++◌, map, filter, length, take, get_or, append-nil, refl, ap, ◌∙◌, sym, Some, None, is_eq, Vec, Bor}
-use Rattle.std.specs.Option.{option_map_or}
-use Rattle.std.specs.Str.{bytes_eq}
-use Rattle.std.specs.BTreeMap.{BTreeMap, get}
-use Rattle.std.proofs.Math.Bool.{and-true}
-use Rattle.std.proofs.lemmas.List.{map-append}
-use Rattle.std.proofs.lemmas.List.Elements.{filter_more}
-use Rattle.statements.specs.Rows.{Kept, Owned}
-use Rattle.statements.specs.Changes.{is_of}
+use Rattle.checks.proofs.Outside.{◌≡◌, ℕ, ◌+◌, ◌<◌, Bool, true, false, cond, ◌&&◌, ◌==◌, List, [], ◌∷◌, ◌++◌, map, filter, length, take, get_or, append-nil, refl, ap, ◌∙◌, sym, Some, None, is_eq, Vec, Bor, option_map_or, bytes_eq, BTreeMap, get, and-true, map-append, filter_more, Kept, Owned, is_of}
 use Rattle.checks.specs.declared.keys.RowKey.{RowKey}
 use Rattle.checks.specs.Workspaces.{its_of}
 use Rattle.checks.specs.Inner.Keys.{is_key}

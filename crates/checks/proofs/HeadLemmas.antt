@@ -1,7 +1,5 @@
 -- Looks at the heads of pages.
-use Rattle.std.proofs.Common.{◌≡◌, ◌≤◌, ◌<◌, true, false, List, arith, refl, sym, ◌∙◌, true≢false, inl, inr}
-use Rattle.statements.specs.Rows.{Kept, VpageRow}
-use Rattle.statements.specs.declared.rows.PageHead.{PageHead}
+use Rattle.checks.proofs.Outside.{◌≡◌, ◌≤◌, ◌<◌, true, false, List, arith, refl, sym, ◌∙◌, true≢false, inl, inr, Kept, VpageRow, PageHead}
 use Rattle.checks.specs.declared.found.Fault.{Fault}
 use Rattle.checks.specs.declared.found.FaultKind.TheVariants as kind
 use Rattle.checks.specs.declared.found.Found.{Found}

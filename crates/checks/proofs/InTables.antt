@@ -1,23 +1,8 @@
 -- What holds of heads of pages and of rows, and what holds of the tables that have them.
 use Rattle.std.proofs.Common.{◌≡◌, ◌∙◌, ◌≤◌, ℕ, Bool, true, false, cond, List, [], ◌∷◌, length, map, Some, None, refl, sym, ap, subst, true≢false, eqb-true, eq-eqb, arith}
 use Rattle.std.specs.Prelude.{◌&&◌, ◌==◌, Option, find, filter, option_map, unwrap_or, IsSome, is_some}
-use Rattle.std.specs.List.{AllByRecursion}
-use Rattle.std.specs.Str.{bytes_eq}
-use Rattle.std.proofs.lemmas.Cmp.{nat_list_eq_equiv}
-use Rattle.std.proofs.lemmas.Slice.Eq.{bytes_eq-Decides}
-use Rattle.std.proofs.lemmas.Option.{none-some, same_Some}
-use Rattle.std.proofs.lemmas.Bool.{and_parts, and_from, false_from_ne_true}
-use Rattle.sqlite_keyed.specs.Rules.{AreApart}
-use Rattle.sqlite_keyed.proofs.SliceLemmas.{is_some-map}
-use Rattle.sqlite_keyed.proofs.ListLemmas.{all_weaker, all_both, all_map, all_unmap}
-use Rattle.statements.specs.declared.rows.PageHead.{PageHead}
-use Rattle.statements.specs.Rows.{Kept, PageRow, VersionRow, VpageRow}
-use Rattle.statements.specs.Tables.{Tables}
-use Rattle.pages.specs.Rows.{is_page, is_equal_page, page_use, page_uses}
-use Rattle.pages.specs.Heads.{has_twin, head_in}
-use Rattle.texts.specs.Texts.{names_page, is_place, page_name, bytes_named, piece_of, piece_size}
+use Rattle.checks.proofs.Outside.{AllByRecursion, bytes_eq, nat_list_eq_equiv, bytes_eq-Decides, none-some, same_Some, and_parts, and_from, false_from_ne_true, AreApart, is_some-map, all_weaker, all_both, all_map, all_unmap, PageHead, Kept, PageRow, VersionRow, VpageRow, Tables, is_page, is_equal_page, page_use, page_uses, has_twin, head_in, names_page, is_place, page_name, bytes_named, piece_of, piece_size, HasText}
 use Rattle.texts.proofs.WholeReads.{all_found}
-use Rattle.tables.specs.Sound.{HasText}
 use Rattle.checks.specs.declared.found.Found.{Found}
 use Rattle.checks.specs.Judging.{Judges}
 use Rattle.checks.specs.Faults.{SamePages, SamePlaces, OfPages, OfTexts}

@@ -1,16 +1,7 @@
 -- Sets of keys.
-use Rattle.std.proofs.Common.{◌≡◌, ℕ, Bool, true, false, not, ◌&&◌, ◌||◌, ◌==◌, List, [], ◌∷◌, Ordering, Less, Equal, Greater, nat_cmp, is_eq, arith, refl, sym, ap, ap₂, ◌∙◌}
-use Rattle.std.specs.Ordering.{ordering_then, match_ordering}
+use Rattle.checks.proofs.Outside.{◌≡◌, ℕ, Bool, true, false, not, ◌&&◌, ◌||◌, ◌==◌, List, [], ◌∷◌, Ordering, Less, Equal, Greater, nat_cmp, is_eq, arith, refl, sym, ap, ap₂, ◌∙◌, ordering_then, match_ordering, bytes_eq, list_any, insert_key, and_parts, eqb-true, nat_eq_equiv, nat_list_eq_equiv, is_eq-slice_cmp, or-false, and_comm, equal_bytes}
 use Rattle.std.specs.Cmp.Lexicographic.{slice_cmp}
-use Rattle.std.specs.Str.{bytes_eq}
-use Rattle.std.specs.List.{list_any}
-use Rattle.std.specs.BTreeSet.{insert_key}
-use Rattle.std.proofs.lemmas.Bool.{and_parts, eqb-true}
 use Rattle.std.proofs.lemmas.Bool.Decides.{nat_tests}
-use Rattle.std.proofs.lemmas.Cmp.{nat_eq_equiv, nat_list_eq_equiv}
-use Rattle.std.proofs.lemmas.Map.Text.{is_eq-slice_cmp}
-use Rattle.std.proofs.Math.Bool.{or-false, and_comm}
-use Rattle.basis.proofs.NameLemmas.{equal_bytes}
 use Rattle.checks.specs.declared.keys.RowKey.{RowKey}
 use Rattle.checks.specs.Inner.Firsts.{key_cmp}
 use Rattle.checks.specs.Inner.Keys.{is_key}

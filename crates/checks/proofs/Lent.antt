@@ -1,10 +1,5 @@
 -- What references refer to.
-use Rattle.std.proofs.Common.{◌≡◌, Bool, List, map, filter, find, length, Option, Some, None, option_map, slice_get, refl, sym, ap, ◌∙◌, Bor}
-use Rattle.std.specs.List.{list_all}
-use Rattle.std.proofs.lemmas.List.{length-map}
-use Rattle.std.proofs.lemmas.Option.{slice_get-map}
-use Rattle.std.proofs.lemmas.List.Folds.{list_all-map}
-use Rattle.sqlite_keyed.proofs.ListLemmas.{map-map, filter-map, slice_get-filter}
+use Rattle.checks.proofs.Outside.{◌≡◌, Bool, List, map, filter, find, length, Option, Some, None, option_map, slice_get, refl, sym, ap, ◌∙◌, Bor, list_all, length-map, slice_get-map, list_all-map, map-map, filter-map, slice_get-filter}
 use Rattle.checks.specs.Inner.Groups.{lent}
 
 pub find_mapped : {X Y : Type 0} (f : X → Y) (p : Y → Bool) (xs : List X) → find p (map f xs) ≡ option_map f (find (λ x. p (f x)) xs)

@@ -8,6 +8,7 @@ pub mod KeyLemmas
 pub mod Lent
 pub mod MissingLemmas
 pub mod NumberLemmas
+pub mod Outside
 pub mod PageKeys
 pub mod PlacesLemmas
 pub mod RowLemmas

@@ -1,9 +1,5 @@
 -- Runs that are missing.
-use Rattle.std.proofs.Common.{◌≡◌, ◌∙◌, ◌≤◌, ◌<◌, ◌+◌, ◌⊎◌, inl, inr, ℕ, true, List, Some, refl, sym, ap, subst, true≢false, arith, below_more}
-use Rattle.std.specs.List.{AllByRecursion}
-use Rattle.std.proofs.lemmas.Bool.{cases_lt}
-use Rattle.statements.specs.Rows.{Kept, WsRow, RunRow}
-use Rattle.statements.specs.Tables.{Tables}
+use Rattle.checks.proofs.Outside.{◌≡◌, ◌∙◌, ◌≤◌, ◌<◌, ◌+◌, ◌⊎◌, inl, inr, ℕ, true, List, Some, refl, sym, ap, subst, true≢false, arith, below_more, AllByRecursion, cases_lt, Kept, WsRow, RunRow, Tables}
 use Rattle.checks.specs.declared.found.Fault.{Fault}
 use Rattle.checks.specs.declared.found.FaultKind.TheVariants as kind
 use Rattle.checks.specs.declared.found.Found.{Found}

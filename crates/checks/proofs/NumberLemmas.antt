@@ -1,16 +1,7 @@
 -- Numbers that are sorted.
-use Rattle.std.proofs.Common.{◌≡◌, ℕ, suc, List, [], ◌∷◌, refl, sym, ap, ◌∙◌, arith, Ordering, Less, Equal, Greater, is_gt, is_eq, nat_cmp, IsPermutation, IsSorted, add-one}
-use Rattle.std.specs.List.{AllByRecursion}
-use Rattle.std.specs.Cmp.{nat_cmp_total, unsigned_tied}
-use Rattle.std.proofs.lemmas.Bool.{eqb-true}
-use Rattle.std.specs.Ordering.{ordering_reverse}
-use Rattle.std.proofs.lemmas.Cmp.{upto}
+use Rattle.checks.proofs.Outside.{◌≡◌, ℕ, suc, List, [], ◌∷◌, refl, sym, ap, ◌∙◌, arith, Ordering, Less, Equal, Greater, is_gt, is_eq, nat_cmp, IsPermutation, IsSorted, add-one, AllByRecursion, nat_cmp_total, unsigned_tied, eqb-true, ordering_reverse, upto, sort_by, insert_sorted, all_weaker, along_permutation, AtMost, sorted_as_is, put_in_turn}
 use Rattle.sqlite_trees.specs.Tree.{IsAscending}
-use Rattle.sqlite_keyed.specs.Lists.{sort_by, insert_sorted}
-use Rattle.sqlite_keyed.proofs.ListLemmas.{all_weaker, along_permutation}
-use Rattle.statements.proofs.Sorting.{AtMost, sorted_as_is}
 use Rattle.statements.proofs.Prefixes.{not_gt_back}
-use Rattle.tables.proofs.Sorted.{put_in_turn}
 
 below_all : (x : ℕ) (ys : List ℕ) → IsSorted nat_cmp (x ∷ ys) → IsAscending (AtMost nat_cmp) ys → AllByRecursion (AtMost nat_cmp x) ys
 below_all x [] sorted up = tt

@@ -1,19 +1,7 @@
 -- Maps of what rows say, filled row by row.
 use Rattle.std.proofs.Common.{◌≡◌, ◌∙◌, ◌<◌, ◌+◌, ℕ, Bool, true, false, cond, List, [], ◌∷◌, ◌++◌, length, take, get_or, Some, None, refl, sym, ap, rules, true≢false, eqb-true, eq-eqb, ◌≤◌, arith, subst, inl, inr}
 use Rattle.std.specs.Prelude.{◌⊎◌, ◌&&◌, ◌==◌, ◌↔◌, Option, find, option_map, nat_lt, IsTrue, unwrap_or, nat_eq, filter, not}
-use Rattle.std.specs.Option.{option_or, option_eq}
-use Rattle.std.specs.List.{AllByRecursion}
-use Rattle.std.specs.Str.{bytes_eq}
-use Rattle.std.proofs.lemmas.Option.{none-some}
-use Rattle.std.proofs.lemmas.Bool.{cases_lt}
-use Rattle.std.specs.BTreeMap.{BTreeMap, get}
-use Rattle.std.proofs.lemmas.List.{take_more, take_all, length-take-le}
-use Rattle.std.proofs.lemmas.List.Folds.{find-append}
-use Rattle.std.proofs.lemmas.List.Filters.{length-filter_more, length-filter_both}
-use Rattle.std.proofs.Math.Bool.{and-true}
-use Rattle.statements.specs.declared.rows.PageHead.{PageHead}
-use Rattle.statements.specs.Rows.{Kept, VersionRow, VpageRow}
-use Rattle.texts.specs.Texts.{pages_for, piece_size, names_page}
+use Rattle.checks.proofs.Outside.{option_or, option_eq, AllByRecursion, bytes_eq, none-some, cases_lt, BTreeMap, get, take_more, take_all, length-take-le, find-append, length-filter_more, length-filter_both, and-true, PageHead, Kept, VersionRow, VpageRow, pages_for, piece_size, names_page}
 use Rattle.checks.specs.declared.keys.RowKey.{RowKey}
 use Rattle.checks.specs.declared.found.Fault.{Fault}
 use Rattle.checks.specs.Judging.{OfSome, Judges}

@@ -1,9 +1,7 @@
 -- The looks at one workspace.
-use Rattle.std.proofs.Common.{◌≡◌, ℕ, ◌≤◌, Bool, List, sym, ap, ◌∙◌, subst, IsTrue}
-use Rattle.basis.specs.declared.numbers.TheConstants.{MAX_KEPT}
+use Rattle.checks.proofs.Outside.{◌≡◌, ℕ, ◌≤◌, Bool, List, sym, ap, ◌∙◌, subst, IsTrue, MAX_KEPT, WsRow}
 use Rattle.basis.specs.declared.rows.RunRow.{RunRow as Run}
 use Rattle.basis.specs.declared.rows.VersionRow.{VersionRow as Version}
-use Rattle.statements.specs.Rows.{WsRow}
 use Rattle.checks.specs.declared.found.Found.{Found}
 use Rattle.checks.specs.declared.found.FaultKind.TheVariants as kind
 use Rattle.checks.specs.Judging.{fault_of, Breaks, Judges}

@@ -1,12 +1,6 @@
 -- Laws of the rows of a list, as the rows come one by one.
-use Rattle.std.proofs.Common.{◌≡◌, ℕ, ◌+◌, ◌<◌, Bool, true, false, not, List, [], ◌∷◌, ◌++◌, take, get_or, length, refl, sym, ap, ◌∙◌, subst, true≢false, ◌⊎◌, inl, inr}
-use Rattle.std.specs.List.{AllByRecursion, list_any}
-use Rattle.std.proofs.lemmas.List.{take_more}
-use Rattle.std.proofs.lemmas.Bool.{not-true, or_left, or_right, or_cases}
+use Rattle.checks.proofs.Outside.{◌≡◌, ℕ, ◌+◌, ◌<◌, Bool, true, false, not, List, [], ◌∷◌, ◌++◌, take, get_or, length, refl, sym, ap, ◌∙◌, subst, true≢false, ◌⊎◌, inl, inr, AllByRecursion, list_any, take_more, not-true, or_left, or_right, or_cases, AreApart, none_from_any, any_from_none, apart_pushed}
 use Rattle.std.proofs.SliceLists.{all_by_recursion_push}
-use Rattle.sqlite_keyed.specs.Rules.{AreApart}
-use Rattle.sqlite_keyed.proofs.ListLemmas.{none_from_any, any_from_none}
-use Rattle.statements.proofs.Found.{apart_pushed}
 use Rattle.definitions.proofs.Naming.{all_less}
 use Rattle.checks.specs.declared.found.Found.{Found}
 use Rattle.checks.specs.declared.found.Fault.{Fault}

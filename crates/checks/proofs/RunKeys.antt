@@ -1,14 +1,6 @@
 -- The keys of runs that a set has seen.
-use Rattle.std.proofs.Common.{◌≡◌, ℕ, Bool, true, false, not, cond, ◌&&◌, ◌||◌, List, [], ◌∷◌, refl, sym, ap, ◌∙◌, Option, Some, None, IfSome, IsTrue, IsPermutation}
-use Rattle.std.specs.Prelude.{◌↔◌}
-use Rattle.std.proofs.Math.Bool.{and_assoc}
-use Rattle.std.specs.List.{AllByRecursion, list_all}
-use Rattle.std.specs.Str.{bytes_eq}
-use Rattle.std.proofs.lemmas.Bool.{and_from, not-true}
-use Rattle.std.proofs.lemmas.Cmp.{nat_list_eq_equiv}
-use Rattle.sqlite_keyed.proofs.ListLemmas.{along_permutation}
+use Rattle.checks.proofs.Outside.{◌≡◌, ℕ, Bool, true, false, not, cond, ◌&&◌, ◌||◌, List, [], ◌∷◌, refl, sym, ap, ◌∙◌, Option, Some, None, IfSome, IsTrue, IsPermutation, ◌↔◌, and_assoc, AllByRecursion, list_all, bytes_eq, and_from, not-true, nat_list_eq_equiv, along_permutation, KeysDiffer}
 use Rattle.basis.specs.declared.rows.RunRow.{RunRow as Run}
-use Rattle.machine.specs.Laws.{KeysDiffer}
 use Rattle.checks.specs.Runs.{is_other, is_that, have_others, keys_differ, is_new}
 use Rattle.checks.proofs.TestLemmas.{both, all_tests}
 

@@ -1,14 +1,6 @@
 -- The laws of runs by the tests of their rows.
-use Rattle.std.proofs.Common.{◌≡◌, ℕ, ◌≤◌, ◌==◌, Bool, true, false, not, nat_le, List, map, find, length, Option, Some, None, option_map, IfSome, IsSomeAnd, IsTrue, refl, sym, ap, ◌∙◌, subst, nat_cmp, true≢false, Equal}
-use Rattle.std.specs.Prelude.{◌↔◌}
-use Rattle.std.specs.List.{AllByRecursion, list_all}
+use Rattle.checks.proofs.Outside.{◌≡◌, ℕ, ◌≤◌, ◌==◌, Bool, true, false, not, nat_le, List, map, find, length, Option, Some, None, option_map, IfSome, IsSomeAnd, IsTrue, refl, sym, ap, ◌∙◌, subst, nat_cmp, true≢false, Equal, ◌↔◌, AllByRecursion, list_all, nat_cmp_total, tied_itself, and_from, eqb-true, not-true, sort_by, sort_by-map, IsPermutation-sort_by, first_of_both, second_of_both, has_length, Rises, IsRun, AreRuns, IsNext, KeysDiffer, IsHolder, IsWhereActionEnds, is_active, is_pending, holds, is_nobody, Tables, all_sorted, runs_at, by_run, by_run_total, runs_sorted, all_unsorted, count_sorted, found_sorted}
 use Rattle.std.specs.Option.{unwrap_or}
-use Rattle.std.specs.Cmp.{nat_cmp_total, tied_itself}
-use Rattle.std.proofs.lemmas.Bool.{and_from, eqb-true, not-true}
-use Rattle.sqlite_keyed.specs.Lists.{sort_by}
-use Rattle.sqlite_keyed.proofs.SortLemmas.{sort_by-map, IsPermutation-sort_by}
-use Rattle.sqlite_keyed.proofs.RuleLemmas.{first_of_both, second_of_both}
-use Rattle.basis.specs.Names.{has_length}
 use Rattle.basis.specs.Runs.{is_open}
 use Rattle.basis.specs.declared.runs.RunStatus.{RunStatus}
 use Rattle.basis.specs.declared.runs.RunStatus.TheVariants.{Pending, Planning, Planned, Applying, Applied, PlannedAndFinished, Errored, Discarded, Canceled}
@@ -16,13 +8,7 @@ use Rattle.basis.specs.declared.runs.RunAction.{RunAction}
 use Rattle.basis.specs.declared.rows.Holder.{Holder}
 use Rattle.basis.specs.declared.rows.Holder.TheVariants.{Nobody, Lock, Run as HoldingRun}
 use Rattle.basis.specs.declared.rows.RunRow.{RunRow as Run}
-use Rattle.machine.specs.Laws.{Rises, IsRun, AreRuns, IsNext, KeysDiffer, IsHolder, IsWhereActionEnds, is_active, is_pending, holds, is_nobody}
 use Rattle.machine.specs.Workspaces.{open_runs, run_of}
-use Rattle.statements.specs.Tables.{Tables}
-use Rattle.statements.proofs.Sorting.{all_sorted}
-use Rattle.tables.specs.Records.{runs_at}
-use Rattle.tables.proofs.Ordered.{by_run, by_run_total, runs_sorted}
-use Rattle.tables.proofs.Sorted.{all_unsorted, count_sorted, found_sorted}
 use Rattle.checks.specs.Versions.{rises, sorted}
 use Rattle.checks.specs.Runs.{run_number, is_key, is_where_action_ends, is_active_rightly, waits_rightly, is_run, count_open, keys_differ, is_queued, is_held, are_runs}
 use Rattle.checks.specs.Workspaces.{its_of}

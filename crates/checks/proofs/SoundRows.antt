@@ -1,9 +1,5 @@
 -- What the checks look for is that the tables are sound.
-use Rattle.std.proofs.Common.{◌≡◌, ℕ, List, sym, subst}
-use Rattle.statements.specs.declared.rows.Rows.{Rows}
-use Rattle.statements.specs.Tables.{Tables}
-use Rattle.tables.specs.Scans.{AreRowsOf, ArePagesKeyed}
-use Rattle.tables.specs.Sound.{IsSound}
+use Rattle.checks.proofs.Outside.{◌≡◌, ℕ, List, sym, subst, Rows, Tables, AreRowsOf, ArePagesKeyed, IsSound}
 use Rattle.checks.specs.Judging.{Judges}
 use Rattle.checks.specs.Faults.{rows_of, OfRows, OfTables, IsFaultOf}
 use Rattle.checks.specs.Missing.{HasEveryRun}

@@ -1,17 +1,11 @@
 -- From the rows that were read to the store that has them.
-use Rattle.std.proofs.Common.{◌≡◌, ◌==◌, true, ◌<◌, ◌≤◌, ◌+◌, ℕ, List, [], ◌∷◌, ◌++◌, map, take, get_or, length, arith, refl, sym, ap, ◌∙◌, subst}
-use Rattle.std.proofs.lemmas.Bool.{eqb-true}
-use Rattle.std.proofs.lemmas.List.{length-take-le, length-map}
+use Rattle.checks.proofs.Outside.{◌≡◌, ◌==◌, true, ◌<◌, ◌≤◌, ◌+◌, ℕ, List, [], ◌∷◌, ◌++◌, map, take, get_or, length, arith, refl, sym, ap, ◌∙◌, subst, eqb-true, length-take-le, length-map, Tables, Holds, IsOurs, tables_of, AreRowsOf, ArePagesKeyed, IsSound, Rows}
 use Rattle.sqlite.specs.Effect.{Database}
 use Rattle.sqlite.specs.State.{State}
-use Rattle.statements.specs.Tables.{Tables, Holds, IsOurs, tables_of}
 use Rattle.tables.specs.Remembered.{IsRemembered}
 use Rattle.tables.specs.declared.memo.Memo.{Memo}
 use Rattle.tables.specs.Defined.{ReportsTables as NamesTables}
 use Rattle.tables.specs.Opening.{IsFresh, IsSoundKeep}
-use Rattle.tables.specs.Scans.{AreRowsOf, ArePagesKeyed}
-use Rattle.tables.specs.Sound.{IsSound}
-use Rattle.statements.specs.declared.rows.Rows.{Rows}
 use Rattle.statements.proofs.Joined.{map_none}
 use Rattle.checks.specs.declared.found.Fault.{Fault}
 use Rattle.checks.specs.declared.found.Found.{Found}

@@ -1,9 +1,5 @@
 -- Tests that decide laws.
-use Rattle.std.proofs.Common.{◌≤◌, ◌<◌, ℕ, Bool, ◌&&◌, nat_le, nat_lt, List, [], ◌∷◌, IsTrue, refl}
-use Rattle.std.specs.Prelude.{◌↔◌}
-use Rattle.std.specs.List.{AllByRecursion, list_all}
-use Rattle.std.proofs.lemmas.Bool.{and_from, leb-true, le-leb, ltb-true, lt-ltb}
-use Rattle.sqlite_keyed.proofs.RuleLemmas.{first_of_both, second_of_both}
+use Rattle.checks.proofs.Outside.{◌≤◌, ◌<◌, ℕ, Bool, ◌&&◌, nat_le, nat_lt, List, [], ◌∷◌, IsTrue, refl, ◌↔◌, AllByRecursion, list_all, and_from, leb-true, le-leb, ltb-true, lt-ltb, first_of_both, second_of_both}
 
 pub at_most : (m n : ℕ) → IsTrue (nat_le m n) ↔ (m ≤ n)
 at_most m n = (leb-true m n, le-leb m n)

@@ -1,25 +1,7 @@
 -- The laws of versions by the tests of their rows.
-use Rattle.std.proofs.Common.{◌≡◌, ℕ, ◌+◌, ◌-◌, ◌≤◌, ◌==◌, true, nat_le, List, [], ◌∷◌, map, filter, length, IsTrue, refl, sym, ap, ◌∙◌, subst, arith, nat_cmp}
-use Rattle.std.specs.Prelude.{◌↔◌}
-use Rattle.std.specs.List.{AllByRecursion, list_all}
-use Rattle.std.proofs.lemmas.Bool.{and_from, leb-true, le-leb, eqb-true, eq-eqb}
-use Rattle.std.proofs.lemmas.List.{length-map}
-use Rattle.sqlite_keyed.specs.Lists.{sort_by}
-use Rattle.sqlite_keyed.proofs.ListLemmas.{map-map, all_map, all_unmap}
-use Rattle.sqlite_keyed.proofs.SortLemmas.{sort_by-map}
-use Rattle.sqlite_keyed.proofs.RuleLemmas.{first_of_both, second_of_both}
+use Rattle.checks.proofs.Outside.{◌≡◌, ℕ, ◌+◌, ◌-◌, ◌≤◌, ◌==◌, true, nat_le, List, [], ◌∷◌, map, filter, length, IsTrue, refl, sym, ap, ◌∙◌, subst, arith, nat_cmp, ◌↔◌, AllByRecursion, list_all, and_from, leb-true, le-leb, eqb-true, eq-eqb, length-map, sort_by, map-map, all_map, all_unmap, sort_by-map, first_of_both, second_of_both, Rises, IsVersion, AreVersions, IsNext, IsRetention, Kept, VersionRow, Tables, is_version_of, all_sorted, version_at, versions_at, HasNoGap, by_version, versions_sorted, all_unsorted}
 use Rattle.basis.specs.declared.rows.VersionRow.{VersionRow as Cells}
-use Rattle.machine.specs.Laws.{Rises, IsVersion, AreVersions, IsNext}
-use Rattle.machine.specs.Ranges.{IsRetention}
 use Rattle.machine.specs.declared.records.Version.{Version}
-use Rattle.statements.specs.Rows.{Kept, VersionRow}
-use Rattle.statements.specs.Tables.{Tables}
-use Rattle.statements.specs.Changes.{is_version_of}
-use Rattle.statements.proofs.Sorting.{all_sorted}
-use Rattle.tables.specs.Records.{version_at, versions_at}
-use Rattle.tables.specs.Sound.{HasNoGap}
-use Rattle.tables.proofs.Ordered.{by_version, versions_sorted}
-use Rattle.tables.proofs.Sorted.{all_unsorted}
 use Rattle.checks.specs.Versions.{is_version, version_number, rises, reaches, sorted, are_versions}
 use Rattle.checks.specs.Workspaces.{its_of}
 use Rattle.checks.proofs.TestLemmas.{at_most, below, both, all_tests}

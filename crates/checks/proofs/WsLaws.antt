@@ -1,20 +1,6 @@
 -- The laws of workspaces by the tests of their rows.
-use Rattle.std.proofs.Common.{◌≡◌, ℕ, ◌+◌, true, List, filter, Option, Some, None, option_map, IfSome, IsTrue, refl, sym, ap, ◌∙◌, subst}
-use Rattle.std.specs.Prelude.{◌↔◌}
-use Rattle.std.specs.List.{AllByRecursion}
+use Rattle.checks.proofs.Outside.{◌≡◌, ℕ, ◌+◌, true, List, filter, Option, Some, None, option_map, IfSome, IsTrue, refl, sym, ap, ◌∙◌, subst, ◌↔◌, AllByRecursion, slice_get-map, all_weaker, slice_get-filter, is_ws_name, is_free_id, MAX_NUMBER, FIRST_KEPT, IsNext, IsRetention, Kept, WsRow, RetentionRow, Tables, Rows, is_retention, retention_at, workspace_at, IsSoundWorkspace}
 use Rattle.std.specs.Option.{unwrap_or}
-use Rattle.std.proofs.lemmas.Option.{slice_get-map}
-use Rattle.sqlite_keyed.proofs.ListLemmas.{all_weaker, slice_get-filter}
-use Rattle.basis.specs.Names.{is_ws_name, is_free_id}
-use Rattle.basis.specs.declared.numbers.TheConstants.{MAX_NUMBER, FIRST_KEPT}
-use Rattle.machine.specs.Laws.{IsNext}
-use Rattle.machine.specs.Ranges.{IsRetention}
-use Rattle.statements.specs.Rows.{Kept, WsRow, RetentionRow}
-use Rattle.statements.specs.Tables.{Tables}
-use Rattle.statements.specs.declared.rows.Rows.{Rows}
-use Rattle.statements.specs.Changes.{is_retention}
-use Rattle.tables.specs.Records.{retention_at, workspace_at}
-use Rattle.tables.specs.Sound.{IsSoundWorkspace}
 use Rattle.checks.specs.declared.found.Found.{Found}
 use Rattle.checks.specs.declared.workspaces.Grouped.{Grouped}
 use Rattle.checks.specs.declared.found.Fault.{Fault}

@@ -1,24 +1,11 @@
 -- What is judged of rows of workspaces is what is said of records, where each workspace has one row.
 use Rattle.std.proofs.Common.{◌≡◌, ℕ, ◌≤◌, Bool, true, false, cond, List, [], ◌∷◌, find, length, Option, Some, None, is_some, option_map, refl, sym, ap, ◌∙◌, subst, arith, true≢false}
-use Rattle.std.proofs.lemmas.Option.{same_Some}
-use Rattle.std.specs.List.{AllByRecursion, list_any}
-use Rattle.std.specs.Str.{bytes_eq}
+use Rattle.checks.proofs.Outside.{same_Some, AllByRecursion, list_any, bytes_eq, AreApart, all_weaker, all_both, filter_none, any_is_found, MAX_LIMIT, equal_bytes, Kept, OrgRow, WsRow, Tables, is_org, is_ws, is_ws_of, found_passes, found_holds, workspace_at, workspace_by, workspaces_at, organization_at, record_of, IsSoundWorkspace}
 use Rattle.std.specs.FinMap.{entries, len-entries}
-use Rattle.sqlite_keyed.specs.Rules.{AreApart}
-use Rattle.sqlite_keyed.proofs.ListLemmas.{all_weaker, all_both, filter_none}
-use Rattle.sqlite_keyed.proofs.SliceLemmas.{any_is_found}
-use Rattle.basis.specs.declared.numbers.TheConstants.{MAX_LIMIT}
-use Rattle.basis.proofs.NameLemmas.{equal_bytes}
 use Rattle.machine.specs.Records.{count_of}
 use Rattle.machine.specs.declared.records.Workspace.{Workspace}
 use Rattle.machine.specs.declared.records.Organization.{Organization}
-use Rattle.statements.specs.Rows.{Kept, OrgRow, WsRow}
-use Rattle.statements.specs.Tables.{Tables}
-use Rattle.statements.specs.Changes.{is_org, is_ws, is_ws_of}
 use Rattle.statements.specs.Finds.{cap_of}
-use Rattle.statements.proofs.Found.{found_passes, found_holds}
-use Rattle.tables.specs.Records.{workspace_at, workspace_by, workspaces_at, organization_at, record_of}
-use Rattle.tables.specs.Sound.{IsSoundWorkspace}
 use Rattle.tables.proofs.Names.{pair_first, pair_second, pair_is, pair_apart}
 use Rattle.tables.proofs.Finding.{entries_counted}
 use Rattle.checks.specs.Inner.Workspaces.{AreLawfulWss}

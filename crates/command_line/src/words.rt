@@ -65,7 +65,8 @@ const SERVE_USAGE: &str =
     "custody serve [OPTIONS] --db <PATH> <--port <P>|--socket <PATH>> <--count <N>|--unlimited>";
 
 /// The end of the help of `admin`: the lines that it reads.
-const ADMIN_LINES: &str = "Lines, with one space between words:
+const ADMIN_LINES: &str =
+    "Skips empty lines and lines that begin with #. Other lines, with one space between words:
   org-add ORG [LIMIT]
   org-limit ORG N
   org-remove ORG [force]

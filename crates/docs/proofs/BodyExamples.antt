@@ -1,12 +1,9 @@
 -- Worked bodies, computed by the definitions themselves.
-use Rattle.std.proofs.Common.{◌≡◌, [], ◌∷◌, Some, None, true, false, refl}
+use Rattle.docs.proofs.Outside.{◌≡◌, [], ◌∷◌, Some, None, true, false, refl, digits, serde_json_on_literals, run_id}
 use Rattle.std.specs.Prelude.{codes}
-use Rattle.std.specs.Fmt.{digits}
-use Rattle.serde_json.proofs.OnLiterals.{serde_json_on_literals}
 use Rattle.basis.specs.declared.refusals.Refusal.TheVariants.{NoToken, Unavailable}
 use Rattle.basis.specs.declared.rows.HolderId.TheVariants.{Lock, Run}
 use Rattle.basis.specs.declared.runs.RunStatus.TheVariants.{Planning}
-use Rattle.basis.specs.Names.{run_id}
 use Rattle.docs.specs.Bodies.{error_text, ws_text, run_text, run_holder_text, ws_list_text, version_list_text, run_list_text}
 
 refused : error_text NoToken ≡ codes "{\"error\":\"no-token\"}"

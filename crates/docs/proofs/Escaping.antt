@@ -1,10 +1,6 @@
 -- Escapes of what acts on a terminal: each step of the text, and that nothing acts in what is left.
 use lib.Utf8.{encode}
-use Rattle.std.proofs.Common.{◌≡◌, refl, sym, ap, ◌∙◌, subst, arith, ℕ, zero, suc, ◌+◌, ◌-◌, ◌*◌, ◌<◌, ◌≤◌, ◌==◌, ◌%◌, ◌/◌, ◌||◌, ◌⊎◌, inl, inr, List, [], ◌∷◌, ◌++◌, append_assoc, append-nil, get_or, take, drop, take-append-drop, length, Bool, true, false, cond, nat_lt, nat_le, eqb-true, ne_eqb, leb-true, le-ltb, lt-ltb, ltb-true, ◌&&◌}
-use Rattle.std.proofs.lemmas.Bool.{eqb-false, and_parts, lt-leb, cases_eq, false≢true, agree_below, agree_below_at}
-use Rattle.std.specs.Prelude.{⊤}
-use Rattle.std.specs.List.{AllByRecursion, list_all}
-use Rattle.std.specs.Char.{digit_char, encode_utf8}
+use Rattle.docs.proofs.Outside.{◌≡◌, refl, sym, ap, ◌∙◌, subst, arith, ℕ, zero, suc, ◌+◌, ◌-◌, ◌*◌, ◌<◌, ◌≤◌, ◌==◌, ◌%◌, ◌/◌, ◌||◌, ◌⊎◌, inl, inr, List, [], ◌∷◌, ◌++◌, append_assoc, append-nil, get_or, take, drop, take-append-drop, length, Bool, true, false, cond, nat_lt, nat_le, eqb-true, ne_eqb, leb-true, le-ltb, lt-ltb, ltb-true, ◌&&◌, eqb-false, and_parts, lt-leb, cases_eq, false≢true, agree_below, agree_below_at, ⊤, AllByRecursion, list_all, digit_char, encode_utf8}
 use Rattle.std.specs.Int.{is_in_range}
 use Rattle.docs.specs.Escapes.{acts, NothingActs, is_tail, code_of, acting, behind_first, unicode_escape, escaped_from, escaped}
 

@@ -1,8 +1,6 @@
 -- Worked documents, computed by the definitions themselves.
-use Rattle.std.proofs.Common.{◌≡◌, [], ◌∷◌, ◌++◌, Some, None, true, false, refl}
+use Rattle.docs.proofs.Outside.{◌≡◌, [], ◌∷◌, ◌++◌, Some, None, true, false, refl, chars, is_utf8, serde_json_on_literals}
 use Rattle.std.specs.Prelude.{codes}
-use Rattle.std.specs.Str.{chars, is_utf8}
-use Rattle.serde_json.proofs.OnLiterals.{serde_json_on_literals}
 use Rattle.docs.specs.Documents.{state_head, make_head, lock_id_of, settings_of, make_settings, run_ask, make_ask}
 use Rattle.docs.specs.RunSettings.{make_run_settings}
 

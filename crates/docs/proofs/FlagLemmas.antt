@@ -1,7 +1,5 @@
 -- A flag, as a function and as a relation; and what an option comes from.
-use Rattle.std.proofs.Common.{◌≡◌, refl, sym, ap, Bool, Option, Some, None, option_map}
-use Rattle.serde_json.specs.Data.{Data, null, boolean, number, string, array, object}
-use Rattle.serde_json.specs.Find.{as_bool}
+use Rattle.docs.proofs.Outside.{◌≡◌, refl, sym, ap, Bool, Option, Some, None, option_map, Data, null, boolean, number, string, array, object, as_bool}
 use Rattle.docs.specs.Flags.{flag_of, IsFlag}
 
 -- what is there comes from what is there

@@ -1,24 +1,10 @@
 -- What counts of a state, as its members are read one after another.
-use Rattle.std.proofs.Common.{◌≡◌, ◌∙◌, sym, ap, refl, arith, ℕ, List, [], ◌∷◌, length, Bool, true, false, true≢false, Option, Some, None, is_some, option_map, option_and_then, codes}
+use Rattle.docs.proofs.Outside.{◌≡◌, ◌∙◌, sym, ap, refl, arith, ℕ, List, [], ◌∷◌, length, Bool, true, false, true≢false, Option, Some, None, is_some, option_map, option_and_then, codes, IsUtf8, is_utf8, bytes_eq, IsUtf8-from_is_utf8, is_utf8-from_IsUtf8, tokens, token_of, Yields, Token, parse_map, items, members, value, value_is, value-begin_array, value-begin_object, Data, Num, Items, Members, number, array, object, no_members, put, get_member, as_object, as_u64, number_of, of_json, of_items, of_members, converted, within, StateHead, MAX_SERIAL, MAX_LINEAGE}
 use Rattle.std.specs.Borrow.{Bor}
-use Rattle.std.specs.Str.{IsUtf8, is_utf8, bytes_eq}
 use Rattle.std.proofs.lemmas.Slice.Eq.{bytes_eq-Decides}
-use Rattle.std.proofs.lemmas.Str.{IsUtf8-from_is_utf8, is_utf8-from_IsUtf8}
-use Rattle.json.specs.Lex.{tokens}
-use Rattle.json.specs.Reads.{token_of, Yields}
-use Rattle.json.specs.Token.{Token}
 use Rattle.json.specs.declared.token.Token as read
 use Rattle.json.specs.Json as json
-use Rattle.json.specs.Json.{parse_map, items, members, value}
-use Rattle.json.proofs.Grammar.{value_is, value-begin_array, value-begin_object}
-use Rattle.serde_json.specs.Data.{Data, Num, Items, Members, number, array, object, no_members, put}
-use Rattle.serde_json.specs.Find.{get_member, as_object, as_u64}
-use Rattle.serde_json.specs.Read.{number_of, of_json, of_items, of_members, converted}
 use Rattle.serde_json.proofs.Views.{get_member-put, get_member-put_other}
-use Rattle.basis.specs.Numbers.{within}
-use Rattle.basis.specs.declared.rows.StateHead.{StateHead}
-use Rattle.basis.specs.declared.numbers.TheConstants.{MAX_SERIAL}
-use Rattle.basis.specs.declared.rows.TheConstants.{MAX_LINEAGE}
 use Rattle.docs.specs.Documents.{object_of, serial_of, text_within, optional_text, make_head, head_in, state_head}
 use Rattle.docs.specs.Inner.Heads.{opens_object, object_in, IsPartOf, IsHeadOf, whole_in, serial_in, lineage_in}
 use Rattle.docs.specs.declared.heads.Head.{Head}

@@ -6,6 +6,7 @@ pub mod Heading
 pub mod Lines
 pub mod LogExamples
 pub mod Objects
+pub mod Outside
 pub mod Passing
 pub mod Putting
 pub mod ReadingLemmas

@@ -1,17 +1,5 @@
 -- A line of the log is one line: compact JSON escapes each control character of ASCII below 32, and what else acts is escaped behind it.
-use Rattle.std.proofs.Common.{◌≡◌, refl, ap, sym, subst, append_assoc, append-nil, arith, ℕ, suc, zero, pos, negsuc, ◌/◌, ◌%◌, ◌<◌, ◌≤◌, ◌==◌, ◌&&◌, List, [], ◌∷◌, ◌++◌, inl, inr, Bool, true, false, cond, decimal}
-use Rattle.std.proofs.lemmas.Bool.{agree_below_at, cases_lt}
-use Rattle.std.specs.List.{AllByRecursion}
-use Rattle.std.specs.Prelude.{⊤}
-use Rattle.std.specs.Fmt.{digits, digits_onto, digit_glyph}
-use Rattle.json.proofs.Printed.Strings.{escape_byte_plain}
-use Rattle.json.specs.Print.{escape_byte, escape, quoted, token_text, ends, begins, print_from}
-use Rattle.json.specs.Token.{Token}
-use Rattle.json.specs.Tree.{json_tokens, items_tokens, members_tokens}
-use Rattle.json.specs.Written.{Written}
-use Rattle.serde_json.proofs.Texts.{print-outline}
-use Rattle.serde_json.specs.Data.{Num, unsigned, negative, float, Data, null, boolean, number, string, array, object, Items, no_items, item, Members, no_members, member}
-use Rattle.serde_json.specs.Written.{number_text, compact_text, outline, items_outline, members_outline}
+use Rattle.docs.proofs.Outside.{◌≡◌, refl, ap, sym, subst, append_assoc, append-nil, arith, ℕ, suc, zero, pos, negsuc, ◌/◌, ◌%◌, ◌<◌, ◌≤◌, ◌==◌, ◌&&◌, List, [], ◌∷◌, ◌++◌, inl, inr, Bool, true, false, cond, decimal, agree_below_at, cases_lt, AllByRecursion, ⊤, digits, digits_onto, digit_glyph, escape_byte_plain, escape_byte, escape, quoted, token_text, ends, begins, print_from, Token, json_tokens, items_tokens, members_tokens, Written, print-outline, Num, unsigned, negative, float, Data, null, boolean, number, string, array, object, Items, no_items, item, Members, no_members, member, number_text, compact_text, outline, items_outline, members_outline}
 use Rattle.docs.specs.declared.logs.LogRow.{LogRow}
 use Rattle.docs.specs.Escapes.{escaped}
 use Rattle.docs.specs.Logs.{log_value, log_line, ExchangesAreLines}

@@ -1,8 +1,6 @@
 -- Worked lines of the log, computed by the definitions themselves.
-use Rattle.std.proofs.Common.{◌≡◌, ◌∷◌, [], true, false, Some, None, refl}
+use Rattle.docs.proofs.Outside.{◌≡◌, ◌∷◌, [], true, false, Some, None, refl, digits, serde_json_on_literals}
 use Rattle.std.specs.Prelude.{codes, ◌++◌, ⊤}
-use Rattle.std.specs.Fmt.{digits}
-use Rattle.serde_json.proofs.OnLiterals.{serde_json_on_literals}
 use Rattle.basis.specs.declared.acts.WsAct.TheVariants.{UpdateState}
 use Rattle.docs.specs.declared.logs.LogAct.TheVariants.{OfWorkspace, OfOperator}
 use Rattle.docs.specs.declared.logs.OperatorAct.TheVariants.{AddToken}

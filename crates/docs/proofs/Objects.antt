@@ -1,12 +1,5 @@
 -- The object that bytes are, by what the reader of `serde_json` says of them.
-use Rattle.std.proofs.Common.{◌≡◌, ◌<◌, arith, length, [], ◌∷◌, ℕ, List, Bool, true, false, Some, None, is_some, refl}
-use Rattle.std.specs.Str.{IsUtf8, is_utf8, chars}
-use Rattle.serde_json.proofs.OnLiterals.{serde_json_on_literals}
-use Rattle.std.proofs.lemmas.Str.{IsUtf8-from_is_utf8, is_utf8-from_IsUtf8}
-use Rattle.serde_json.specs.Data.{Data, null, boolean, number, string, array, object, Members, no_members}
-use Rattle.serde_json.specs.Find.{as_object}
-use Rattle.serde_json.specs.Read.{read}
-use Rattle.std.specs.Prelude.{Result, Ok, Err, IsErrAnd, IsErrOf}
+use Rattle.docs.proofs.Outside.{◌≡◌, ◌<◌, arith, length, [], ◌∷◌, ℕ, List, Bool, true, false, Some, None, is_some, refl, IsUtf8, is_utf8, chars, serde_json_on_literals, IsUtf8-from_is_utf8, is_utf8-from_IsUtf8, Data, null, boolean, number, string, array, object, Members, no_members, as_object, read, Result, Ok, Err, IsErrAnd, IsErrOf}
 use Rattle.docs.specs.declared.faults.DocFault.{DocFault}
 use Rattle.docs.specs.declared.faults.DocFault.TheVariants.{Bad, Down}
 use Rattle.docs.specs.Documents.{object_of, small_object_of}

@@ -1,11 +1,6 @@
 -- The grammar's loops, a turn at a time, where values are checked and not kept.
-use Rattle.std.proofs.Common.{◌≡◌, ℕ, zero, suc, ◌-◌, ◌<◌, ◌≤◌, List, [], ◌∷◌, length, Option, Some, None, option_map, option_and_then, refl, ap, ◌∙◌}
-use Rattle.json.specs.Token.{Token}
+use Rattle.docs.proofs.Outside.{◌≡◌, ℕ, zero, suc, ◌-◌, ◌<◌, ◌≤◌, List, [], ◌∷◌, length, Option, Some, None, option_map, option_and_then, refl, ap, ◌∙◌, Token, Parse, parse_map, after_end_array, read_key, items_step, items, members, if_last, left, left-parse_map, items_end, items_more, members_end, members_no_key, members_more, Data, array, object, item, Members, no_members, put, of_json, of_items, of_members, converted}
 use Rattle.json.specs.Json as json
-use Rattle.json.specs.Json.{Parse, parse_map, after_end_array, read_key, items_step, items, members, if_last}
-use Rattle.json.proofs.Grammar.{left, left-parse_map, items_end, items_more, members_end, members_no_key, members_more}
-use Rattle.serde_json.specs.Data.{Data, array, object, item, Members, no_members, put}
-use Rattle.serde_json.specs.Read.{of_json, of_items, of_members, converted}
 
 -- ---- what was read, under a conversion
 

@@ -1,15 +1,7 @@
 -- What is put into a text: members one behind another, objects one behind another, and the whole.
 use Rattle.std.proofs.Common.{◌≡◌, ◌∙◌, refl, sym, ap, ap₂, ℕ, List, [], ◌∷◌, ◌++◌, Option, Some, None, option_map, MatchOption, Bor, Bool, subst, append_assoc, ◌+◌, ◌<◌, ◌≤◌, length, drop, get_or}
-use Rattle.std.proofs.lemmas.List.{drop_more, drop_all}
+use Rattle.docs.proofs.Outside.{drop_more, drop_all, print, Token, begin_object, end_object, json_tokens, items_tokens, members_tokens, Written, Data, object, no_items, Members, no_members, member, compact_text, outline, items_outline, members_outline, print-outline, action_word}
 use Rattle.std.specs.Option.{IsSomeAnd, option_copied}
-use Rattle.json.specs.Print.{print}
-use Rattle.json.specs.Token.{Token, begin_object, end_object}
-use Rattle.json.specs.Tree.{json_tokens, items_tokens, members_tokens}
-use Rattle.json.specs.Written.{Written}
-use Rattle.serde_json.specs.Data.{Data, object, no_items, Members, no_members, member}
-use Rattle.serde_json.specs.Written.{compact_text, outline, items_outline, members_outline}
-use Rattle.serde_json.proofs.Texts.{print-outline}
-use Rattle.basis.specs.Runs.{action_word}
 use Rattle.basis.specs.declared.runs.RunAction.{RunAction}
 use Rattle.docs.specs.Bodies.{action_value, text_value, objects}
 use Rattle.docs.specs.Logs.{subject_member}

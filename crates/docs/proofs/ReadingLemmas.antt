@@ -1,20 +1,9 @@
 -- The functions of Documents and the relations of Readings say the same.
-use Rattle.std.proofs.Common.{◌≡◌, ◌∙◌, sym, ap, refl, arith, ℕ, ◌<◌, ◌≤◌, List, [], ◌∷◌, length, Bool, true, false, ◌&&◌, cond, nat_le, Option, Some, None, option_and_then, codes}
-use Rattle.std.specs.Str.{is_utf8}
-use Rattle.std.proofs.lemmas.Str.{IsUtf8-from_is_utf8, is_utf8-from_IsUtf8}
+use Rattle.docs.proofs.Outside.{◌≡◌, ◌∙◌, sym, ap, refl, arith, ℕ, ◌<◌, ◌≤◌, List, [], ◌∷◌, length, Bool, true, false, ◌&&◌, cond, nat_le, Option, Some, None, option_and_then, codes, is_utf8, IsUtf8-from_is_utf8, is_utf8-from_IsUtf8, Data, null, boolean, number, string, array, object, unsigned, negative, float, Members, get_member, as_number, as_object, as_str, as_u64, read, MAX_KEPT, MAX_SERIAL, StateHead, MAX_LINEAGE, is_free_id, within, MAX_KEY, MAX_MESSAGE}
 use Rattle.std.proofs.lemmas.Bool.{leb-true, le-leb, and_parts, not-true}
 use Rattle.std.proofs.lemmas.Option.{cond_some, option_and_then_some}
-use Rattle.serde_json.specs.Data.{Data, null, boolean, number, string, array, object, unsigned, negative, float, Members}
-use Rattle.serde_json.specs.Find.{get_member, as_number, as_object, as_str, as_u64}
-use Rattle.serde_json.specs.Read.{read}
 use Rattle.basis.specs.declared.rows.RunAsk.{RunAsk}
-use Rattle.basis.specs.declared.numbers.TheConstants.{MAX_KEPT, MAX_SERIAL}
 use Rattle.basis.specs.declared.rows.SettingsAsk.{SettingsAsk}
-use Rattle.basis.specs.declared.rows.StateHead.{StateHead}
-use Rattle.basis.specs.declared.rows.TheConstants.{MAX_LINEAGE}
-use Rattle.basis.specs.Names.{is_free_id}
-use Rattle.basis.specs.Numbers.{within}
-use Rattle.basis.specs.declared.rows.TheConstants.{MAX_KEY, MAX_MESSAGE}
 use Rattle.docs.specs.declared.documents.TheConstants.{MAX_SMALL}
 use Rattle.docs.specs.Documents.{state_head, lock_id_of, settings_of, run_ask, object_of, serial_of, text_within, optional_text, make_head, head_in, free_id, lock_id_in, small_object_of, retention_of, make_settings, settings_in, key_of, make_ask, ask_in}
 use Rattle.docs.specs.Readings.{IsObject, IsText, IsState, IsLock, IsSmallObject, IsRetentionAsked, IsSettings, IsKey, IsAsk, StateLaw, LockLaw, SettingsLaw, AskLaw}

@@ -1,22 +1,11 @@
 -- What is escaped reads back: a JSON string with its escapes for what acts on a terminal has the same text as without them.
-use Rattle.std.proofs.Common.{◌≡◌, refl, sym, ap, ap₂, ◌∙◌, subst, arith, ℕ, zero, suc, ◌+◌, ◌*◌, ◌<◌, ◌≤◌, ◌==◌, ◌%◌, ◌/◌, ◌&&◌, ◌||◌, ◌⊎◌, inl, inr, List, [], ◌∷◌, ◌++◌, append_assoc, append-nil, get_or, drop, length, Bool, true, false, cond, nat_lt, Option, Some, None, IfSome, ◌^◌, eqb-true, ne_eqb, le-ltb, lt-ltb, ltb-true, ltb-false, take, take-append-drop}
-use Rattle.std.proofs.lemmas.Bool.{eqb-false, lt-leb, cases_lt, cases_eq, and_parts, or_parts, agree_below_at}
-use Rattle.std.proofs.lemmas.Str.{encode_ascii}
-use Rattle.std.specs.Char.{digit_char, digit_value, encode_utf8}
+use Rattle.docs.proofs.Outside.{◌≡◌, refl, sym, ap, ap₂, ◌∙◌, subst, arith, ℕ, zero, suc, ◌+◌, ◌*◌, ◌<◌, ◌≤◌, ◌==◌, ◌%◌, ◌/◌, ◌&&◌, ◌||◌, ◌⊎◌, inl, inr, List, [], ◌∷◌, ◌++◌, append_assoc, append-nil, get_or, drop, length, Bool, true, false, cond, nat_lt, Option, Some, None, IfSome, ◌^◌, eqb-true, ne_eqb, le-ltb, lt-ltb, ltb-true, ltb-false, take, take-append-drop, eqb-false, lt-leb, cases_lt, cases_eq, and_parts, or_parts, agree_below_at, encode_ascii, digit_char, digit_value, encode_utf8, Token, json_tokens, HasNumbers, MembersHaveNumbers, Lexeme, token, comma, colon, string_token, Mode, lex, lex_byte, between, in_string, operator, space, other, fresh, punctuate, tokens, escape_letter, escape_byte, escape, quoted, token_text, ends, begins, print_from, IsPrintable, ArePrintable, escape_byte_plain, content-escape, lex-escape, print-outline, Members, outline, members_outline}
 use Rattle.json.specs.Text.{content, plain, prepend, code_unit, short_escape}
 use Rattle.json.specs.Word.{is_operator, is_space, ends_word, word}
-use Rattle.json.specs.Token.{Token}
-use Rattle.json.specs.Tree.{json_tokens, HasNumbers, MembersHaveNumbers}
-use Rattle.json.specs.Lex.{Lexeme, token, comma, colon, string_token, Mode, lex, lex_byte, between, in_string, operator, space, other, fresh, punctuate, tokens}
-use Rattle.json.specs.Print.{escape_letter, escape_byte, escape, quoted, token_text, ends, begins, print_from, IsPrintable, ArePrintable}
-use Rattle.json.proofs.Printed.Strings.{escape_byte_plain, content-escape, lex-escape}
 use Rattle.json.proofs.Printed.Numbers.{in_word-ended, lex-number}
 use Rattle.json.proofs.Printed.Decimals.{IsNumber-decimal}
 use Rattle.json.proofs.Printed.Tokens.{tokens-print}
 use Rattle.json.proofs.Printed.Trees.{ArePrintable-json_tokens}
-use Rattle.serde_json.proofs.Texts.{print-outline}
-use Rattle.serde_json.specs.Data.{Members}
-use Rattle.serde_json.specs.Written.{outline, members_outline}
 use Rattle.docs.specs.Bodies.{number_value, text_value}
 use Rattle.docs.specs.declared.logs.LogRow.{LogRow}
 use Rattle.docs.specs.Escapes.{acting, code_of, behind_first, unicode_escape, escaped_from, escaped}

@@ -1,7 +1,5 @@
 -- What a document asks of how runs go, as a function and as a relation.
-use Rattle.std.proofs.Common.{◌≡◌, refl, Some, codes}
-use Rattle.serde_json.specs.Data.{Members}
-use Rattle.serde_json.specs.Find.{get_member}
+use Rattle.docs.proofs.Outside.{◌≡◌, refl, Some, codes, Members, get_member}
 use Rattle.basis.specs.declared.rows.RunSettings.{RunSettings}
 use Rattle.docs.specs.Flags.{flag_of}
 use Rattle.docs.specs.RunSettings.{make_run_settings, run_settings_in, AreRunSettings}

@@ -12,7 +12,7 @@ use Rattle.docs.specs.Escapes.{escaped, NothingActs}
 use Rattle.docs.specs.declared.logs.LogAct.{LogAct}
 use Rattle.docs.specs.declared.logs.LogAct.TheVariants.{ListWorkspaces, OfWorkspace, OfOperator}
 use Rattle.docs.specs.declared.logs.OperatorAct.{OperatorAct}
-use Rattle.docs.specs.declared.logs.OperatorAct.TheVariants.{AddOrganization, LimitOrganization, RemoveOrganization, ListOrganizations, AddToken, ListTokens, RevokeToken}
+use Rattle.docs.specs.declared.logs.OperatorAct.TheVariants.{AddOrganization, LimitOrganization, RemoveOrganization, ListOrganizations, AddToken, ListTokens, RevokeToken, Stop}
 use Rattle.docs.specs.declared.logs.LogRow.{LogRow}
 
 -- the words for what an operator's command asks
@@ -24,6 +24,7 @@ operator_word ListOrganizations = codes "list organizations"
 operator_word AddToken = codes "add token"
 operator_word ListTokens = codes "list tokens"
 operator_word RevokeToken = codes "revoke token"
+operator_word Stop = codes "stop"
 
 -- what a request asks, in words
 abbrev pub log_word : LogAct → List ℕ

@@ -21,6 +21,7 @@ pub enum OperatorAct {
     AddToken,
     ListTokens,
     RevokeToken,
+    Stop,
 }
 
 impl OperatorAct {
@@ -35,6 +36,7 @@ impl OperatorAct {
             OperatorAct::AddToken => "add token",
             OperatorAct::ListTokens => "list tokens",
             OperatorAct::RevokeToken => "revoke token",
+            OperatorAct::Stop => "stop",
         }
     }
 }

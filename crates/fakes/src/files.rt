@@ -24,6 +24,7 @@ const NO_ROWS: Totals = Totals {
     versions: 0,
     runs: 0,
     newest: None,
+    made: 0,
 };
 
 /// A database at one path, in memory; nothing is opened or kept at another.

@@ -1,7 +1,5 @@
 -- Custody: writes under a lock carry its ID, and a lock holds until it is released.
-use Rattle.std.proofs.Common.{◌∙◌, ◌≡◌, ◌⊎◌, Bool, IsSome, List, None, Option, Some, ap, cond, false, inl, inr, refl, subst, sym, true, ℕ}
-use Rattle.basis.specs.declared.rows.Settings.{Settings}
-use Rattle.basis.specs.declared.rows.SettingsAsk.{SettingsAsk}
+use Rattle.machine.proofs.Outside.{◌∙◌, ◌≡◌, ◌⊎◌, Bool, IsSome, List, None, Option, Some, ap, cond, false, inl, inr, refl, subst, sym, true, ℕ, Settings, SettingsAsk, Holder, Lock, Nobody}
 use Rattle.machine.specs.Workspaces.{holder_status, new_workspace, open_runs}
 use Rattle.machine.proofs.RunRulings.{IsReported}
 use Rattle.machine.specs.Settling.{first_waiting, settled, started_if, to_start}
@@ -14,8 +12,6 @@ use Rattle.machine.specs.Records.{Seen, missing, there}
 use Rattle.machine.proofs.Rulings.{Comes, IsPut, Leaves, Misses, Way, comes, it_changes, it_goes, it_stays, leaves, lock_comes, lock_goes, put_or_missed, repeats, run_comes, run_goes_on, settings_come, version_comes, versions_go, versions_stay}
 use Rattle.machine.specs.declared.acts.Act.{Act}
 use Rattle.machine.specs.declared.acts.Act.TheVariants.{DeleteWorkspace, PutWorkspace}
-use Rattle.basis.specs.declared.rows.Holder.{Holder}
-use Rattle.basis.specs.declared.rows.Holder.TheVariants.{Lock, Nobody}
 use Rattle.machine.specs.declared.records.Workspace.{Workspace}
 
 -- while a lock holds, settling starts no run

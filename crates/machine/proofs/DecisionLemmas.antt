@@ -1,17 +1,7 @@
 -- A decision means what the rules say.
-use Rattle.std.specs.FinMap.{get}
+use Rattle.machine.proofs.Outside.{get, Settings, SettingsAsk, ◌≡◌, ◌⊎◌, inl, inr, ℕ, ◌+◌, ◌-◌, ◌==◌, nat_lt, Bool, true, false, not, ◌&&◌, cond, List, [], ◌∷◌, length, map, Option, Some, None, is_some, is_none, option_map, Result, Ok, Err, IfSome, IfOk, refl, sym, ap, subst, ◌∙◌, eq-eqb, eqb-true, option_or, AllByRecursion, bytes_eq, le-ltb, Refusal, OpenRuns, StateHead, is_open, RunAsk, RunStatus, RunAction, Holder, Nobody, Lock, Run}
 use Rattle.basis.specs.declared.numbers.TheConstants.{FIRST_KEPT}
-use Rattle.basis.specs.declared.rows.Settings.{Settings}
-use Rattle.basis.specs.declared.rows.SettingsAsk.{SettingsAsk}
 use Rattle.machine.specs.declared.records.Organization.{Organization}
-use Rattle.std.proofs.Common.{◌≡◌, ◌⊎◌, inl, inr, ℕ, ◌+◌, ◌-◌, ◌==◌, nat_lt, Bool, true, false, not, ◌&&◌, cond, List, [], ◌∷◌, length, map, Option, Some, None, is_some, is_none, option_map, Result, Ok, Err, IfSome, IfOk, refl, sym, ap, subst, ◌∙◌, eq-eqb, eqb-true}
-use Rattle.std.specs.Option.{option_or}
-use Rattle.std.specs.List.{AllByRecursion}
-use Rattle.std.specs.Str.{bytes_eq}
-use Rattle.std.proofs.lemmas.Bool.{le-ltb}
-use Rattle.basis.specs.declared.refusals.Refusal.{Refusal}
-use Rattle.basis.specs.declared.refusals.Refusal.TheVariants.{OpenRuns}
-use Rattle.basis.specs.declared.rows.StateHead.{StateHead}
 use Rattle.machine.specs.Changes.{left_above}
 use Rattle.machine.specs.Workspaces.{max_open_runs, newest, last_of, holder_status, run_of, keyed_run, open_runs}
 use Rattle.machine.specs.Writing.{may_write}
@@ -24,10 +14,6 @@ use Rattle.machine.proofs.StepLemmas.{never_pending, pending_idle}
 use Rattle.machine.proofs.LawLemmas.{number_left-is, none_waits, nobody_starts}
 use Rattle.machine.proofs.CutLemmas.{left_is_last, left_before, all_last, some_go, newest_stays}
 use Rattle.machine.proofs.RunLemmas.{run_of-number, run_of-map, run_of-started, run_of-push, none_numbered, first_waiting-push, first_waiting-map}
-use Rattle.basis.specs.Runs.{is_open}
-use Rattle.basis.specs.declared.rows.RunAsk.{RunAsk}
-use Rattle.basis.specs.declared.runs.RunStatus.{RunStatus}
-use Rattle.basis.specs.declared.runs.RunAction.{RunAction}
 use Rattle.machine.specs.Needs.{needs, staying_for}
 use Rattle.machine.specs.Units.{unit_of, workspace_unit, newest_unit, settings_unit, outgoing_by, unit_by}
 use Rattle.machine.specs.declared.acts.Act.{Act}
@@ -37,8 +23,6 @@ use Rattle.machine.specs.declared.acts.Decision.TheVariants.{Refused, Accepted}
 use Rattle.machine.specs.declared.acts.Answer.TheVariants.{Done, Workspace as ShownWorkspace, Run as ShownRun}
 use Rattle.machine.specs.declared.acts.Shown.{Shown}
 use Rattle.machine.specs.declared.acts.Edit.TheVariants.{Configure, Remove, Release}
-use Rattle.basis.specs.declared.rows.Holder.{Holder}
-use Rattle.basis.specs.declared.rows.Holder.TheVariants.{Nobody, Lock, Run}
 use Rattle.machine.specs.declared.acts.Newest.{Newest}
 use Rattle.basis.specs.declared.rows.RunRow.{RunRow as AnyRun}
 use Rattle.machine.specs.declared.records.Version.{Version}

@@ -1,14 +1,10 @@
 -- What DELETE of a workspace comes to: it is refused and the workspace stays, or the workspace goes.
-use Rattle.std.proofs.Common.{◌≡◌, ◌⊎◌, inl, inr, nat_lt, Bool, true, false, ◌||◌, cond, Some, None, refl, sym, ap, subst, ◌∙◌, arith}
-use Rattle.std.proofs.lemmas.Bool.{ltb-false}
-use Rattle.basis.specs.declared.refusals.Refusal.TheVariants.{OpenRuns, Locked}
+use Rattle.machine.proofs.Outside.{◌≡◌, ◌⊎◌, inl, inr, nat_lt, Bool, true, false, ◌||◌, cond, Some, None, refl, sym, ap, subst, ◌∙◌, arith, ltb-false, OpenRuns, Locked, Holder, Nobody, Lock, Run}
 use Rattle.machine.specs.Effects.{effect}
 use Rattle.machine.specs.Custody.{IsRefusal, IsUnlocked}
 use Rattle.machine.specs.Removal.{is_locked, DeleteAsksTheSame}
 use Rattle.machine.specs.Workspaces.{open_runs}
 use Rattle.machine.specs.Rules.{refused, held, done, Ruling, delete}
-use Rattle.basis.specs.declared.rows.Holder.{Holder}
-use Rattle.basis.specs.declared.rows.Holder.TheVariants.{Nobody, Lock, Run}
 use Rattle.machine.specs.declared.records.Workspace.{Workspace}
 
 -- it is refused: the workspace stays, and whoever holds is told

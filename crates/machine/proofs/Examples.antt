@@ -1,26 +1,15 @@
 -- Worked steps of one workspace, computed by the definitions themselves.
-use Rattle.std.proofs.Common.{◌≡◌, ℕ, ◌<◌, ◌≤◌, inl, inr, [], ◌∷◌, List, replicate, filter, length, map, Bool, Option, Some, None, false, refl, true, sym, arith}
-use Rattle.std.specs.List.{AllByRecursion, range_with_len}
-use Rattle.std.specs.Prelude.{codes}
+use Rattle.machine.proofs.Outside.{◌≡◌, ℕ, ◌<◌, ◌≤◌, inl, inr, [], ◌∷◌, List, replicate, filter, length, map, Bool, Option, Some, None, false, refl, true, sym, arith, AllByRecursion, range_with_len, codes, run_id, is_prefix, admits, NotFound, NotHeld, NotApplying, OtherLineage, OldSerial, OverLimit, WrongState, HeldByRun, OpenRuns, Locked, RunAsk, StateHead, RunStatus, Pending, Planning, Planned, Applying, Applied, PlannedAndFinished, Errored, Discarded, Canceled, RunAction, ReportPlanned, ReportUnchanged, Fail, Confirm, ReportApplied, Discard, Cancel, listing_of}
 use Rattle.std.specs.Fmt.{digits}
-use Rattle.basis.specs.Names.{run_id, is_prefix, admits}
 use Rattle.basis.specs.Roles.{is_valid_at}
 use Rattle.basis.specs.declared.roles.Caller.{Caller}
 use Rattle.basis.specs.declared.roles.Role.TheVariants.{Read}
-use Rattle.basis.specs.declared.refusals.Refusal.TheVariants.{NotFound, NotHeld, NotApplying, OtherLineage, OldSerial, OverLimit, WrongState, HeldByRun, OpenRuns, Locked}
 use Rattle.basis.specs.declared.acts.Query.TheVariants as query
-use Rattle.basis.specs.declared.rows.RunAsk.{RunAsk}
-use Rattle.basis.specs.declared.rows.StateHead.{StateHead}
-use Rattle.basis.specs.declared.runs.RunStatus.{RunStatus}
-use Rattle.basis.specs.declared.runs.RunStatus.TheVariants.{Pending, Planning, Planned, Applying, Applied, PlannedAndFinished, Errored, Discarded, Canceled}
-use Rattle.basis.specs.declared.runs.RunAction.{RunAction}
-use Rattle.basis.specs.declared.runs.RunAction.TheVariants.{ReportPlanned, ReportUnchanged, Fail, Confirm, ReportApplied, Discard, Cancel}
 use Rattle.machine.specs.RunSteps.{next_status}
 use Rattle.machine.specs.Workspaces.{new_workspace}
 use Rattle.machine.specs.Writing.{may_write}
 use Rattle.machine.specs.Rules.{refused, held, done, no_state, state, workspace, the_run, versions, rules}
 use Rattle.machine.specs.Showing.{shown_of, row_of, comes_after, workspaces_listed}
-use Rattle.basis.specs.Listings.{listing_of}
 use Rattle.machine.specs.Ranges.{IsRetention}
 use Rattle.machine.specs.Laws.{Rises, AreVersions, IsRun, IsHolder, KeysDiffer, IsLawful}
 use Rattle.machine.specs.Settling.{is_waiting}

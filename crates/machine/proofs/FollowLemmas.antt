@@ -1,9 +1,5 @@
 -- How a text follows the newest version: what is judged to come next follows it, and what follows it is let in.
-use Rattle.std.proofs.Common.{◌≡◌, ◌⊎◌, inl, inr, ℕ, nat_lt, Bool, true, false, not, ◌&&◌, cond, List, [], ◌∷◌, length, Option, Some, None, IfSome, refl, ap, subst, arith}
-use Rattle.std.specs.Str.{bytes_eq}
-use Rattle.std.proofs.lemmas.Bool.{ltb-true, lt-ltb}
-use Rattle.std.proofs.lemmas.Slice.Eq.{bytes_eq-Decides}
-use Rattle.basis.specs.declared.rows.StateHead.{StateHead}
+use Rattle.machine.proofs.Outside.{◌≡◌, ◌⊎◌, inl, inr, ℕ, nat_lt, Bool, true, false, not, ◌&&◌, cond, List, [], ◌∷◌, length, Option, Some, None, IfSome, refl, ap, subst, arith, bytes_eq, ltb-true, lt-ltb, bytes_eq-Decides, StateHead}
 use Rattle.machine.specs.Succession.{Succession, first, same, other_lineage, old_serial, next, after_newest, lineages_differ, is_newer}
 use Rattle.machine.specs.Versions.{Follows, posted}
 use Rattle.machine.specs.declared.records.Version.{Version}

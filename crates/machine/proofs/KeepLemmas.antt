@@ -1,14 +1,7 @@
 -- What a change does to the laws of records.
-use Rattle.std.proofs.Common.{◌≡◌, ◌≢◌, ℕ, Bool, true, false, not, ◌&&◌, ◌||◌, cond, List, [], ◌∷◌, Option, Some, None, Result, Ok, Err, OnOk, OnErr, IfOk, IsTrue, is_some, nat_lt, refl, sym, ap, subst, ◌∙◌, ◌≤◌}
+use Rattle.machine.proofs.Outside.{◌≡◌, ◌≢◌, ℕ, Bool, true, false, not, ◌&&◌, ◌||◌, cond, List, [], ◌∷◌, Option, Some, None, Result, Ok, Err, OnOk, OnErr, IfOk, IsTrue, is_some, nat_lt, refl, sym, ap, subst, ◌∙◌, ◌≤◌, bytes_eq, is_eq, FinMap, entries, get, insert, remove, empty, get-empty, get-entries, Ordering, bytes_eq-Decides, same_Some, is_ws_name}
 use Rattle.std.specs.Prelude.{option_map}
-use Rattle.std.specs.Str.{bytes_eq}
-use Rattle.std.specs.Ordering.{is_eq}
-use Rattle.std.specs.FinMap.{FinMap, entries, get, insert, remove, empty, get-empty, get-entries}
 use Rattle.std.specs.FinMap.Entries.{find}
-use Rattle.std.specs.declared.cmp.Ordering.{Ordering}
-use Rattle.std.proofs.lemmas.Slice.Eq.{bytes_eq-Decides}
-use Rattle.std.proofs.lemmas.Option.{same_Some}
-use Rattle.basis.specs.Names.{is_ws_name}
 use Rattle.machine.specs.Order.{name_cmp}
 use Rattle.machine.specs.Effects.{effect}
 use Rattle.machine.specs.Laws.{IsLawful, IsLawfulIfThere, IsToken, IsNamedWorkspace, IsLawfulOrganization, AreLawful}

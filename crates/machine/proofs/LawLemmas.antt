@@ -1,20 +1,14 @@
 -- The rules keep the laws of a workspace.
-use Rattle.std.proofs.Common.{◌≡◌, ℕ, ◌+◌, ◌-◌, ◌<◌, ◌≤◌, nat_le, Bool, true, false, cond, List, [], ◌∷◌, ◌++◌, length, drop, map, suc, zero, ◌&&◌, not, Option, Some, None, IsTrue, refl, sym, ap, subst, ◌∙◌, arith, length-append}
+use Rattle.machine.proofs.Outside.{◌≡◌, ℕ, ◌+◌, ◌-◌, ◌<◌, ◌≤◌, nat_le, Bool, true, false, cond, List, [], ◌∷◌, ◌++◌, length, drop, map, suc, zero, ◌&&◌, not, Option, Some, None, IsTrue, refl, sym, ap, subst, ◌∙◌, arith, length-append, AllByRecursion, leb-true, le-leb, Settings, StateHead, Holder, is_free_id}
 use Rattle.std.specs.Prelude.{find, option_map}
-use Rattle.std.specs.List.{AllByRecursion}
-use Rattle.std.proofs.lemmas.Bool.{leb-true, le-leb}
-use Rattle.basis.specs.declared.rows.Settings.{Settings}
-use Rattle.basis.specs.declared.rows.StateHead.{StateHead}
 use Rattle.machine.specs.Laws.{IsLawful, IsVersion, Rises, IsRun, is_pending, is_nobody}
 use Rattle.machine.specs.Ranges.{IsHeadInRange, IsRetention}
 use Rattle.machine.specs.Workspaces.{last_of}
 use Rattle.machine.specs.Rules.{number_left, with_version, max_number, with_settings, purged, locked}
 use Rattle.machine.specs.Settling.{is_waiting, first_waiting, to_start, started_if, settled}
 use Rattle.machine.proofs.CutLemmas.{last_length}
-use Rattle.basis.specs.declared.rows.Holder.{Holder}
 use Rattle.basis.specs.declared.rows.Holder.TheVariants.{Nobody, Lock, Run as HoldingRun}
 use Rattle.basis.specs.declared.rows.RunRow.{RunRow as Run}
-use Rattle.basis.specs.Names.{is_free_id}
 use Rattle.machine.specs.declared.records.Version.{Version}
 use Rattle.machine.specs.declared.records.Workspace.{Workspace}
 

@@ -1,3 +1,4 @@
+pub mod Outside
 pub mod StepLemmas
 pub mod RunLemmas
 pub mod RunRulings

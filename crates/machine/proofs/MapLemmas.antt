@@ -1,16 +1,8 @@
 -- Entries that rise by their names: where a scan stops is where the name stands, or where it would go.
-use Rattle.std.proofs.Common.{◌≡◌, ◌≢◌, ℕ, zero, suc, ◌+◌, ◌<◌, ◌≤◌, List, [], ◌∷◌, ◌++◌, T, IsTrue, Bool, true, false, not, ◌&&◌, map, length, take, drop, get_or, set, cond, is_some, Option, Some, None, refl, sym, ap, subst, ◌∙◌, arith}
-use Rattle.std.specs.Bool.{⊤}
+use Rattle.machine.proofs.Outside.{◌≡◌, ◌≢◌, ℕ, zero, suc, ◌+◌, ◌<◌, ◌≤◌, List, [], ◌∷◌, ◌++◌, T, IsTrue, Bool, true, false, not, ◌&&◌, map, length, take, drop, get_or, set, cond, is_some, Option, Some, None, refl, sym, ap, subst, ◌∙◌, arith, ⊤, eq_by_cmp, is_eq, is_lt, IsTotalOrder, tied_itself, eq_by_cmp_equiv, Ordering, Less, Equal, Greater, length-put, is_sorted-put, is_sorted-where_key, find-where_key, where_key, below_all, drop_more, take-append-drop, set_split, map-set, length-map, get_or_default, take_all, take_more, length-insert, insert_end}
 use Rattle.std.specs.List.{insert, remove as list_remove}
-use Rattle.std.specs.Ordering.{eq_by_cmp, is_eq, is_lt}
-use Rattle.std.specs.Cmp.{IsTotalOrder, tied_itself, eq_by_cmp_equiv}
 use Rattle.std.specs.Cmp.Lexicographic.{nat_list_cmp_total}
-use Rattle.std.specs.declared.cmp.Ordering.{Ordering}
-use Rattle.std.specs.declared.cmp.Ordering.TheVariants.{Less, Equal, Greater}
 use Rattle.std.specs.FinMap.{FinMap, entries_sorted, IsAntisymmetric, nat_cmp-IsAntisymmetric, slice_cmp-IsAntisymmetric, find, put, is_sorted, entries, from_sorted, empty, get, insert as map_insert, entries-from_sorted, entries-insert, get-entries, same_entries_map, empty_of_len, len-entries, remove, get-insert, get-remove, same_map}
-use Rattle.std.specs.FinMap.Entries.{length-put, is_sorted-put, is_sorted-where_key, find-where_key, where_key, below_all}
-use Rattle.std.proofs.lemmas.List.{drop_more, take-append-drop, set_split, map-set, length-map, get_or_default, take_all, take_more}
-use Rattle.std.proofs.lemmas.List.Edits.{length-insert, insert_end}
 use Rattle.machine.specs.Order.{name_cmp}
 use Rattle.machine.specs.Inner.Places.{IsAt, IsGapFor}
 

@@ -1,15 +1,5 @@
 -- In a list that rises, what comes after an item is what stands behind it.
-use Rattle.std.proofs.Common.{◌≡◌, ℕ, zero, suc, ◌<◌, nat_lt, Bool, true, false, T, ◌&&◌, cond, List, [], ◌∷◌, map, filter, drop, slice_get, Option, Some, None, refl, sym, ap, subst, ◌∙◌, arith}
-use Rattle.std.specs.Bool.{⊤}
-use Rattle.std.specs.List.{AllByRecursion}
-use Rattle.std.specs.Ordering.{is_lt, ordering_reverse}
-use Rattle.std.specs.declared.cmp.Ordering.{Ordering}
-use Rattle.std.specs.declared.cmp.Ordering.TheVariants.{Less, Equal, Greater}
-use Rattle.std.specs.Cmp.{tied_itself}
-use Rattle.std.specs.FinMap.{entries, entries_sorted, is_sorted}
-use Rattle.std.specs.FinMap.Entries.{below_all}
-use Rattle.std.proofs.lemmas.Bool.{ltb-true, lt-ltb, le-ltb}
-use Rattle.basis.specs.Names.{admits}
+use Rattle.machine.proofs.Outside.{◌≡◌, ℕ, zero, suc, ◌<◌, nat_lt, Bool, true, false, T, ◌&&◌, cond, List, [], ◌∷◌, map, filter, drop, slice_get, Option, Some, None, refl, sym, ap, subst, ◌∙◌, arith, ⊤, AllByRecursion, is_lt, ordering_reverse, Ordering, Less, Equal, Greater, tied_itself, entries, entries_sorted, is_sorted, below_all, ltb-true, lt-ltb, le-ltb, admits}
 use Rattle.machine.specs.Order.{name_cmp}
 use Rattle.machine.specs.Laws.{Rises}
 use Rattle.machine.specs.Showing.{comes_after}

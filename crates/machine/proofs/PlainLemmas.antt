@@ -1,18 +1,10 @@
 -- What the store in memory rests on: the newest version is the last of the list, a scan from the front finds the last of a number, and the entries of a map in their order are the list of all organizations.
-use Rattle.std.proofs.Common.{◌≡◌, ℕ, zero, suc, ◌+◌, ◌-◌, ◌<◌, Bool, true, false, cond, eqb, ◌==◌, List, [], ◌∷◌, ◌++◌, length, take, get_or, slice_get, Option, Some, None, option_map, is_some, map, T, ◌||◌, IsSomeAnd, refl, sym, ap, subst, ◌∙◌, arith}
-use Rattle.std.specs.Option.{option_or}
-use Rattle.std.specs.List.{AllByRecursion, list_any}
-use Rattle.std.specs.Str.{bytes_eq}
-use Rattle.std.specs.Ordering.{is_lt, eq_by_cmp}
-use Rattle.std.specs.Cmp.{tied_itself}
-use Rattle.std.proofs.lemmas.List.{take_more}
-use Rattle.std.proofs.lemmas.Slice.Eq.{bytes_eq-Decides}
+use Rattle.machine.proofs.Outside.{◌≡◌, ℕ, zero, suc, ◌+◌, ◌-◌, ◌<◌, Bool, true, false, cond, eqb, ◌==◌, List, [], ◌∷◌, ◌++◌, length, take, get_or, slice_get, Option, Some, None, option_map, is_some, map, T, ◌||◌, IsSomeAnd, refl, sym, ap, subst, ◌∙◌, arith, option_or, AllByRecursion, list_any, bytes_eq, is_lt, eq_by_cmp, tied_itself, take_more, bytes_eq-Decides, FinMap, get, insert, remove, entries, entries_sorted, get-entries}
 use Rattle.std.proofs.Math.Bool.{or-true}
 use Rattle.machine.specs.Workspaces.{newest}
 use Rattle.machine.specs.Units.{find_last, version_of}
 use Rattle.machine.specs.Records.{with_workspace, placed}
 use Rattle.machine.specs.Order.{name_cmp}
-use Rattle.std.specs.FinMap.{FinMap, get, insert, remove, entries, entries_sorted, get-entries}
 use Rattle.std.specs.FinMap.Entries.{find, is_sorted, below_all}
 use Rattle.machine.specs.declared.acts.Change.{Change}
 use Rattle.machine.specs.declared.records.Workspace.{Workspace}

@@ -1,10 +1,6 @@
 -- What PUT comes to of a workspace that is there: it is refused and the workspace stays, or the workspace gets the settings.
-use Rattle.std.proofs.Common.{◌≡◌, ◌⊎◌, inl, inr, ℕ, ◌≤◌, nat_lt, Bool, true, false, not, ◌&&◌, cond, List, length, Option, Some, None, IfSome, refl, ap, subst, ◌∙◌, arith}
-use Rattle.std.proofs.lemmas.Bool.{ltb-false, le-ltb}
-use Rattle.basis.specs.declared.refusals.Refusal.TheVariants.{Locked}
+use Rattle.machine.proofs.Outside.{◌≡◌, ◌⊎◌, inl, inr, ℕ, ◌≤◌, nat_lt, Bool, true, false, not, ◌&&◌, cond, List, length, Option, Some, None, IfSome, refl, ap, subst, ◌∙◌, arith, ltb-false, le-ltb, Locked, Settings, SettingsAsk}
 use Rattle.basis.specs.declared.rows.RunSettings.{RunSettings}
-use Rattle.basis.specs.declared.rows.Settings.{Settings}
-use Rattle.basis.specs.declared.rows.SettingsAsk.{SettingsAsk}
 use Rattle.machine.specs.Effects.{effect}
 use Rattle.machine.specs.Laws.{is_nobody}
 use Rattle.machine.specs.Ranges.{IsRetention}

@@ -1,7 +1,5 @@
 -- What is told of a workspace: all that the laws ask of a query, a clause a query.
-use Rattle.std.proofs.Common.{◌≡◌, ℕ, true, false, ◌&&◌, cond, List, [], ◌∷◌, ◌==◌, Option, Some, None, is_some, option_map, refl, ap, subst, eq-eqb}
-use Rattle.std.specs.Option.{option_map_or}
-use Rattle.basis.specs.declared.refusals.Refusal.TheVariants.{NotFound}
+use Rattle.machine.proofs.Outside.{◌≡◌, ℕ, true, false, ◌&&◌, cond, List, [], ◌∷◌, ◌==◌, Option, Some, None, is_some, option_map, refl, ap, subst, eq-eqb, option_map_or, NotFound}
 use Rattle.basis.specs.declared.acts.Query.{Query as AnyQuery}
 use Rattle.basis.specs.declared.acts.Query.TheVariants as query
 use Rattle.machine.specs.Effects.{effect}

@@ -1,17 +1,5 @@
 -- The queue: who is active, who starts, what becomes of a run, and what comes again.
-use Rattle.std.proofs.Common.{◌≡◌, ◌⊎◌, inl, inr, ℕ, ◌<◌, ◌≤◌, ◌==◌, nat_lt, Bool, true, false, not, ◌&&◌, ◌||◌, cond, List, [], ◌∷◌, ◌++◌, length, map, filter, Option, Some, None, option_map, is_some, IsSomeAnd, refl, sym, ap, subst, ◌∙◌, arith, eq-eqb, eqb-true}
-use Rattle.std.specs.Prelude.{find}
-use Rattle.std.specs.List.{AllByRecursion}
-use Rattle.std.proofs.lemmas.Bool.{eqb-false, lt-ltb, le-ltb}
-use Rattle.std.proofs.lemmas.Slice.Eq.{bytes_eq-Decides}
-use Rattle.std.proofs.lemmas.Option.{same_Some}
-use Rattle.basis.specs.Runs.{is_open}
-use Rattle.basis.specs.declared.rows.RunAsk.{RunAsk}
-use Rattle.basis.specs.declared.refusals.Refusal.TheVariants.{OverLimit}
-use Rattle.basis.specs.declared.runs.RunStatus.{RunStatus}
-use Rattle.basis.specs.declared.runs.RunStatus.TheVariants.{Pending, Planning, Planned, Applying, Applied, PlannedAndFinished, Errored, Discarded, Canceled}
-use Rattle.basis.specs.declared.runs.RunAction.{RunAction}
-use Rattle.basis.specs.declared.runs.RunAction.TheVariants.{ReportPlanned, ReportUnchanged, Fail, Confirm, ReportApplied, Discard, Cancel}
+use Rattle.machine.proofs.Outside.{◌≡◌, ◌⊎◌, inl, inr, ℕ, ◌<◌, ◌≤◌, ◌==◌, nat_lt, Bool, true, false, not, ◌&&◌, ◌||◌, cond, List, [], ◌∷◌, ◌++◌, length, map, filter, Option, Some, None, option_map, is_some, IsSomeAnd, refl, sym, ap, subst, ◌∙◌, arith, eq-eqb, eqb-true, find, AllByRecursion, eqb-false, lt-ltb, le-ltb, bytes_eq-Decides, same_Some, is_open, RunAsk, OverLimit, RunStatus, Pending, Planning, Planned, Applying, Applied, PlannedAndFinished, Errored, Discarded, Canceled, RunAction, ReportPlanned, ReportUnchanged, Fail, Confirm, ReportApplied, Discard, Cancel, Holder}
 use Rattle.machine.specs.Effects.{effect}
 use Rattle.machine.specs.Laws.{Rises, is_active, is_pending, holds, IsWhereActionEnds, ends_in, IsRun, IsHolder, IsLawful, IsLawfulIfThere}
 use Rattle.machine.specs.Ranges.{IsInRange, IsMoment}
@@ -25,7 +13,6 @@ use Rattle.machine.specs.Queue.{is_active_run, OneRunIsActive, PlanOnlyRunsStayO
 use Rattle.machine.specs.Inner.Decisions.{status_begun, begun_by}
 use Rattle.machine.specs.declared.acts.Act.{Act}
 use Rattle.machine.specs.declared.acts.Act.TheVariants.{MakeRun, ReportRun}
-use Rattle.basis.specs.declared.rows.Holder.{Holder}
 use Rattle.basis.specs.declared.rows.Holder.TheVariants.{Nobody, Lock, Run as HoldingRun}
 use Rattle.basis.specs.declared.rows.RunRow.{RunRow as Run}
 use Rattle.machine.specs.declared.records.Workspace.{Workspace}

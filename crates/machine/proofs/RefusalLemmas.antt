@@ -1,13 +1,10 @@
 -- Refusals: they change nothing, they tell the holder, and an accepted write carried the holder's ID.
-use Rattle.std.proofs.Common.{◌≡◌, ◌⊎◌, inl, inr, ℕ, Bool, true, false, Some, None, sym, ap, subst, ◌∙◌, refl}
-use Rattle.basis.specs.declared.refusals.Refusal.TheVariants.{Locked}
-use Rattle.basis.specs.declared.rows.SettingsAsk.{SettingsAsk}
+use Rattle.machine.proofs.Outside.{◌≡◌, ◌⊎◌, inl, inr, ℕ, Bool, true, false, Some, None, sym, ap, subst, ◌∙◌, refl, Locked, SettingsAsk, Holder}
 use Rattle.machine.specs.Custody.{IsRefusal, RefusalsChangeNothing, RefusalsNameTheHolder, WritesCarryTheId}
 use Rattle.machine.specs.Records.{Seen, missing, there}
 use Rattle.machine.specs.Rules.{Outcome, refused, held, Ruling, rules, rules_missing}
 use Rattle.machine.specs.declared.acts.Act.{Act}
 use Rattle.machine.specs.declared.acts.Act.TheVariants.{PutWorkspace}
-use Rattle.basis.specs.declared.rows.Holder.{Holder}
 use Rattle.machine.proofs.Rulings.{IsPut, Misses, put_or_missed, Comes, it_stays, it_goes, it_changes, comes, all_writes}
 
 pub refusals_change_nothing : RefusalsChangeNothing

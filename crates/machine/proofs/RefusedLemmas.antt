@@ -1,10 +1,7 @@
 -- What a refusal is answered: it, or who holds where it is `Locked`.
-use Rattle.std.proofs.Common.{◌≡◌, ◌⊎◌, inl, inr, refl, sym, subst, ◌∙◌}
-use Rattle.basis.specs.declared.refusals.Refusal.{Refusal}
-use Rattle.basis.specs.declared.refusals.Refusal.TheVariants.{BadMessage, TwoTokens, BadQuery, BadDigest, BadState, BadLock, BadBody, NoToken, BadToken, NeedWrite, NeedAdmin, NoRoute, NotFound, NoMethod, NotHeld, NotApplying, OtherLineage, OldSerial, WrongState, HeldByRun, OpenRuns, OverLimit, Locked, NoLength, TooLarge, HeadTooLarge, Unavailable, BadSecret, Exists, Absent, InUse}
+use Rattle.machine.proofs.Outside.{◌≡◌, ◌⊎◌, inl, inr, refl, sym, subst, ◌∙◌, Refusal, BadMessage, TwoTokens, BadQuery, BadDigest, BadState, BadLock, BadBody, NoToken, BadToken, NeedWrite, NeedAdmin, NoRoute, NotFound, NoMethod, NotHeld, NotApplying, OtherLineage, OldSerial, WrongState, HeldByRun, OpenRuns, OverLimit, Locked, NoLength, TooLarge, HeadTooLarge, Unavailable, BadSecret, Exists, Absent, InUse, Holder}
 use Rattle.machine.specs.Custody.{IsRefusal}
 use Rattle.machine.specs.Rules.{Outcome, refused, held, done, refused_by}
-use Rattle.basis.specs.declared.rows.Holder.{Holder}
 
 -- it is told as it is, and isn't `Locked`
 abbrev IsRefusedPlainly : Refusal → Outcome → Type 0

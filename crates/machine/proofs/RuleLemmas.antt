@@ -1,6 +1,5 @@
 -- The rules keep the laws of a workspace: of every act.
-use Rattle.std.proofs.Common.{◌⊎◌, inl, inr, ℕ, Bool, true, false, refl, sym, subst, arith}
-use Rattle.basis.specs.declared.rows.SettingsAsk.{SettingsAsk}
+use Rattle.machine.proofs.Outside.{◌⊎◌, inl, inr, ℕ, Bool, true, false, refl, sym, subst, arith, SettingsAsk}
 use Rattle.machine.specs.Laws.{IsLawful, IsLawfulIfThere}
 use Rattle.machine.specs.Ranges.{IsSettingsAsk, IsInRange, IsMoment}
 use Rattle.machine.specs.Records.{Seen, missing, there, standing}

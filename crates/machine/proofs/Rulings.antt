@@ -1,20 +1,6 @@
 -- What the rules come to, a clause an act: of a workspace that is there it stays, or goes, or is changed in one of a few ways and settles;
 -- and an act that comes again changes nothing more.
-use Rattle.std.proofs.Common.{Bool, IsSome, IsTrue, List, None, Option, Some, [], ap, arith, cond, eq-eqb, false, inl, inr, is_some, length, nat_lt, option_map, refl, subst, sym, true, ℕ, ◌++◌, ◌-◌, ◌<◌, ◌∙◌, ◌∷◌, ◌≡◌, ◌⊎◌}
-use Rattle.std.specs.Str.{bytes_eq}
-use Rattle.std.proofs.lemmas.Bool.{ltb-true}
-use Rattle.std.proofs.lemmas.Slice.Eq.{bytes_eq-Decides}
-use Rattle.std.proofs.lemmas.Option.{same_Some}
-use Rattle.basis.specs.Names.{is_free_id, run_id}
-use Rattle.basis.specs.declared.refusals.Refusal.{Refusal}
-use Rattle.basis.specs.declared.refusals.Refusal.TheVariants.{HeldByRun, Locked, NotApplying, NotFound, NotHeld, OldSerial, OtherLineage, OverLimit}
-use Rattle.basis.specs.declared.rows.RunAsk.{RunAsk}
-use Rattle.basis.specs.declared.rows.Settings.{Settings}
-use Rattle.basis.specs.declared.rows.SettingsAsk.{SettingsAsk}
-use Rattle.basis.specs.declared.rows.StateHead.{StateHead}
-use Rattle.basis.specs.declared.runs.RunStatus.{RunStatus}
-use Rattle.basis.specs.declared.runs.RunStatus.TheVariants.{Applied, Applying, Canceled, Discarded, Errored, Pending, Planned, PlannedAndFinished, Planning}
-use Rattle.basis.specs.declared.runs.RunAction.{RunAction}
+use Rattle.machine.proofs.Outside.{Bool, IsSome, IsTrue, List, None, Option, Some, [], ap, arith, cond, eq-eqb, false, inl, inr, is_some, length, nat_lt, option_map, refl, subst, sym, true, ℕ, ◌++◌, ◌-◌, ◌<◌, ◌∙◌, ◌∷◌, ◌≡◌, ◌⊎◌, bytes_eq, ltb-true, bytes_eq-Decides, same_Some, is_free_id, run_id, Refusal, HeldByRun, Locked, NotApplying, NotFound, NotHeld, OldSerial, OtherLineage, OverLimit, RunAsk, Settings, SettingsAsk, StateHead, RunStatus, Applied, Applying, Canceled, Discarded, Errored, Pending, Planned, PlannedAndFinished, Planning, RunAction, Holder}
 use Rattle.machine.specs.Custody.{IsRefusal, IsUnlocked, IsWriter, Releases, RepeatsChangeNothing, WritesWith}
 use Rattle.machine.specs.Effects.{effect}
 use Rattle.machine.specs.Inner.Decisions.{begun_by, decision_missing}
@@ -29,7 +15,6 @@ use Rattle.machine.specs.Writing.{is_applying, may_write}
 use Rattle.machine.specs.declared.acts.Act.{Act}
 use Rattle.machine.specs.declared.acts.Act.TheVariants.{DeleteWorkspace, ForceUnlock, Lock as LockAct, Query, MakeRun, PurgeState, PutWorkspace, ReportRun, Unlock, UpdateState}
 use Rattle.machine.specs.declared.acts.Decision.TheVariants.{Refused}
-use Rattle.basis.specs.declared.rows.Holder.{Holder}
 use Rattle.basis.specs.declared.rows.Holder.TheVariants.{Lock, Nobody, Run as HoldingRun}
 use Rattle.basis.specs.declared.rows.RunRow.{RunRow as Run}
 use Rattle.machine.specs.declared.records.Workspace.{Workspace}

@@ -1,12 +1,7 @@
 -- The rules on runs keep the laws of a workspace.
 use Rattle.std.proofs.Common.{◌≡◌, ℕ, ◌+◌, ◌<◌, ◌≤◌, ◌==◌, Bool, true, false, not, ◌&&◌, cond, List, [], ◌∷◌, ◌++◌, codes, map, Option, Some, None, option_map, IsSomeAnd, refl, sym, ap, subst, ◌∙◌, arith, eqb-true, ne_eqb}
-use Rattle.std.proofs.lemmas.Bool.{eqb-false}
+use Rattle.machine.proofs.Outside.{eqb-false, AllByRecursion, is_open, RunAsk, RunStatus, RunAction, Holder}
 use Rattle.std.proofs.SliceLists.{all_by_recursion_push}
-use Rattle.std.specs.List.{AllByRecursion}
-use Rattle.basis.specs.Runs.{is_open}
-use Rattle.basis.specs.declared.rows.RunAsk.{RunAsk}
-use Rattle.basis.specs.declared.runs.RunStatus.{RunStatus}
-use Rattle.basis.specs.declared.runs.RunAction.{RunAction}
 use Rattle.machine.specs.Laws.{Rises, is_active, is_nobody, holds, IsWhereActionEnds, IsRun, IsHolder, AreRuns, IsLawful}
 use Rattle.machine.specs.Ranges.{IsRunAsk, IsMoment}
 use Rattle.machine.specs.RunSteps.{next_status}
@@ -17,7 +12,6 @@ use Rattle.machine.proofs.StepLemmas.{leads_where_it_ends, never_pending, from_o
 use Rattle.machine.proofs.RunLemmas.{run_of-number, run_of-map, none_numbered, only_one_numbered, some_numbered-push, keys_differ-map, keys_differ-push, open_runs-push, open_runs-map, all-both, all-map, all_found, numbers-map, Rises-more}
 use Rattle.machine.proofs.SettlingLemmas.{freed_is_lawful}
 use Rattle.machine.proofs.LawLemmas.{number_left-is, still_is_lawful, under_lock}
-use Rattle.basis.specs.declared.rows.Holder.{Holder}
 use Rattle.basis.specs.declared.rows.Holder.TheVariants.{Nobody, Lock, Run as HoldingRun}
 use Rattle.basis.specs.declared.rows.RunRow.{RunRow as Run}
 use Rattle.machine.specs.declared.records.Workspace.{Workspace}

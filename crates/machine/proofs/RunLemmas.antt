@@ -1,12 +1,5 @@
 -- Lists of runs: what is found by a number or a key, which run waits first, and how many are open.
-use Rattle.std.proofs.Common.{◌≡◌, ℕ, ◌+◌, ◌<◌, ◌≤◌, ◌==◌, Bool, true, false, cond, List, [], ◌∷◌, ◌++◌, length, map, filter, Option, Some, None, option_map, IfSome, IsSomeAnd, refl, sym, ap, subst, ◌∙◌, arith, eq-eqb, eqb-true, is_some}
-use Rattle.std.proofs.lemmas.Bool.{eqb-false}
-use Rattle.std.specs.Prelude.{find}
-use Rattle.std.specs.Option.{option_or}
-use Rattle.std.specs.List.{AllByRecursion}
-use Rattle.std.specs.Str.{bytes_eq}
-use Rattle.std.proofs.lemmas.Slice.Eq.{bytes_eq-Decides}
-use Rattle.basis.specs.Runs.{is_open}
+use Rattle.machine.proofs.Outside.{◌≡◌, ℕ, ◌+◌, ◌<◌, ◌≤◌, ◌==◌, Bool, true, false, cond, List, [], ◌∷◌, ◌++◌, length, map, filter, Option, Some, None, option_map, IfSome, IsSomeAnd, refl, sym, ap, subst, ◌∙◌, arith, eq-eqb, eqb-true, is_some, eqb-false, find, option_or, AllByRecursion, bytes_eq, bytes_eq-Decides, is_open}
 use Rattle.machine.specs.Workspaces.{run_of, has_key, keyed_run, open_runs}
 use Rattle.machine.specs.Laws.{Rises, KeysDiffer}
 use Rattle.machine.specs.Settling.{is_waiting, first_waiting, begun, started_if}

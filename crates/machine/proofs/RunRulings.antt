@@ -1,9 +1,5 @@
 -- What the rules on runs come to: nothing changes and no holder is told, or a run is told as it is in the settled workspace. `Rulings` says what every rule comes to.
-use Rattle.std.proofs.Common.{◌≡◌, ◌⊎◌, inl, inr, ℕ, nat_lt, Bool, true, false, cond, [], ◌∷◌, ◌++◌, Option, Some, None, option_map, refl, ap, ◌∙◌}
-use Rattle.basis.specs.declared.refusals.Refusal.TheVariants.{NotFound, OverLimit, WrongState, Locked}
-use Rattle.basis.specs.declared.rows.RunAsk.{RunAsk}
-use Rattle.basis.specs.declared.runs.RunStatus.{RunStatus}
-use Rattle.basis.specs.declared.runs.RunAction.{RunAction}
+use Rattle.machine.proofs.Outside.{◌≡◌, ◌⊎◌, inl, inr, ℕ, nat_lt, Bool, true, false, cond, [], ◌∷◌, ◌++◌, Option, Some, None, option_map, refl, ap, ◌∙◌, NotFound, OverLimit, WrongState, Locked, RunAsk, RunStatus, RunAction, Holder}
 use Rattle.machine.specs.Effects.{effect}
 use Rattle.machine.specs.Workspaces.{max_open_runs, run_of, keyed_run, open_runs}
 use Rattle.machine.specs.RunSteps.{next_status, is_last}
@@ -11,7 +7,6 @@ use Rattle.machine.specs.Settling.{first_waiting, to_start, settled}
 use Rattle.machine.specs.Rules.{refused, held, the_run, Ruling, run_answer, run_shown_with, run_shown_already, new_run, with_run, numbered_run, number_left, make_run, reported, with_report, by_step, report}
 use Rattle.machine.specs.Inner.Decisions.{begun_by}
 use Rattle.machine.proofs.RunLemmas.{run_of-map, run_of-started, some_run-push}
-use Rattle.basis.specs.declared.rows.Holder.{Holder}
 use Rattle.basis.specs.declared.rows.RunRow.{RunRow as Run}
 use Rattle.machine.specs.declared.records.Workspace.{Workspace}
 

@@ -1,11 +1,8 @@
 -- Rising lists with the same members are equal, and so are records of the same things.
-use Rattle.std.proofs.Common.{◌≡◌, ℕ, ◌<◌, ◌⊎◌, ◌↔◌, List, [], ◌∷◌, map, Option, Some, None, refl, sym, ap, subst, ap₂, ◌∙◌, arith, inl, inr}
-use Rattle.std.specs.FinMap.{FinMap, get, same_map}
+use Rattle.machine.proofs.Outside.{◌≡◌, ℕ, ◌<◌, ◌⊎◌, ◌↔◌, List, [], ◌∷◌, map, Option, Some, None, refl, sym, ap, subst, ap₂, ◌∙◌, arith, inl, inr, FinMap, get, same_map, Settings, Holder}
 use Rattle.machine.specs.Laws.{Rises, IsLawful}
 use Rattle.machine.specs.Sameness.{IsOneOf, HoldTheSame, HoldTheSameIfThere, SameThingsAreEqualRecords}
-use Rattle.basis.specs.declared.rows.Settings.{Settings}
 use Rattle.machine.specs.Order.{name_cmp}
-use Rattle.basis.specs.declared.rows.Holder.{Holder}
 use Rattle.machine.specs.declared.records.Token.{Token}
 use Rattle.machine.specs.declared.records.Version.{Version}
 use Rattle.basis.specs.declared.rows.RunRow.{RunRow as Run}

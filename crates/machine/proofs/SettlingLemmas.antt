@@ -1,19 +1,11 @@
 -- A workspace whose lock is released settles, and is lawful then; the run that starts has the least number of those that wait.
-use Rattle.std.proofs.Common.{◌≡◌, ℕ, suc, ◌<◌, ◌≤◌, ◌==◌, Bool, true, false, not, ◌&&◌, cond, List, [], ◌∷◌, length, map, filter, Option, Some, None, IfSome, IsSomeAnd, IsTrue, refl, sym, ap, subst, ◌∙◌, arith, eq-eqb, eqb-true, ne_eqb}
-use Rattle.std.proofs.lemmas.Bool.{eqb-false}
+use Rattle.machine.proofs.Outside.{◌≡◌, ℕ, suc, ◌<◌, ◌≤◌, ◌==◌, Bool, true, false, not, ◌&&◌, cond, List, [], ◌∷◌, length, map, filter, Option, Some, None, IfSome, IsSomeAnd, IsTrue, refl, sym, ap, subst, ◌∙◌, arith, eq-eqb, eqb-true, ne_eqb, eqb-false, AllByRecursion, is_free_id, is_open, RunStatus, Pending, Planning, Planned, Applying, Applied, PlannedAndFinished, Errored, Discarded, Canceled, RunAction, Holder}
 use Rattle.std.specs.Prelude.{find, option_map}
-use Rattle.std.specs.List.{AllByRecursion}
-use Rattle.basis.specs.Names.{is_free_id}
-use Rattle.basis.specs.Runs.{is_open}
-use Rattle.basis.specs.declared.runs.RunStatus.{RunStatus}
-use Rattle.basis.specs.declared.runs.RunStatus.TheVariants.{Pending, Planning, Planned, Applying, Applied, PlannedAndFinished, Errored, Discarded, Canceled}
-use Rattle.basis.specs.declared.runs.RunAction.{RunAction}
 use Rattle.machine.specs.Workspaces.{run_of}
 use Rattle.machine.specs.Laws.{Rises, IsRun, AreVersions, AreRuns, IsLawful, IsWhereActionEnds, is_pending}
 use Rattle.machine.specs.Settling.{is_waiting, first_waiting, begun, to_start, started_if, settled}
 use Rattle.machine.proofs.RunLemmas.{numbers-map, keys_differ-map}
 use Rattle.machine.specs.Rules.{released}
-use Rattle.basis.specs.declared.rows.Holder.{Holder}
 use Rattle.basis.specs.declared.rows.Holder.TheVariants.{Nobody, Lock, Run as HoldingRun}
 use Rattle.basis.specs.declared.rows.RunRow.{RunRow as Run}
 use Rattle.machine.specs.declared.records.Workspace.{Workspace}

@@ -1,16 +1,5 @@
 -- What stays: each version follows the one before it, an accepted text stands behind the others, and a PUT leaves what it asks for.
-use Rattle.std.proofs.Common.{◌≡◌, ◌⊎◌, inl, inr, ℕ, zero, suc, ◌+◌, ◌-◌, ◌≤◌, ◌==◌, Bool, true, false, cond, List, [], ◌∷◌, ◌++◌, length, take, drop, Option, Some, None, refl, sym, ap, subst, ◌∙◌, arith, eq-eqb, length-append, length-drop}
-use Rattle.std.specs.Str.{bytes_eq}
-use Rattle.std.proofs.lemmas.List.{take-append-drop}
-use Rattle.std.proofs.lemmas.Slice.Eq.{bytes_eq-Decides}
-use Rattle.std.proofs.lemmas.Option.{same_Some}
-use Rattle.basis.specs.Names.{run_id}
-use Rattle.basis.specs.declared.refusals.Refusal.{Refusal}
-use Rattle.basis.specs.declared.refusals.Refusal.TheVariants.{NotApplying, Locked}
-use Rattle.basis.specs.declared.rows.Settings.{Settings}
-use Rattle.basis.specs.declared.rows.SettingsAsk.{SettingsAsk}
-use Rattle.basis.specs.declared.rows.StateHead.{StateHead}
-use Rattle.basis.specs.declared.runs.RunStatus.{RunStatus}
+use Rattle.machine.proofs.Outside.{◌≡◌, ◌⊎◌, inl, inr, ℕ, zero, suc, ◌+◌, ◌-◌, ◌≤◌, ◌==◌, Bool, true, false, cond, List, [], ◌∷◌, ◌++◌, length, take, drop, Option, Some, None, refl, sym, ap, subst, ◌∙◌, arith, eq-eqb, length-append, length-drop, bytes_eq, take-append-drop, bytes_eq-Decides, same_Some, run_id, Refusal, NotApplying, Locked, Settings, SettingsAsk, StateHead, RunStatus, Holder}
 use Rattle.machine.specs.Custody.{IsAnew, IsWriter}
 use Rattle.machine.specs.Records.{missing, there}
 use Rattle.machine.specs.Rules.{Outcome, done, Ruling, rules, rules_missing, by_may_write, by_succession, numbered_update, number_left, with_version, kept_before, kept_for, settings_for, with_settings, put}
@@ -22,7 +11,6 @@ use Rattle.machine.specs.Workspaces.{newest, last_of, new_workspace, holder_stat
 use Rattle.machine.specs.Writing.{may_write, is_applying}
 use Rattle.machine.specs.declared.acts.Act.{Act}
 use Rattle.machine.specs.declared.acts.Act.TheVariants.{PutWorkspace}
-use Rattle.basis.specs.declared.rows.Holder.{Holder}
 use Rattle.basis.specs.declared.rows.Holder.TheVariants.{Nobody, Lock, Run as HoldingRun}
 use Rattle.machine.specs.declared.records.Version.{Version}
 use Rattle.machine.specs.declared.records.Workspace.{Workspace}

@@ -1,7 +1,5 @@
 -- Tokens by their digests, as they are found and as they are shown.
-use Rattle.std.proofs.Common.{◌≡◌, ℕ, Bool, true, false, cond, List, [], ◌∷◌, Option, Some, None, option_map, refl}
-use Rattle.std.specs.Str.{bytes_eq}
-use Rattle.std.specs.FinMap.{entries}
+use Rattle.machine.proofs.Outside.{◌≡◌, ℕ, Bool, true, false, cond, List, [], ◌∷◌, Option, Some, None, option_map, refl, bytes_eq, entries}
 use Rattle.machine.specs.Tokens.{token_with, caller_of, token_row, row_with, asker_of}
 use Rattle.machine.specs.declared.records.Token.{Token}
 use Rattle.machine.specs.declared.records.Organization.{Organization}

@@ -1,8 +1,5 @@
 -- Who goes on from page to page sees a list whole: pages of a list of which each place has behind it what the page before left out.
-use Rattle.std.proofs.Common.{◌≡◌, ℕ, zero, suc, ◌-◌, ◌<◌, ◌≤◌, nat_lt, Bool, true, false, List, [], ◌∷◌, ◌++◌, length, map, take, drop, slice_get, Option, Some, IsSomeAnd, refl, sym, ap, subst, ◌∙◌, arith, length-drop}
-use Rattle.std.proofs.lemmas.Bool.{ltb-true, ltb-false}
-use Rattle.std.proofs.lemmas.List.{take-append-drop, take_all, length-take-le}
-use Rattle.basis.specs.Listings.{listing_of}
+use Rattle.machine.proofs.Outside.{◌≡◌, ℕ, zero, suc, ◌-◌, ◌<◌, ◌≤◌, nat_lt, Bool, true, false, List, [], ◌∷◌, ◌++◌, length, map, take, drop, slice_get, Option, Some, IsSomeAnd, refl, sym, ap, subst, ◌∙◌, arith, length-drop, ltb-true, ltb-false, take-append-drop, take_all, length-take-le, listing_of}
 use Rattle.basis.specs.declared.rows.Listing.{Listing}
 use Rattle.basis.specs.declared.rows.RunRow.{RunRow as Run}
 use Rattle.basis.specs.declared.rows.VersionRow.{VersionRow}

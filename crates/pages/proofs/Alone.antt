@@ -1,15 +1,7 @@
 -- A page that goes with its only use, by a DELETE that leaves one in more uses: what it does is to release the page, or nothing.
-use Rattle.std.proofs.Common.{◌≡◌, ◌==◌, ◌<◌, ℕ, ◌-◌, nat_lt, Bool, true, false, ◌&&◌, not, cond, List, [], ◌∷◌, find, is_some, IsTrue, IsSome, Option, Some, None, option_map, Result, Ok, Err, IfOk, OnOk, OnErr, refl, sym, ap, ◌∙◌, subst, arith}
-use Rattle.std.specs.Str.{bytes_eq}
-use Rattle.std.proofs.lemmas.Bool.{ltb-true, le-ltb}
+use Rattle.pages.proofs.Outside.{◌≡◌, ◌==◌, ◌<◌, ℕ, ◌-◌, nat_lt, Bool, true, false, ◌&&◌, not, cond, List, [], ◌∷◌, find, is_some, IsTrue, IsSome, Option, Some, None, option_map, Result, Ok, Err, IfOk, OnOk, OnErr, refl, sym, ap, ◌∙◌, subst, arith, bytes_eq, ltb-true, le-ltb, Database, State, KeepsCommit, Kept, PageRow, AnyRows, LeavesForeign, LeavesAsIs, Moves, Tables, Holds, none_passes, none_deleted}
 use Rattle.std.proofs.Math.Bool.{and_assoc}
 use Rattle.sqlite_keyed.specs.Lists.{delete_where}
-use Rattle.sqlite.specs.Effect.{Database}
-use Rattle.sqlite.specs.State.{State, KeepsCommit}
-use Rattle.statements.specs.Rows.{Kept, PageRow}
-use Rattle.statements.specs.Steps.{AnyRows, LeavesForeign, LeavesAsIs, Moves}
-use Rattle.statements.specs.Tables.{Tables, Holds}
-use Rattle.statements.proofs.Found.{none_passes, none_deleted}
 use Rattle.pages.specs.Rows.{is_page, is_last, has_last, last_removed, page_used, page_removed, page_uses}
 use Rattle.pages.specs.Puts.{released_found, page_released}
 use Rattle.pages.specs.Pages.{pages_in, HasSoundPages, ReleasesPage, NamedAreThere}

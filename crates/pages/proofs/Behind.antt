@@ -1,13 +1,5 @@
 -- Rows in the order of their rowids, gone through one at a time.
-use Rattle.std.proofs.Common.{◌≡◌, ◌<ℤ◌, ℕ, ℤ, int_lt, Bool, true, false, cond, List, [], ◌∷◌, ◌++◌, map, filter, find, Option, Some, None, option_map, arith, refl, sym, ap, ◌∙◌, subst}
-use Rattle.std.proofs.lemmas.Int.{ints}
-use Rattle.std.proofs.lemmas.List.{append_assoc, append-nil}
-use Rattle.sqlite_keyed.specs.Keyed.{IsKeyedBy}
-use Rattle.sqlite_keyed.proofs.ListLemmas.{all_of, all_weaker, filter_all}
-use Rattle.statements.specs.declared.rows.PageHead.{PageHead}
-use Rattle.statements.specs.Rows.{Kept, PageRow, id_of}
-use Rattle.statements.specs.Tables.{Tables}
-use Rattle.statements.proofs.Found.{found_holds}
+use Rattle.pages.proofs.Outside.{◌≡◌, ◌<ℤ◌, ℕ, ℤ, int_lt, Bool, true, false, cond, List, [], ◌∷◌, ◌++◌, map, filter, find, Option, Some, None, option_map, arith, refl, sym, ap, ◌∙◌, subst, ints, append_assoc, append-nil, IsKeyedBy, all_of, all_weaker, filter_all, PageHead, Kept, PageRow, id_of, Tables, found_holds}
 use Rattle.pages.specs.declared.scans.PageRow.{PageRow as ReadRow}
 use Rattle.pages.specs.declared.scans.Unhashed.{Unhashed}
 use Rattle.pages.specs.Heads.{head_in}

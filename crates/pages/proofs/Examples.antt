@@ -1,7 +1,6 @@
 -- Worked pages, computed by the definitions themselves. The key keeps a page's first byte.
-use Rattle.std.proofs.Common.{◌≡◌, ℕ, false, List, [], ◌∷◌, map, Some, None, refl}
+use Rattle.pages.proofs.Outside.{◌≡◌, ℕ, false, List, [], ◌∷◌, map, Some, None, refl, Tables, no_rows}
 use Rattle.std.specs.Prelude.{codes}
-use Rattle.statements.specs.Tables.{Tables, no_rows}
 use Rattle.pages.specs.Rows.{page_added, page_bytes, equal_page}
 use Rattle.pages.specs.Puts.{free_from, put_found, page_released, is_bytes_of}
 

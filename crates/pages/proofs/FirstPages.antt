@@ -1,8 +1,5 @@
 -- A page that is put by the first page of its key: where there is none, it is the key's only one; where that has the bytes, it is the one that is used again.
-use Rattle.std.proofs.Common.{◌≡◌, ◌==◌, ℕ, ◌+◌, Bool, true, false, ◌&&◌, cond, List, [], ◌∷◌, find, is_some, Option, Some, None, IsSome, option_map, inr, refl, sym, ap, ◌∙◌, subst, arith}
-use Rattle.std.specs.Str.{bytes_eq}
-use Rattle.statements.specs.Rows.{Kept, PageRow}
-use Rattle.statements.specs.Tables.{Tables}
+use Rattle.pages.proofs.Outside.{◌≡◌, ◌==◌, ℕ, ◌+◌, Bool, true, false, ◌&&◌, cond, List, [], ◌∷◌, find, is_some, Option, Some, None, IsSome, option_map, inr, refl, sym, ap, ◌∙◌, subst, arith, bytes_eq, Kept, PageRow, Tables}
 use Rattle.pages.specs.declared.rows.FirstPage.{FirstPage}
 use Rattle.pages.specs.declared.rows.PageUse.{PageUse}
 use Rattle.pages.specs.Rows.{page_added, page_used, page_use, page_uses, equal_page, is_of_key, first_twin, compared, first_page}

@@ -1,9 +1,5 @@
 -- The least number under which no page of a key is kept, and the search for it from 0 on.
-use Rattle.std.proofs.Common.{◌≡◌, ◌<◌, ◌≤◌, ℕ, zero, suc, ◌+◌, ◌-◌, nat_lt, true, cond, List, is_some, Option, Some, None, inl, inr, refl, ap, ◌∙◌, subst, arith}
-use Rattle.std.proofs.lemmas.Bool.{cases_Bool, ltb-true, ltb-false}
-use Rattle.sqlite.specs.State.{State, HasCleanDisk}
-use Rattle.statements.specs.Steps.{LeavesAsIs}
-use Rattle.statements.specs.Tables.{Tables, Holds}
+use Rattle.pages.proofs.Outside.{◌≡◌, ◌<◌, ◌≤◌, ℕ, zero, suc, ◌+◌, ◌-◌, nat_lt, true, cond, List, is_some, Option, Some, None, inl, inr, refl, ap, ◌∙◌, subst, arith, cases_Bool, ltb-true, ltb-false, State, HasCleanDisk, LeavesAsIs, Tables, Holds}
 use Rattle.pages.specs.Rows.{page_uses}
 use Rattle.pages.specs.Puts.{twin_limit, free_from, free_twin}
 

@@ -1,11 +1,5 @@
 -- Where each page has the key of its bytes, it has it after a page was put, under a key that this may have, and after one was released.
-use Rattle.std.proofs.Common.{◌≡◌, ◌⊎◌, inl, inr, ℕ, ◌+◌, ◌-◌, nat_lt, Bool, true, false, cond, List, [], ◌∷◌, IsSome, Option, Some, None, sym}
-use Rattle.std.specs.List.{AllByRecursion}
-use Rattle.sqlite_keyed.specs.Keyed.{next_key}
-use Rattle.sqlite_keyed.proofs.ListLemmas.{all-filter, all-append}
-use Rattle.statements.specs.Rows.{Kept, id_of, PageRow}
-use Rattle.statements.specs.Tables.{Tables}
-use Rattle.statements.proofs.Found.{all_updated}
+use Rattle.pages.proofs.Outside.{◌≡◌, ◌⊎◌, inl, inr, ℕ, ◌+◌, ◌-◌, nat_lt, Bool, true, false, cond, List, [], ◌∷◌, IsSome, Option, Some, None, sym, AllByRecursion, next_key, all-filter, all-append, Kept, id_of, PageRow, Tables, all_updated}
 use Rattle.pages.specs.declared.rows.PageUse.{PageUse}
 use Rattle.pages.specs.Pages.{IsKeyFor}
 use Rattle.pages.specs.Puts.{free_twin, put_found, page_put, released_found, page_released}

@@ -4,6 +4,7 @@ pub mod Examples
 pub mod FirstPages
 pub mod FreeTwins
 pub mod KeyedPages
+pub mod Outside
 pub mod Sequences
 pub mod PageLaws
 pub mod PageReads

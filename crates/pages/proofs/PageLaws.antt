@@ -1,16 +1,9 @@
 -- What a page that is put, and one that is released, leave of the map of pages.
-use Rattle.std.proofs.Common.{◌≡◌, ◌≢◌, ◌<◌, ◌≤◌, inl, inr, ℕ, ◌+◌, ◌-◌, nat_lt, Bool, true, false, cond, List, [], ◌∷◌, find, is_some, IsSome, Option, Some, None, option_map, refl, sym, ap, ◌∙◌, arith}
+use Rattle.pages.proofs.Outside.{◌≡◌, ◌≢◌, ◌<◌, ◌≤◌, inl, inr, ℕ, ◌+◌, ◌-◌, nat_lt, Bool, true, false, cond, List, [], ◌∷◌, find, is_some, IsSome, Option, Some, None, option_map, refl, sym, ap, ◌∙◌, arith, bytes_eq, false_from_ne_true, and_from, eqb-true, eq-eqb, ltb-true, next_key, all_weaker, all-filter, all-append, Kept, id_of, PageRow, Tables, found_passes, find_changed, find_unchanged, find_deleted, find_left, find_pushed, find_pushed_other, found_holds, apart_one, all_updated, apart_pushed, none_passes}
 use Rattle.std.specs.Prelude.{◌==◌}
-use Rattle.std.specs.Str.{bytes_eq}
-use Rattle.std.proofs.lemmas.Bool.{false_from_ne_true, and_from, eqb-true, eq-eqb, ltb-true}
 use Rattle.std.proofs.lemmas.Slice.Eq.{bytes_eq-Decides}
 use Rattle.std.proofs.lemmas.Option.{same_Some}
-use Rattle.sqlite_keyed.specs.Keyed.{next_key}
-use Rattle.sqlite_keyed.proofs.ListLemmas.{all_weaker, all-filter, all-append}
 use Rattle.sqlite_keyed.proofs.RuleLemmas.{first_of_both, second_of_both, apart_update, apart_delete}
-use Rattle.statements.specs.Rows.{Kept, id_of, PageRow}
-use Rattle.statements.specs.Tables.{Tables}
-use Rattle.statements.proofs.Found.{found_passes, find_changed, find_unchanged, find_deleted, find_left, find_pushed, find_pushed_other, found_holds, apart_one, all_updated, apart_pushed, none_passes}
 use Rattle.pages.specs.Rows.{is_page, is_equal_page, page_added, page_used, page_removed, page_uses, page_use}
 use Rattle.pages.specs.Puts.{twin_limit, free_twin, twin_found, twin_for, put_found, page_put, released_found, page_released}
 use Rattle.pages.specs.Pages.{Page, pages_in, HasSoundPages, KeepsOtherPages, IsNewPage, IsFreeTwin, PutsPage, ReleasesPage}

@@ -1,24 +1,7 @@
 -- What the queries on the table page read of its rows.
-use Rattle.std.proofs.Common.{◌≡◌, ℕ, Bool, true, ◌&&◌, List, [], ◌∷◌, Option, codes, refl, sym, ap, ◌∙◌}
-use Rattle.std.specs.Str.{bytes_eq}
-use Rattle.sqlite_value.specs.declared.keys.Collation.TheVariants.{Binary}
+use Rattle.pages.proofs.Outside.{◌≡◌, ℕ, Bool, true, ◌&&◌, List, [], ◌∷◌, Option, codes, refl, sym, ap, ◌∙◌, bytes_eq, Binary, Blob, Row, Eq, Compare, is_true, binary, then_term, last_term, State, page_table, Kept, PageRow, page_cells, number, Tables, Holds, page_layout, FirstRow, Pins, IsNumber, IsBody, IsFlagCell, IsHeld, pages_held, first_own, number_read, blob_read, same_blob}
 use Rattle.sqlite_value.specs.declared.value.Value.{Value}
-use Rattle.sqlite_value.specs.declared.value.Value.TheVariants.{Blob}
-use Rattle.sqlite_value.specs.Order.{Row}
-use Rattle.sqlite_sql.specs.declared.ops.CompareOp.TheVariants.{Eq}
-use Rattle.sqlite_sql.specs.declared.ops.BinaryOp.TheVariants.{Compare}
-use Rattle.sqlite_sql.specs.Ops.{is_true, binary}
-use Rattle.sqlite_typed.proofs.TestLemmas.{then_term, last_term}
-use Rattle.sqlite.specs.State.{State}
-use Rattle.statements.specs.Schema.{page_table}
-use Rattle.statements.specs.Rows.{Kept, PageRow, page_cells, number}
-use Rattle.statements.specs.Tables.{Tables, Holds, page_layout}
-use Rattle.statements.specs.Calls.{FirstRow, Pins, IsNumber, IsBody, IsFlagCell}
 use Rattle.pages.specs.declared.rows.TheConstants.{FIND_PAGE_BYTES, FIND_PAGE_USES, EQUAL_PAGE, FIRST_TWIN, FIRST_PAGE}
-use Rattle.statements.proofs.Held.{IsHeld, pages_held}
-use Rattle.statements.proofs.PointReads.{first_own}
-use Rattle.statements.proofs.ReadBack.{number_read, blob_read}
-use Rattle.statements.proofs.Conditions.{same_blob}
 use Rattle.pages.specs.declared.rows.FirstPage.{FirstPage}
 use Rattle.pages.specs.declared.rows.PageUse.{PageUse}
 use Rattle.pages.specs.Rows.{is_page, is_equal_page, page_bytes, page_uses, page_use, equal_page, is_of_key, first_twin, compared, first_page}

@@ -1,25 +1,12 @@
 -- The statements on the table page: how they are written, and what their texts mean in each schema that has it.
-use Rattle.std.proofs.Common.{ℕ, pos, false, List, [], ◌∷◌, ◌++◌, codes, Some, None, refl}
-use Rattle.sqlite_value.specs.declared.value.Value.TheVariants.{Null, Int}
-use Rattle.sqlite_value.specs.declared.keys.Collation.TheVariants.{Binary}
-use Rattle.sqlite_sql.specs.Term.{lit, col}
-use Rattle.sqlite_sql.specs.Query.{Query}
-use Rattle.sqlite_schema.specs.declared.schema.Schema.{Schema}
+use Rattle.pages.proofs.Outside.{ℕ, pos, false, List, [], ◌∷◌, ◌++◌, codes, Some, None, refl, Null, Int, Binary, lit, col, Query, Schema, Insert, Update, Delete, everything, StandsAt, page_table, plain_program, point, is_at, is_under, update_query, delete_query, point_rest, point_draft, no_page, Asks, asks}
 use Rattle.sqlite_schema.specs.declared.command.Source.TheVariants.{Values}
-use Rattle.sqlite_schema.specs.declared.command.Command.TheVariants.{Insert, Update, Delete}
 use Rattle.sqlite_ast.specs.declared.Binary.TheVariants.{Lt}
 use Rattle.sqlite_ast.specs.declared.Expr.TheVariants.{Parameter, Integer, Binary as Two}
 use Rattle.sqlite_ast.specs.declared.Shown.TheVariants.{One}
-use Rattle.sqlite_tied.specs.Compute.{everything}
-use Rattle.statements.specs.Place.{StandsAt}
-use Rattle.statements.specs.Schema.{page_table}
 use Rattle.statements.proofs.SyntaxTrees as st
 use Rattle.statements.proofs.Meaning.{Means, means}
-use Rattle.statements.proofs.Writes.{plain_program}
-use Rattle.statements.proofs.Answered.{point}
-use Rattle.statements.proofs.Commands.{is_at, is_under, update_query, delete_query, point_rest, point_draft, no_page}
 use Rattle.pages.specs.declared.rows.TheConstants.{ADD_PAGE, SET_PAGE_USES, REMOVE_PAGE, REMOVE_LAST_PAGE, FIND_PAGE_BYTES, FIND_PAGE_USES, EQUAL_PAGE, FIRST_TWIN, FIRST_PAGE}
-use Rattle.statements.proofs.Selects.{Asks, asks}
 
 abbrev pub set_page_uses_query : ℕ → Query
 set_page_uses_query tree = update_query tree (is_at 1 0 ∷ is_at 2 1 ∷ []) (col 1 1 ∷ col 1 2 ∷ col 1 3 ∷ col 0 2 ∷ [])

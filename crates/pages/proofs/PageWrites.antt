@@ -1,22 +1,10 @@
 -- What the writes to the table page do to its rows.
-use Rattle.std.proofs.Common.{◌≡◌, ◌==◌, ℕ, pos, nat_lt, true, ◌&&◌, not, List, [], ◌∷◌, find, Ok, refl, ap, ◌∙◌, eqb}
-use Rattle.std.specs.Str.{bytes_eq}
-use Rattle.sqlite_value.specs.declared.keys.Collation.TheVariants.{Binary}
-use Rattle.sqlite_value.specs.declared.value.Value.TheVariants.{Int, Blob}
+use Rattle.pages.proofs.Outside.{◌≡◌, ◌==◌, ℕ, pos, nat_lt, true, ◌&&◌, not, List, [], ◌∷◌, find, Ok, refl, ap, ◌∙◌, eqb, bytes_eq, Binary, Int, Blob, Compare, is_true, binary, at_ints, then_term, last_term, State, Executes, number, page_cells, Tables, Holds, page_table, pages, pages_held, same_blob, same_number, below_is}
 use Rattle.sqlite_sql.specs.declared.ops.CompareOp.TheVariants.{Eq, Lt}
-use Rattle.sqlite_sql.specs.declared.ops.BinaryOp.TheVariants.{Compare}
-use Rattle.sqlite_sql.specs.Ops.{is_true, binary}
 use Rattle.sqlite_keyed.proofs.SliceLemmas.{is_some-map}
-use Rattle.sqlite_typed.proofs.TestLemmas.{at_ints, then_term, last_term}
-use Rattle.sqlite.specs.State.{State, Executes}
-use Rattle.statements.specs.Rows.{number, page_cells}
-use Rattle.statements.specs.Tables.{Tables, Holds}
-use Rattle.statements.specs.Schema.{page_table}
 use Rattle.pages.specs.declared.rows.TheConstants.{ADD_PAGE, SET_PAGE_USES, REMOVE_PAGE, REMOVE_LAST_PAGE}
-use Rattle.statements.proofs.Held.{pages, pages_held}
 use Rattle.statements.proofs.Own.{count_deleted, first_if_any}
 use Rattle.statements.proofs.Casts.{page_casts}
-use Rattle.statements.proofs.Conditions.{same_blob, same_number, below_is}
 use Rattle.statements.proofs.Frames.{Turns, updated, deleted, inserted}
 use Rattle.pages.specs.Rows.{is_page, is_last, page_added, page_used, page_removed, has_last, last_removed}
 use Rattle.pages.proofs.PageTexts.{add_page_means, set_page_uses_means, remove_page_means, remove_last_page_means}

@@ -1,13 +1,6 @@
 -- From what a call did to the rows to what it promises of the map of pages.
-use Rattle.std.proofs.Common.{◌≡◌, ◌<◌, ℕ, List, Option, Some, None, IsSome, Result, Ok, Err, IfOk, OnOk, inl, sym, ◌∙◌, subst}
-use Rattle.sqlite_trees.specs.declared.store.Store.{Ghosts}
-use Rattle.sqlite.specs.Held.{state}
-use Rattle.sqlite.specs.State.{State, HasCleanDisk, IsUnchanged, Survives}
-use Rattle.sqlite.specs.declared.transaction.Transaction.{Transaction}
-use Rattle.statements.specs.Steps.{AnyRows, LeavesAsIs, Moves, Steps}
-use Rattle.statements.specs.Tables.{Tables, Holds}
+use Rattle.pages.proofs.Outside.{◌≡◌, ◌<◌, ℕ, List, Option, Some, None, IsSome, Result, Ok, Err, IfOk, OnOk, inl, sym, ◌∙◌, subst, Ghosts, state, State, HasCleanDisk, IsUnchanged, Survives, Transaction, AnyRows, LeavesAsIs, Moves, Steps, Tables, Holds, clean_before}
 use Rattle.statements.proofs.Decoding.{tables-held}
-use Rattle.statements.proofs.Transactions.{clean_before}
 use Rattle.pages.specs.declared.store.PageId.{PageId}
 use Rattle.pages.specs.Rows.{page_uses}
 use Rattle.pages.specs.Puts.{twin_limit, twin_for, page_put, page_released}

@@ -1,32 +1,15 @@
 -- After a write to the table page, each page that a row of vpage names is there: the database sees to its references.
-use Rattle.std.proofs.Common.{◌≡◌, ℕ, true, false, Bool, ◌||◌, cond, List, [], ◌∷◌, map, find, codes, Option, Some, None, IsSome, option_map, option_and_then, unwrap_or, Result, Ok, Err, OnOk, refl, sym, ap, ap₂, ◌∙◌, subst}
-use Rattle.std.specs.List.{AllByRecursion, list_any}
-use Rattle.std.proofs.lemmas.Bool.{and_parts}
+use Rattle.pages.proofs.Outside.{◌≡◌, ℕ, true, false, Bool, ◌||◌, cond, List, [], ◌∷◌, map, find, codes, Option, Some, None, IsSome, option_map, option_and_then, unwrap_or, Result, Ok, Err, OnOk, refl, sym, ap, ap₂, ◌∙◌, subst, AllByRecursion, list_any, and_parts, Row, Schema, everything, Update, Delete, Database, IsDatabase, State, Executes, all-slice_get, at_of, tree_of, IsOwn, page_table, vpage_table, Kept, stored, PageRow, VpageRow, page_cells, vpage_cells, Tables, Holds, page_layout, vpage_layout, IsHeld, pages_held, vpages_held, plain_program, Wrote, LeavesAsIs}
 use Rattle.sqlite_value.specs.declared.keys.Order.{Order}
 use Rattle.sqlite_value.specs.Keys.{plain}
-use Rattle.sqlite_value.specs.Order.{Row}
 use Rattle.sqlite_schema.specs.declared.schema.Action.TheVariants.{NoAction, Restrict}
 use Rattle.sqlite_schema.specs.declared.schema.Constraint.TheVariants.{ForeignKey}
 use Rattle.sqlite_schema.specs.declared.schema.Reference.{Reference}
-use Rattle.sqlite_schema.specs.declared.schema.Schema.{Schema}
 use Rattle.sqlite_schema.specs.declared.schema.Table.{Table}
 use Rattle.sqlite_schema.specs.Rules.{agree, ParentKey, parent_key, key_in, key_places, declared_order, has_parent, has_null, is_held, passes}
-use Rattle.sqlite_tied.specs.Compute.{everything}
-use Rattle.sqlite_schema.specs.declared.command.Command.TheVariants.{Update, Delete}
-use Rattle.sqlite.specs.Effect.{Database, IsDatabase}
-use Rattle.sqlite.specs.State.{State, Executes}
 use Rattle.sqlite.proofs.Callers.{runs_as}
-use Rattle.sqlite_keyed.proofs.ListLemmas.{all-slice_get}
-use Rattle.statements.specs.Place.{at_of, tree_of, IsOwn}
-use Rattle.statements.specs.Schema.{page_table, vpage_table}
-use Rattle.statements.specs.Rows.{Kept, stored, PageRow, VpageRow, page_cells, vpage_cells}
-use Rattle.statements.specs.Tables.{Tables, Holds, page_layout, vpage_layout}
 use Rattle.pages.specs.declared.rows.TheConstants.{SET_PAGE_USES, REMOVE_PAGE, REMOVE_LAST_PAGE}
-use Rattle.statements.proofs.Held.{IsHeld, pages_held, vpages_held}
 use Rattle.statements.proofs.Follows.{named_first}
-use Rattle.statements.proofs.Writes.{plain_program}
-use Rattle.statements.specs.Calls.{Wrote}
-use Rattle.statements.specs.Steps.{LeavesAsIs}
 use Rattle.pages.specs.Rows.{is_page}
 use Rattle.pages.specs.Pages.{Page, pages_in, NamedAreThere}
 use Rattle.pages.proofs.Sequences.{still_holds}

@@ -1,19 +1,6 @@
 -- What the queries that go through the rows of page read of them.
-use Rattle.std.proofs.Common.{◌≡◌, ℤ, [], ◌∷◌, Option, Some, None, refl}
-use Rattle.sqlite_value.specs.declared.value.Value.TheVariants.{Int, Blob}
-use Rattle.sqlite_sql.specs.declared.ops.CompareOp.TheVariants.{Gt}
-use Rattle.sqlite_keyed.proofs.ListLemmas.{first_taken}
-use Rattle.sqlite_typed.proofs.TestLemmas.{at_ints, last_term}
-use Rattle.sqlite_value.specs.Order.{Row}
-use Rattle.sqlite.specs.State.{State}
-use Rattle.statements.specs.Schema.{page_table}
-use Rattle.statements.specs.Rows.{Kept, PageRow, page_cells, number}
-use Rattle.statements.specs.Tables.{Tables, Holds, page_layout}
-use Rattle.statements.specs.Calls.{FirstRow, Pins}
+use Rattle.pages.proofs.Outside.{◌≡◌, ℤ, [], ◌∷◌, Option, Some, None, refl, Int, Blob, Gt, first_taken, at_ints, last_term, Row, State, page_table, Kept, PageRow, page_cells, number, Tables, Holds, page_layout, FirstRow, Pins, IsHeld, pages_held, first_own, number_read, blob_read}
 use Rattle.pages.specs.declared.scans.TheConstants.{FIRST_ROW, ROW_AFTER}
-use Rattle.statements.proofs.Held.{IsHeld, pages_held}
-use Rattle.statements.proofs.PointReads.{first_own}
-use Rattle.statements.proofs.ReadBack.{number_read, blob_read}
 use Rattle.pages.specs.declared.scans.PageRow.{PageRow as ReadRow}
 use Rattle.pages.specs.Inner.Scans.{IsPageRow, is_behind, page_row, page_row_behind}
 use Rattle.pages.proofs.RowTexts.{row_names, first_row_asks, first_row_rest, row_after_asks, row_after_rest}

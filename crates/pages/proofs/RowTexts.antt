@@ -1,15 +1,7 @@
 -- The statements that go through the rows of page: how they are written, and what their texts mean in each schema that has it.
-use Rattle.std.proofs.Common.{ℕ, false, List, [], ◌∷◌, codes, Some, None, refl}
-use Rattle.sqlite_value.specs.declared.keys.Collation.TheVariants.{Binary}
-use Rattle.sqlite_sql.specs.Term.{col}
-use Rattle.sqlite_sql.specs.Query.{Query}
-use Rattle.sqlite_tied.specs.Compute.{everything}
-use Rattle.statements.specs.Schema.{page_table}
+use Rattle.pages.proofs.Outside.{ℕ, false, List, [], ◌∷◌, codes, Some, None, refl, Binary, col, Query, everything, page_table, point, is_above, point_rest, point_draft, one_page, Asks, asks}
 use Rattle.statements.proofs.SyntaxTrees as st
-use Rattle.statements.proofs.Answered.{point}
-use Rattle.statements.proofs.Commands.{is_above, point_rest, point_draft, one_page}
 use Rattle.pages.specs.declared.scans.TheConstants.{FIRST_ROW, ROW_AFTER}
-use Rattle.statements.proofs.Selects.{Asks, asks}
 
 abbrev pub row_names : List (List ℕ)
 row_names = codes "rowid" ∷ codes "pkey" ∷ codes "twin" ∷ codes "bytes" ∷ codes "uses" ∷ []

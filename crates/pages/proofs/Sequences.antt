@@ -1,13 +1,5 @@
 -- What queries and writes leave together, one after another, inside one transaction.
-use Rattle.std.proofs.Common.{◌≡◌, ◌⊎◌, inl, inr, IsTrue, Result, Ok, Err, IfOk, OnOk, OnErr, refl, sym, ◌∙◌, subst}
-use Rattle.sqlite_trees.specs.declared.store.Store.{Ghosts}
-use Rattle.sqlite.specs.Effect.{Database}
-use Rattle.sqlite.specs.Held.{state}
-use Rattle.sqlite.specs.State.{State, HasCleanDisk, Survives, IsUnchanged, IsRolledBack, KeepsCommit}
-use Rattle.sqlite.specs.declared.transaction.Transaction.{Transaction}
-use Rattle.statements.specs.Steps.{AnyRows, LeavesForeign, LeavesAsIs, Moves, Writes, Steps}
-use Rattle.statements.specs.Tables.{Tables, Holds}
-use Rattle.statements.proofs.Transactions.{clean_before, moves_more}
+use Rattle.pages.proofs.Outside.{◌≡◌, ◌⊎◌, inl, inr, IsTrue, Result, Ok, Err, IfOk, OnOk, OnErr, refl, sym, ◌∙◌, subst, Ghosts, Database, state, State, HasCleanDisk, Survives, IsUnchanged, IsRolledBack, KeepsCommit, Transaction, AnyRows, LeavesForeign, LeavesAsIs, Moves, Writes, Steps, Tables, Holds, clean_before, moves_more}
 
 pub as_it_is : (s : State) → LeavesAsIs s s
 as_it_is s = record { was_open = λ is. is; is_open = λ is. is; now = refl; committed = refl; mode = refl }

@@ -1,10 +1,5 @@
 -- Reads, one after another: what they leave and tell.
-use Rattle.std.proofs.Common.{◌≡◌, false, Result, Ok, Err, IsErr, ◌∙◌}
-use Rattle.sqlite_trees.specs.declared.store.Store.{Ghosts}
-use Rattle.sqlite.specs.Held.{Held, state}
-use Rattle.sqlite.specs.State.{State, HasCleanDisk, KeepsCommit}
-use Rattle.statements.specs.Steps.{LeavesAsIs, Sees}
-use Rattle.statements.specs.Tables.{Tables, Holds}
+use Rattle.pages.proofs.Outside.{◌≡◌, false, Result, Ok, Err, IsErr, ◌∙◌, Ghosts, Held, state, State, HasCleanDisk, KeepsCommit, LeavesAsIs, Sees, Tables, Holds}
 use Rattle.pages.proofs.Sequences.{as_it_is, unchanged_then, still_holds}
 
 -- a read that failed behind others

@@ -1,8 +1,5 @@
 -- A window of rows whose keys are made: its first row goes with the first key, until none is left.
-use Rattle.std.proofs.Common.{◌≡◌, ◌<◌, ◌≤◌, ◌+◌, ℕ, zero, suc, List, [], ◌∷◌, ◌++◌, map, length, take, drop, slice_index_or, arith, refl, sym, ap, ◌∙◌, subst}
-use Rattle.std.specs.List.{remove}
-use Rattle.std.proofs.lemmas.List.{append_assoc, append-nil, length-map, take_all}
-use Rattle.statements.specs.declared.rows.PageHead.{PageHead}
+use Rattle.pages.proofs.Outside.{◌≡◌, ◌<◌, ◌≤◌, ◌+◌, ℕ, zero, suc, List, [], ◌∷◌, ◌++◌, map, length, take, drop, slice_index_or, arith, refl, sym, ap, ◌∙◌, subst, remove, append_assoc, append-nil, length-map, take_all, PageHead}
 use Rattle.pages.specs.declared.scans.Unhashed.{Unhashed}
 use Rattle.pages.specs.Inner.Scans.{head_under, hashed}
 

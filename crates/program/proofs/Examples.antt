@@ -1,4 +1,4 @@
--- Worked frames, secrets and batches of commands, computed by the definitions themselves.
+-- Worked frames and secrets, computed by the definitions themselves.
 use Rattle.std.proofs.Common.{◌≡◌, [], Some, None, refl}
 use Rattle.std.specs.Prelude.{codes}
 use Rattle.std.specs.Str.{chars, is_utf8}
@@ -7,7 +7,6 @@ use Rattle.basis.specs.declared.roles.Role.TheVariants.{Write}
 use Rattle.serve.specs.declared.steps.Admin.TheVariants.{OrgAdd, OrgLimit, OrgList, TokenAdd, TokenRevoke}
 use Rattle.serve.specs.declared.steps.Step.TheVariants.{Request, Command}
 use Rattle.serve.specs.Bounds.{bounds, no_bounds}
-use Rattle.program.specs.Batches.{first_command}
 use Rattle.program.specs.Frames.{first_frame}
 use Rattle.program.specs.Secrets.{secret_in}
 
@@ -134,18 +133,3 @@ secret_line = refl
 two_lines : secret_in (codes "writewritewrite1\nwritewritewrite1") ≡ None
 unfolding chars is_utf8 encode
 two_lines = refl
-
--- the first command of a batch, and what follows its line
-first_of_batch : first_command (codes "org-add acme\ntoken-revoke acme ci\n") ≡ Some (OrgAdd (codes "acme") 200, codes "token-revoke acme ci\n")
-unfolding chars is_utf8 encode
-first_of_batch = refl
-
--- the last line of a batch may have no line feed
-last_of_batch : first_command (codes "org-list") ≡ Some (OrgList, [])
-unfolding chars is_utf8 encode
-last_of_batch = refl
-
--- an empty line is no command
-empty_line_in_batch : first_command (codes "\norg-list\n") ≡ None
-unfolding chars is_utf8 encode
-empty_line_in_batch = refl

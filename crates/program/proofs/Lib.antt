@@ -1,4 +1,5 @@
 pub mod Examples
+pub mod BatchExamples
 pub mod FrameLemmas
 pub mod WordLemmas
 mod ReplayLemmas
@@ -13,4 +14,5 @@ mod MoveLemmas
 mod CopyLemmas
 mod RemoveLemmas
 mod BatchLemmas
+mod LineFaultLemmas
 pub mod InputLemmas

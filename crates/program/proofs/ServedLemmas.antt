@@ -12,7 +12,7 @@ use Rattle.serve.specs.Exchanges.{Exchanges, ChangesAsLogged}
 use Rattle.serve.specs.Laws.{HasNoReply}
 use Rattle.serve.specs.Logs.{silent_row}
 use Rattle.serve.specs.Service.{Stays}
-use Rattle.serve.specs.Served.{Exchange, IsServed, AreServed}
+use Rattle.serve.specs.Served.{Exchange, AsksToStop, IsServed, AreServed}
 use Rattle.serve.specs.declared.doors.Door.{Door}
 use Rattle.serve.specs.declared.exchanges.LinkFault.{LinkFault}
 use Rattle.serve.specs.declared.exchanges.LinkFault.TheVariants.{Ended, Read, Continue, Write}
@@ -25,7 +25,7 @@ use Rattle.program.specs.declared.environment.Files as files
 use Rattle.program.specs.declared.exits.Exit.{Exit}
 use Rattle.program.specs.declared.exits.Exit.TheVariants as exit
 use Rattle.program.specs.declared.reasons.Cause.{Cause}
-use Rattle.program.specs.Serving.{State, state, AnswersNext, AnswersAll, EndsEarly, AnswersCount, ServesNext, ServesAll, EndsServed, ServesCount, LoopsAreServed, ServesBound, Serves}
+use Rattle.program.specs.Serving.{State, state, AnswersNext, AnswersAll, EndsEarly, EndsInOrder, AnswersCount, ServesNext, ServesAll, EndsServed, EndsServedInOrder, ServesCount, LoopsAreServed, ServesBound, Serves}
 use Rattle.program.proofs.ServingLemmas.{after_reply_lasts, after_reply_rows}
 use Rattle.program.proofs.LogLemmas.{clean_next, clean_all, sound_next}
 
@@ -49,17 +49,17 @@ silent_exchange door at received left old new before after is_down row (Err Cont
 
 module _ {K F N C R W : Type 0} (k : keep.Ghosts K) (f : files.Ghosts F K) (n : connections.Ghosts N R W) (c : clock.Ghosts C) (i : inlet.Ghosts R) (o : outlet.Ghosts W) where
   -- an exchange of a connection that was answered at its moment
-  of_connection : (terms : Terms) (connection at : ℕ) (is_shut is_logged : Bool) (old new : State N C K) (e : Exchange) → e.at ≡ at → IsServed terms.door e (k.rows old.store) (k.rows new.store)
-      → (next : AnswersNext k f n c i o terms connection at is_shut is_logged old new) → Consumes (i.left next.answers.reader) (i.left next.answers.answers.read) e.received
-      → Appends (o.written next.answers.writer) (o.written next.answers.answers.written) e.written → ServesNext k f n c i o terms connection e is_shut is_logged old new
-  of_connection terms connection at is_shut is_logged old new e moment served =
-      subst (λ (x : ℕ). (next : AnswersNext k f n c i o terms connection x is_shut is_logged old new) → Consumes (i.left next.answers.reader) (i.left next.answers.answers.read) e.received
-      → Appends (o.written next.answers.writer) (o.written next.answers.answers.written) e.written → ServesNext k f n c i o terms connection e is_shut is_logged old new) moment
+  of_connection : (terms : Terms) (connection at : ℕ) (is_shut is_stop is_logged : Bool) (old new : State N C K) (e : Exchange) → e.at ≡ at → IsServed terms.door e (k.rows old.store) (k.rows new.store)
+      → (next : AnswersNext k f n c i o terms connection at is_shut is_stop is_logged old new) → Consumes (i.left next.answers.reader) (i.left next.answers.answers.read) e.received
+      → Appends (o.written next.answers.writer) (o.written next.answers.answers.written) e.written → ServesNext k f n c i o terms connection e is_shut is_stop is_logged old new
+  of_connection terms connection at is_shut is_stop is_logged old new e moment served =
+      subst (λ (x : ℕ). (next : AnswersNext k f n c i o terms connection x is_shut is_stop is_logged old new) → Consumes (i.left next.answers.reader) (i.left next.answers.answers.read) e.received
+      → Appends (o.written next.answers.writer) (o.written next.answers.answers.written) e.written → ServesNext k f n c i o terms connection e is_shut is_stop is_logged old new) moment
       (λ next received written. record { next = next; received = received; written = written; served = served })
 
-  pub served_next : (terms : Terms) (connection at : ℕ) (is_shut is_logged : Bool) (old new : State N C K) → AnswersNext k f n c i o terms connection at is_shut is_logged old new → k.clean new.store → k.sound old.store
-      → (e : Exchange) × ServesNext k f n c i o terms connection e is_shut is_logged old new
-  served_next terms connection at is_shut is_logged old new next clean sound =
+  pub served_next : (terms : Terms) (connection at : ℕ) (is_shut is_stop is_logged : Bool) (old new : State N C K) → AnswersNext k f n c i o terms connection at is_shut is_stop is_logged old new → k.clean new.store → k.sound old.store
+      → (e : Exchange) × ServesNext k f n c i o terms connection e is_shut is_stop is_logged old new × (is_stop ≡ true → AsksToStop e)
+  served_next terms connection at is_shut is_stop is_logged old new next clean sound =
       let one = next.answers.answers in
       let before = (after_reply_lasts k f next.is_down next.store is_shut new.store next.after_reply).so_far clean in
       let exchanged = one.exchanges before sound in
@@ -69,8 +69,9 @@ module _ {K F N C R W : Type 0} (k : keep.Ghosts K) (f : files.Ghosts F K) (n : 
       let found = exchanges_are_served terms.door at exchanged.0 (i.left one.read) (k.rows old.store) (k.rows next.store) (o.written next.answers.writer) (o.written one.written) next.is_down one.row one.result one.timely exchanged.2 stays in
       let rows : k.rows new.store ≡ k.rows next.store = after_reply_rows k f next.is_down next.store is_shut new.store next.after_reply clean (one.lasts.kept before sound) in (
         found.0,
-        of_connection terms connection at is_shut is_logged old new found.0 found.1 (subst (λ (r : List ℕ → Option Organization). IsServed terms.door found.0 (k.rows old.store) r) (sym rows) found.4)
+        of_connection terms connection at is_shut is_stop is_logged old new found.0 found.1 (subst (λ (r : List ℕ → Option Organization). IsServed terms.door found.0 (k.rows old.store) r) (sym rows) found.4)
             next (subst (λ (bytes : List ℕ). Consumes (i.left next.answers.reader) (i.left one.read) bytes) (sym found.2) exchanged.1) found.3,
+        λ stopped. found.5 (sym one.stops ∙ stopped),
       )
 
   pub served_all : (terms : Terms) (connection : ℕ) (moments : List ℕ) (old new : State N C K) → AnswersAll k f n c i o terms connection moments old new → k.clean new.store → k.sound old.store
@@ -78,8 +79,8 @@ module _ {K F N C R W : Type 0} (k : keep.Ghosts K) (f : files.Ghosts F K) (n : 
   served_all terms connection [] old new same clean sound = ([], refl, same, λ org. ap (λ (s : State N C K). k.rows s.store org) same)
   served_all terms connection (at ∷ moments) old new all clean sound =
       let before = clean_all k f n c i o terms (suc connection) moments all.0 new all.2 clean in
-      let one = served_next terms connection at false true old all.0 all.1 before sound in
-      let more = served_all terms (suc connection) moments all.0 new all.2 clean (sound_next k f n c i o terms connection at false true old all.0 all.1 before sound) in (
+      let one = served_next terms connection at false false true old all.0 all.1 before sound in
+      let more = served_all terms (suc connection) moments all.0 new all.2 clean (sound_next k f n c i o terms connection at false false true old all.0 all.1 before sound) in (
         one.0 ∷ more.0,
         ap suc more.1,
         (all.0, one.1, more.2),
@@ -94,27 +95,45 @@ module _ {K F N C R W : Type 0} (k : keep.Ghosts K) (f : files.Ghosts F K) (n : 
       → (es : List Exchange) × EndsServed k f n c i o terms connection es last new why × AreServed terms.door es (k.rows last.store) (k.rows new.store)
   served_early terms connection last new why (inl none) clean sound = ([], inl (refl, none.0, none.1, none.2, none.3), none_since terms.door last new none.1)
   served_early terms connection last new why (inr (inl shut)) clean sound =
-      let one = served_next terms connection shut.0 true shut.1 last new shut.2 clean sound in
-      (one.0 ∷ [], inr (inl (one.0, shut.1, refl, one.1, shut.3)), (k.rows new.store, one.1.served, λ org. refl))
+      let one = served_next terms connection shut.0 true shut.1 shut.2 last new shut.3 clean sound in
+      (one.0 ∷ [], inr (inl (one.0, shut.1, shut.2, refl, one.1, shut.4)), (k.rows new.store, one.1.served, λ org. refl))
   served_early terms connection last new why (inr (inr unlogged)) clean sound =
-      let one = served_next terms connection unlogged.0 false false last new unlogged.1 clean sound in
-      (one.0 ∷ [], inr (inr (one.0, refl, one.1, unlogged.2)), (k.rows new.store, one.1.served, λ org. refl))
+      let one = served_next terms connection unlogged.0 false unlogged.1 false last new unlogged.2 clean sound in
+      (one.0 ∷ [], inr (inr (one.0, unlogged.1, refl, one.1, unlogged.3)), (k.rows new.store, one.1.served, λ org. refl))
+
+  served_last : (terms : Terms) (count answered : ℕ) (last new : State N C K) → EndsInOrder k f n c i o terms count answered last new → k.clean new.store → k.sound last.store
+      → (es : List Exchange) × EndsServedInOrder k f n c i o terms count answered es last new × AreServed terms.door es (k.rows last.store) (k.rows new.store)
+  served_last terms count answered last new (inl all) clean sound = ([], inl (refl, all.0, all.1), none_since terms.door last new (ap (λ (s : State N C K). s.store) all.1))
+  served_last terms count answered last new (inr stopped) clean sound =
+      let one = served_next terms (suc answered) stopped.1 false true true last new stopped.2 clean sound in
+      (one.0 ∷ [], inr (stopped.0, one.0, refl, one.1, one.2 refl), (k.rows new.store, one.1.served, λ org. refl))
+
+  clean_last : (terms : Terms) (count answered : ℕ) (last new : State N C K) → EndsInOrder k f n c i o terms count answered last new → k.clean new.store → k.clean last.store
+  clean_last terms count answered last new (inl all) clean = subst (λ (s : State N C K). k.clean s.store) all.1 clean
+  clean_last terms count answered last new (inr stopped) clean = clean_next k f n c i o terms (suc answered) stopped.1 false true true last new stopped.2 clean
 
   clean_early : (terms : Terms) (connection : ℕ) (last new : State N C K) (why : Cause) → EndsEarly k f n c i o terms connection last new why → k.clean new.store → k.clean last.store
   clean_early terms connection last new why (inl none) clean = subst (λ (s : K). k.clean s) none.1 clean
-  clean_early terms connection last new why (inr (inl shut)) clean = clean_next k f n c i o terms connection shut.0 true shut.1 last new shut.2 clean
-  clean_early terms connection last new why (inr (inr unlogged)) clean = clean_next k f n c i o terms connection unlogged.0 false false last new unlogged.1 clean
+  clean_early terms connection last new why (inr (inl shut)) clean = clean_next k f n c i o terms connection shut.0 true shut.1 shut.2 last new shut.3 clean
+  clean_early terms connection last new why (inr (inr unlogged)) clean = clean_next k f n c i o terms connection unlogged.0 false unlogged.1 false last new unlogged.2 clean
 
   sound_all : (terms : Terms) (connection : ℕ) (moments : List ℕ) (old new : State N C K) → AnswersAll k f n c i o terms connection moments old new → k.clean new.store → k.sound old.store → k.sound new.store
   sound_all terms connection [] old new same clean sound = subst (λ (s : State N C K). k.sound s.store) (sym same) sound
   sound_all terms connection (at ∷ moments) old new all clean sound =
       let before = clean_all k f n c i o terms (suc connection) moments all.0 new all.2 clean in
-      sound_all terms (suc connection) moments all.0 new all.2 clean (sound_next k f n c i o terms connection at false true old all.0 all.1 before sound)
+      sound_all terms (suc connection) moments all.0 new all.2 clean (sound_next k f n c i o terms connection at false false true old all.0 all.1 before sound)
 
   pub loops_are_served : LoopsAreServed k f n c i o
   loops_are_served site terms count old new exit.Done h clean sound =
-      let served = served_all terms 1 h.2 (state old.network old.clock old.store old.errors h.0) new h.4 clean sound in
-      (served.0, (h.0, h.1, served.1 ∙ h.3, served.2), served.3)
+      let start = state old.network old.clock old.store old.errors h.0 in
+      let last = h.3 in
+      let clean_then = clean_last terms count (length h.2) last new h.5 clean in
+      let served = served_all terms 1 h.2 start last h.4 clean_then sound in
+      let since = served_last terms count (length h.2) last new h.5 clean (sound_all terms 1 h.2 start last h.4 clean_then sound) in (
+        served.0 ++ since.0,
+        (h.0, h.1, served.0, since.0, refl, last, served.2, subst (λ (m : ℕ). EndsServedInOrder k f n c i o terms count m since.0 last new) (sym served.1) since.1),
+        served_in_turn terms.door served.0 since.0 (k.rows old.store) (k.rows last.store) (k.rows new.store) served.3 since.2,
+      )
   loops_are_served site terms count old new exit.Down h clean sound =
       let start = state old.network old.clock old.store old.errors h.0 in
       let last = h.3 in
@@ -140,12 +159,20 @@ module _ {K F N C R W : Type 0} (k : keep.Ghosts K) (f : files.Ghosts F K) (n : 
   few_since terms connection before since es last new why count is few (inl none) =
       let same : length es ≡ length before = ap length (is ∙ ap (λ (x : List Exchange). before ++ x) none.0 ∙ append-nil before) in omega arith
   few_since terms connection before since es last new why count is few (inr (inl shut)) =
-      let same : length es ≡ length before + 1 = ap length (is ∙ ap (λ (x : List Exchange). before ++ x) shut.2) ∙ length_push before shut.0 in omega arith
+      let same : length es ≡ length before + 1 = ap length (is ∙ ap (λ (x : List Exchange). before ++ x) shut.3) ∙ length_push before shut.0 in omega arith
   few_since terms connection before since es last new why count is few (inr (inr unlogged)) =
-      let same : length es ≡ length before + 1 = ap length (is ∙ ap (λ (x : List Exchange). before ++ x) unlogged.1) ∙ length_push before unlogged.0 in omega arith
+      let same : length es ≡ length before + 1 = ap length (is ∙ ap (λ (x : List Exchange). before ++ x) unlogged.2) ∙ length_push before unlogged.0 in omega arith
+
+  few_last : (terms : Terms) (before since es : List Exchange) (last new : State N C K) (count : ℕ) → es ≡ before ++ since → EndsServedInOrder k f n c i o terms count (length before) since last new → length es ≤ count
+  few_last terms before since es last new count is (inl all) =
+      let same : length es ≡ length before = ap length (is ∙ ap (λ (x : List Exchange). before ++ x) all.0 ∙ append-nil before) in
+      let full : length before ≡ count = all.1 in omega arith
+  few_last terms before since es last new count is (inr stopped) =
+      let same : length es ≡ length before + 1 = ap length (is ∙ ap (λ (x : List Exchange). before ++ x) stopped.2) ∙ length_push before stopped.1 in
+      let fewer : length before < count = stopped.0 in omega arith
 
   few_served : (site : Site) (terms : Terms) (count : ℕ) (es : List Exchange) (old new : State N C K) (e : Exit) → ServesCount k f n c i o site terms count es old new e → length es ≤ count
-  few_served site terms count es old new exit.Done h = let all = h.2 in omega arith
+  few_served site terms count es old new exit.Done h = few_last terms h.2 h.3 es h.5 new count h.4 h.7
   few_served site terms count es old new exit.Down h = few_since terms (suc (length h.2)) h.2 h.3 es h.5 (state new.network new.clock new.store h.9 new.output) h.8 count h.4 h.6 h.10
   few_served site terms count es old new exit.Unprinted h = let none : length es ≡ 0 = ap length h.0 in omega arith
   few_served site terms count es old new exit.Exists h = absurd h

@@ -24,10 +24,10 @@ module _ {K F : Type 0} (k : keep.Ghosts K) (f : files.Ghosts F K) where
 -- one connection more behind those that were answered
 module _ {K F N C R W : Type 0} (k : keep.Ghosts K) (f : files.Ghosts F K) (n : connections.Ghosts N R W) (c : clock.Ghosts C) (i : inlet.Ghosts R) (o : outlet.Ghosts W) where
   pub answers_more : (terms : Terms) (from connection : ℕ) (moments : List ℕ) (at : ℕ) (old mid new : State N C K)
-      → connection ≡ from + length moments → AnswersAll k f n c i o terms from moments old mid → AnswersNext k f n c i o terms connection at false true mid new → AnswersAll k f n c i o terms from (moments ++ at ∷ []) old new
+      → connection ≡ from + length moments → AnswersAll k f n c i o terms from moments old mid → AnswersNext k f n c i o terms connection at false false true mid new → AnswersAll k f n c i o terms from (moments ++ at ∷ []) old new
   answers_more terms from connection [] at old mid new is so_far one =
       let first : connection ≡ from = omega arith in
-      (new, subst (λ (s : State N C K). AnswersNext k f n c i o terms from at false true s new) so_far (subst (λ (p : ℕ). AnswersNext k f n c i o terms p at false true mid new) first one), refl)
+      (new, subst (λ (s : State N C K). AnswersNext k f n c i o terms from at false false true s new) so_far (subst (λ (p : ℕ). AnswersNext k f n c i o terms p at false false true mid new) first one), refl)
   answers_more terms from connection (m ∷ moments) at old mid new is so_far one =
       let further : connection ≡ suc from + length moments = omega arith in
       (so_far.0, so_far.1, answers_more terms (suc from) connection moments at so_far.0 mid new further so_far.2 one)

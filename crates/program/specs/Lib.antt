@@ -5,6 +5,7 @@ pub mod Frames
 pub mod FrameHeaders
 pub mod Inner
 pub mod Inputs
+pub mod LineFaults
 pub mod Listening
 pub mod Logs
 pub mod Moves

@@ -19,7 +19,10 @@ use Rattle.serve.specs.Asks.{commands}
 use Rattle.serve.specs.Service.{Carries as CarriesOut, IsAdminAnswer, Stays, org_lines, token_lines}
 use Rattle.program.specs.declared.exits.Exit.{Exit}
 use Rattle.program.specs.declared.exits.Exit.TheVariants as exit
-use Rattle.program.specs.Batches.{AreCommands, bad_line_text, stopped_text}
+use Rattle.program.specs.Batches.{AreLines, bad_text, first_command, stopped_text}
+use Rattle.program.specs.declared.line_faults.LineFault.{LineFault}
+use Rattle.program.specs.declared.batches.BatchLine.{BatchLine}
+use Rattle.program.specs.declared.batches.BatchLine.TheVariants as batch_line
 use Rattle.program.specs.Exits.{ending_line}
 use Rattle.program.specs.Errors.{log_line, readers_line, secret_line, new_line, cause_line, memory_line, other_line, unprinted_line}
 use Rattle.program.specs.declared.reasons.Cause.{Cause}
@@ -293,10 +296,11 @@ EndsBatch exit.Usage = ⊥
 EndsBatch exit.BadFrame = ⊥
 EndsBatch e = ⊤
 
--- operator's commands for a file, one per line. If a line is not a command, `refused usage`, and on the error stream the number of that line
+-- operator's commands for a file, one per line. If a line is neither skipped nor a command, `refused usage`, and on the error stream the number of
+-- that line and its fault
 abbrev pub AnswersBatch : Option (List ℕ) → Exit → Stream → Errors → Type 0
 AnswersBatch input exit.Usage output errors =
-    Says exit.Usage output × (batch : List Admin) × IfSome input (λ bytes. AreCommands bytes batch true) × Reports errors.old errors.new (bad_line_text (length batch + 1))
+    Says exit.Usage output × (lines : List BatchLine) × (fault : LineFault) × IfSome input (λ bytes. AreLines bytes lines (Some fault)) × Reports errors.old errors.new (bad_text (length lines + 1) fault)
 AnswersBatch input e output errors = EndsBatch e
 
 -- the replies to the frames before a bad one, and on the error stream the number of the bad one, from 1
@@ -473,40 +477,49 @@ module _ {K F : Type 0} (k : keep.Ghosts K) (f : files.Ghosts F K) where
     pub line : AnswersCommand command e output
     pub model : k.clean new → k.sound old → IsOperated (HasFailed new) command (k.rows old) (k.rows new) e output errors
 
-  -- commands were carried out in order, those of the lines numbered from this one on, up to the first that did not end with status 0. The
-  -- error stream gets the number of its line, and no later command was carried out
-  abbrev pub CarriesEach : List Admin → ℕ → K → K → Exit → Option (List ℕ) → Option (List ℕ) → Reported → Reported → Type 0
-  CarriesEach [] line old new e out out' err err' = (new ≡ old) × (e ≡ exit.Done) × (out' ≡ out) × (err' ≡ err)
-  CarriesEach (command ∷ batch) line old new e out out' err err' =
-      ((mid : K) × (heard : Option (List ℕ)) × (noted : Reported)
-      × CarriesOne command old mid exit.Done (stream out heard) (error_stream err noted) × CarriesEach batch (suc line) mid new e heard out' noted err')
-      ⊎ ((e ≢ exit.Done) × (noted : Reported) × CarriesOne command old new e (stream out out') (error_stream err noted) × Reports noted err' (stopped_text line))
+  -- a line that is skipped changes nothing and prints nothing; the command of any other is carried out
+  abbrev pub CarriesLine : BatchLine → K → K → Exit → Option (List ℕ) → Option (List ℕ) → Reported → Reported → Type 0
+  CarriesLine batch_line.Skipped old new e out out' err err' = (new ≡ old) × (e ≡ exit.Done) × (out' ≡ out) × (err' ≡ err)
+  CarriesLine (batch_line.Command command) old new e out out' err err' = CarriesOne command old new e (stream out out') (error_stream err err')
 
-  -- these commands were carried out on the store at a path, which was opened once. What they left is there now, and nothing else changed. The
-  -- first command decides whether a database may be created
-  pub record CarriesLines (path : List ℕ) (first : Admin) (batch : List Admin) (old new : F) (e : Exit) (output : Stream) (errors : Errors) : Type 0 where
+  -- the commands of lines, numbered from this one on, were carried out in order, up to the first that did not end with status 0. The error stream
+  -- gets the number of its line, and no later command was carried out
+  abbrev pub CarriesEach : List BatchLine → ℕ → K → K → Exit → Option (List ℕ) → Option (List ℕ) → Reported → Reported → Type 0
+  CarriesEach [] line old new e out out' err err' = (new ≡ old) × (e ≡ exit.Done) × (out' ≡ out) × (err' ≡ err)
+  CarriesEach (first ∷ lines) line old new e out out' err err' =
+      ((mid : K) × (heard : Option (List ℕ)) × (noted : Reported)
+      × CarriesLine first old mid exit.Done out heard err noted × CarriesEach lines (suc line) mid new e heard out' noted err')
+      ⊎ ((e ≢ exit.Done) × (noted : Reported) × CarriesLine first old new e out out' err noted × Reports noted err' (stopped_text line))
+
+  -- the commands of these lines were carried out on the store at a path, which was opened once. What they left is there now, and nothing else
+  -- changed. The first command decides whether a database may be created
+  pub record CarriesLines (path : List ℕ) (first : Admin) (lines : List BatchLine) (old new : F) (e : Exit) (output : Stream) (errors : Errors) : Type 0 where
     pub before : K
     pub after : K
     pub worked : F
     pub noted : Reported
     pub reported : Reported
     pub opens : Opens path (opening_of first) old worked before (error_stream errors.old noted)
-    pub carries : CarriesEach batch 1 before after e output.old output.new noted reported
+    pub carries : CarriesEach lines 1 before after e output.old output.new noted reported
     pub closes : Closes path worked new after (error_stream reported errors.new)
     pub others : OthersStay f.holds path old new
 
-  -- the same, or the store at the path is not opened; without a command nothing is done
-  abbrev pub CarriesAll : List ℕ → List Admin → F → F → Exit → Stream → Errors → Type 0
-  CarriesAll path [] old new e output errors = (new ≡ old) × (e ≡ exit.Done) × (output.new ≡ output.old) × (errors.new ≡ errors.old)
-  CarriesAll path (first ∷ batch) old new e output errors =
-      CarriesLines path first (first ∷ batch) old new e output errors ⊎ RefusesToOpen path (opening_of first) old new e output errors
+  -- the same, where this is the first command, or the store at the path is not opened; without a command nothing is done
+  abbrev pub CarriesFrom : Option Admin → List ℕ → List BatchLine → F → F → Exit → Stream → Errors → Type 0
+  CarriesFrom None path lines old new e output errors = (new ≡ old) × (e ≡ exit.Done) × (output.new ≡ output.old) × (errors.new ≡ errors.old)
+  CarriesFrom (Some first) path lines old new e output errors =
+      CarriesLines path first lines old new e output errors ⊎ RefusesToOpen path (opening_of first) old new e output errors
 
-  -- all lines of the input are commands, and they are carried out; or one is not, or the input could not be read, and nothing changes
+  abbrev pub CarriesAll : List ℕ → List BatchLine → F → F → Exit → Stream → Errors → Type 0
+  CarriesAll path lines old new e output errors = CarriesFrom (first_command lines) path lines old new e output errors
+
+  -- each line of the input is skipped or a command, and the commands are carried out; or one is neither, or the input could not be read, and
+  -- nothing changes
   abbrev pub CarriesAllAt : List ℕ → Option (List ℕ) → F → F → Exit → Stream → Errors → Type 0
   CarriesAllAt path input old new e output errors =
-      ((batch : List Admin) × IfSome input (λ bytes. AreCommands bytes batch false) × CarriesAll path batch old new e output errors)
-      ⊎ ((new ≡ old) × (((batch : List Admin) × IfSome input (λ bytes. AreCommands bytes batch true)
-      × IsSaid exit.Usage e output.old output.new × Reports errors.old errors.new (bad_line_text (length batch + 1)))
+      ((lines : List BatchLine) × IfSome input (λ bytes. AreLines bytes lines None) × CarriesAll path lines old new e output errors)
+      ⊎ ((new ≡ old) × (((lines : List BatchLine) × (fault : LineFault) × IfSome input (λ bytes. AreLines bytes lines (Some fault))
+      × IsSaid exit.Usage e output.old output.new × Reports errors.old errors.new (bad_text (length lines + 1) fault))
       ⊎ (RefusesDown e output × ReportsCause cause.Input errors)))
 
   -- the tables of a store were checked, and this is reported of what was found. If there was no fault and the store `is_ours`, it is sound and

@@ -10,12 +10,14 @@ use Rattle.machine.specs.StoreCalls.{Unchanged, Lasts}
 use Rattle.serve.specs.declared.exchanges.LinkFault.{LinkFault}
 use Rattle.serve.specs.Exchanges.{Exchanges, ChangesAsLogged}
 use Rattle.serve.specs.declared.doors.Door.{Door}
-use Rattle.serve.specs.Served.{Exchange, IsServed, AreServed}
+use Rattle.serve.specs.Served.{Exchange, AsksToStop, IsServed, AreServed}
 use Rattle.serve.specs.Promises.{IsAsPromised}
 use Rattle.program.specs.Errors.{GetsConnectionLines, cause_line}
 use Rattle.program.specs.Streams.{Reported, Reports}
 use Rattle.program.specs.Checkpoints.{Checkpoints}
-use Rattle.program.specs.Logs.{row_text, names_act, with_log, Logs, Line, log_text, ChangeByLines}
+use Rattle.docs.specs.Logs.{log_line}
+use Rattle.serve.specs.Logs.{names_stop}
+use Rattle.program.specs.Logs.{end_word, row_text, names_act, with_log, Logs, Line, log_text, ChangeByLines}
 use Rattle.program.specs.declared.reasons.Cause.{Cause}
 use Rattle.program.specs.declared.reasons.Cause.TheVariants as cause
 use Rattle.program.specs.declared.exits.Exit.{Exit}
@@ -70,10 +72,10 @@ AcceptsNone {K} {F} {N} {C} {R} {W} f n c timeouts network network' clock clock'
 
 module _ {K N R W : Type 0} (k : keep.Ghosts K) (n : connections.Ghosts N R W) (i : inlet.Ghosts R) (o : outlet.Ghosts W) where
   -- the connection of this number, with these two sides, is answered by one exchange at this time. Whether it got the 503 of a failed
-  -- allocation or store, which the error stream reports; its line in the log, if the log is on, and whether that was taken; its end, as one
-  -- whose message was read completely if the line names an act. The network, the store, and the contents of the error stream and standard
-  -- output, before and after
-  pub record AnswersOne (terms : Terms) (connection at : ℕ) (is_down is_logged : Bool) (reader : R) (writer : W) (network network' : N) (store store' : K) (errors errors' : Reported) (output output' : Option (List ℕ)) : Type 0 where
+  -- allocation or store, which the error stream reports; whether it was a `stop` that was answered `ok`; its line in the log, if the log is on,
+  -- and whether that was taken; its end, as one whose message was read completely if the line names an act. The network, the store, and the
+  -- contents of the error stream and standard output, before and after
+  pub record AnswersOne (terms : Terms) (connection at : ℕ) (is_down is_stop is_logged : Bool) (reader : R) (writer : W) (network network' : N) (store store' : K) (errors errors' : Reported) (output output' : Option (List ℕ)) : Type 0 where
     pub read : R
     pub written : W
     pub result : Result (Unit {0}) LinkFault
@@ -84,6 +86,7 @@ module _ {K N R W : Type 0} (k : keep.Ghosts K) (n : connections.Ghosts N R W) (
         × Exchanges terms.door at received (i.left read) (k.rows store) (k.rows store') (o.written writer) (o.written written) is_down row result
     pub changes : k.clean store' → k.sound store → IfSome row (λ reported. ChangesAsLogged reported (k.rows store) (k.rows store'))
     pub lines : GetsConnectionLines connection is_down result errors errors'
+    pub stops : is_stop ≡ names_stop row
     pub logged : Logs terms.logs is_logged (row_text connection result row) output output'
     pub ends : n.ends network read written (names_act row) network'
 
@@ -97,29 +100,29 @@ module _ {K F : Type 0} (k : keep.Ghosts K) (f : files.Ghosts F K) where
 module _ {K N C R W : Type 0} (k : keep.Ghosts K) (n : connections.Ghosts N R W) (c : clock.Ghosts C) (i : inlet.Ghosts R) (o : outlet.Ghosts W) where
   -- a connection is accepted with the timeouts of these terms, the clock gives this time, and the connection is answered as the one of this
   -- number
-  pub record Answers (terms : Terms) (connection at : ℕ) (is_down is_logged : Bool) (old new : State N C K) : Type 0 where
+  pub record Answers (terms : Terms) (connection at : ℕ) (is_down is_stop is_logged : Bool) (old new : State N C K) : Type 0 where
     pub reader : R
     pub writer : W
     pub network : N
     pub accepts : n.accepts old.network terms.timeouts (Ok (reader, writer)) network
     pub reports : c.reports old.clock (Some at) new.clock
-    pub answers : AnswersOne k n i o terms connection at is_down is_logged reader writer network new.network old.store new.store old.errors new.errors old.output new.output
+    pub answers : AnswersOne k n i o terms connection at is_down is_stop is_logged reader writer network new.network old.store new.store old.errors new.errors old.output new.output
 
 module _ {K F N C R W : Type 0} (k : keep.Ghosts K) (f : files.Ghosts F K) (n : connections.Ghosts N R W) (c : clock.Ghosts C) (i : inlet.Ghosts R) (o : outlet.Ghosts W) where
   -- the files are at their path, a connection is answered in this way, and then the store is looked after; whether a disk error has closed it is
   -- then known
-  pub record AnswersNext (terms : Terms) (connection at : ℕ) (is_shut is_logged : Bool) (old new : State N C K) : Type 0 where
+  pub record AnswersNext (terms : Terms) (connection at : ℕ) (is_shut is_stop is_logged : Bool) (old new : State N C K) : Type 0 where
     pub is_down : Bool
     pub store : K
     pub placed : f.places at true
-    pub answers : Answers k n c i o terms connection at is_down is_logged old (state new.network new.clock store new.errors new.output)
+    pub answers : Answers k n c i o terms connection at is_down is_stop is_logged old (state new.network new.clock store new.errors new.output)
     pub after_reply : AfterReply k f is_down store is_shut new.store
 
   -- connections are answered in order, one at each of these times, each on these terms, numbered from this one on. After none of them was the
-  -- store closed, and every line of the log was taken
+  -- store closed, none was a `stop`, and every line of the log was taken
   abbrev pub AnswersAll : Terms → ℕ → List ℕ → State N C K → State N C K → Type 0
   AnswersAll terms connection [] old new = new ≡ old
-  AnswersAll terms connection (at ∷ moments) old new = (mid : State N C K) × AnswersNext terms connection at false true old mid × AnswersAll terms (suc connection) moments mid new
+  AnswersAll terms connection (at ∷ moments) old new = (mid : State N C K) × AnswersNext terms connection at false false true old mid × AnswersAll terms (suc connection) moments mid new
 
   -- no further connection is answered, for this cause: an accept or the clock failed, or the files were no longer at their path, and nothing
   -- else changed; or one more was answered, that of this number, and a disk error has closed the store, or it has not and the log's line was
@@ -127,15 +130,21 @@ module _ {K F N C R W : Type 0} (k : keep.Ghosts K) (f : files.Ghosts F K) (n : 
   abbrev pub EndsEarly : Terms → ℕ → State N C K → State N C K → Cause → Type 0
   EndsEarly terms connection last new why =
       (AcceptsNone f n c terms.timeouts last.network new.network last.clock new.clock why × (new.store ≡ last.store) × (new.errors ≡ last.errors) × (new.output ≡ last.output))
-      ⊎ (((at : ℕ) × (is_logged : Bool) × AnswersNext terms connection at true is_logged last new × (why ≡ cause.Shut))
-      ⊎ ((at : ℕ) × AnswersNext terms connection at false false last new × (why ≡ cause.Log)))
+      ⊎ (((at : ℕ) × (is_stop : Bool) × (is_logged : Bool) × AnswersNext terms connection at true is_stop is_logged last new × (why ≡ cause.Shut))
+      ⊎ ((at : ℕ) × (is_stop : Bool) × AnswersNext terms connection at false is_stop false last new × (why ≡ cause.Log)))
 
-  -- the line with the site is printed, then this many connections are answered; or fewer, because no further one is, and the error
-  -- stream gets the cause; or none, because the line could not be printed
+  -- these many were answered, and no further one is to be: they are all; or they are fewer, and one more was answered, a `stop`
+  abbrev pub EndsInOrder : Terms → ℕ → ℕ → State N C K → State N C K → Type 0
+  EndsInOrder terms count answered last new =
+      ((answered ≡ count) × (new ≡ last))
+      ⊎ ((answered < count) × (at : ℕ) × AnswersNext terms (suc answered) at false true true last new)
+
+  -- the line with the site is printed, then this many connections are answered, or fewer, of which the last is a `stop`; or fewer, because no
+  -- further one is, and the error stream gets the cause; or none, because the line could not be printed
   abbrev pub AnswersCount : Site → Terms → ℕ → State N C K → State N C K → Exit → Type 0
   AnswersCount site terms count old new exit.Done =
       (heard : Option (List ℕ)) × Appends old.output heard (listening_line site)
-      × (moments : List ℕ) × (length moments ≡ count) × AnswersAll terms 1 moments (state old.network old.clock old.store old.errors heard) new
+      × (moments : List ℕ) × (last : State N C K) × AnswersAll terms 1 moments (state old.network old.clock old.store old.errors heard) last × EndsInOrder terms count (length moments) last new
   AnswersCount site terms count old new exit.Down =
       (heard : Option (List ℕ)) × Appends old.output heard (listening_line site)
       × (moments : List ℕ) × (last : State N C K) × (length moments < count) × AnswersAll terms 1 moments (state old.network old.clock old.store old.errors heard) last
@@ -157,10 +166,16 @@ module _ {K F N C R W : Type 0} (k : keep.Ghosts K) (f : files.Ghosts F K) (n : 
       → AnswersAll terms connection moments old new → k.clean new.store → k.sound old.store
       → (lines : List Line) × (length lines ≡ length moments) × Appends old.output new.output (log_text connection lines) × ChangeByLines lines (k.rows old.store) (k.rows new.store)
 
+  -- and so has each answered connection, a `stop` too
+  abbrev pub LogReportsNext : Type 0
+  LogReportsNext = (terms : Terms) → terms.logs ≡ true → (connection at : ℕ) (is_stop : Bool) (old new : State N C K)
+      → AnswersNext terms connection at false is_stop true old new → k.clean new.store → k.sound old.store
+      → (line : Line) × Appends old.output new.output (log_line connection (end_word line.ended) line.row) × ChangesAsLogged line.row (k.rows old.store) (k.rows new.store)
+
   -- a connection is answered in this way, and this is its exchange: it received what the connection's reader gave, wrote what its writer
   -- took, and is served from the records before it
-  pub record ServesNext (terms : Terms) (connection : ℕ) (e : Exchange) (is_shut is_logged : Bool) (old new : State N C K) : Type 0 where
-    pub next : AnswersNext terms connection e.at is_shut is_logged old new
+  pub record ServesNext (terms : Terms) (connection : ℕ) (e : Exchange) (is_shut is_stop is_logged : Bool) (old new : State N C K) : Type 0 where
+    pub next : AnswersNext terms connection e.at is_shut is_stop is_logged old new
     pub received : Consumes (i.left next.answers.reader) (i.left next.answers.answers.read) e.received
     pub written : Appends (o.written next.answers.writer) (o.written next.answers.answers.written) e.written
     pub served : IsServed terms.door e (k.rows old.store) (k.rows new.store)
@@ -168,20 +183,28 @@ module _ {K F N C R W : Type 0} (k : keep.Ghosts K) (f : files.Ghosts F K) (n : 
   -- connections are answered in order, as `AnswersAll` says, and these are their exchanges
   abbrev pub ServesAll : Terms → ℕ → List Exchange → State N C K → State N C K → Type 0
   ServesAll terms connection [] old new = new ≡ old
-  ServesAll terms connection (e ∷ es) old new = (mid : State N C K) × ServesNext terms connection e false true old mid × ServesAll terms (suc connection) es mid new
+  ServesAll terms connection (e ∷ es) old new = (mid : State N C K) × ServesNext terms connection e false false true old mid × ServesAll terms (suc connection) es mid new
 
   -- no further connection is answered, for this cause, as `EndsEarly` says, and these are the exchanges since: none, or one
   abbrev pub EndsServed : Terms → ℕ → List Exchange → State N C K → State N C K → Cause → Type 0
   EndsServed terms connection es last new why =
       ((es ≡ []) × AcceptsNone f n c terms.timeouts last.network new.network last.clock new.clock why × (new.store ≡ last.store) × (new.errors ≡ last.errors) × (new.output ≡ last.output))
-      ⊎ (((e : Exchange) × (is_logged : Bool) × (es ≡ e ∷ []) × ServesNext terms connection e true is_logged last new × (why ≡ cause.Shut))
-      ⊎ ((e : Exchange) × (es ≡ e ∷ []) × ServesNext terms connection e false false last new × (why ≡ cause.Log)))
+      ⊎ (((e : Exchange) × (is_stop : Bool) × (is_logged : Bool) × (es ≡ e ∷ []) × ServesNext terms connection e true is_stop is_logged last new × (why ≡ cause.Shut))
+      ⊎ ((e : Exchange) × (is_stop : Bool) × (es ≡ e ∷ []) × ServesNext terms connection e false is_stop false last new × (why ≡ cause.Log)))
+
+  -- no further connection is to be answered, as `EndsInOrder` says, and these are the exchanges since: none, or the
+  -- one that asked for it by `stop`
+  abbrev pub EndsServedInOrder : Terms → ℕ → ℕ → List Exchange → State N C K → State N C K → Type 0
+  EndsServedInOrder terms count answered es last new =
+      ((es ≡ []) × (answered ≡ count) × (new ≡ last))
+      ⊎ ((answered < count) × (e : Exchange) × (es ≡ e ∷ []) × ServesNext terms (suc answered) e false true true last new × AsksToStop e)
 
   -- the exchanges of a loop, by how it ended, as `AnswersCount` says
   abbrev pub ServesCount : Site → Terms → ℕ → List Exchange → State N C K → State N C K → Exit → Type 0
   ServesCount site terms count es old new exit.Done =
       (heard : Option (List ℕ)) × Appends old.output heard (listening_line site)
-      × (length es ≡ count) × ServesAll terms 1 es (state old.network old.clock old.store old.errors heard) new
+      × (before : List Exchange) × (since : List Exchange) × (es ≡ before ++ since) × (last : State N C K)
+      × ServesAll terms 1 before (state old.network old.clock old.store old.errors heard) last × EndsServedInOrder terms count (length before) since last new
   ServesCount site terms count es old new exit.Down =
       (heard : Option (List ℕ)) × Appends old.output heard (listening_line site)
       × (before : List Exchange) × (since : List Exchange) × (es ≡ before ++ since) × (last : State N C K) × (length before < count)

@@ -8,11 +8,11 @@ abbrev pub newest_word : Option ℕ → List ℕ
 newest_word (Some seconds) = codes " newest " ++ decimal seconds ++ 10 ∷ []
 newest_word None = codes " newest -\n"
 
--- `organizations N workspaces N versions N runs N newest SECONDS`, and a line feed
+-- `organizations N workspaces N versions N runs N made N newest SECONDS`, and a line feed; N behind `made` is the number of versions ever made
 abbrev pub totals_line : Totals → List ℕ
 totals_line t =
     (codes "organizations " ++ decimal t.organizations) ++ (codes " workspaces " ++ decimal t.workspaces) ++ (codes " versions " ++ decimal t.versions)
-    ++ (codes " runs " ++ decimal t.runs) ++ newest_word t.newest
+    ++ (codes " runs " ++ decimal t.runs) ++ (codes " made " ++ decimal t.made) ++ newest_word t.newest
 
 -- what `check` prints if there is no fault: a line `ok`, and the numbers of rows
 abbrev pub sound_text : Totals → List ℕ

@@ -1,19 +1,37 @@
 //! Operator's commands, one per line.
-ghost use Rattle.std.specs.Prelude.{◌≡◌, ◌<◌, length, Some, None, IfSome, IfOk, IsErrOf, option_map};
-ghost use Rattle.program.specs.Batches.{line_and_rest, first_command, AreCommands};
+ghost use Rattle.std.specs.Prelude.{◌≡◌, ◌<◌, length, Some, None, IfSome, IfOk, IfErr, IsErrOf, option_map};
+ghost use Rattle.program.specs.Batches.{line_and_rest, is_skipped, command_of_line, line_of, AreLines};
+ghost use Rattle.program.specs.Inner.Batches.{IsUnread};
 
+use crate::line_faults::{LineFault, has_return, line_fault};
 use basis::{Down, Unfit};
 use serve::Admin;
 use serve::lines::{MAX_LINE, line_end, part_at};
 use serve::words::read_command_line;
 use std::alloc::Global;
 
-/// The commands of the lines before the first line that is not a command.
+/// What is done for a line of a batch.
+#[derive(Drop)]
+pub enum BatchLine {
+    /// Nothing: the line is empty or begins with `#`.
+    Skipped,
+    Command(Admin),
+}
+
+/// Why a line is not read.
+#[derive(Clone, Copy)]
+pub enum LineUnread {
+    /// It is neither skipped nor a command.
+    Fault(LineFault),
+    Down,
+}
+
+/// The lines before the first line that is neither skipped nor a command.
 #[derive(Drop)]
 pub struct Batch {
-    pub commands: Vec<Admin>,
-    /// Whether a line that is not a command follows.
-    pub is_bad: bool,
+    pub lines: Vec<BatchLine>,
+    /// What is at fault in that line, if there is one.
+    pub fault: Option<LineFault>,
 }
 
 fn split_first(bytes: &[u8]) -> Option<(&[u8], &[u8])>
@@ -29,44 +47,79 @@ fn split_first(bytes: &[u8]) -> Option<(&[u8], &[u8])>
     }
 }
 
-fn read_first(alloc: Global, bytes: &[u8]) -> Result<(Admin, &[u8]), Unfit>
-    ensures ok { IfOk result (λ found. first_command bytes.now ≡ Some (found.0, found.1.now)) }
-    ensures syntax { IsErrOf result Unfit.Syntax → first_command bytes.now ≡ None }
-    ensures shorter { IfOk result (λ found. length found.1.now < length bytes.now) }
+fn is_skipped(line: &[u8]) -> bool
+    ensures { result ≡ is_skipped line.now }
 {
-    let Some((line, rest)) = split_first(bytes) else {
-        return Err(Unfit::Syntax);
-    };
+    match line {
+        [] => true,
+        [first, ..] => *first == b'#',
+    }
+}
+
+fn command_of_line(alloc: Global, line: &[u8]) -> Result<Admin, Unfit>
+    ensures ok { IfOk result (λ command. command_of_line line.now ≡ Some command) }
+    ensures syntax { IsErrOf result Unfit.Syntax → command_of_line line.now ≡ None }
+{
     if line.len() > MAX_LINE {
         return Err(Unfit::Syntax);
     }
-    let command = read_command_line(alloc, line)?;
-    Ok((command, rest))
+    read_command_line(alloc, line)
 }
 
-/// Reads commands up to the first line that is not a command. That line's number, from 1, is `commands.len() + 1`.
-pub fn read_batch(alloc: Global, bytes: &[u8]) -> Result<Batch, Down>
-    ensures { IfOk result (λ batch. AreCommands bytes.now batch.commands.items batch.is_bad) }
+fn line_of(alloc: Global, line: &[u8]) -> Result<BatchLine, Unfit>
+    ensures ok { IfOk result (λ it. line_of line.now ≡ Some it) }
+    ensures syntax { IsErrOf result Unfit.Syntax → line_of line.now ≡ None }
 {
-    let mut commands = Vec::new(alloc);
+    if has_return(line) {
+        return Err(Unfit::Syntax);
+    }
+    if is_skipped(line) {
+        return Ok(BatchLine::Skipped);
+    }
+    let command = command_of_line(alloc, line)?;
+    Ok(BatchLine::Command(command))
+}
+
+fn fault_of(alloc: Global, line: &[u8]) -> LineUnread
+    ensures { line_of line.now ≡ None → IsUnread line.now result }
+{
+    match line_fault(alloc, line) {
+        Ok(fault) => LineUnread::Fault(fault),
+        Err(_) => LineUnread::Down,
+    }
+}
+
+fn read_line(alloc: Global, line: &[u8]) -> Result<BatchLine, LineUnread>
+    ensures ok { IfOk result (λ it. line_of line.now ≡ Some it) }
+    ensures why { IfErr result (IsUnread line.now) }
+{
+    match line_of(alloc, line) {
+        Ok(it) => Ok(it),
+        Err(Unfit::Syntax) => Err(fault_of(alloc, line)),
+        Err(Unfit::Down) => Err(LineUnread::Down),
+    }
+}
+
+/// Reads lines up to the first that is neither skipped nor a command. That line's number, from 1, is `lines.len() + 1`.
+pub fn read_batch(alloc: Global, bytes: &[u8]) -> Result<Batch, Down>
+    ensures { IfOk result (λ batch. AreLines bytes.now batch.lines.items batch.fault) }
+{
+    let mut lines = Vec::new(alloc);
     let mut rest = bytes;
-    'lines: while !rest.is_empty() {
-        match read_first(alloc, rest) {
-            Ok((command, left)) => {
-                commands.push(command)?;
+    'lines: while let Some((line, left)) = split_first(rest) {
+        match read_line(alloc, line) {
+            Ok(it) => {
+                lines.push(it)?;
                 rest = left;
             }
-            Err(Unfit::Syntax) => {
+            Err(LineUnread::Fault(fault)) => {
                 return Ok(Batch {
-                    commands,
-                    is_bad: true,
+                    lines,
+                    fault: Some(fault),
                 });
             }
-            Err(Unfit::Down) => return Err(Down),
+            Err(LineUnread::Down) => return Err(Down),
         }
     }
-    Ok(Batch {
-        commands,
-        is_bad: false,
-    })
+    Ok(Batch { lines, fault: None })
 }

@@ -1,9 +1,11 @@
 //! Texts of the error stream.
 ghost use Rattle.std.specs.Prelude.{◌++◌, ◌∷◌, [], List, ℕ, codes, decimal};
+ghost use Rattle.program.specs.Batches.{bad_text};
 ghost use Rattle.program.specs.Errors.{connection_line, cause_line, memory_line, other_line, version_line};
 ghost use Rattle.program.specs.Replies.{bad_frame_text, fault_lines};
 ghost use Rattle.program.specs.Streams.{Reported, Reports, ReportsBy};
 
+use crate::line_faults::LineFault;
 use crate::reasons::{Cause, OtherSchema};
 use crate::streams::ErrorStream;
 use basis::Text;
@@ -129,6 +131,24 @@ pub fn report_at<E: ErrorStream>(errors: &mut E, mark: &str, line: usize)
     ensures { Reports (E.reported errors.old) (E.reported errors.new) (mark.now ++ (decimal line ++ 10 ∷ [])) }
 {
     let written = note_at(errors, mark, line);
+    let _ = send_on(errors, written);
+}
+
+/// The beginning of the line about a line that is neither skipped nor a command.
+const BAD_LINE: &str = "custody: bad line ";
+
+fn note_bad_line<E: ErrorStream>(errors: &mut E, line: usize, fault: LineFault) -> io::Result<()>
+    ensures { ReportsBy (E.reported errors.old) (E.reported errors.new) (bad_text line fault) result }
+{
+    note_at(errors, BAD_LINE, line)?;
+    write_text(errors, fault.line().as_bytes())
+}
+
+/// Reports a line of the input that is neither skipped nor a command, by its number (from 1), and what is at fault in it.
+pub fn report_bad_line<E: ErrorStream>(errors: &mut E, line: usize, fault: LineFault)
+    ensures { Reports (E.reported errors.old) (E.reported errors.new) (bad_text line fault) }
+{
+    let written = note_bad_line(errors, line, fault);
     let _ = send_on(errors, written);
 }
 

@@ -11,6 +11,7 @@ pub mod exits;
 pub mod frame_headers;
 pub mod frames;
 mod laws;
+mod line_faults;
 mod listening;
 mod logs;
 mod openings;

@@ -4,10 +4,11 @@ ghost use Rattle.std.specs.Io.KnownBytes.{Appends};
 ghost use Rattle.docs.specs.Logs.{log_line};
 ghost use Rattle.wire.specs.Links.{Writes};
 ghost use Rattle.program.specs.Logs.{end_word, row_text, names_act, Logs};
+ghost use Rattle.serve.specs.Logs.{is_stop, names_stop};
 ghost use Rattle.program.specs.Streams.{GetsFront};
 
 use basis::Down;
-use docs::{LogRow, write_log_line};
+use docs::{LogAct, LogRow, OperatorAct, write_log_line};
 use serve::LinkFault;
 use std::alloc::Global;
 use std::io;
@@ -32,6 +33,25 @@ pub fn names_act(row: &Option<LogRow>) -> bool
 {
     match row {
         Some(row) => row.act.is_some(),
+        None => false,
+    }
+}
+
+fn is_stop(act: &Option<LogAct>) -> bool
+    ensures { result ≡ is_stop act.now }
+{
+    match act {
+        Some(LogAct::OfOperator(OperatorAct::Stop)) => true,
+        _ => false,
+    }
+}
+
+/// Whether an exchange's line is that of a `stop` that was answered `ok`.
+pub fn names_stop(row: &Option<LogRow>) -> bool
+    ensures { result ≡ names_stop row.now }
+{
+    match row {
+        Some(row) => is_stop(&row.act) && row.refusal.is_none(),
         None => false,
     }
 }

@@ -6,14 +6,15 @@ ghost use Rattle.command_line.specs.Orders.{site_of};
 ghost use Rattle.machine.specs.StoreCalls.{Lasts};
 ghost use Rattle.serve.specs.Exchanges.{Exchanges, ChangesAsLogged};
 ghost use Rattle.program.specs.Errors.{GetsConnectionLines, fault_text, down_line, fault_line};
-ghost use Rattle.program.specs.Serving.{listening_line, ListensAt, state, AcceptsNone, AnswersOne, Answers, AfterReply, AnswersNext, EndsEarly, AnswersCount, ServesCount, Serves, LogReportsChanges, LoopsAreServed};
+ghost use Rattle.program.specs.Serving.{listening_line, ListensAt, state, AcceptsNone, AnswersOne, Answers, AfterReply, AnswersNext, EndsEarly, AnswersCount, ServesCount, Serves, LogReportsChanges, LogReportsNext, LoopsAreServed};
+ghost use Rattle.serve.specs.Logs.{names_stop};
 ghost use Rattle.program.specs.Streams.{ReportsBy};
 ghost use Rattle.machine.specs.Ranges.{IsMoment};
 
 use crate::environment::{Clock, Connections, Files};
 use crate::errors::{report_cause, send_on, write_line};
 use crate::exits::Exit;
-use crate::logs::{log_row, names_act};
+use crate::logs::{log_row, names_act, names_stop};
 use crate::reasons::Cause;
 use crate::streams::ErrorStream;
 use basis::Moment;
@@ -135,7 +136,7 @@ fn serve_one<K: Keep, N: Connections, O: Write, E: ErrorStream>(
     requires reads { N.Reader.broken reader ≡ false }
     requires writes { N.Writer.broken writer ≡ false }
     ensures lasts { Lasts K.clean K.sound K.keyed K.shielded service.old.keep service.new.keep }
-    ensures answers { AnswersOne K.Keep N.Connections N.Reader.Inlet N.Writer.Outlet terms.now connection now service.new.was_down result reader writer network.old network.new service.old.keep service.new.keep (E.reported errors.old) (E.reported errors.new) (O.contents output.old) (O.contents output.new) }
+    ensures answers { AnswersOne K.Keep N.Connections N.Reader.Inlet N.Writer.Outlet terms.now connection now service.new.was_down (names_stop service.new.row) result reader writer network.old network.new service.old.keep service.new.keep (E.reported errors.old) (E.reported errors.new) (O.contents output.old) (O.contents output.new) }
 {
     let mut inlet = reader;
     let mut outlet = writer;
@@ -203,7 +204,7 @@ fn answer_next<K: Keep, F: Files<K>, N: Connections, C: Clock, O: Write, E: Erro
     errors: &mut E,
 ) -> Result<bool, Cause>
     ensures lasts { Lasts K.clean K.sound K.keyed K.shielded service.old.keep service.new.keep }
-    ensures answers { IfOk result (λ is_logged. (at : ℕ) × F.places at true × Answers K.Keep N.Connections C.Clock N.Reader.Inlet N.Writer.Outlet terms.now connection at service.new.was_down is_logged (state network.old clock.old service.old.keep (E.reported errors.old) (O.contents output.old)) (state network.new clock.new service.new.keep (E.reported errors.new) (O.contents output.new))) }
+    ensures answers { IfOk result (λ is_logged. (at : ℕ) × F.places at true × Answers K.Keep N.Connections C.Clock N.Reader.Inlet N.Writer.Outlet terms.now connection at service.new.was_down (names_stop service.new.row) is_logged (state network.old clock.old service.old.keep (E.reported errors.old) (O.contents output.old)) (state network.new clock.new service.new.keep (E.reported errors.new) (O.contents output.new))) }
     ensures refused { IfErr result (λ cause. AcceptsNone F.Files N.Connections C.Clock terms.now.timeouts network.old network.new clock.old clock.new cause × (service.new.keep ≡ service.old.keep) × (E.reported errors.new ≡ E.reported errors.old) × (O.contents output.new ≡ O.contents output.old)) }
 {
     let (reader, writer, now) = accept::<K, F, N, C>(files, network, &terms.timeouts, clock)?;
@@ -227,7 +228,7 @@ fn after_reply<K: Keep, F: Files<K>>(files: &F, service: &mut Service<K>) -> boo
     }
 }
 
-// Answers the next connection, or returns why no further one is to be accepted.
+// Answers the next connection, or returns why no further one is to be accepted. Returns whether it was a `stop`.
 fn serve_next<K: Keep, F: Files<K>, N: Connections, C: Clock, O: Write, E: ErrorStream>(
     alloc: Global,
     files: &F,
@@ -238,24 +239,25 @@ fn serve_next<K: Keep, F: Files<K>, N: Connections, C: Clock, O: Write, E: Error
     connection: u64,
     output: &mut O,
     errors: &mut E,
-) -> Result<(), Cause>
+) -> Result<bool, Cause>
     ensures lasts { Lasts K.clean K.sound K.keyed K.shielded service.old.keep service.new.keep }
-    ensures answers { OnOk result ((at : ℕ) × AnswersNext K.Keep F.Files N.Connections C.Clock N.Reader.Inlet N.Writer.Outlet terms.now connection at false true (state network.old clock.old service.old.keep (E.reported errors.old) (O.contents output.old)) (state network.new clock.new service.new.keep (E.reported errors.new) (O.contents output.new))) }
+    ensures answers { IfOk result (λ is_stop. (at : ℕ) × AnswersNext K.Keep F.Files N.Connections C.Clock N.Reader.Inlet N.Writer.Outlet terms.now connection at false is_stop true (state network.old clock.old service.old.keep (E.reported errors.old) (O.contents output.old)) (state network.new clock.new service.new.keep (E.reported errors.new) (O.contents output.new))) }
     ensures refused { IfErr result (EndsEarly K.Keep F.Files N.Connections C.Clock N.Reader.Inlet N.Writer.Outlet terms.now connection (state network.old clock.old service.old.keep (E.reported errors.old) (O.contents output.old)) (state network.new clock.new service.new.keep (E.reported errors.new) (O.contents output.new))) }
 {
     let is_logged = answer_next(
         alloc, files, network, terms, service, clock, connection, output, errors,
     )?;
+    let is_stop = names_stop(service.row());
     if after_reply(files, service) {
         Err(Cause::Shut)
     } else if is_logged {
-        Ok(())
+        Ok(is_stop)
     } else {
         Err(Cause::Log)
     }
 }
 
-// Prints the address, then answers this many connections, unless it stops before.
+// Prints the address, then answers this many connections, unless it stops before: after a `stop`, or because it has to.
 fn answer_all<K: Keep, F: Files<K>, N: Connections, C: Clock, O: Write, E: ErrorStream>(
     alloc: Global,
     files: &F,
@@ -287,7 +289,11 @@ fn answer_all<K: Keep, F: Files<K>, N: Connections, C: Clock, O: Write, E: Error
             output,
             errors,
         ) {
-            Ok(()) => {}
+            Ok(is_stop) => {
+                if is_stop {
+                    return Exit::Done;
+                }
+            }
             Err(cause) => {
                 report_cause(errors, cause);
                 return Exit::Down;
@@ -299,7 +305,8 @@ fn answer_all<K: Keep, F: Files<K>, N: Connections, C: Clock, O: Write, E: Error
 
 /// Prints the address, then answers this many connections, one after the other, each with one exchange. The network already
 /// listens there. A connection that ends in a link fault or a timeout still counts, and a line of the error stream
-/// reports it. A 503 for a failed allocation or store is reported, too. It stops, with a line that says why, if an accept fails,
+/// reports it. A 503 for a failed allocation or store is reported, too. After a `stop` at the operator's door it answers no
+/// further one. It stops, with a line that says why, if an accept fails,
 /// the clock is out of range, the store's files are no longer at their path, or a disk error has closed the store. If the terms
 /// have the log on, it prints one line per exchange to standard output, and stops if a line cannot be written completely.
 pub fn serve_loop<K: Keep, F: Files<K>, N: Connections, C: Clock, O: Write, E: ErrorStream>(
@@ -329,10 +336,12 @@ pub fn serve_loop<K: Keep, F: Files<K>, N: Connections, C: Clock, O: Write, E: E
 /// The log has a line for each answered connection, in order. Between two lines, only the record of the organization that the
 /// later line names changes.
 pub fn log_reports_changes<K: Keep, F: Files<K>, N: Connections, C: Clock>()
-    ensures { LogReportsChanges K.Keep F.Files N.Connections C.Clock N.Reader.Inlet N.Writer.Outlet }
+    ensures next { LogReportsNext K.Keep F.Files N.Connections C.Clock N.Reader.Inlet N.Writer.Outlet }
+    ensures all { LogReportsChanges K.Keep F.Files N.Connections C.Clock N.Reader.Inlet N.Writer.Outlet }
 {}
 
-/// What a loop of `serve` answers, however it ends, are exchanges in a row (`Served`), each with the bytes of its connection.
+/// What a loop of `serve` answers, however it ends, are exchanges in a row (`Served`), each with the bytes of its connection. If it
+/// ends after fewer than it was to answer, and in order, the last was a `stop`.
 pub fn loops_are_served<K: Keep, F: Files<K>, N: Connections, C: Clock>()
     ensures { LoopsAreServed K.Keep F.Files N.Connections C.Clock N.Reader.Inlet N.Writer.Outlet }
 {}

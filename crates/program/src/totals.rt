@@ -16,6 +16,8 @@ pub struct Totals {
     pub runs: u64,
     /// When the newest version was created, in seconds since 1970, if there is a version.
     pub newest: Option<u64>,
+    /// How many versions the workspaces have had, those that are gone included; at most 2⁶⁴ - 1.
+    pub made: u64,
 }
 
 /// What a check of a file's tables finds.
@@ -43,5 +45,6 @@ pub fn print_totals<O: Write>(output: &mut O, totals: &Totals) -> io::Result<()>
     write!(output, " workspaces {}", totals.workspaces)?;
     write!(output, " versions {}", totals.versions)?;
     write!(output, " runs {}", totals.runs)?;
+    write!(output, " made {}", totals.made)?;
     print_newest(output, totals.newest)
 }

@@ -1,8 +1,6 @@
 -- A request that is out of reach, and one of its absent forms.
-use Rattle.std.proofs.Common.{◌≡◌, ℕ, ◌<◌, true, List, [], ◌∷◌, length, refl, arith}
-use Rattle.std.specs.Prelude.{All, codes, IsUtf8}
+use Rattle.serve.proofs.Outside.{◌≡◌, ℕ, ◌<◌, true, List, [], ◌∷◌, length, refl, arith, All, codes, IsUtf8, list_all}
 use lib.Utf8.{encode}
-use Rattle.std.specs.List.{list_all}
 use Rattle.std.proofs.lemmas.List.Sums.{AllPass-from_list_all}
 use Rattle.std.proofs.lemmas.List.Elements.{All-from_recursion}
 use Rattle.wire.specs.Grammar.{crlf, Field, IsField, RequestHead, IsRequestHead, print_request, is_token_byte, is_uri_byte, is_value_byte}

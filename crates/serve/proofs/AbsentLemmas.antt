@@ -1,30 +1,15 @@
 -- Absent forms: what the same request asks on another workspace, and what stands at a place of a run.
 use Rattle.std.specs.Prelude.{if◌then◌else◌, codes, bytes_eq, option_and_then, option_map}
-use Rattle.std.proofs.Common.{◌≡◌, ℕ, zero, suc, Bool, true, false, ◌&&◌, List, [], ◌∷◌, take, slice_get, Option, Some, None, Result, Ok, Err, IfOk, OnOk, length, Vec, Global, refl, sym, ap, subst, ◌∙◌}
-use Rattle.basis.specs.Checks.{or_refused, and_then}
-use Rattle.basis.specs.Names.{is_org_name, is_ws_name}
+use Rattle.serve.proofs.Outside.{◌≡◌, ℕ, zero, suc, Bool, true, false, ◌&&◌, List, [], ◌∷◌, take, slice_get, Option, Some, None, Result, Ok, Err, IfOk, OnOk, length, Vec, Global, refl, sym, ap, subst, ◌∙◌, or_refused, and_then, is_org_name, is_ws_name, Refusal, NoRoute, NoMethod, BadQuery, NotFound, RunAction, Organization, Asking, query_text, is_bodyless, asked_made, with_query, asked_at, asked_read, asking_of, asked_of, asks, Asked, AskedAct, ListWorkspaces, OfWorkspace, WsAct, ReportRun, Message, Reading, Reads, unfinished, whole, reads_one, take-length, bytes_eq-Decides}
 use Rattle.basis.specs.Numbers.{number_of}
-use Rattle.basis.specs.declared.refusals.Refusal.{Refusal}
-use Rattle.basis.specs.declared.refusals.Refusal.TheVariants.{NoRoute, NoMethod, BadQuery, NotFound}
-use Rattle.basis.specs.declared.runs.RunAction.{RunAction}
-use Rattle.machine.specs.declared.records.Organization.{Organization}
 use Rattle.route.specs.Acts.{listing_act, workspace_act, state_act, runs_act, posted, act_at, allow_of, act_read}
-use Rattle.route.specs.Asks.{Asking, query_text, is_bodyless, asked_made, with_query, asked_at, asked_read, asking_of, asked_of, asks}
 use Rattle.route.specs.Asks as route
 use Rattle.route.specs.Paths.{Resource, AllWorkspaces, Workspace, State, AllVersions, Version, AllRuns, Run, Action, OrgResource, path_parts, action_of, of_workspace, of_number, of_action, after_workspace, in_org, resource_at, resource_of}
 use Rattle.route.specs.Queries.{query_read, lock_id_read, name_after, listed_from, ws_begun_after, begun_after, after_read}
 use Rattle.route.specs.Tokens.{bearer_token_read}
-use Rattle.route.specs.declared.routes.Asked.{Asked}
-use Rattle.route.specs.declared.routes.AskedAct.{AskedAct}
-use Rattle.route.specs.declared.routes.AskedAct.TheVariants.{ListWorkspaces, OfWorkspace}
-use Rattle.basis.specs.declared.acts.WsAct.{WsAct}
-use Rattle.basis.specs.declared.acts.WsAct.TheVariants.{ReportRun}
 use Rattle.route.specs.declared.asks.UrlQuery.{UrlQuery}
-use Rattle.wire.specs.declared.messages.Message.{Message}
-use Rattle.wire.specs.Messages.{Reading, Reads, unfinished, whole}
 use Rattle.wire.specs.Messages as wire
 use Rattle.wire.specs.Targets.{path_of, query_of}
-use Rattle.wire.proofs.ReadingLemmas.{reads_one}
 use Rattle.wire.proofs.RetargetLemmas.{retargeted}
 use Rattle.serve.specs.declared.steps.Step.{Step}
 use Rattle.serve.specs.declared.steps.Step.TheVariants.{Request}
@@ -38,8 +23,6 @@ use Rattle.serve.proofs.CheckLemmas.{after_ok, passed}
 use Rattle.serve.proofs.LawLemmas.{out_of_reach_is_not_found, out_of_reach_is_as_absent, outside_the_prefix_is_not_found, outside_the_prefix_is_as_absent}
 use Rattle.serve.proofs.RunLemmas.{asked_one, orgs_given}
 use Rattle.serve.specs.Inner.Taking.{RunsTo}
-use Rattle.std.proofs.Math.Seq.{take-length}
-use Rattle.std.proofs.lemmas.Slice.Eq.{bytes_eq-Decides}
 
 -- ---- the same resource of another workspace
 

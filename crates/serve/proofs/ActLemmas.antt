@@ -1,33 +1,14 @@
 -- What is asked of a workspace, and what its document spells: all that the laws ask of an act, a clause an act.
-use Rattle.std.proofs.Common.{◌≡◌, ◌⊎◌, inl, inr, ℕ, ◌≤◌, Bool, true, false, ◌||◌, List, is_some, length, Option, Some, None, Result, Ok, Err, IsSome, IfSome, IsTrue, refl, sym, ap, subst, ◌∙◌, arith}
-use Rattle.std.specs.Prelude.{codes}
-use Rattle.std.proofs.lemmas.Bool.{le-leb}
-use Rattle.basis.specs.Names.{is_free_id, has_length}
-use Rattle.basis.specs.declared.refusals.Refusal.{Refusal}
-use Rattle.basis.specs.declared.refusals.Refusal.TheVariants.{NotFound, BadState, BadLock, BadBody, Locked}
+use Rattle.serve.proofs.Outside.{◌≡◌, ◌⊎◌, inl, inr, ℕ, ◌≤◌, Bool, true, false, ◌||◌, List, is_some, length, Option, Some, None, Result, Ok, Err, IsSome, IfSome, IsTrue, refl, sym, ap, subst, ◌∙◌, arith, codes, le-leb, is_free_id, has_length, Refusal, NotFound, BadState, BadLock, BadBody, Locked, RunAsk, StateHead, RunAction, state_head, lock_id_of, settings_of, run_ask, WritesWith, effect, IsRetention, IsHeadInRange, IsRunAsk, IsSettingsAsk, IsInRange, seen_by, Outcome, refused, rules, report, run_of, Act, Workspace, WsAct, Query, Put, Delete, UpdateState, PurgeState, Lock, Unlock, ForceUnlock, MakeRun, ReportRun}
 use Rattle.basis.specs.declared.acts.Query.{Query as AnyQuery}
-use Rattle.basis.specs.declared.rows.RunAsk.{RunAsk}
 use Rattle.basis.specs.declared.rows.SettingsAsk.{SettingsAsk}
-use Rattle.basis.specs.declared.rows.StateHead.{StateHead}
-use Rattle.basis.specs.declared.runs.RunAction.{RunAction}
 use Rattle.serde_json.specs.Data.{Data}
 use Rattle.serde_json.specs.Find.{get_member}
-use Rattle.docs.specs.Documents.{state_head, lock_id_of, settings_of, run_ask}
 use Rattle.docs.specs.Readings.{IsState, IsLock, IsText, IsRetentionAsked, IsSettings, IsKey, IsAsk}
 use Rattle.docs.proofs.ReadingLemmas.{state_law, lock_law, settings_law, ask_law}
-use Rattle.machine.specs.Custody.{WritesWith}
-use Rattle.machine.specs.Effects.{effect}
-use Rattle.machine.specs.Ranges.{IsRetention, IsHeadInRange, IsRunAsk, IsSettingsAsk, IsInRange}
-use Rattle.machine.specs.Records.{seen_by}
-use Rattle.machine.specs.Rules.{Outcome, refused, rules, report}
-use Rattle.machine.specs.Workspaces.{run_of}
-use Rattle.machine.specs.declared.acts.Act.{Act}
 use Rattle.machine.specs.declared.acts.Act.TheVariants.{Query as QueryAct, PutWorkspace as PutAct, UpdateState as UpdateAct, PurgeState as PurgeAct, Lock as LockAct, Unlock as UnlockAct, ForceUnlock as ForceUnlockAct, DeleteWorkspace as DeleteAct, MakeRun as MakeRunAct, ReportRun as ReportRunAct}
 use Rattle.basis.specs.declared.rows.RunRow.{RunRow as Run}
-use Rattle.machine.specs.declared.records.Workspace.{Workspace}
 use Rattle.machine.proofs.QueryLemmas.{all_queries}
-use Rattle.basis.specs.declared.acts.WsAct.{WsAct}
-use Rattle.basis.specs.declared.acts.WsAct.TheVariants.{Query, Put, Delete, UpdateState, PurgeState, Lock, Unlock, ForceUnlock, MakeRun, ReportRun}
 use Rattle.serve.specs.Book.{IsDoneOnce}
 use Rattle.serve.specs.Checks.{makes, is_there, spelt, act_of}
 

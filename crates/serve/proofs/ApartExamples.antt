@@ -1,11 +1,7 @@
 -- Two organizations behind a front: one that chooses by the names, and one that chooses by the path.
-use Rattle.std.proofs.Common.{◌≡◌, ◌⊎◌, inl, inr, ℕ, Bool, true, false, true≢false, List, [], ◌∷◌, Some, None, is_some, refl, ap}
+use Rattle.serve.proofs.Outside.{◌≡◌, ◌⊎◌, inl, inr, ℕ, Bool, true, false, true≢false, List, [], ◌∷◌, Some, None, is_some, refl, ap, bytes_eq, Query, new_organization, OfWorkspace}
 use Rattle.std.specs.Prelude.{cond, codes}
-use Rattle.std.specs.Str.{bytes_eq}
 use Rattle.basis.specs.declared.acts.Query.TheVariants.{State}
-use Rattle.basis.specs.declared.acts.WsAct.TheVariants.{Query}
-use Rattle.machine.specs.Tokens.{new_organization}
-use Rattle.route.specs.declared.routes.AskedAct.TheVariants.{OfWorkspace}
 use Rattle.serve.specs.declared.steps.Admin.TheVariants.{OrgAdd}
 use Rattle.serve.specs.Apart.{Passed, asks_of, asks_to, answers_of, ChoosesByName, AreDivided, AreAlike, AnswersInTurn}
 use Rattle.serve.specs.Asks.{Ask, silent, requests, commands}

@@ -1,17 +1,11 @@
 -- Services apart: what is answered in turn, step by step, by one service and by services behind a front.
 use Rattle.std.specs.Prelude.{cond, IfSome}
-use Rattle.std.proofs.Common.{◌≡◌, ◌⊎◌, inl, inr, ℕ, suc, Bool, true, false, List, [], ◌∷◌, length, Option, Some, None, refl, sym, ap, subst, ◌∙◌, arith}
-use Rattle.std.specs.Str.{bytes_eq}
-use Rattle.std.proofs.Math.Path.{fun_ext}
-use Rattle.std.proofs.lemmas.Slice.Eq.{bytes_eq-Decides}
-use Rattle.basis.specs.declared.refusals.Refusal.TheVariants.{BadToken, NotFound}
-use Rattle.machine.specs.Tokens.{token_list_answer}
-use Rattle.machine.specs.declared.records.Organization.{Organization}
+use Rattle.serve.proofs.Outside.{◌≡◌, ◌⊎◌, inl, inr, ℕ, suc, Bool, true, false, List, [], ◌∷◌, length, Option, Some, None, refl, sym, ap, subst, ◌∙◌, arith, bytes_eq, fun_ext, bytes_eq-Decides, BadToken, NotFound, token_list_answer, Organization, Answer}
 use Rattle.serve.specs.declared.doors.Door.{Door}
 use Rattle.serve.specs.declared.steps.Admin.{Admin}
 use Rattle.serve.specs.declared.steps.Admin.TheVariants.{OrgAdd, OrgLimit, OrgRemove, OrgList, TokenAdd, TokenList, TokenRevoke}
 use Rattle.serve.specs.Apart.{Passed, asks_of, asks_to, answers_of, org_named, IsServiceOf, ChoosesByName, AreDivided, ListsThemAll, AreAlike, AnswersInTurn, ReplaysAnswerInTurn, ServicesApartAreOne, Sent, exchanges_of, with_passed, passed_in, ServedApartAreOne, StrangersHaveBadTokens, FrontsByPathAnswerOtherwise}
-use Rattle.serve.specs.Asks.{Ask, silent, refused, requests, commands, Owner, organization, unattributed, operator, owner_of}
+use Rattle.serve.specs.Asks.{Ask, silent, refused, requests, commands, stops, Owner, organization, unattributed, operator, owner_of}
 use Rattle.serve.specs.Doors.{reported_answer, IsAnswerTo}
 use Rattle.serve.specs.Laws.{WroteAlike}
 use Rattle.serve.specs.Logs.{org_commanded}
@@ -19,7 +13,6 @@ use Rattle.serve.specs.Runs.{AreOwnReplies}
 use Rattle.serve.specs.Served.{Exchange, Replies, IsSaidBy, IsServedBy, AreServed, with_carried, with_ask, asked_in, carried_in}
 use Rattle.serve.specs.Service.{token_list_text, IsSaidText, AreTexts, IsListed, Stays, said_to, is_own, same_owner, with_own, own_asks, replies_at, record_for, after_ask, records_after}
 use Rattle.serve.specs.Steps.{Said, Answered, nothing, step, own_said, own_record}
-use Rattle.wire.specs.Replies.{Answer}
 use Rattle.serve.proofs.LawLemmas.{out_of_reach_is_not_found}
 use Rattle.serve.proofs.RunLemmas.{IsOfOne, one_text, owner_is}
 use Rattle.serve.proofs.ServedLemmas.{record_then, answer_said, one_answer, reply_alike}
@@ -44,6 +37,7 @@ own_is_named : (org : List ℕ) (a : Ask) → is_own (organization org) a ≡ tr
 own_is_named org silent own = absurd (let none : ⊥ = cc in none)
 own_is_named org (refused at awaited refusal is_head at_door) own = absurd (let none : ⊥ = cc in none)
 own_is_named org (requests at awaited asked content_md5 body) own = ap Some (sym ((bytes_eq-Decides org asked.caller).0 own))
+own_is_named org (stops at) own = absurd (let none : ⊥ = cc in none)
 own_is_named org (commands at command) own = own_names org command own
 
 -- ---- answers in turn, one by one
@@ -175,6 +169,7 @@ text_alike (refused at awaited refusal is_head at_door) rows others x y same h k
 text_alike (requests at awaited asked content_md5 body) rows others x y same h k =
     inr (said_alike (said_to rows (requests at awaited asked content_md5 body)) (said_to others (requests at awaited asked content_md5 body)) x y
     (ap (λ (r : Option Organization). (step r (requests at awaited asked content_md5 body)).answer) same) tt h.0 k.0)
+text_alike (stops at) rows others x y same h k = inr (one_text (said_to others (stops at)) x y tt h.0 k.0)
 text_alike (commands at command) rows others x y same h k = command_alike at command rows others x y same h k
 
 -- what was answered in turn, from its first answer on
@@ -288,6 +283,7 @@ exchange_alike silent rows others e f same = told_alike silent rows others e f r
 exchange_alike (refused at awaited refusal is_head at_door) rows others e f same = told_alike (refused at awaited refusal is_head at_door) rows others e f refl tt
 exchange_alike (requests at awaited asked content_md5 body) rows others e f same =
     told_alike (requests at awaited asked content_md5 body) rows others e f (ap (λ (r : Option Organization). (step r (requests at awaited asked content_md5 body)).answer) same) tt
+exchange_alike (stops at) rows others e f same = told_alike (stops at) rows others e f refl tt
 exchange_alike (commands at command) rows others e f same = command_told_alike at command rows others e f same
 
 -- exchanges in a row, those that carried something out, one by one

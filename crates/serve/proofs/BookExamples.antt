@@ -1,32 +1,11 @@
 -- Small histories of one workspace: how its periods are cut, and, for each law of the book, one that breaks it.
-use Rattle.std.proofs.Common.{◌≡◌, ◌⊎◌, inl, inr, ℕ, zero, suc, Bool, true, false, List, [], ◌∷◌, Option, Some, None, refl, sym, ap, subst, ◌∙◌, arith}
-use Rattle.std.proofs.lemmas.Option.{same_Some}
-use Rattle.std.specs.Prelude.{codes}
-use Rattle.std.specs.List.{Contains}
-use Rattle.std.specs.Fmt.{digits}
-use Rattle.std.specs.Str.{chars, is_utf8}
+use Rattle.serve.proofs.Outside.{◌≡◌, ◌⊎◌, inl, inr, ℕ, zero, suc, Bool, true, false, List, [], ◌∷◌, Option, Some, None, refl, sym, ap, subst, ◌∙◌, arith, same_Some, codes, Contains, digits, chars, is_utf8, run_id, RunAsk, Pending, Planning, Planned, Applying, Applied, serde_json_on_literals, lock_id_of, run_ask, IsRepeatable, Releases, is_nobody, new_workspace, Act, Done, Version, Workspace, OfWorkspace, WsAct, Query, Put, Delete, UpdateState, PurgeState, Lock, Unlock, MakeRun, ReportRun, empty_answer}
 use Rattle.basis.specs.declared.acts.Query.TheVariants as query
-use Rattle.basis.specs.Names.{run_id}
-use Rattle.basis.specs.declared.rows.RunAsk.{RunAsk}
 use Rattle.basis.specs.declared.runs.RunStatus.{RunStatus}
-use Rattle.basis.specs.declared.runs.RunStatus.TheVariants.{Pending, Planning, Planned, Applying, Applied}
 use Rattle.basis.specs.declared.runs.RunAction.TheVariants.{Confirm, ReportApplied}
-use Rattle.serde_json.proofs.OnLiterals.{serde_json_on_literals}
-use Rattle.docs.specs.Documents.{lock_id_of, run_ask}
-use Rattle.machine.specs.Custody.{IsRepeatable, Releases}
-use Rattle.machine.specs.Laws.{is_nobody}
-use Rattle.machine.specs.Workspaces.{new_workspace}
-use Rattle.machine.specs.declared.acts.Act.{Act}
-use Rattle.machine.specs.declared.keeps.AdminAnswer.TheVariants.{Done}
 use Rattle.machine.specs.declared.acts.Act.TheVariants.{PurgeState as PurgeAct, Unlock as UnlockAct, MakeRun as MakeRunAct, ReportRun as ReportRunAct}
 use Rattle.basis.specs.declared.rows.Holder.TheVariants.{Nobody, Lock as HeldLock, Run as HeldRun}
 use Rattle.basis.specs.declared.rows.RunRow.{RunRow as Run}
-use Rattle.machine.specs.declared.records.Version.{Version}
-use Rattle.machine.specs.declared.records.Workspace.{Workspace}
-use Rattle.route.specs.declared.routes.AskedAct.TheVariants.{OfWorkspace}
-use Rattle.basis.specs.declared.acts.WsAct.{WsAct}
-use Rattle.basis.specs.declared.acts.WsAct.TheVariants.{Query, Put, Delete, UpdateState, PurgeState, Lock, Unlock, MakeRun, ReportRun}
-use Rattle.wire.specs.Replies.{empty_answer}
 use Rattle.serve.specs.declared.steps.Admin.TheVariants.{OrgRemove}
 use Rattle.serve.specs.Asks.{Ask, requests, commands}
 use Rattle.serve.specs.Custody.{ForcesRemoval}

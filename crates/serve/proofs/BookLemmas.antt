@@ -1,48 +1,17 @@
 -- The book of a workspace: what the rules, or nothing, made of each step, and what follows over many steps.
 use Rattle.std.proofs.Common.{◌≡◌, ◌⊎◌, inl, inr, ℕ, ◌<◌, ◌≤◌, Bool, true, false, not, ◌&&◌, List, [], ◌∷◌, cond, ◌++◌, length, filter, Option, Some, None, option_map, Result, Ok, Err, IfSome, is_some, refl, sym, ap, subst, ◌∙◌, arith}
-use Rattle.std.specs.List.{AllByRecursion, Contains, flat_map}
-use Rattle.std.specs.Str.{bytes_eq}
-use Rattle.std.proofs.lemmas.Bool.{eqb-true}
-use Rattle.std.proofs.lemmas.Slice.Eq.{bytes_eq-Decides}
-use Rattle.std.proofs.lemmas.Option.{same_Some}
-use Rattle.basis.specs.Names.{run_id}
-use Rattle.basis.specs.declared.refusals.Refusal.TheVariants.{BadState}
-use Rattle.basis.specs.declared.runs.RunStatus.TheVariants.{Applying}
-use Rattle.basis.specs.declared.rows.StateHead.{StateHead}
-use Rattle.docs.specs.Documents.{state_head}
-use Rattle.machine.specs.Laws.{holds, is_nobody, IsLawful, IsLawfulIfThere, AreLawful}
-use Rattle.machine.specs.Ranges.{IsInRange, IsMoment}
-use Rattle.machine.specs.Records.{Seen, missing, there, standing, workspace_in}
-use Rattle.machine.specs.Rules.{Outcome, refused, held, done, no_state, state, workspace, the_run, versions, runs, rules}
-use Rattle.machine.specs.Workspaces.{run_of, holder_status}
-use Rattle.machine.specs.Custody.{IsRefusal, IsWriter, WritesWith, Releases, IsRepeatable}
-use Rattle.machine.specs.Queue.{is_active_run, Starts}
-use Rattle.machine.specs.Removal.{is_in_use}
-use Rattle.machine.specs.declared.acts.Act.{Act}
+use Rattle.serve.proofs.Outside.{AllByRecursion, Contains, flat_map, bytes_eq, eqb-true, bytes_eq-Decides, same_Some, run_id, BadState, Applying, StateHead, state_head, holds, is_nobody, IsLawful, IsLawfulIfThere, AreLawful, IsInRange, IsMoment, Seen, missing, there, standing, workspace_in, Outcome, refused, held, done, no_state, state, workspace, the_run, versions, runs, rules, run_of, holder_status, IsRefusal, IsWriter, WritesWith, Releases, IsRepeatable, is_active_run, Starts, is_in_use, Act, Holder, Version, Workspace, Organization, held_versions_change_by_the_id, holds_until_released, locked_workspaces_stay, accepted_acts_come_again, workspaces_begin_anew, IsWrite, all_writes, IsAcceptedWrite, rises_by_write, held_stays, one_is_active, IsBelow, starts_below, stays_below, starts_above, Reaches, reaches_itself, reaches_more, apart_from, Asked, AskedAct, OfWorkspace, WsAct, UpdateState, PurgeState}
 use Rattle.machine.specs.declared.acts.Act.TheVariants.{UpdateState as UpdateAct, PurgeState as PurgeAct}
-use Rattle.basis.specs.declared.rows.Holder.{Holder}
 use Rattle.basis.specs.declared.rows.Holder.TheVariants.{Nobody, Lock as HeldLock, Run as HeldRun}
 use Rattle.basis.specs.declared.rows.RunRow.{RunRow as Run}
-use Rattle.machine.specs.declared.records.Version.{Version}
-use Rattle.machine.specs.declared.records.Workspace.{Workspace}
-use Rattle.machine.specs.declared.records.Organization.{Organization}
-use Rattle.machine.proofs.CustodyLemmas.{held_versions_change_by_the_id, holds_until_released, locked_workspaces_stay, accepted_acts_come_again, workspaces_begin_anew}
 use Rattle.machine.proofs.RefusalLemmas.{refusals_change_nothing as rules_change_nothing, writes_carry_the_id}
 use Rattle.machine.proofs.RuleLemmas.{rules_are_lawful}
 use Rattle.machine.proofs.QueueLemmas.{actions_come_again, keyed_creations_come_again}
-use Rattle.machine.proofs.Rulings.{IsWrite, all_writes}
-use Rattle.machine.proofs.BookLemmas.{IsAcceptedWrite, rises_by_write, held_stays, one_is_active, IsBelow, starts_below, stays_below, starts_above, Reaches, reaches_itself, reaches_more}
-use Rattle.machine.proofs.KeepLemmas.{apart_from}
-use Rattle.route.specs.declared.routes.Asked.{Asked}
-use Rattle.route.specs.declared.routes.AskedAct.{AskedAct}
-use Rattle.route.specs.declared.routes.AskedAct.TheVariants.{OfWorkspace}
-use Rattle.basis.specs.declared.acts.WsAct.{WsAct}
-use Rattle.basis.specs.declared.acts.WsAct.TheVariants.{UpdateState, PurgeState}
 use Rattle.serve.specs.declared.steps.Admin.{Admin}
 use Rattle.serve.specs.declared.checks.Task.{Task}
 use Rattle.serve.specs.declared.checks.Task.TheVariants.{ListAll, Carry}
 use Rattle.serve.specs.declared.steps.Step.{Step}
-use Rattle.serve.specs.Asks.{Ask, silent, requests, commands, Owner, organization, IsTimely}
+use Rattle.serve.specs.Asks.{Ask, silent, requests, commands, stops, Owner, organization, IsTimely}
 use Rattle.serve.specs.Asks as ask
 use Rattle.serve.specs.Checks.{spelt, act_of, checked}
 use Rattle.serve.specs.Steps.{Said, replies, answer_to, seen_at, carried, step}
@@ -150,6 +119,7 @@ step_goes : (ws : List ℕ) (r : Option Organization) (a : Ask) → IsTimely a �
 step_goes ws r silent timely = inr (inl (record { stays = refl; refuses = λ names accepted. names }))
 step_goes ws r (ask.refused at awaited refusal is_head at_door) timely = inr (inl (record { stays = refl; refuses = λ names accepted. names }))
 step_goes ws r (requests at awaited asked content_md5 body) timely = request_goes ws r at awaited asked content_md5 body (checked r at asked content_md5 body) refl timely
+step_goes ws r (stops at) timely = inr (inl (record { stays = refl; refuses = λ names accepted. names }))
 step_goes ws r (commands at command) timely = command_goes ws r at command (command_comes r command)
 
 -- each step of a book is such a one, from a lawful workspace to a lawful one, and goes on where the one before it ended
@@ -300,12 +270,14 @@ asks_names : (ws : List ℕ) (what : WsAct) (a : Ask) → AsksOf ws what a → N
 asks_names ws what silent asks = asks
 asks_names ws what (ask.refused at awaited refusal is_head at_door) asks = asks
 asks_names ws what (requests at awaited asked content_md5 body) asks = names_of asked.act ws what asks
+asks_names ws what (stops at) asks = asks
 asks_names ws what (commands at command) asks = asks
 
 for_names : (ws : List ℕ) (act : Act) (a : Ask) → AsksFor ws act a → Names a ws
 for_names ws act silent asks = asks
 for_names ws act (ask.refused at awaited refusal is_head at_door) asks = asks
 for_names ws act (requests at awaited asked content_md5 body) asks = names_of asked.act ws asks.0 asks.1
+for_names ws act (stops at) asks = asks
 for_names ws act (commands at command) asks = asks
 
 -- the removal of an organization names no workspace, nor does what it repeats
@@ -313,12 +285,14 @@ removal_names : (ws : List ℕ) (a : Ask) → RemovesOrganization a → Names a 
 removal_names ws silent removes names = names
 removal_names ws (ask.refused at awaited refusal is_head at_door) removes names = names
 removal_names ws (requests at awaited asked content_md5 body) removes names = removes
+removal_names ws (stops at) removes names = names
 removal_names ws (commands at command) removes names = names
 
 names_again : (ws : List ℕ) (at : ℕ) (a : Ask) → Names a ws → Names (asked_again at a) ws
 names_again ws at silent names = names
 names_again ws at (ask.refused now awaited refusal is_head at_door) names = names
 names_again ws at (requests now awaited asked content_md5 body) names = names
+names_again ws at (stops now) names = names
 names_again ws at (commands now command) names = names
 
 repeat_removes : (ws : List ℕ) (e f : Entry) → Names e.ask ws → Repeats e f → Removed f → ⊥

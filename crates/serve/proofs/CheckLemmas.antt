@@ -1,22 +1,5 @@
 -- The checks of a request in their order, and what an order that passed them is.
-use Rattle.std.proofs.Common.{◌≡◌, ◌⊎◌, inl, inr, ℕ, ◌≤◌, ◌<◌, Bool, true, false, List, Option, Some, None, Result, Ok, Err, IsSome, refl, sym, ap, subst, ◌∙◌, arith}
-use Rattle.std.specs.Prelude.{if◌then◌else◌}
-use Rattle.std.proofs.lemmas.Bool.{lt-ltb, ltb-true}
-use Rattle.basis.specs.Checks.{or_refused, and_then}
-use Rattle.basis.specs.Roles.{is_before, is_valid_at}
-use Rattle.basis.specs.declared.refusals.Refusal.{Refusal}
-use Rattle.basis.specs.declared.refusals.Refusal.TheVariants.{BadToken, NotFound}
-use Rattle.basis.specs.declared.roles.Caller.{Caller}
-use Rattle.sha2.specs.Sha256.{sha256}
-use Rattle.machine.specs.Tokens.{caller_of}
-use Rattle.machine.specs.declared.acts.Act.{Act}
-use Rattle.machine.specs.declared.records.Token.{Token}
-use Rattle.machine.specs.declared.records.Organization.{Organization}
-use Rattle.route.specs.Policy.{role_refused, is_admitted, or_else_refused, caller_refused, allowed_by}
-use Rattle.route.specs.declared.routes.Asked.{Asked}
-use Rattle.route.specs.declared.routes.AskedAct.{AskedAct}
-use Rattle.route.specs.declared.routes.AskedAct.TheVariants.{ListWorkspaces, OfWorkspace}
-use Rattle.basis.specs.declared.acts.WsAct.{WsAct}
+use Rattle.serve.proofs.Outside.{◌≡◌, ◌⊎◌, inl, inr, ℕ, ◌≤◌, ◌<◌, Bool, true, false, List, Option, Some, None, Result, Ok, Err, IsSome, refl, sym, ap, subst, ◌∙◌, arith, if◌then◌else◌, lt-ltb, ltb-true, or_refused, and_then, is_before, is_valid_at, Refusal, BadToken, NotFound, Caller, sha256, caller_of, Act, Token, Organization, role_refused, is_admitted, or_else_refused, caller_refused, allowed_by, Asked, AskedAct, ListWorkspaces, OfWorkspace, WsAct}
 use Rattle.serve.specs.Checks.{task_of, require, while_it_counts, known_caller, may_do, admitted, in_reach, is_found, found, digest_checked, act_of, checked}
 use Rattle.serve.specs.Inner.Prepared.{caller_known}
 use Rattle.serve.specs.declared.checks.Task.{Task}

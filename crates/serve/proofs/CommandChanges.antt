@@ -1,16 +1,5 @@
 -- What an operator's command changes is what its row tells.
-use Rattle.std.proofs.Common.{◌≡◌, ◌≢◌, ◌⊎◌, inl, inr, ℕ, Bool, true, false, List, Option, Some, None, IsSome, IfSome, refl, sym, ap, subst, ◌∙◌}
-use Rattle.std.specs.Str.{bytes_eq}
-use Rattle.std.proofs.lemmas.Slice.Eq.{bytes_eq-Decides}
-use Rattle.std.proofs.lemmas.Option.{same_Some}
-use Rattle.docs.specs.declared.logs.LogRow.{LogRow}
-use Rattle.machine.specs.Custody.{KeepsVersions}
-use Rattle.machine.specs.Queue.{Starts}
-use Rattle.machine.specs.Records.{workspace_in}
-use Rattle.machine.specs.declared.keeps.AdminAnswer.{AdminAnswer}
-use Rattle.machine.specs.declared.keeps.AdminAnswer.TheVariants.{Done}
-use Rattle.machine.specs.declared.records.Organization.{Organization}
-use Rattle.machine.specs.declared.records.Workspace.{Workspace}
+use Rattle.serve.proofs.Outside.{◌≡◌, ◌≢◌, ◌⊎◌, inl, inr, ℕ, Bool, true, false, List, Option, Some, None, IsSome, IfSome, refl, sym, ap, subst, ◌∙◌, bytes_eq, bytes_eq-Decides, same_Some, LogRow, KeepsVersions, Starts, workspace_in, AdminAnswer, Done, Organization, Workspace}
 use Rattle.serve.specs.Asks.{commands, organization}
 use Rattle.serve.specs.Doors.{reported_answer}
 use Rattle.serve.specs.Exchanges.{OfNamed, Makes, ComesAsLogged, ChangesAsLogged}

@@ -1,37 +1,12 @@
 -- What a step leaves of a workspace.
-use Rattle.std.proofs.Common.{◌≡◌, ◌≢◌, ◌⊎◌, inl, inr, ℕ, ◌≤◌, Bool, true, false, not, ◌&&◌, ◌||◌, cond, List, Option, Some, None, Result, Ok, Err, IsSome, is_some, nat_lt, refl, sym, ap, subst, ◌∙◌}
-use Rattle.std.specs.Str.{bytes_eq}
-use Rattle.std.specs.FinMap.{get}
-use Rattle.std.proofs.lemmas.Slice.Eq.{bytes_eq-Decides}
-use Rattle.basis.specs.declared.refusals.Refusal.{Refusal}
-use Rattle.basis.specs.declared.refusals.Refusal.TheVariants.{BadToken}
-use Rattle.sha2.specs.Sha256.{sha256}
-use Rattle.machine.specs.Effects.{effect}
-use Rattle.machine.specs.Records.{Seen, missing, there, workspace_in, count_of, seen_by, seen_in, standing, placed}
-use Rattle.machine.specs.Rules.{Outcome, refused, held, done, no_state, state, workspace, the_run, versions, runs, rules}
-use Rattle.machine.specs.Custody.{WritesWith, Releases, IsRepeatable, IsRefusal}
-use Rattle.machine.specs.Removal.{has_use}
-use Rattle.machine.specs.Tokens.{token_of, with_token, without_token, has_digest, token_added, token_revoked}
-use Rattle.machine.specs.declared.keeps.AdminAnswer.TheVariants.{Done, Exists, Absent}
-use Rattle.machine.specs.declared.acts.Act.{Act}
+use Rattle.serve.proofs.Outside.{◌≡◌, ◌≢◌, ◌⊎◌, inl, inr, ℕ, ◌≤◌, Bool, true, false, not, ◌&&◌, ◌||◌, cond, List, Option, Some, None, Result, Ok, Err, IsSome, is_some, nat_lt, refl, sym, ap, subst, ◌∙◌, bytes_eq, get, bytes_eq-Decides, Refusal, BadToken, sha256, effect, Seen, missing, there, workspace_in, count_of, seen_by, seen_in, standing, placed, Outcome, refused, held, done, no_state, state, workspace, the_run, versions, runs, rules, WritesWith, Releases, IsRepeatable, IsRefusal, has_use, token_of, with_token, without_token, has_digest, token_added, token_revoked, Done, Exists, Absent, Act, Token, Workspace, Organization, repeats, versions_change_by_the_id, holds_until_released, locked_workspaces_stay, workspaces_go_by_delete, accepted_acts_come_again, get_own, removed_own, own_workspace, other_workspace, apart_from, Asked, AskedAct, ListWorkspaces, OfWorkspace, WsAct, Asking, asked_of, asks, Message, Reading, unfinished, whole, reads_one}
 use Rattle.machine.specs.declared.acts.Act.TheVariants.{DeleteWorkspace as DeleteAct}
 use Rattle.basis.specs.declared.rows.Holder.TheVariants.{Lock as HeldLock}
-use Rattle.machine.specs.declared.records.Token.{Token}
-use Rattle.machine.specs.declared.records.Workspace.{Workspace}
-use Rattle.machine.specs.declared.records.Organization.{Organization}
-use Rattle.machine.proofs.Rulings.{repeats}
-use Rattle.machine.proofs.CustodyLemmas.{versions_change_by_the_id, holds_until_released, locked_workspaces_stay, workspaces_go_by_delete, accepted_acts_come_again}
-use Rattle.machine.proofs.MapLemmas.{get_own, removed_own}
-use Rattle.machine.proofs.KeepLemmas.{own_workspace, other_workspace, apart_from}
-use Rattle.route.specs.declared.routes.Asked.{Asked}
-use Rattle.route.specs.declared.routes.AskedAct.{AskedAct}
-use Rattle.route.specs.declared.routes.AskedAct.TheVariants.{ListWorkspaces, OfWorkspace}
-use Rattle.basis.specs.declared.acts.WsAct.{WsAct}
 use Rattle.serve.specs.declared.steps.Admin.{Admin}
 use Rattle.serve.specs.declared.steps.Admin.TheVariants.{OrgAdd, OrgLimit, OrgRemove, OrgList, TokenAdd, TokenList, TokenRevoke}
 use Rattle.serve.specs.declared.checks.Task.{Task}
 use Rattle.serve.specs.declared.checks.Task.TheVariants.{ListAll, Carry}
-use Rattle.serve.specs.Asks.{Ask, silent, requests, commands}
+use Rattle.serve.specs.Asks.{Ask, silent, requests, commands, stops}
 use Rattle.serve.specs.Asks as ask
 use Rattle.serve.specs.Checks.{spelt, act_of, checked}
 use Rattle.serve.specs.Steps.{answer_to, seen_at, ruled_in, carried, command_step}
@@ -42,12 +17,8 @@ use Rattle.serve.proofs.RecordLemmas.{placed_as_it_was, standing_at}
 use Rattle.serve.proofs.LawLemmas.{ruled_leaves}
 use Rattle.serve.proofs.RemovalLemmas.{lock_is_used, Comes, command_comes, removal_goes, removed_again}
 use Rattle.serve.specs.Service.{asked_by, ask_of}
-use Rattle.route.specs.Asks.{Asking, asked_of, asks}
 use Rattle.route.specs.Asks as route
-use Rattle.wire.specs.declared.messages.Message.{Message}
-use Rattle.wire.specs.Messages.{Reading, unfinished, whole}
 use Rattle.wire.specs.Messages as wire
-use Rattle.wire.proofs.ReadingLemmas.{reads_one}
 
 -- the workspaces after the rules of one of them
 pub own_after : (r : Option Organization) (org ws : List ℕ) (act : Act) (now : ℕ) → IsSome r
@@ -85,6 +56,7 @@ pub steps_change_what_they_name : StepsChangeWhatTheyName
 steps_change_what_they_name r silent ws other stays = refl
 steps_change_what_they_name r (ask.refused at awaited refusal is_head at_door) ws other stays = refl
 steps_change_what_they_name r (requests at awaited asked content_md5 body) ws other stays = request_leaves_others r at asked content_md5 body ws (checked r at asked content_md5 body) refl other
+steps_change_what_they_name r (stops at) ws other stays = refl
 steps_change_what_they_name r (commands at command) ws other stays = by_case (command_comes r command)
   where
     by_case : Comes r command → workspace_in (command_step r command).left ws ≡ workspace_in r ws
@@ -157,6 +129,7 @@ locks_are_kept r silent ws w own text stands lock = inl (stays (workspace_in r w
 locks_are_kept r (ask.refused at awaited refusal is_head at_door) ws w own text stands lock = inl (stays (workspace_in r ws) (ask.refused at awaited refusal is_head at_door) ws own text w stands lock)
 locks_are_kept r (requests at awaited asked content_md5 body) ws w own text stands lock =
     inl (request_kept r at awaited asked content_md5 body ws w own text (checked r at asked content_md5 body) refl stands lock)
+locks_are_kept r (stops at) ws w own text stands lock = inl (stays (workspace_in r ws) (stops at) ws own text w stands lock)
 locks_are_kept r (commands at command) ws w own text stands lock = by_case (command_comes r command)
   where
     by_reason : IsForcedRemoval command ⊎ (IsInUseIn r → ⊥) → IsForcedRemoval command
@@ -181,6 +154,7 @@ organizations_go_by_removal o silent gone = absurd (some_stays (Some o) refl gon
 organizations_go_by_removal o (ask.refused at awaited refusal is_head at_door) gone = absurd (some_stays (Some o) refl gone)
 organizations_go_by_removal o (requests at awaited asked content_md5 body) gone =
     absurd (some_stays _ (request_leaves_one o at asked.caller (checked (Some o) at asked content_md5 body)) gone)
+organizations_go_by_removal o (stops at) gone = absurd (some_stays (Some o) refl gone)
 organizations_go_by_removal o (commands at command) gone = by_case (command_comes (Some o) command)
   where
     by_case : Comes (Some o) command → IsRemoval command × (IsForcedRemoval command ⊎ (IsInUseIn (Some o) → ⊥))
@@ -191,6 +165,7 @@ pub removals_are_carried_out : RemovalsAreCarriedOut
 removals_are_carried_out o silent removes reason = absurd removes
 removals_are_carried_out o (ask.refused at awaited refusal is_head at_door) removes reason = absurd removes
 removals_are_carried_out o (requests at awaited asked content_md5 body) removes reason = absurd removes
+removals_are_carried_out o (stops at) removes reason = absurd removes
 removals_are_carried_out o (commands at command) removes reason = removal_goes o command removes reason
 
 pub organizations_begin_anew : OrganizationsBeginAnew
@@ -335,6 +310,7 @@ pub steps_are_repeatable : StepsAreRepeatable
 steps_are_repeatable r silent later may most = refl
 steps_are_repeatable r (ask.refused at awaited refusal is_head at_door) later may most = refl
 steps_are_repeatable r (requests at awaited asked content_md5 body) later may most = second_leaves r at later asked content_md5 body (checked r at asked content_md5 body) most refl may
+steps_are_repeatable r (stops at) later may most = refl
 steps_are_repeatable r (commands at command) later may most = command_again r command
 
 -- what was accepted leaves the workspace there
@@ -380,6 +356,7 @@ repeats_leave_the_workspace r q silent later ws may names accepted same = absurd
 repeats_leave_the_workspace r q (ask.refused at awaited refusal is_head at_door) later ws may names accepted same = absurd names
 repeats_leave_the_workspace r q (requests at awaited asked content_md5 body) later ws may names accepted same =
     later_leaves r q at later asked content_md5 body ws (checked r at asked content_md5 body) (checked q later asked content_md5 body) refl refl may names accepted same
+repeats_leave_the_workspace r q (stops at) later ws may names accepted same = absurd names
 repeats_leave_the_workspace r q (commands at command) later ws may names accepted same = absurd names
 
 -- the same bytes at another moment
@@ -412,4 +389,5 @@ pub requests_change_their_workspace_alone : RequestsChangeTheirWorkspaceAlone
 requests_change_their_workspace_alone r silent ws names same = refl
 requests_change_their_workspace_alone r (ask.refused at awaited refusal is_head at_door) ws names same = refl
 requests_change_their_workspace_alone r (requests at awaited asked content_md5 body) ws names same = request_leaves_all r at asked content_md5 body ws (checked r at asked content_md5 body) refl names same
+requests_change_their_workspace_alone r (stops at) ws names same = refl
 requests_change_their_workspace_alone r (commands at command) ws names same = absurd names

@@ -1,39 +1,24 @@
 -- An exchange with an open door.
-use Rattle.std.proofs.Common.{◌≡◌, ◌≢◌, ◌⊎◌, inl, inr, ℕ, Bool, true, false, List, Option, Some, None, Result, Ok, Err, IfOk, IfErr, refl, sym, ap, ap₂, subst, ◌∙◌}
+use Rattle.serve.proofs.Outside.{◌≡◌, ◌≢◌, ◌⊎◌, inl, inr, ℕ, Bool, true, false, List, Option, Some, None, Result, Ok, Err, IfOk, IfErr, refl, sym, ap, ap₂, subst, ◌∙◌, bytes_eq, bytes_eq-Decides, sha256, or_refused, and_then, Refusal, NoMethod, BadQuery, BadSecret, BadDigest, BadBody, Unavailable, error_text, serde_json_on_literals, LogRow, Organization, asked_of, Writes, Reading, Reads, whole, Answer, IsReplyText, text_answer, refused_answer, unavailable_answer, secret_text, bad_secret_answer, Message, reads_one, one_reply, Done}
 use Rattle.std.specs.Prelude.{OnOk, OnErr, is_none, codes, if◌then◌else◌}
-use Rattle.std.specs.Str.{bytes_eq}
-use Rattle.std.proofs.lemmas.Slice.Eq.{bytes_eq-Decides}
-use Rattle.sha2.specs.Sha256.{sha256}
-use Rattle.basis.specs.Checks.{or_refused, and_then}
 use Rattle.basis.specs.declared.refusals.Allow.TheVariants.{Actions}
-use Rattle.basis.specs.declared.refusals.Refusal.{Refusal}
-use Rattle.basis.specs.declared.refusals.Refusal.TheVariants.{NoMethod, BadQuery, BadSecret, BadDigest, BadBody, Unavailable}
-use Rattle.docs.specs.Bodies.{error_text}
-use Rattle.serde_json.proofs.OnLiterals.{serde_json_on_literals}
-use Rattle.docs.specs.declared.logs.LogRow.{LogRow}
-use Rattle.machine.specs.declared.records.Organization.{Organization}
-use Rattle.route.specs.Asks.{asked_of}
 use Rattle.route.specs.Doors.{is_at_door, operator_of, has_digest, brings_secret, may_enter, passes as passes_if}
-use Rattle.wire.specs.Links.{Writes}
-use Rattle.wire.specs.Messages.{Reading, Reads, whole}
-use Rattle.wire.specs.Replies.{Answer, IsReplyText, text_answer, refused_answer, unavailable_answer, secret_text, bad_secret_answer}
-use Rattle.wire.specs.declared.messages.Message.{Message}
-use Rattle.wire.proofs.ReadingLemmas.{reads_one}
-use Rattle.wire.proofs.ReplyLemmas.{one_reply}
-use Rattle.serve.specs.Asks.{Ask, commands, owner_of}
+use Rattle.serve.specs.Asks.{Ask, commands, stops, owner_of}
 use Rattle.serve.specs.Asks as ask
 use Rattle.serve.specs.Checks.{require, fits, digest_checked}
-use Rattle.serve.specs.Doors.{command_in, command_asked, commanded, ComesToDoor, BringsSecret, asked_at_door, ask_with, IsAnswerTo, CarriesOut}
+use Rattle.serve.specs.Doors.{reported_answer, command_in, command_asked, commanded, ComesToDoor, BringsSecret, asked_at_door, ask_with, IsAnswerTo, CarriesOut}
 use Rattle.serve.specs.AtDoor.{OnlyTheSecretOpens, refusal_without, answer_without, IsToldNothing, WithoutTheSecret, WrongSecretsAreAlike, AddedSecretsAreNotLogged}
 use Rattle.serve.specs.Exchanges.{IsShapedBy, IsUnavailable}
-use Rattle.serve.specs.Logs.{unavailable_row, command_row, no_command_row, row_of_ask, IsUnavailableRow}
+use Rattle.serve.specs.Logs.{unavailable_row, command_row, no_command_row, stop_row, row_of_ask, IsUnavailableRow}
 use Rattle.serve.specs.Service.{is_head, asked_by, record_for, Carries, Stays}
 use Rattle.serve.specs.Steps.{replies}
-use Rattle.serve.specs.Inner.Doors.{Operates, TurnsAway, OperatesOrNot, IsRowSoFar, IsAnsweredThere}
+use Rattle.serve.specs.Inner.Doors.{row_commanded, Operates, TurnsAway, OperatesOrNot, IsRowSoFar, IsAnsweredThere}
 use Rattle.serve.specs.Inner.Replying.{AnswersTo}
 use Rattle.serve.specs.Inner.Taking.{IsCarriedOut}
 use Rattle.serve.specs.declared.commands.CommandReport.{CommandReport}
 use Rattle.serve.specs.declared.doors.Door.TheVariants.{Open}
+use Rattle.serve.specs.declared.doors.DoorCommand.{DoorCommand}
+use Rattle.serve.specs.declared.doors.DoorCommand.TheVariants.{OnStore, Stop}
 use Rattle.serve.specs.declared.doors.Operated.{Operated}
 use Rattle.serve.specs.declared.exchanges.LinkFault.{LinkFault}
 use Rattle.serve.specs.declared.exchanges.LinkFault.TheVariants.{Write as LinkWrite}
@@ -62,10 +47,10 @@ pub not_let_in : (digest : List ℕ) (message : Message) (refusal : Refusal) →
 not_let_in digest message refusal e = ap (λ (entry : Result (Unit {0}) Refusal). and_then entry (λ _. command_asked message)) e
 
 -- one that may enter asks for what it asks
-pub let_in : (digest : List ℕ) (message : Message) (u : Unit {0}) (asks : Result Admin Refusal) → may_enter digest message ≡ Ok u → command_asked message ≡ asks → commanded digest message ≡ asks
+pub let_in : (digest : List ℕ) (message : Message) (u : Unit {0}) (asks : Result DoorCommand Refusal) → may_enter digest message ≡ Ok u → command_asked message ≡ asks → commanded digest message ≡ asks
 let_in digest message u asks e is = ap (λ (entry : Result (Unit {0}) Refusal). and_then entry (λ _. command_asked message)) e ∙ is
 
-same_refusal : (asked : Result Admin Refusal) (a b : Refusal) → asked ≡ Err a → asked ≡ Err b → a ≡ b
+same_refusal : (asked : Result DoorCommand Refusal) (a b : Refusal) → asked ≡ Err a → asked ≡ Err b → a ≡ b
 same_refusal asked a b e f = cc
 
 secret_is : secret_text ≡ error_text BadSecret
@@ -80,7 +65,7 @@ secret_answered head = ap (λ (text : List ℕ). refused_answer BadSecret text h
 pub carried_out : (at : ℕ) (command : Admin) (old new : List ℕ → Option Organization) (reported : CommandReport) (done : Operated) → IsCarriedOut command old new reported
     → done.reply ≡ text_answer reported.refusal reported.text
     → done.row ≡ command_row at command (text_answer reported.refusal reported.text)
-    → Operates at command old new done
+    → Operates at (OnStore command) old new done
 carried_out at command old new reported done carried reply row = record {
   answer = carried.answer;
   answered = carried.answered;
@@ -100,7 +85,23 @@ turned digest at message rows refusal head (Err e) same refuses known away = tt
 -- what was done at the door is told
 pub told_at_door : (digest : List ℕ) (now : ℕ) (message : Message) (old new : List ℕ → Option Organization) (done : Operated) (text : List ℕ)
     → OperatesOrNot digest now message old new done → IsReplyText done.reply now text → IsAnsweredThere digest now message old new text (Some done.row) false
-told_at_door digest now message old new done text (inl (command, spells, operates)) is received awaited comes = record {
+told_at_door digest now message old new done text (inl (Stop, spells, operates)) is received awaited comes = record {
+  ask = stops now;
+  answer = done.reply;
+  carried = record {
+    asks = record {
+      reading = whole message awaited;
+      reads = comes.reads;
+      due = refl;
+      is = sym (asks_there digest now message awaited comes.at_door ∙ ap (asked_at_door now awaited message) spells);
+    };
+    carries = operates.carries;
+    answers = operates.reply ∙ ap reported_answer operates.answered;
+  };
+  is = is;
+  logged = ap Some (operates.row ∙ ap (stop_row now) (sym operates.reply));
+}
+told_at_door digest now message old new done text (inl (OnStore command, spells, operates)) is received awaited comes = record {
   ask = commands now command;
   answer = done.reply;
   carried = record {
@@ -134,9 +135,10 @@ told_at_door digest now message old new done text (inr (refusal, refuses, stays,
 }
 
 -- the row of a 503, unless the message is refused for its secret: no command had been read
-unread_row : (r : Option Organization) (at : ℕ) (awaited : Bool) (message : Message) (asks : Result Admin Refusal) (row : LogRow) → (asks ≡ Err BadSecret → ⊥) → row ≡ no_command_row at (unavailable_answer false)
+unread_row : (r : Option Organization) (at : ℕ) (awaited : Bool) (message : Message) (asks : Result DoorCommand Refusal) (row : LogRow) → (asks ≡ Err BadSecret → ⊥) → row ≡ no_command_row at (unavailable_answer false)
     → IsUnavailableRow r (asked_at_door at awaited message asks) row
-unread_row r at awaited message (Ok command) row other is = inl is
+unread_row r at awaited message (Ok (OnStore command)) row other is = inl is
+unread_row r at awaited message (Ok Stop) row other is = inl is
 unread_row r at awaited message (Err refusal) row other is = ((λ e. other (ap Err e)), is)
 
 -- no check but that of the secret refuses for it
@@ -144,11 +146,11 @@ digest_other : (fits : Bool) → require BadDigest fits ≡ Err BadSecret → �
 digest_other true e = let no : ⊥ = cc in no
 digest_other false e = let no : ⊥ = cc in no
 
-body_other : (o : Option Admin) → or_refused BadBody o ≡ Err BadSecret → ⊥
+body_other : (o : Option DoorCommand) → or_refused BadBody o ≡ Err BadSecret → ⊥
 body_other None e = let no : ⊥ = cc in no
 body_other (Some command) e = let no : ⊥ = cc in no
 
-asked_other : (checked : Result (Unit {0}) Refusal) (asks : Result Admin Refusal) → (checked ≡ Err BadSecret → ⊥) → (asks ≡ Err BadSecret → ⊥) → and_then checked (λ _. asks) ≡ Err BadSecret → ⊥
+asked_other : (checked : Result (Unit {0}) Refusal) (asks : Result DoorCommand Refusal) → (checked ≡ Err BadSecret → ⊥) → (asks ≡ Err BadSecret → ⊥) → and_then checked (λ _. asks) ≡ Err BadSecret → ⊥
 asked_other (Ok u) asks first second e = second e
 asked_other (Err refusal) asks first second e = first (let same : refusal ≡ BadSecret = cc in ap Err same)
 
@@ -171,10 +173,16 @@ row_of_some digest at message u (Err row) entry is = λ r awaited.
     unread_row r at awaited message (commanded digest message) row (λ e. command_asked_other message (sym (let_in digest message u (command_asked message) entry refl) ∙ e)) is
 
 -- or if it had been read
-pub row_of_command : {T : Type 0} (digest : List ℕ) (at : ℕ) (message : Message) (command : Admin) (res : Result T LogRow) → commanded digest message ≡ Ok command
-    → IfErr res (λ row. row ≡ command_row at command (unavailable_answer false)) → IfErr res (IsRowSoFar digest at message)
+read_row : (r : Option Organization) (at : ℕ) (awaited : Bool) (message : Message) (command : DoorCommand) (row : LogRow) → row ≡ row_commanded at command (unavailable_answer false)
+    → IsUnavailableRow r (asked_at_door at awaited message (Ok command)) row
+read_row r at awaited message (OnStore command) row is = inr is
+read_row r at awaited message Stop row is = inr is
+
+pub row_of_command : {T : Type 0} (digest : List ℕ) (at : ℕ) (message : Message) (command : DoorCommand) (res : Result T LogRow) → commanded digest message ≡ Ok command
+    → IfErr res (λ row. row ≡ row_commanded at command (unavailable_answer false)) → IfErr res (IsRowSoFar digest at message)
 row_of_command digest at message command (Ok done) spells is = tt
-row_of_command digest at message command (Err row) spells is = λ r awaited. subst (λ (asks : Result Admin Refusal). IsUnavailableRow r (asked_at_door at awaited message asks) row) (sym spells) (inr is)
+row_of_command digest at message command (Err row) spells is = λ r awaited.
+    subst (λ (asks : Result DoorCommand Refusal). IsUnavailableRow r (asked_at_door at awaited message asks) row) (sym spells) (read_row r at awaited message command row is)
 
 -- a message at the door has a 503
 pub unserved_at_door : (digest : List ℕ) (now : ℕ) (message : Message) (old new : List ℕ → Option Organization) (row : LogRow) (text : List ℕ)
@@ -223,7 +231,7 @@ entered digest message u e =
     last_check (brings_secret digest message.authorization) BadSecret u by_query.1
 
 -- a message that asks for a command brings the secret
-pub brings : (digest : List ℕ) (message : Message) (command : Admin) → commanded digest message ≡ Ok command → BringsSecret digest message
+pub brings : (digest : List ℕ) (message : Message) (command : DoorCommand) → commanded digest message ≡ Ok command → BringsSecret digest message
 brings digest message command asks =
     let enters = first_passes (may_enter digest message) _ command asks in
     field_brings digest message message.authorization refl (entered digest message enters.0 enters.1)
@@ -238,7 +246,7 @@ module _ (digest : List ℕ) (now : ℕ) (received : List ℕ) (message : Messag
       → ask ≡ asked_at_door now awaited message (commanded digest message)
   carried_there due ask answer old new carried = carried.asks.is ∙ asks_message carried.asks.reading carried.asks.reads
 
-opens_or_stays : (digest : List ℕ) (now : ℕ) (awaited : Bool) (message : Message) (asks : Result Admin Refusal) (old new : List ℕ → Option Organization) → commanded digest message ≡ asks
+opens_or_stays : (digest : List ℕ) (now : ℕ) (awaited : Bool) (message : Message) (asks : Result DoorCommand Refusal) (old new : List ℕ → Option Organization) → commanded digest message ≡ asks
     → Carries (asked_at_door now awaited message asks) old new → BringsSecret digest message ⊎ Stays old new
 opens_or_stays digest now awaited message (Ok command) old new spells carries = inl (brings digest message command spells)
 opens_or_stays digest now awaited message (Err refusal) old new spells carries = inr carries

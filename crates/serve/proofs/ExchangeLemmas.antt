@@ -1,25 +1,12 @@
 -- One exchange: the reply to what was read, and what is written in all.
-use Rattle.std.proofs.Common.{◌≡◌, ◌≢◌, ℕ, Bool, true, false, List, [], Option, Some, None, Result, Ok, Err, IsSome, IfSome, IfErr, IsErrOf, refl, sym, ap, subst, ◌∙◌, ◌⊎◌, inl, inr, ◌++◌}
-use Rattle.std.specs.Prelude.{if◌then◌else◌}
-use Rattle.std.specs.Io.KnownBytes.{Appends, Consumes}
-use Rattle.std.specs.Str.{bytes_eq}
-use Rattle.std.proofs.lemmas.Slice.Eq.{bytes_eq-Decides}
-use Rattle.std.proofs.lemmas.Option.{same_Some}
-use Rattle.std.proofs.KnownBytes.{Appends-nil, Appends-trans, Consumes-nil}
-use Rattle.machine.specs.Laws.{AreLawful}
-use Rattle.machine.specs.declared.records.Organization.{Organization}
-use Rattle.route.specs.Asks.{Asking, asked_of, asks}
+use Rattle.serve.proofs.Outside.{◌≡◌, ◌≢◌, ℕ, Bool, true, false, List, [], Option, Some, None, Result, Ok, Err, IsSome, IfSome, IfErr, IsErrOf, refl, sym, ap, subst, ◌∙◌, ◌⊎◌, inl, inr, ◌++◌, if◌then◌else◌, Appends, Consumes, bytes_eq, bytes_eq-Decides, same_Some, Appends-nil, Appends-trans, Consumes-nil, AreLawful, Organization, Asking, asked_of, asks, Message, ReportsReceived, ReportsInput, continue_if, Writes, Answer, IsReplyText, unavailable_answer, LogRow, Refusal}
 use Rattle.route.specs.Asks as route
-use Rattle.wire.specs.declared.messages.Message.{Message}
 use Rattle.wire.specs.declared.messages.WireFault.{WireFault}
 use Rattle.wire.specs.declared.messages.WireFault.TheVariants.{Refused, Down, Ended, Read, Continue}
 use Rattle.wire.specs.Messages.{Reading, unfinished, refused, whole}
-use Rattle.wire.specs.Links.{ReportsReceived, ReportsInput, continue_if, Writes}
-use Rattle.wire.specs.Replies.{Answer, IsReplyText, unavailable_answer}
-use Rattle.docs.specs.declared.logs.LogRow.{LogRow}
 use Rattle.serve.specs.Doors.{commanded, asked_at_door, ask_with, IsAnswerTo}
-use Rattle.serve.specs.Logs.{silent_row, with_answer, unavailable_row, command_row, no_command_row, IsUnavailableRow, request_row, row_of_ask, token_named, id_spelt, task_read}
-use Rattle.serve.specs.Asks.{Ask, Owner, owner_of, organization, unattributed, operator, silent, requests, commands}
+use Rattle.serve.specs.Logs.{silent_row, with_answer, unavailable_row, command_row, no_command_row, stop_row, IsUnavailableRow, request_row, row_of_ask, token_named, id_spelt, task_read}
+use Rattle.serve.specs.Asks.{Ask, Owner, owner_of, organization, unattributed, operator, silent, requests, commands, stops}
 use Rattle.serve.specs.Asks as ask
 use Rattle.serve.specs.Steps.{Said, replies, refusing, request_step, step}
 use Rattle.serve.specs.Inner.Prepared.{IsPrepared}
@@ -32,7 +19,6 @@ use Rattle.serve.specs.declared.doors.Door.TheVariants.{Closed, Open}
 use Rattle.serve.specs.declared.exchanges.LinkFault.{LinkFault}
 use Rattle.serve.specs.declared.exchanges.LinkFault.TheVariants.{Ended as LinkEnded, Read as LinkRead, Continue as LinkContinue, Write as LinkWrite}
 use Rattle.serve.specs.declared.messages.Prepared.{Prepared}
-use Rattle.basis.specs.declared.refusals.Refusal.{Refusal}
 use Rattle.serve.proofs.LawLemmas.{refusals_change_nothing}
 use Rattle.serve.proofs.RecordLemmas.{workspace_lawful}
 use Rattle.serve.proofs.CommandChanges.{MakesNothing, command_reported}
@@ -63,6 +49,7 @@ carried_one (requests at awaited asked content_md5 body) old new carries = (aske
     stays_apart : (a : Ask) (other : List ℕ) (rows : List ℕ → Option Organization) (b : Bool) → bytes_eq other asked.caller ≡ b → other ≢ asked.caller → after_ask b a (rows other) ≡ rows other
     stays_apart a other rows true e apart = absurd (apart ((bytes_eq-Decides other asked.caller).0 e))
     stays_apart a other rows false e apart = refl
+carried_one (stops at) old new carries = ([], (λ other apart. carries other))
 carried_one (commands at command) old new carries = by_owner (ask.commanded_of command) carries
   where
     stays_apart : (org other : List ℕ) (b : Bool) → bytes_eq other org ≡ b → other ≢ org → after_ask b (commands at command) (old other) ≡ old other
@@ -94,6 +81,8 @@ row_makes_nothing r (ask.refused at awaited refusal is_head false) row h = unava
 row_makes_nothing r (ask.refused at awaited refusal is_head true) row h = subst MakesNothing (sym h.1) (record { version = refl; run = refl })
 row_makes_nothing r (requests at awaited asked content_md5 body) row (inl is) = unavailable_makes_nothing row at is
 row_makes_nothing r (requests at awaited asked content_md5 body) row (inr request) = subst MakesNothing (sym request.is) (record { version = refl; run = refl })
+row_makes_nothing r (stops at) row (inl is) = subst MakesNothing (sym is) (record { version = refl; run = refl })
+row_makes_nothing r (stops at) row (inr is) = subst MakesNothing (sym is) (record { version = refl; run = refl })
 row_makes_nothing r (commands at command) row (inl is) = subst MakesNothing (sym is) (record { version = refl; run = refl })
 row_makes_nothing r (commands at command) row (inr is) = subst MakesNothing (sym is) (record { version = refl; run = refl })
 
@@ -119,6 +108,9 @@ asked_reported (ask.refused at awaited refusal is_head false) now due answer row
 asked_reported (ask.refused at awaited refusal is_head true) now due answer row old new lawful is answers carries =
     subst (λ (x : LogRow). ChangesAsLogged x old new) (sym (same_Some row (no_command_row at (refusing refusal None).answer) is))
     (stayed_logged (no_command_row at (refusing refusal None).answer) old new (record { version = refl; run = refl }) carries)
+asked_reported (stops at) now due answer row old new lawful is answers carries =
+    subst (λ (x : LogRow). ChangesAsLogged x old new) (sym (same_Some row (stop_row at answer) is))
+    (stayed_logged (stop_row at answer) old new (record { version = refl; run = refl }) carries)
 asked_reported (commands at command) now due answer row old new lawful is answers carries =
     subst (λ (x : LogRow). ChangesAsLogged x old new) (sym (same_Some row (command_row at command answer) is))
     (subst (λ (x : Answer). ChangesAsLogged (command_row at command x) old new) (sym answers.2) (command_reported at command answers.0 old new answers.1 carries))

@@ -1,25 +1,6 @@
 -- The body of a 423 is the holder's.
-use Rattle.std.proofs.Common.{◌≡◌, ℕ, Bool, true, false, cond, List, Option, Some, None, Result, Ok, Err, refl, sym, ap, subst, ◌∙◌}
-use Rattle.basis.specs.Checks.{or_refused, and_then}
-use Rattle.basis.specs.Roles.{includes}
-use Rattle.basis.specs.declared.refusals.Refusal.{Refusal}
-use Rattle.basis.specs.declared.refusals.Refusal.TheVariants.{Locked, BadToken, NotFound, BadDigest}
-use Rattle.basis.specs.declared.roles.Role.{Role}
+use Rattle.serve.proofs.Outside.{◌≡◌, ℕ, Bool, true, false, cond, List, Option, Some, None, Result, Ok, Err, refl, sym, ap, subst, ◌∙◌, or_refused, and_then, includes, Refusal, Locked, BadToken, NotFound, BadDigest, Role, sha256, Seen, missing, there, standing, workspace_in, Outcome, refused, held, done, no_state, state, workspace, the_run, versions, runs, rules, caller_of, Act, Holder, Token, Workspace, Organization, refusals_name_the_holder, never_refused_as_locked, missing_names_no_holder, allowed_by, least_role, need_of, is_admitted, Asked, AskedAct, ListWorkspaces, OfWorkspace}
 use Rattle.basis.specs.declared.roles.Role.TheVariants.{Read as Reads, Write as Writes, Admin as Manages}
-use Rattle.sha2.specs.Sha256.{sha256}
-use Rattle.machine.specs.Records.{Seen, missing, there, standing, workspace_in}
-use Rattle.machine.specs.Rules.{Outcome, refused, held, done, no_state, state, workspace, the_run, versions, runs, rules}
-use Rattle.machine.specs.Tokens.{caller_of}
-use Rattle.machine.specs.declared.acts.Act.{Act}
-use Rattle.basis.specs.declared.rows.Holder.{Holder}
-use Rattle.machine.specs.declared.records.Token.{Token}
-use Rattle.machine.specs.declared.records.Workspace.{Workspace}
-use Rattle.machine.specs.declared.records.Organization.{Organization}
-use Rattle.machine.proofs.RefusalLemmas.{refusals_name_the_holder, never_refused_as_locked, missing_names_no_holder}
-use Rattle.route.specs.Policy.{allowed_by, least_role, need_of, is_admitted}
-use Rattle.route.specs.declared.routes.Asked.{Asked}
-use Rattle.route.specs.declared.routes.AskedAct.{AskedAct}
-use Rattle.route.specs.declared.routes.AskedAct.TheVariants.{ListWorkspaces, OfWorkspace}
 use Rattle.serve.specs.Checks.{task_of, require, while_it_counts, known_caller, may_do, admitted, is_in_reach, in_reach, is_found, found, fits, digest_checked, act_of, checked}
 use Rattle.serve.specs.Steps.{answer_to, holder_text, seen_at, carried}
 use Rattle.serve.specs.Custody.{NamesIn, LockedNamesTheHolder}

@@ -1,16 +1,5 @@
 -- What isn't there is refused by the rules as it is by the checks.
-use Rattle.std.proofs.Common.{◌≡◌, ℕ, Bool, true, false, List, Option, Some, None, Result, Ok, Err, IsSome, refl, sym, ap, subst, ◌∙◌}
-use Rattle.std.specs.FinMap.{get}
-use Rattle.basis.specs.Checks.{and_then}
-use Rattle.basis.specs.declared.refusals.Refusal.{Refusal}
-use Rattle.basis.specs.declared.refusals.Refusal.TheVariants.{NotFound}
-use Rattle.machine.specs.Effects.{effect}
-use Rattle.machine.specs.Rules.{refused}
-use Rattle.machine.specs.declared.acts.Act.{Act}
-use Rattle.machine.specs.declared.records.Organization.{Organization}
-use Rattle.route.specs.declared.routes.AskedAct.{AskedAct}
-use Rattle.route.specs.declared.routes.AskedAct.TheVariants.{ListWorkspaces, OfWorkspace}
-use Rattle.basis.specs.declared.acts.WsAct.{WsAct}
+use Rattle.serve.proofs.Outside.{◌≡◌, ℕ, Bool, true, false, List, Option, Some, None, Result, Ok, Err, IsSome, refl, sym, ap, subst, ◌∙◌, get, and_then, Refusal, NotFound, effect, refused, Act, Organization, AskedAct, ListWorkspaces, OfWorkspace, WsAct}
 use Rattle.serve.specs.Checks.{require, is_found, found, digest_checked, act_of, task_of}
 use Rattle.serve.specs.Steps.{answer_to, ruled_in, refusing, carried}
 use Rattle.serve.specs.Inner.Judging.{judged_task, missed}

@@ -1,38 +1,11 @@
 -- Refusals change nothing, and what is out of reach is told as what isn't there.
-use Rattle.std.specs.Prelude.{if◌then◌else◌}
-use Rattle.std.proofs.Common.{◌≡◌, ◌≢◌, ℕ, Bool, true, false, not, ◌&&◌, ◌||◌, cond, List, Option, Some, None, Result, Ok, Err, is_some, refl, sym, ap, ◌∙◌}
-use Rattle.std.specs.Prelude.{option_map}
-use Rattle.std.specs.FinMap.{get}
-use Rattle.basis.specs.Checks.{and_then}
-use Rattle.basis.specs.declared.refusals.Refusal.{Refusal}
-use Rattle.basis.specs.declared.refusals.Refusal.TheVariants.{NotFound}
-use Rattle.machine.specs.Effects.{effect}
-use Rattle.machine.specs.Records.{workspace_in, placed}
-use Rattle.machine.specs.Rules.{Outcome, refused, held, done, no_state, state, workspace, the_run, versions, runs, Ruling, rules}
-use Rattle.machine.specs.Custody.{IsRefusal}
-use Rattle.machine.specs.Removal.{has_use}
-use Rattle.machine.specs.Tokens.{token_of, with_token, without_token, has_digest}
-use Rattle.machine.specs.declared.keeps.AdminAnswer.{AdminAnswer}
-use Rattle.machine.specs.declared.keeps.AdminAnswer.TheVariants.{Done, Exists, Absent, InUse}
-use Rattle.machine.specs.declared.records.Token.{Token}
-use Rattle.machine.specs.declared.records.Workspace.{Workspace}
-use Rattle.machine.specs.declared.records.Organization.{Organization}
+use Rattle.serve.proofs.Outside.{if◌then◌else◌, ◌≡◌, ◌≢◌, ℕ, Bool, true, false, not, ◌&&◌, ◌||◌, cond, List, Option, Some, None, Result, Ok, Err, is_some, refl, sym, ap, ◌∙◌, option_map, get, and_then, Refusal, NotFound, effect, workspace_in, placed, Outcome, refused, held, done, no_state, state, workspace, the_run, versions, runs, Ruling, rules, IsRefusal, has_use, token_of, with_token, without_token, has_digest, AdminAnswer, Done, Exists, Absent, InUse, Token, Workspace, Organization, sha256, includes, Role, admits, least_role, need_of, is_admitted, allowed_by, Asked, AskedAct, ListWorkspaces, OfWorkspace, WsAct, Answer}
 use Rattle.machine.proofs.RefusalLemmas.{refusals_change_nothing as rules_change_nothing}
-use Rattle.sha2.specs.Sha256.{sha256}
-use Rattle.basis.specs.Roles.{includes}
-use Rattle.basis.specs.declared.roles.Role.{Role}
-use Rattle.basis.specs.Names.{admits}
-use Rattle.route.specs.Policy.{least_role, need_of, is_admitted, allowed_by}
-use Rattle.route.specs.declared.routes.Asked.{Asked}
-use Rattle.route.specs.declared.routes.AskedAct.{AskedAct}
-use Rattle.route.specs.declared.routes.AskedAct.TheVariants.{ListWorkspaces, OfWorkspace}
-use Rattle.basis.specs.declared.acts.WsAct.{WsAct}
-use Rattle.wire.specs.Replies.{Answer}
 use Rattle.serve.specs.declared.steps.Admin.{Admin}
 use Rattle.serve.specs.declared.steps.Admin.TheVariants.{OrgAdd, OrgLimit, OrgRemove, OrgList, TokenAdd, TokenList, TokenRevoke}
 use Rattle.serve.specs.declared.checks.Task.{Task}
 use Rattle.serve.specs.declared.checks.Task.TheVariants.{ListAll, Carry}
-use Rattle.serve.specs.Asks.{silent, requests, commands}
+use Rattle.serve.specs.Asks.{silent, requests, commands, stops}
 use Rattle.serve.specs.Asks as ask
 use Rattle.serve.specs.Checks.{known_caller, may_do, admitted, is_in_reach, in_reach, require, makes, is_there, found, checked}
 use Rattle.serve.specs.Steps.{replies, reports, answer_to, seen_at, ruled_in, carried, request_step, command_step, command_said}
@@ -120,6 +93,7 @@ refusals_change_nothing r (requests at awaited asked content_md5 body) = (
       (ap (λ (a : Answer). a.refusal) (answer_is awaited also at now (request_step r at asked content_md5 body).answer answer e) ∙ is)),
   (λ answer e apart. absurd (let none : ⊥ = cc in none)),
 )
+refusals_change_nothing r (stops at) = ((λ awaited at answer refusal e is. refl), (λ answer e apart. refl))
 refusals_change_nothing r (commands at command) = (
   (λ awaited now answer refusal e is. absurd (no_reply command (command_step r command).answer awaited now answer e)),
   (λ answer e apart. command_leaves r command (λ done. apart (sym (said_is command (command_step r command).answer answer e) ∙ done))),

@@ -1,4 +1,5 @@
 pub mod ActLemmas
+pub mod Outside
 pub mod WordLemmas
 pub mod CheckLemmas
 pub mod RecordLemmas

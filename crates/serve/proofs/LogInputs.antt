@@ -1,21 +1,5 @@
 -- What decides an answer, and a row of the log: who asks by a token, and neither its name nor its secret.
-use Rattle.std.proofs.Common.{◌≡◌, ℕ, cond, List, [], ◌∷◌, map, Option, Some, Result, Ok, Err, refl, sym, ap, ◌∙◌}
-use Rattle.std.specs.FinMap.{FinMap, entries}
-use Rattle.std.specs.Str.{bytes_eq}
-use Rattle.sha2.specs.Sha256.{sha256}
-use Rattle.basis.specs.Checks.{or_refused, and_then}
-use Rattle.basis.specs.declared.refusals.Refusal.{Refusal}
-use Rattle.basis.specs.declared.refusals.Refusal.TheVariants.{BadToken, NotFound}
-use Rattle.basis.specs.declared.roles.Caller.{Caller}
-use Rattle.machine.specs.Order.{name_cmp}
-use Rattle.machine.specs.Tokens.{token_with}
-use Rattle.machine.specs.declared.keeps.TokenRow.{TokenRow}
-use Rattle.machine.specs.declared.records.Token.{Token}
-use Rattle.machine.specs.declared.records.Organization.{Organization}
-use Rattle.route.specs.Policy.{role_refused, is_admitted, allowed_by}
-use Rattle.route.specs.declared.routes.Asked.{Asked}
-use Rattle.route.specs.declared.routes.AskedAct.{AskedAct}
-use Rattle.route.specs.declared.routes.AskedAct.TheVariants.{ListWorkspaces, OfWorkspace}
+use Rattle.serve.proofs.Outside.{◌≡◌, ℕ, cond, List, [], ◌∷◌, map, Option, Some, Result, Ok, Err, refl, sym, ap, ◌∙◌, FinMap, entries, bytes_eq, sha256, or_refused, and_then, Refusal, BadToken, NotFound, Caller, name_cmp, token_with, TokenRow, Token, Organization, role_refused, is_admitted, allowed_by, Asked, AskedAct, ListWorkspaces, OfWorkspace}
 use Rattle.serve.specs.Checks.{require, while_it_counts, known_caller, in_reach, found, checked}
 use Rattle.serve.specs.Inner.Judging.{judged_task}
 use Rattle.serve.specs.Inner.Prepared.{found_valid_token, caller_known}

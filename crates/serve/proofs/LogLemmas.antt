@@ -1,42 +1,14 @@
 -- What the log tells: of a decision, of what isn't there, and of the token that asks.
-use Rattle.std.proofs.Common.{◌≡◌, ◌⊎◌, ℕ, Bool, true, false, cond, List, Option, Some, None, Result, Ok, Err, IsSome, IfOk, OnOk, refl, sym, ap, subst, ◌∙◌, eq-eqb, inl, inr}
-use Rattle.std.specs.Prelude.{if◌then◌else◌, option_map, ◌==◌}
-use Rattle.std.specs.Option.{option_map_or}
-use Rattle.std.specs.FinMap.{get}
-use Rattle.basis.specs.Checks.{or_refused, and_then}
-use Rattle.basis.specs.Roles.{is_valid_at}
-use Rattle.basis.specs.declared.refusals.Refusal.{Refusal}
-use Rattle.basis.specs.declared.refusals.Refusal.TheVariants.{Locked, BadToken, NotFound, Unavailable}
-use Rattle.basis.specs.declared.roles.Caller.{Caller}
-use Rattle.basis.specs.declared.rows.Holder.{Holder}
+use Rattle.serve.proofs.Outside.{◌≡◌, ◌⊎◌, ℕ, Bool, true, false, cond, List, Option, Some, None, Result, Ok, Err, IsSome, IfOk, OnOk, refl, sym, ap, subst, ◌∙◌, eq-eqb, inl, inr, if◌then◌else◌, option_map, ◌==◌, option_map_or, get, or_refused, and_then, is_valid_at, Refusal, Locked, BadToken, NotFound, Unavailable, Caller, Holder, sha256, effect, IsLawfulOrganization, meaning, answered, holder_of, Meets, workspace_in, seen_in, Outcome, refused, no_state, state, refused_by, rules, caller_of, asker_of, unit_of, unit_by, version_text, Act, Decision, Refused, Accepted, TokenRow, Token, Workspace, Organization, caller_refused, allowed_by, Asked, AskedAct, WsAct}
 use Rattle.basis.specs.declared.rows.Holder.TheVariants.{Nobody, Lock as HeldLock, Run as HeldRun}
-use Rattle.sha2.specs.Sha256.{sha256}
-use Rattle.machine.specs.Effects.{effect}
 use Rattle.machine.specs.Changes.{edited}
-use Rattle.machine.specs.Laws.{IsLawfulOrganization}
-use Rattle.machine.specs.Meaning.{meaning, answered, holder_of, Meets}
-use Rattle.machine.specs.Records.{workspace_in, seen_in}
-use Rattle.machine.specs.Rules.{Outcome, refused, no_state, state, refused_by, rules}
 use Rattle.machine.specs.Settling.{started_if}
-use Rattle.machine.specs.Tokens.{caller_of, asker_of}
-use Rattle.machine.specs.Units.{unit_of, unit_by, version_text}
-use Rattle.machine.specs.declared.acts.Act.{Act}
 use Rattle.machine.specs.declared.acts.Answer.{Answer}
 use Rattle.machine.specs.declared.acts.Answer.TheVariants as answer
-use Rattle.machine.specs.declared.acts.Decision.{Decision}
-use Rattle.machine.specs.declared.acts.Decision.TheVariants.{Refused, Accepted}
 use Rattle.machine.specs.declared.acts.Edit.{Edit}
 use Rattle.machine.specs.declared.acts.Edit.TheVariants as edit
 use Rattle.machine.specs.declared.acts.Unit.{Unit as AnyUnit}
-use Rattle.machine.specs.declared.keeps.TokenRow.{TokenRow}
-use Rattle.machine.specs.declared.records.Token.{Token}
-use Rattle.machine.specs.declared.records.Workspace.{Workspace}
-use Rattle.machine.specs.declared.records.Organization.{Organization}
 use Rattle.machine.proofs.TokenLemmas.{asker_calls}
-use Rattle.route.specs.Policy.{caller_refused, allowed_by}
-use Rattle.route.specs.declared.routes.Asked.{Asked}
-use Rattle.route.specs.declared.routes.AskedAct.{AskedAct}
-use Rattle.basis.specs.declared.acts.WsAct.{WsAct}
 use Rattle.serve.specs.Checks.{while_it_counts, in_reach, is_found, found, act_of}
 use Rattle.serve.specs.Inner.Judging.{judged_task}
 use Rattle.serve.specs.Inner.Prepared.{found_valid_token, row_known, caller_known}

@@ -1,28 +1,8 @@
 -- What the row of a request tells of versions and runs is what comes of them.
 use Rattle.std.proofs.Common.{◌≡◌, ◌≢◌, ◌⊎◌, inl, inr, ℕ, zero, suc, ◌+◌, ◌≤◌, ◌==◌, Bool, true, false, cond, List, [], ◌∷◌, map, Option, Some, None, Result, Ok, Err, IsSome, is_some, IfSome, refl, sym, ap, subst, ◌∙◌, arith, eq-eqb, eqb-true, ne_eqb}
-use Rattle.std.specs.Prelude.{if◌then◌else◌}
-use Rattle.std.specs.Option.{option_or}
-use Rattle.std.specs.Str.{bytes_eq}
-use Rattle.std.proofs.lemmas.Slice.Eq.{bytes_eq-Decides}
-use Rattle.std.proofs.lemmas.Option.{same_Some}
-use Rattle.docs.specs.declared.logs.LogRow.{LogRow}
-use Rattle.basis.specs.declared.refusals.Refusal.{Refusal}
-use Rattle.basis.specs.declared.rows.Holder.{Holder}
+use Rattle.serve.proofs.Outside.{if◌then◌else◌, option_or, bytes_eq, bytes_eq-Decides, same_Some, LogRow, Refusal, Holder, KeepsVersions, GainsVersion, IsAnew, Rises, holds, IsLawful, IsLawfulIfThere, Starts, Seen, missing, there, standing, workspace_in, rules, version_of, Act, Version, Workspace, Organization, workspaces_begin_anew, apart_from, Asked}
 use Rattle.basis.specs.declared.rows.Holder.TheVariants.{Nobody, Lock as HeldLock, Run as HeldRun}
-use Rattle.machine.specs.Custody.{KeepsVersions, GainsVersion, IsAnew}
-use Rattle.machine.specs.Laws.{Rises, holds, IsLawful, IsLawfulIfThere}
-use Rattle.machine.specs.Queue.{Starts}
-use Rattle.machine.specs.Records.{Seen, missing, there, standing, workspace_in}
-use Rattle.machine.specs.Rules.{rules}
-use Rattle.machine.specs.Units.{version_of}
-use Rattle.machine.specs.declared.acts.Act.{Act}
-use Rattle.machine.specs.declared.records.Version.{Version}
-use Rattle.machine.specs.declared.records.Workspace.{Workspace}
-use Rattle.machine.specs.declared.records.Organization.{Organization}
-use Rattle.machine.proofs.CustodyLemmas.{workspaces_begin_anew}
 use Rattle.machine.proofs.VersionLemmas.{numbers_rise}
-use Rattle.machine.proofs.KeepLemmas.{apart_from}
-use Rattle.route.specs.declared.routes.Asked.{Asked}
 use Rattle.serve.specs.Checks.{checked}
 use Rattle.serve.specs.Exchanges.{Makes, OfNamed, ComesAsLogged}
 use Rattle.serve.specs.Logs.{workspace_named, number_given, version_made, run_holding, run_started, traced, request_row}

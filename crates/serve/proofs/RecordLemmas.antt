@@ -1,35 +1,12 @@
 -- Records that stay as they are, and answers that are foreseen.
-use Rattle.std.proofs.Common.{◌≡◌, ◌≢◌, ℕ, Bool, false, ◌&&◌, cond, List, is_some, Option, Some, None, Result, Ok, Err, IsSome, IfOk, OnOk, nat_lt, refl, sym, ap, subst, ◌∙◌}
-use Rattle.std.proofs.lemmas.Option.{same_Some}
-use Rattle.std.specs.Prelude.{option_map}
-use Rattle.std.specs.Ordering.{is_eq}
-use Rattle.std.specs.declared.cmp.Ordering.{Ordering}
+use Rattle.serve.proofs.Outside.{◌≡◌, ◌≢◌, ℕ, Bool, false, ◌&&◌, cond, List, is_some, Option, Some, None, Result, Ok, Err, IsSome, IfOk, OnOk, nat_lt, refl, sym, ap, subst, ◌∙◌, same_Some, option_map, is_eq, Ordering, FinMap, get, insert, get-insert, same_map, Refusal, Unavailable, name_cmp, IsLawfulOrganization, IsLawfulIfThere, AreLawful, IsInRange, IsMoment, workspace_in, count_of, seen_in, standing, with_workspace, placed, Ruling, refused_by, rules, unit_of, unit_by, has_version, asked_run, meaning, answered, holder_of, Meets, ChangeIsDue, Act, Decision, Refused, Accepted, Holder, Workspace, Organization, names_total, names_same, remove_absent, standing_is, error_text, WsAct}
 use Rattle.std.specs.declared.cmp.Ordering.TheVariants.{Less, Equal, Greater}
-use Rattle.std.specs.FinMap.{FinMap, get, insert, get-insert, same_map}
-use Rattle.basis.specs.declared.refusals.Refusal.{Refusal}
-use Rattle.basis.specs.declared.refusals.Refusal.TheVariants.{Unavailable}
-use Rattle.machine.specs.Order.{name_cmp}
-use Rattle.machine.specs.Laws.{IsLawfulOrganization, IsLawfulIfThere, AreLawful}
-use Rattle.machine.specs.Ranges.{IsInRange, IsMoment}
-use Rattle.machine.specs.Records.{workspace_in, count_of, seen_in, standing, with_workspace, placed}
-use Rattle.machine.specs.Rules.{Ruling, refused_by, rules}
 use Rattle.machine.specs.Named.{keeps_named, has_named_run}
 use Rattle.machine.specs.Needs.{Needed, needs_of_query}
-use Rattle.machine.specs.Units.{unit_of, unit_by, has_version, asked_run}
-use Rattle.machine.specs.Meaning.{meaning, answered, holder_of, Meets, ChangeIsDue}
-use Rattle.machine.specs.declared.acts.Act.{Act}
-use Rattle.machine.specs.declared.acts.Decision.{Decision}
 use Rattle.machine.specs.declared.acts.Answer.{Answer as ActAnswer}
 use Rattle.machine.specs.declared.acts.Change.{Change}
 use Rattle.serve.specs.declared.requests.WsChange.{WsChange}
-use Rattle.machine.specs.declared.acts.Decision.TheVariants.{Refused, Accepted}
 use Rattle.machine.specs.declared.acts.Unit.{Unit as AnyUnit}
-use Rattle.basis.specs.declared.rows.Holder.{Holder}
-use Rattle.machine.specs.declared.records.Workspace.{Workspace}
-use Rattle.machine.specs.declared.records.Organization.{Organization}
-use Rattle.machine.proofs.MapLemmas.{names_total, names_same, remove_absent}
-use Rattle.machine.proofs.KeepLemmas.{standing_is}
-use Rattle.docs.specs.Bodies.{error_text}
 use Rattle.wire.specs.Replies.{Answer as Reply, refused_answer}
 use Rattle.serve.specs.Steps.{Answered, answer_to, seen_at, ruled_in, refusing}
 use Rattle.serve.specs.Inner.Prepared.{Foresees, ChangesTo}
@@ -37,7 +14,6 @@ use Rattle.serve.specs.Checks.{named_by, has_queried, is_there}
 use Rattle.serve.specs.Inner.Units.{holder_in, if_named, is_present}
 use Rattle.basis.specs.declared.acts.Query.{Query as AnyQuery}
 use Rattle.machine.specs.declared.acts.Act.TheVariants.{Query as QueryAct}
-use Rattle.basis.specs.declared.acts.WsAct.{WsAct}
 
 -- a workspace put where it stands already
 inserted_same : (m : FinMap name_cmp Workspace) (ws : List ℕ) (w : Workspace) → get m ws ≡ Some w → insert m ws w ≡ m

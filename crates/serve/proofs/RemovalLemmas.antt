@@ -1,30 +1,10 @@
 -- Removing an organization: whether one of its workspaces is in use, and what an operator's command leaves of them.
-use Rattle.std.proofs.Common.{◌≡◌, ◌≢◌, ◌⊎◌, inl, inr, ℕ, T, Bool, true, false, not, ◌&&◌, ◌||◌, cond, List, [], ◌∷◌, Option, Some, None, IsSome, is_some, nat_lt, refl, sym, ap, subst, ◌∙◌}
+use Rattle.serve.proofs.Outside.{◌≡◌, ◌≢◌, ◌⊎◌, inl, inr, ℕ, T, Bool, true, false, not, ◌&&◌, ◌||◌, cond, List, [], ◌∷◌, Option, Some, None, IsSome, is_some, nat_lt, refl, sym, ap, subst, ◌∙◌, list_any, eq_by_cmp, is_eq, Ordering, find, is_sorted, entries, entries_sorted, get, get-empty, get-entries, sha256, OpenRuns, Holder, name_cmp, effect, is_nobody, IsLawful, there, workspace_in, is_locked, is_in_use, has_use, org_removed, refused, done, delete, rules, token_of, with_token, without_token, has_digest, open_runs, Done, Exists, Absent, InUse, Workspace, Organization, held_stays, names_total, not_tied, tied_names, below_apart, both_first, both_second}
 use Rattle.std.proofs.Math.Bool.{or-true}
-use Rattle.std.specs.List.{list_any}
-use Rattle.std.specs.Ordering.{eq_by_cmp, is_eq}
 use Rattle.std.specs.Cmp.{tied_itself}
-use Rattle.std.specs.declared.cmp.Ordering.{Ordering}
-use Rattle.std.specs.FinMap.{find, is_sorted, entries, entries_sorted, get, get-empty, get-entries}
 use Rattle.std.specs.FinMap.Entries.{below_all}
-use Rattle.sha2.specs.Sha256.{sha256}
-use Rattle.basis.specs.declared.refusals.Refusal.TheVariants.{OpenRuns}
-use Rattle.basis.specs.declared.rows.Holder.{Holder}
 use Rattle.basis.specs.declared.rows.Holder.TheVariants.{Nobody, Lock as HeldLock, Run as HeldRun}
-use Rattle.machine.specs.Order.{name_cmp}
-use Rattle.machine.specs.Effects.{effect}
-use Rattle.machine.specs.Laws.{is_nobody, IsLawful}
-use Rattle.machine.specs.Records.{there, workspace_in}
-use Rattle.machine.specs.Removal.{is_locked, is_in_use, has_use, org_removed}
-use Rattle.machine.specs.Rules.{refused, done, delete, rules}
-use Rattle.machine.specs.Tokens.{token_of, with_token, without_token, has_digest}
-use Rattle.machine.specs.Workspaces.{open_runs}
 use Rattle.machine.specs.declared.acts.Act.TheVariants.{DeleteWorkspace as DeleteAct}
-use Rattle.machine.specs.declared.keeps.AdminAnswer.TheVariants.{Done, Exists, Absent, InUse}
-use Rattle.machine.specs.declared.records.Workspace.{Workspace}
-use Rattle.machine.specs.declared.records.Organization.{Organization}
-use Rattle.machine.proofs.BookLemmas.{held_stays}
-use Rattle.machine.proofs.MapLemmas.{names_total, not_tied, tied_names, below_apart, both_first, both_second}
 use Rattle.serve.specs.declared.steps.Admin.{Admin}
 use Rattle.serve.specs.declared.steps.Admin.TheVariants.{OrgAdd, OrgLimit, OrgRemove, OrgList, TokenAdd, TokenList, TokenRevoke}
 use Rattle.serve.specs.Steps.{command_step, command_said}

@@ -1,26 +1,15 @@
 -- A run one step longer, and runs that agree.
-use Rattle.std.specs.Prelude.{⊤}
-use Rattle.std.proofs.Common.{◌≡◌, ℕ, suc, ◌+◌, Bool, true, false, List, [], ◌∷◌, ◌++◌, length, take, get_or, ◌<◌, Option, None, Result, Ok, Err, IfOk, OnOk, Vec, Global, refl, sym, ap, subst, ◌∙◌, arith}
-use Rattle.std.proofs.lemmas.Slice.Eq.{bytes_eq-Decides}
-use Rattle.std.proofs.lemmas.List.{take_more, length-take-le}
-use Rattle.machine.specs.declared.records.Organization.{Organization}
-use Rattle.std.proofs.Math.Path.{fun_ext}
-use Rattle.std.proofs.Math.Seq.{take-length}
-use Rattle.wire.proofs.ReadingLemmas.{reads_one}
-use Rattle.wire.proofs.ReplyLemmas.{one_reply}
-use Rattle.wire.specs.Links.{continue_if}
+use Rattle.serve.proofs.Outside.{⊤, ◌≡◌, ℕ, suc, ◌+◌, Bool, true, false, List, [], ◌∷◌, ◌++◌, length, take, get_or, ◌<◌, Option, None, Result, Ok, Err, IfOk, OnOk, Vec, Global, refl, sym, ap, subst, ◌∙◌, arith, bytes_eq-Decides, take_more, length-take-le, Organization, fun_ext, take-length, reads_one, one_reply, continue_if, AdminAnswer, AllByRecursion}
 use Rattle.serve.specs.declared.steps.Step.{Step}
 use Rattle.serve.specs.declared.steps.Step.TheVariants.{Request, Command}
 use Rattle.serve.specs.declared.steps.Admin.{Admin}
 use Rattle.serve.specs.declared.steps.Admin.TheVariants.{OrgAdd, OrgLimit, OrgRemove, OrgList, TokenAdd, TokenList, TokenRevoke}
-use Rattle.machine.specs.declared.keeps.AdminAnswer.{AdminAnswer}
-use Rattle.serve.specs.Asks.{Ask, silent, refused, requests, commands, Owner, organization, unattributed, operator, commanded_of, owner_of, IsTimely}
+use Rattle.serve.specs.Asks.{Ask, silent, refused, requests, commands, stops, Owner, organization, unattributed, operator, commanded_of, owner_of, IsTimely}
 use Rattle.serve.specs.Steps.{Said, nothing, replies, reports, lists, lists_tokens, command_step, command_said, step, own_said, own_record}
 use Rattle.serve.specs.Service.{IsAsked, AreAsked, AreTexts, IsSaidText, ask_of, same_owner, is_own, with_own, own_asks, replies_at, record_for, after_ask, records_after, IsListed, said_to}
 use Rattle.serve.specs.Runs.{IsOwnMachine, IsOwnRecord, AreOwnReplies, ListsAreReported}
 use Rattle.serve.specs.Inner.Taking.{IsTaken, RunsTo}
 use Rattle.serve.specs.Laws.{TwoWorlds, own_steps, SameStepsAskTheSame}
-use Rattle.std.specs.List.{AllByRecursion}
 
 with_own-append : {A : Type 0} (b : Bool) (a : A) (xs ys : List A) → with_own b a (xs ++ ys) ≡ with_own b a xs ++ ys
 with_own-append true a xs ys = refl
@@ -111,6 +100,7 @@ pub nobody_still : (b : Ask) (r : Option Organization) → same_owner unattribut
 nobody_still silent r e = refl
 nobody_still (refused at awaited refusal is_head at_door) r e = refl
 nobody_still (requests at awaited asked content_md5 body) r e = absurd (let no : ⊥ = cc in no)
+nobody_still (stops at) r e = absurd (let no : ⊥ = cc in no)
 nobody_still (commands at command) r e = absurd (nobody_commands command e)
 
 list_still : (command : Admin) (r : Option Organization) → same_owner operator (commanded_of command) ≡ true → (command_step r command).left ≡ r
@@ -126,6 +116,7 @@ pub operator_still : (b : Ask) (r : Option Organization) → same_owner operator
 operator_still silent r e = absurd (let no : ⊥ = cc in no)
 operator_still (refused at awaited refusal is_head at_door) r e = absurd (let no : ⊥ = cc in no)
 operator_still (requests at awaited asked content_md5 body) r e = absurd (let no : ⊥ = cc in no)
+operator_still (stops at) r e = refl
 operator_still (commands at command) r e = list_still command r e
 
 module _ (owner : Owner) (still : (b : Ask) (r : Option Organization) → same_owner owner (owner_of b) ≡ true → (step r b).left ≡ r) where
@@ -233,6 +224,7 @@ step_of_one : (org : List ℕ) (r : Option Organization) (a : Ask) → is_own (o
 step_of_one org r silent own = tt
 step_of_one org r (refused at awaited refusal is_head at_door) own = tt
 step_of_one org r (requests at awaited asked content_md5 body) own = tt
+step_of_one org r (stops at) own = tt
 step_of_one org r (commands at command) own = said_of_one org command (command_step r command).answer own
 
 abbrev pub AreOfOne : List Said → Type 0

@@ -1,42 +1,27 @@
 -- Exchanges in a row: what one of them is, and what follows of each organization.
-use Rattle.std.proofs.Common.{◌≡◌, inl, inr, ℕ, Bool, true, false, List, [], ◌∷◌, ◌++◌, Option, Some, None, IfSome, Result, Ok, Err, refl, sym, ap, subst, ◌∙◌, append_assoc}
-use Rattle.std.specs.Prelude.{if◌then◌else◌}
-use Rattle.std.proofs.Math.Path.{fun_ext}
-use Rattle.std.specs.List.{AllByRecursion}
-use Rattle.std.specs.Io.KnownBytes.{Appends}
-use Rattle.basis.specs.declared.refusals.Refusal.{Refusal}
-use Rattle.docs.specs.declared.logs.LogRow.{LogRow}
-use Rattle.machine.specs.Ranges.{IsMoment}
-use Rattle.machine.specs.Tokens.{ListsOrganizations}
-use Rattle.machine.specs.declared.keeps.AdminAnswer.{AdminAnswer}
-use Rattle.machine.specs.declared.keeps.AdminAnswer.TheVariants.{Done, Exists, Absent, InUse, Organizations, Tokens}
-use Rattle.machine.specs.declared.records.Organization.{Organization}
-use Rattle.route.specs.Asks.{Asking, asked_of, asks}
+use Rattle.serve.proofs.Outside.{◌≡◌, inl, inr, ℕ, Bool, true, false, List, [], ◌∷◌, ◌++◌, Option, Some, None, IfSome, Result, Ok, Err, refl, sym, ap, subst, ◌∙◌, append_assoc, fun_ext, AllByRecursion, Appends, Refusal, LogRow, IsMoment, ListsOrganizations, AdminAnswer, Done, Exists, Absent, InUse, Organizations, Tokens, Organization, Asking, asked_of, asks, is_at_door, Message, continue_if, Reading, Reads, unfinished, whole, Answer, IsReplyText, Asked, AskedAct, ListWorkspaces, OfWorkspace, one_reply}
+use Rattle.std.specs.Prelude.{if◌then◌else◌, ◌&&◌, is_none}
 use Rattle.route.specs.Asks as route
-use Rattle.route.specs.Doors.{is_at_door}
-use Rattle.wire.specs.declared.messages.Message.{Message}
-use Rattle.wire.specs.Links.{continue_if}
-use Rattle.wire.specs.Messages.{Reading, Reads, unfinished, whole}
 use Rattle.wire.specs.Messages as wire
-use Rattle.wire.specs.Replies.{Answer, IsReplyText}
 use Rattle.serve.specs.declared.doors.Door.{Door}
 use Rattle.serve.specs.declared.doors.Door.TheVariants.{Closed, Open}
+use Rattle.serve.specs.declared.doors.DoorCommand.{DoorCommand}
+use Rattle.serve.specs.declared.doors.DoorCommand.TheVariants.{OnStore, Stop}
 use Rattle.serve.specs.declared.exchanges.LinkFault.TheVariants.{Ended, Read, Continue, Write}
 use Rattle.serve.specs.declared.steps.Admin.{Admin}
 use Rattle.serve.specs.declared.steps.Admin.TheVariants.{OrgAdd, OrgLimit, OrgRemove, OrgList, TokenAdd, TokenList, TokenRevoke}
-use Rattle.serve.specs.Asks.{Ask, silent, refused, requests, commands, Owner, organization, unattributed, operator, owner_of, IsTimely}
+use Rattle.serve.specs.Asks.{Ask, silent, refused, requests, commands, stops, Owner, organization, unattributed, operator, owner_of, IsTimely}
 use Rattle.serve.specs.Doors.{ComesToDoor, commanded, reported_answer, asked_at_door, ask_with, AsksWith, IsAnswerTo}
-use Rattle.serve.specs.Exchanges.{IsAnswered}
+use Rattle.serve.specs.Exchanges.{IsAnswered, IsUnavailableFor}
 use Rattle.serve.specs.Laws.{ExchangesAreServed, EachIsServedAlone, ServedKeepCustody, AsksInTurn, ServedInTurn, WroteAlike, AllWroteAlike, TwoServedWorlds}
 use Rattle.serve.specs.Runs.{IsOwnRecord}
 use Rattle.serve.specs.Service.{Asks, ask_of, asked_by, is_own, with_own, own_asks, replies_at, record_for, after_ask, Carries, Stays, said_to, IsAdminAnswer}
-use Rattle.serve.specs.Steps.{Said, nothing, reports, lists, lists_tokens, replies, step, own_said, own_record}
+use Rattle.serve.specs.Steps.{refusing, Said, nothing, reports, lists, lists_tokens, replies, step, own_said, own_record}
 use Rattle.serve.specs.Promises.{ServicesAreAsPromised}
 use Rattle.serve.specs.AbsentForms.{ServedRequest, record_at, ServedTellAbsentForms}
-use Rattle.route.specs.declared.routes.Asked.{Asked}
 use Rattle.serve.proofs.AbsentLemmas.{looks_absent}
-use Rattle.serve.specs.Served.{Exchange, IsLetIn, IsFrontOf, Replies, IsSaidBy, IsTold, IsCutShort, IsServedBy, IsServed, AreServed, with_carried, with_ask, asked_in, carried_in, AreTold, AreOwnTold}
-use Rattle.wire.proofs.ReplyLemmas.{one_reply}
+use Rattle.serve.specs.Logs.{act_logged, act_commanded, silent_row, with_answer, command_row, no_command_row, request_row, row_of_ask, IsUnavailableRow, is_stop, names_stop}
+use Rattle.serve.specs.Served.{Exchange, AsksToStop, IsLetIn, IsFrontOf, Replies, IsSaidBy, IsTold, IsCutShort, IsServedBy, IsServed, AreServed, with_carried, with_ask, asked_in, carried_in, AreTold, AreOwnTold}
 use Rattle.serve.proofs.BookLemmas.{custody_is_kept}
 use Rattle.serve.proofs.DoorLemmas.{brings}
 use Rattle.serve.proofs.RunLemmas.{own_record-append, own_asks-append, IsOfOne, AreOfOne, own_of_one, owner_is, nobody_still, operator_still}
@@ -69,21 +54,80 @@ pub answer_said : (rows : List ℕ → Option Organization) (at : ℕ) (awaited 
 answer_said rows at awaited silent answer answers = absurd answers
 answer_said rows at awaited (refused now due refusal is_head at_door) answer answers = answers
 answer_said rows at awaited (requests now due asked content_md5 body) answer answers = answers
+answer_said rows at awaited (stops now) answer answers = answers
 answer_said rows at awaited (commands now command) answer answers = command_said_by rows now command at awaited answers.0 answer answers.1 answers.2
 
-abbrev Found : Door → ℕ → List ℕ → (List ℕ → Option Organization) → (List ℕ → Option Organization) → Option (List ℕ) → Option (List ℕ) → Type 0
-Found door at received old new before after = (e : Exchange) × (e.at ≡ at) × (e.received ≡ received) × Appends before after e.written × IsServed door e old new
+-- only the row of `stop` is that of a `stop` that was answered `ok`
+both_true : (b c : Bool) → b ≡ false → (b && c) ≡ true → ⊥
+both_true true c e h = let no : ⊥ = cc in no
+both_true false c e h = let no : ⊥ = cc in no
+
+not_stop : (row : LogRow) → is_stop row.act ≡ false → names_stop (Some row) ≡ true → ⊥
+not_stop row e h = both_true (is_stop row.act) (is_none row.refusal) e h
+
+refused_not_stop : (row : LogRow) → is_none row.refusal ≡ false → names_stop (Some row) ≡ true → ⊥
+refused_not_stop row e h = by_act (is_stop row.act) (is_none row.refusal) e h
+  where
+    by_act : (b c : Bool) → c ≡ false → (b && c) ≡ true → ⊥
+    by_act true c is both = let no : ⊥ = cc in no
+    by_act false c is both = let no : ⊥ = cc in no
+
+act_not_stop : (what : AskedAct) → is_stop (Some (act_logged what)) ≡ false
+act_not_stop (ListWorkspaces after) = refl
+act_not_stop (OfWorkspace ws act) = refl
+
+command_not_stop : (command : Admin) → is_stop (Some (act_commanded command)) ≡ false
+command_not_stop (OrgAdd org limit) = refl
+command_not_stop (OrgLimit org limit) = refl
+command_not_stop (OrgRemove org is_forced) = refl
+command_not_stop OrgList = refl
+command_not_stop (TokenAdd org name role secret bounds) = refl
+command_not_stop (TokenList org) = refl
+command_not_stop (TokenRevoke org name) = refl
+
+stop_asked : (r : Option Organization) (ask : Ask) (answer : Answer) → names_stop (row_of_ask r ask answer) ≡ true → (at : ℕ) × (ask ≡ stops at)
+stop_asked r silent answer h = absurd (let no : ⊥ = cc in no)
+stop_asked r (refused at due refusal is_head false) answer h = absurd (not_stop (with_answer (refusing refusal r).answer (silent_row at)) refl h)
+stop_asked r (refused at due refusal is_head true) answer h = absurd (not_stop (no_command_row at (refusing refusal r).answer) refl h)
+stop_asked r (requests at due asked content_md5 body) answer h = absurd (not_stop (request_row r at asked content_md5 body) (act_not_stop asked.act) h)
+stop_asked r (commands at command) answer h = absurd (not_stop (command_row at command answer) (command_not_stop command) h)
+stop_asked r (stops at) answer h = (at, refl)
+
+-- no row of a 503 is
+down_not_stop : (r : Option Organization) (ask : Ask) (row : LogRow) → IsUnavailableRow r ask row → is_none row.refusal ≡ false
+down_not_stop r silent row h = absurd h
+down_not_stop r (refused at due refusal is_head false) row h = ap (λ (x : LogRow). is_none x.refusal) h
+down_not_stop r (refused at due refusal is_head true) row h = ap (λ (x : LogRow). is_none x.refusal) h.1
+down_not_stop r (requests at due asked content_md5 body) row (inl is) = ap (λ (x : LogRow). is_none x.refusal) is
+down_not_stop r (requests at due asked content_md5 body) row (inr request) = ap (λ (x : LogRow). is_none x.refusal) request.is
+down_not_stop r (commands at command) row (inl is) = ap (λ (x : LogRow). is_none x.refusal) is
+down_not_stop r (commands at command) row (inr is) = ap (λ (x : LogRow). is_none x.refusal) is
+down_not_stop r (stops at) row (inl is) = ap (λ (x : LogRow). is_none x.refusal) is
+down_not_stop r (stops at) row (inr is) = ap (λ (x : LogRow). is_none x.refusal) is
+
+down_refuses : (door : Door) (now : ℕ) (old : List ℕ → Option Organization) (reading : Option Reading) (row : LogRow) → IsUnavailableFor door now old reading row → is_none row.refusal ≡ false
+down_refuses door now old None row h = ap (λ (x : LogRow). is_none x.refusal) h
+down_refuses door now old (Some reading) row h = down_not_stop (record_for old (owner_of (ask_with door now reading))) (ask_with door now reading) row h
+
+stops_of : (row reported : Option LogRow) → row ≡ reported → names_stop row ≡ true → names_stop reported ≡ true
+stops_of row reported is h = subst (λ (x : Option LogRow). names_stop x ≡ true) is h
+
+abbrev Found : Door → ℕ → List ℕ → (List ℕ → Option Organization) → (List ℕ → Option Organization) → Option (List ℕ) → Option (List ℕ) → Option LogRow → Type 0
+Found door at received old new before after row =
+    (e : Exchange) × (e.at ≡ at) × (e.received ≡ received) × Appends before after e.written × IsServed door e old new × (names_stop row ≡ true → AsksToStop e)
 
 -- an exchange with a reply, as far as it was written
 answered : (door : Door) (at : ℕ) (received : List ℕ) (old new : List ℕ → Option Organization) (before after : Option (List ℕ)) (awaited : Bool) (text : List ℕ) (row : Option LogRow) (is_whole : Bool) (written : List ℕ) (is_down : Bool)
     → IsMoment at → IsFrontOf is_whole written (continue_if awaited ++ text) → Appends before after written → IsAnswered door at received old new awaited text row is_down
-    → Found door at received old new before after
+    → Found door at received old new before after row
 answered door at received old new before after awaited text row is_whole written false moment front appends served = (
   record { at = at; received = received; awaited = awaited; written = written; is_whole = is_whole; ask = Some served.ask },
   refl,
   refl,
   appends,
   (moment, (served.answer, served.carried, (text, served.is, front))),
+  λ stopped. let asked = stop_asked (record_for old (owner_of served.ask)) served.ask served.answer (stops_of row (row_of_ask (record_for old (owner_of served.ask)) served.ask served.answer) served.logged stopped) in
+      (asked.0, ap Some asked.1),
 )
 answered door at received old new before after awaited text row is_whole written true moment front appends down = (
   record { at = at; received = received; awaited = awaited; written = written; is_whole = is_whole; ask = None },
@@ -91,17 +135,19 @@ answered door at received old new before after awaited text row is_whole written
   refl,
   appends,
   (moment, (down.1.stays, inl (down.1.without_body, (text, down.1.is, front)))),
+  λ stopped. absurd (refused_not_stop down.1.reported (down_refuses door at old down.0 down.1.reported down.1.logged) (stops_of row (Some down.1.reported) down.1.reports stopped)),
 )
 
 -- an exchange without a reply
-unanswered : (door : Door) (at : ℕ) (received : List ℕ) (old new : List ℕ → Option Organization) (before after : Option (List ℕ)) (written : List ℕ) (awaited : Bool) → IsMoment at → Stays old new
-    → IsCutShort (record { at = at; received = received; awaited = awaited; written = written; is_whole = false; ask = None }) → Appends before after written → Found door at received old new before after
-unanswered door at received old new before after written awaited moment stays cut appends = (
+unanswered : (door : Door) (at : ℕ) (received : List ℕ) (old new : List ℕ → Option Organization) (before after : Option (List ℕ)) (row : Option LogRow) (written : List ℕ) (awaited : Bool) → row ≡ Some (silent_row at) → IsMoment at → Stays old new
+    → IsCutShort (record { at = at; received = received; awaited = awaited; written = written; is_whole = false; ask = None }) → Appends before after written → Found door at received old new before after row
+unanswered door at received old new before after row written awaited blank moment stays cut appends = (
   record { at = at; received = received; awaited = awaited; written = written; is_whole = false; ask = None },
   refl,
   refl,
   appends,
   (moment, (stays, inr (refl, cut))),
+  λ stopped. absurd (not_stop (silent_row at) refl (stops_of row (Some (silent_row at)) blank stopped)),
 )
 
 pub exchanges_are_served : ExchangesAreServed
@@ -111,13 +157,13 @@ exchanges_are_served door at received left old new before after is_down row (Err
     answered door at received old new before after h.0 (h.1 ++ h.2) row false (continue_if h.0 ++ h.1) is_down moment (h.2, h.3, sym (append_assoc (continue_if h.0) h.1 h.2)) h.5 h.4
 exchanges_are_served door at received left old new before after is_down row (Err Ended) moment h stays =
     let continues = h.4 in
-    unanswered door at received old new before after (continue_if continues.0) continues.0 moment (stays (inl refl)) (inl (h.2, continues.1, refl)) continues.2
+    unanswered door at received old new before after row (continue_if continues.0) continues.0 h.1 moment (stays (inl refl)) (inl (h.2, continues.1, refl)) continues.2
 exchanges_are_served door at received left old new before after is_down row (Err Read) moment h stays =
     let continues = h.3 in
-    unanswered door at received old new before after (continue_if continues.0) continues.0 moment (stays (inr (inl refl))) (inl (h.2, continues.1, refl)) continues.2
+    unanswered door at received old new before after row (continue_if continues.0) continues.0 h.1 moment (stays (inr (inl refl))) (inl (h.2, continues.1, refl)) continues.2
 exchanges_are_served door at received left old new before after is_down row (Err Continue) moment h stays =
     let cut = h.3 in
-    unanswered door at received old new before after cut.0 true moment (stays (inr (inr refl))) (inr (h.2, (cut.1, cut.2, cut.3))) cut.4
+    unanswered door at received old new before after row cut.0 true h.1 moment (stays (inr (inr refl))) (inr (h.2, (cut.1, cut.2, cut.3))) cut.4
 
 -- ---- exchanges in a row
 
@@ -176,8 +222,9 @@ module _ (at : ℕ) (moment : IsMoment at) where
   asking_timely awaited message (route.refused refusal) = tt
   asking_timely awaited message (asks asked) = moment
 
-  door_timely : (awaited : Bool) (message : Message) (asks : Result Admin Refusal) → IsTimely (asked_at_door at awaited message asks)
-  door_timely awaited message (Ok command) = tt
+  door_timely : (awaited : Bool) (message : Message) (asks : Result DoorCommand Refusal) → IsTimely (asked_at_door at awaited message asks)
+  door_timely awaited message (Ok (OnStore command)) = tt
+  door_timely awaited message (Ok Stop) = tt
   door_timely awaited message (Err refusal) = tt
 
   open_timely : (digest : List ℕ) (message : Message) (awaited b : Bool) → IsTimely (if b then asked_at_door at awaited message (commanded digest message) else asked_by at awaited message (asked_of message))
@@ -229,9 +276,10 @@ stands_at door (x ∷ earlier) e later old new h =
     record { before = more.before; after = more.after; came = (h.0, h.1, more.came); served = more.served }
 
 -- a request is asked past the door
-request_at_door : (at : ℕ) (due : Bool) (message : Message) (spells : Result Admin Refusal) (awaited : Bool) (asked : Asked) (content_md5 : Option (List ℕ)) (body : List ℕ)
+request_at_door : (at : ℕ) (due : Bool) (message : Message) (spells : Result DoorCommand Refusal) (awaited : Bool) (asked : Asked) (content_md5 : Option (List ℕ)) (body : List ℕ)
     → requests at awaited asked content_md5 body ≡ asked_at_door at due message spells → ⊥
-request_at_door at due message (Ok command) awaited asked content_md5 body is = let no : ⊥ = cc in no
+request_at_door at due message (Ok (OnStore command)) awaited asked content_md5 body is = let no : ⊥ = cc in no
+request_at_door at due message (Ok Stop) awaited asked content_md5 body is = let no : ⊥ = cc in no
 request_at_door at due message (Err refusal) awaited asked content_md5 body is = let no : ⊥ = cc in no
 
 request_open : (digest : List ℕ) (at : ℕ) (message : Message) (due b awaited : Bool) (asked : Asked) (content_md5 : Option (List ℕ)) (body : List ℕ)
@@ -276,9 +324,10 @@ asking_let_in : (door : Door) (bytes : List ℕ) (at : ℕ) (awaited : Bool) (me
 asking_let_in door bytes at awaited message (route.refused refusal) = tt
 asking_let_in door bytes at awaited message (asks asked) = tt
 
-door_let_in : (digest bytes : List ℕ) (at : ℕ) (awaited : Bool) (message : Message) (spells : Result Admin Refusal) → ComesToDoor bytes message awaited → commanded digest message ≡ spells
+door_let_in : (digest bytes : List ℕ) (at : ℕ) (awaited : Bool) (message : Message) (spells : Result DoorCommand Refusal) → ComesToDoor bytes message awaited → commanded digest message ≡ spells
     → IsLetIn (Open digest) bytes (asked_at_door at awaited message spells)
-door_let_in digest bytes at awaited message (Ok command) comes is = (message, awaited, comes, brings digest message command is)
+door_let_in digest bytes at awaited message (Ok (OnStore command)) comes is = (message, awaited, comes, brings digest message (OnStore command) is)
+door_let_in digest bytes at awaited message (Ok Stop) comes is = (message, awaited, comes, brings digest message Stop is)
 door_let_in digest bytes at awaited message (Err refusal) comes is = tt
 
 open_let_in : (digest bytes : List ℕ) (at : ℕ) (awaited : Bool) (message : Message) (b : Bool) → is_at_door message ≡ b → Reads bytes (whole message awaited)

@@ -1,16 +1,9 @@
 -- One step taken: what it asks is carried out, and this is the text of what is said.
-use Rattle.std.proofs.Common.{◌≡◌, ℕ, Bool, true, false, not, ◌&&◌, ◌||◌, cond, List, Option, Some, None, is_some, Result, IfOk, refl, sym, ap, subst, ◌∙◌}
-use Rattle.std.proofs.lemmas.Result.{IfOk-weaker}
-use Rattle.std.specs.FinMap.{get}
-use Rattle.sha2.specs.Sha256.{sha256}
-use Rattle.machine.specs.declared.records.Organization.{Organization}
-use Rattle.route.specs.Asks.{Asking, asked_of, asks}
+use Rattle.serve.proofs.Outside.{◌≡◌, ℕ, Bool, true, false, not, ◌&&◌, ◌||◌, cond, List, Option, Some, None, is_some, Result, IfOk, refl, sym, ap, subst, ◌∙◌, IfOk-weaker, get, sha256, Organization, Asking, asked_of, asks, Message, unfinished, whole, Reading, effect, has_use, has_digest, with_token, without_token, token_of, token_list_answer, ListsOrganizations, AdminAnswer, Done, Exists, Absent, InUse, Organizations, Tokens, IsMoment}
 use Rattle.route.specs.Asks as route
-use Rattle.wire.specs.declared.messages.Message.{Message}
-use Rattle.wire.specs.Messages.{unfinished, whole, Reading}
 use Rattle.wire.specs.Messages as wire
 use Rattle.serve.specs.declared.messages.Prepared.{Prepared}
-use Rattle.serve.specs.Asks.{Ask, silent, requests, commands, organization, IsTimely}
+use Rattle.serve.specs.Asks.{Ask, silent, requests, commands, stops, organization, IsTimely}
 use Rattle.serve.specs.Asks as ask
 use Rattle.serve.specs.Inner.Prepared.{IsPrepared, Foresees}
 use Rattle.serve.specs.Steps.{request_step, command_step}
@@ -22,12 +15,6 @@ use Rattle.serve.specs.declared.steps.Step.{Step}
 use Rattle.serve.specs.declared.steps.Step.TheVariants.{Command, Request}
 use Rattle.serve.specs.declared.steps.Admin.{Admin}
 use Rattle.serve.specs.declared.steps.Admin.TheVariants.{OrgAdd, OrgLimit, OrgRemove, OrgList, TokenAdd, TokenList, TokenRevoke}
-use Rattle.machine.specs.Effects.{effect}
-use Rattle.machine.specs.Removal.{has_use}
-use Rattle.machine.specs.Tokens.{has_digest, with_token, without_token, token_of, token_list_answer, ListsOrganizations}
-use Rattle.machine.specs.declared.keeps.AdminAnswer.{AdminAnswer}
-use Rattle.machine.specs.declared.keeps.AdminAnswer.TheVariants.{Done, Exists, Absent, InUse, Organizations, Tokens}
-use Rattle.machine.specs.Ranges.{IsMoment}
 
 -- what is prepared stays so over rows that stay
 pub prepared_after : (old new : List ℕ → Option Organization) (a : Ask) (p : Prepared) → Stays old new → IsPrepared old a p → IsPrepared new a p
@@ -35,6 +22,7 @@ prepared_after old new silent p stays h = h
 prepared_after old new (ask.refused at awaited refusal is_head at_door) p stays h = h
 prepared_after old new (requests at awaited asked content_md5 body) p stays h =
     subst (λ (r : Option Organization). Foresees r asked.caller (request_step r at asked content_md5 body) p.reply p.change) (sym (stays asked.caller)) h
+prepared_after old new (stops at) p stays h = h
 prepared_after old new (commands at command) p stays h = h
 
 pub carries_after : (old mid new : List ℕ → Option Organization) (a : Ask) → Stays old mid → Carries a mid new → Carries a old new

@@ -1,12 +1,5 @@
 -- Tokens that end and tokens for some workspaces: when they count, what they are for, and how they are listed.
-use Rattle.std.specs.Prelude.{codes}
-use Rattle.std.specs.Fmt.{digits}
-use Rattle.std.proofs.Common.{◌≡◌, ℕ, List, [], Option, Some, None, refl}
-use Rattle.basis.specs.declared.roles.Role.{Role}
-use Rattle.basis.specs.declared.roles.Role.TheVariants.{Write, Admin}
-use Rattle.machine.specs.declared.keeps.AdminAnswer.TheVariants.{Absent, Tokens}
-use Rattle.machine.specs.declared.keeps.TokenRow.{TokenRow}
-use Rattle.machine.specs.declared.records.Token.{Token}
+use Rattle.serve.proofs.Outside.{codes, digits, ◌≡◌, ℕ, List, [], Option, Some, None, refl, Role, Write, Admin, Absent, Tokens, TokenRow, Token}
 use Rattle.serve.specs.Checks.{while_it_counts}
 use Rattle.serve.specs.Service.{token_line, token_list_text}
 

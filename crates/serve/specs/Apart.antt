@@ -8,7 +8,7 @@ use Rattle.machine.specs.declared.records.Organization.{Organization}
 use Rattle.route.specs.declared.routes.Asked.{Asked}
 use Rattle.serve.specs.declared.doors.Door.{Door}
 use Rattle.serve.specs.declared.steps.Admin.TheVariants.{OrgList}
-use Rattle.serve.specs.Asks.{Ask, silent, refused, requests, commands, Owner, unattributed, operator}
+use Rattle.serve.specs.Asks.{Ask, silent, refused, requests, commands, stops, Owner, unattributed, operator}
 use Rattle.serve.specs.Checks.{is_in_reach, known_caller, may_do}
 use Rattle.serve.specs.Laws.{WroteAlike}
 use Rattle.serve.specs.Logs.{org_commanded}
@@ -44,6 +44,7 @@ abbrev pub org_named : Ask → Option (List ℕ)
 org_named silent = None
 org_named (refused at awaited refusal is_head at_door) = None
 org_named (requests at awaited asked content_md5 body) = Some asked.caller
+org_named (stops at) = None
 org_named (commands at command) = org_commanded command
 
 -- what names an organization goes to the organization's service; or to any, if nobody has a record of the organization, before or after

@@ -16,6 +16,8 @@ pub data Ask : Type 0 where
   requests : ℕ → Bool → Asked → Option (List ℕ) → List ℕ → Ask
   -- an operator's command
   commands : ℕ → Admin → Ask
+  -- at the operator's door, that the service ends
+  stops : ℕ → Ask
 
 -- whose a step is
 pub data Owner : Type 0 where
@@ -23,7 +25,7 @@ pub data Owner : Type 0 where
   organization : List ℕ → Owner
   -- nobody's: what its bytes say is refused, or unfinished
   unattributed : Owner
-  -- the operator's, who lists all organizations, or the tokens of one
+  -- the operator's, who lists all organizations, or the tokens of one, or stops the service
   operator : Owner
 
 -- the owner of an operator's command: the organization that it names, or the operator, if it only lists organizations or tokens
@@ -41,6 +43,7 @@ abbrev pub owner_of : Ask → Owner
 owner_of silent = unattributed
 owner_of (refused at awaited refusal is_head at_door) = unattributed
 owner_of (requests at awaited asked content_md5 body) = organization asked.caller
+owner_of (stops at) = operator
 owner_of (commands at command) = commanded_of command
 
 -- the moment of a request is in range
@@ -48,4 +51,5 @@ abbrev pub IsTimely : Ask → Type 0
 IsTimely silent = ⊤
 IsTimely (refused at awaited refusal is_head at_door) = ⊤
 IsTimely (requests at awaited asked content_md5 body) = IsMoment at
+IsTimely (stops at) = ⊤
 IsTimely (commands at command) = ⊤

@@ -21,7 +21,7 @@ use Rattle.route.specs.declared.routes.AskedAct.TheVariants.{OfWorkspace}
 use Rattle.basis.specs.declared.acts.WsAct.{WsAct}
 use Rattle.basis.specs.declared.acts.WsAct.TheVariants.{UpdateState, PurgeState}
 use Rattle.serve.specs.declared.steps.Step.{Step}
-use Rattle.serve.specs.Asks.{Ask, silent, requests, commands, organization, IsTimely}
+use Rattle.serve.specs.Asks.{Ask, silent, requests, commands, stops, organization, IsTimely}
 use Rattle.serve.specs.Asks as ask
 use Rattle.serve.specs.Custody.{Names, IsActOn, CarriesId, ReleasesLock, ForcesRemoval, asked_again, MayRepeat, IsAccepted}
 use Rattle.serve.specs.Service.{AreAsked, own_asks}
@@ -111,6 +111,7 @@ abbrev pub AsksOf : List ℕ → WsAct → Ask → Type 0
 AsksOf ws what silent = ⊥
 AsksOf ws what (ask.refused at awaited refusal is_head at_door) = ⊥
 AsksOf ws what (requests at awaited asked content_md5 body) = asked.act ≡ OfWorkspace ws what
+AsksOf ws what (stops at) = ⊥
 AsksOf ws what (commands at command) = ⊥
 
 -- it asks for this act on the workspace, its documents read
@@ -118,6 +119,7 @@ abbrev pub AsksFor : List ℕ → Act → Ask → Type 0
 AsksFor ws act silent = ⊥
 AsksFor ws act (ask.refused at awaited refusal is_head at_door) = ⊥
 AsksFor ws act (requests at awaited asked content_md5 body) = (what : WsAct) × (asked.act ≡ OfWorkspace ws what) × IsActOn asked.act asked.lock_id body act
+AsksFor ws act (stops at) = ⊥
 AsksFor ws act (commands at command) = ⊥
 
 -- the request has no ID in its query
@@ -125,6 +127,7 @@ abbrev pub CarriesNoId : Ask → Type 0
 CarriesNoId silent = ⊥
 CarriesNoId (ask.refused at awaited refusal is_head at_door) = ⊥
 CarriesNoId (requests at awaited asked content_md5 body) = asked.lock_id ≡ None
+CarriesNoId (stops at) = ⊥
 CarriesNoId (commands at command) = ⊥
 
 -- an accepted update, or an accepted purge, of the workspace

@@ -13,7 +13,7 @@ use Rattle.machine.specs.declared.records.Organization.{Organization}
 use Rattle.route.specs.declared.routes.Asked.{Asked}
 use Rattle.route.specs.declared.routes.AskedAct.{AskedAct}
 use Rattle.route.specs.declared.routes.AskedAct.TheVariants.{ListWorkspaces, OfWorkspace}
-use Rattle.serve.specs.Asks.{Ask, silent, requests, commands}
+use Rattle.serve.specs.Asks.{Ask, silent, requests, commands, stops}
 use Rattle.serve.specs.Asks as ask
 use Rattle.serve.specs.Checks.{act_of}
 use Rattle.serve.specs.declared.steps.Admin.{Admin}
@@ -31,6 +31,7 @@ abbrev pub Names : Ask → List ℕ → Type 0
 Names silent ws = ⊥
 Names (ask.refused at awaited refusal is_head at_door) ws = ⊥
 Names (requests at awaited asked content_md5 body) ws = NamesIn asked.act ws
+Names (stops at) ws = ⊥
 Names (commands at command) ws = ⊥
 
 -- the removal of an organization, and one by force
@@ -47,6 +48,7 @@ abbrev pub RemovesOrganization : Ask → Type 0
 RemovesOrganization silent = ⊥
 RemovesOrganization (ask.refused at awaited refusal is_head at_door) = ⊥
 RemovesOrganization (requests at awaited asked content_md5 body) = ⊥
+RemovesOrganization (stops at) = ⊥
 RemovesOrganization (commands at command) = IsRemoval command
 
 -- and it is by force
@@ -54,6 +56,7 @@ abbrev pub ForcesRemoval : Ask → Type 0
 ForcesRemoval silent = ⊥
 ForcesRemoval (ask.refused at awaited refusal is_head at_door) = ⊥
 ForcesRemoval (requests at awaited asked content_md5 body) = ⊥
+ForcesRemoval (stops at) = ⊥
 ForcesRemoval (commands at command) = IsForcedRemoval command
 
 -- a step changes at most the workspace that it names; the removal of the organization takes all of them
@@ -65,6 +68,7 @@ abbrev pub CarriesId : Ask → List ℕ → Type 0
 CarriesId silent held = ⊥
 CarriesId (ask.refused at awaited refusal is_head at_door) held = ⊥
 CarriesId (requests at awaited asked content_md5 body) held = asked.lock_id ≡ Some held
+CarriesId (stops at) held = ⊥
 CarriesId (commands at command) held = ⊥
 
 -- the act, its documents read, that is asked of a workspace
@@ -77,6 +81,7 @@ abbrev pub ReleasesLock : Ask → List ℕ → Type 0
 ReleasesLock silent held = ⊥
 ReleasesLock (ask.refused at awaited refusal is_head at_door) held = ⊥
 ReleasesLock (requests at awaited asked content_md5 body) held = (act : Act) × IsActOn asked.act asked.lock_id body act × Releases act held
+ReleasesLock (stops at) held = ⊥
 ReleasesLock (commands at command) held = ⊥
 
 -- what a step leaves of a workspace that a lock holds: its versions, or the step named it and carried the lock's ID; and the
@@ -113,6 +118,7 @@ abbrev pub asked_again : ℕ → Ask → Ask
 asked_again later silent = silent
 asked_again later (ask.refused at awaited refusal is_head at_door) = ask.refused later awaited refusal is_head at_door
 asked_again later (requests at awaited asked content_md5 body) = requests later awaited asked content_md5 body
+asked_again later (stops at) = stops later
 asked_again later (commands at command) = commands later command
 
 -- what may be sent again
@@ -120,6 +126,7 @@ abbrev pub MayRepeat : Ask → Type 0
 MayRepeat silent = ⊤
 MayRepeat (ask.refused at awaited refusal is_head at_door) = ⊤
 MayRepeat (requests at awaited asked content_md5 body) = (act : Act) → IsActOn asked.act asked.lock_id body act → IsRepeatable act
+MayRepeat (stops at) = ⊤
 MayRepeat (commands at command) = ⊤
 
 -- a moment is not before that of a step
@@ -127,6 +134,7 @@ abbrev pub IsNotBefore : Ask → ℕ → Type 0
 IsNotBefore silent later = ⊤
 IsNotBefore (ask.refused at awaited refusal is_head at_door) later = at ≤ later
 IsNotBefore (requests at awaited asked content_md5 body) later = at ≤ later
+IsNotBefore (stops at) later = at ≤ later
 IsNotBefore (commands at command) later = at ≤ later
 
 -- what is sent again, not before, while the record is as the first left it, changes nothing more

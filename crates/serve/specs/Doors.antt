@@ -1,10 +1,11 @@
 -- The operator's door: what bytes ask with it, and how what they ask is carried out and answered.
-use Rattle.std.specs.Prelude.{◌≡◌, ℕ, Bool, false, true, nat_le, cond, if◌then◌else◌, List, length, Option, Some, None, option_and_then, Result, Ok, Err, IsTrue}
+use Rattle.std.specs.Prelude.{◌≡◌, ℕ, Bool, false, true, nat_le, cond, if◌then◌else◌, List, length, Option, Some, None, option_and_then, option_map, bytes_eq, codes, Result, Ok, Err, IsTrue}
 use Rattle.sha2.specs.Sha256.{sha256}
 use Rattle.basis.specs.declared.refusals.Refusal.{Refusal}
 use Rattle.basis.specs.declared.refusals.Refusal.TheVariants.{BadBody}
 use Rattle.basis.specs.Checks.{or_refused, and_then}
 use Rattle.machine.specs.declared.keeps.AdminAnswer.{AdminAnswer}
+use Rattle.machine.specs.declared.keeps.AdminAnswer.TheVariants.{Done}
 use Rattle.machine.specs.declared.records.Organization.{Organization}
 use Rattle.route.specs.Asks.{asked_of}
 use Rattle.route.specs.Doors.{is_at_door, operator_of, may_enter}
@@ -14,8 +15,9 @@ use Rattle.wire.specs.Messages as wire
 use Rattle.wire.specs.Replies.{Answer, text_answer}
 use Rattle.serve.specs.declared.doors.Door.{Door}
 use Rattle.serve.specs.declared.doors.Door.TheVariants.{Closed, Open}
-use Rattle.serve.specs.declared.steps.Admin.{Admin}
-use Rattle.serve.specs.Asks.{Ask, silent, refused, requests, commands}
+use Rattle.serve.specs.declared.doors.DoorCommand.{DoorCommand}
+use Rattle.serve.specs.declared.doors.DoorCommand.TheVariants.{OnStore, Stop}
+use Rattle.serve.specs.Asks.{Ask, silent, refused, requests, commands, stops}
 use Rattle.serve.specs.Checks.{digest_checked}
 use Rattle.serve.specs.Lines.{only_line}
 use Rattle.serve.specs.Service.{asked_by, ask_of, is_head, Carries, said_to, IsAdminAnswer, reported_text, reported_refusal}
@@ -26,17 +28,21 @@ use Rattle.serve.specs.Words.{command_in_line}
 abbrev pub opened_by : List ℕ → Door
 opened_by secret = Open (sha256 secret)
 
+-- the command at the door that a line is: `stop`, or an operator's command on the store
+abbrev pub door_command : List ℕ → Option DoorCommand
+door_command line = if bytes_eq line (codes "stop") then Some Stop else option_map OnStore (command_in_line line)
+
 -- the command that a body of at most 4,096 bytes is: one line, with or without its line feed
-abbrev pub command_in : List ℕ → Result Admin Refusal
-command_in body = or_refused BadBody (cond (nat_le (length body) 4096) (option_and_then command_in_line (only_line body)) None)
+abbrev pub command_in : List ℕ → Result DoorCommand Refusal
+command_in body = or_refused BadBody (cond (nat_le (length body) 4096) (option_and_then door_command (only_line body)) None)
 
 -- the command that a message asks for once it may enter, or the refusal of the first check that fails: Content-MD5, the body
-abbrev pub command_asked : Message → Result Admin Refusal
+abbrev pub command_asked : Message → Result DoorCommand Refusal
 command_asked message = and_then (digest_checked message.content_md5 message.body) (λ _. command_in message.body)
 
 -- the command that a message at the open door asks for, or the refusal of the first check that fails: the method, the query, the secret
 -- of this digest, Content-MD5, the body
-abbrev pub commanded : List ℕ → Message → Result Admin Refusal
+abbrev pub commanded : List ℕ → Message → Result DoorCommand Refusal
 commanded digest message = and_then (may_enter digest message) (λ _. command_asked message)
 
 -- the bytes are a message that comes to the door; whether `100 Continue` is awaited
@@ -55,8 +61,9 @@ reported_answer answer = text_answer (reported_refusal answer) (reported_text an
 -- ---- what is asked
 
 -- what a message at the open door asks at a moment: its command, or that it is turned away
-abbrev pub asked_at_door : ℕ → Bool → Message → Result Admin Refusal → Ask
-asked_at_door at awaited message (Ok command) = commands at command
+abbrev pub asked_at_door : ℕ → Bool → Message → Result DoorCommand Refusal → Ask
+asked_at_door at awaited message (Ok (OnStore command)) = commands at command
+asked_at_door at awaited message (Ok Stop) = stops at
 asked_at_door at awaited message (Err refusal) = refused at awaited refusal (is_head message) true
 
 -- what the reading of a string of bytes asks at a moment, with this door
@@ -80,11 +87,12 @@ pub record AsksWith (door : Door) (at : ℕ) (bytes : List ℕ) (awaited : Bool)
   pub due : awaited ≡ awaits reading
   pub is : ask ≡ ask_with door at reading
 
--- the answer on a connection to what is asked, by the records before: to a command what the program would print
+-- the answer on a connection to what is asked, by the records before: to a command what the program would print; to `stop` the word `ok`
 abbrev pub IsAnswerTo : (List ℕ → Option Organization) → ℕ → Bool → Ask → Answer → Type 0
 IsAnswerTo rows at awaited silent answer = ⊥
 IsAnswerTo rows at awaited (refused now due refusal is_head at_door) answer = said_to rows (refused now due refusal is_head at_door) ≡ replies awaited at answer
 IsAnswerTo rows at awaited (requests now due asked content_md5 body) answer = said_to rows (requests now due asked content_md5 body) ≡ replies awaited at answer
+IsAnswerTo rows at awaited (stops now) answer = answer ≡ reported_answer Done
 IsAnswerTo rows at awaited (commands now command) answer = (a : AdminAnswer) × IsAdminAnswer rows command a × (answer ≡ reported_answer a)
 
 -- what the bytes of a connection ask is carried out, and this is the answer

@@ -29,10 +29,10 @@ use Rattle.serve.specs.Book.{KeepsCustody}
 use Rattle.route.specs.Policy.{is_admitted}
 use Rattle.serve.specs.Checks.{is_in_reach, known_caller, may_do}
 use Rattle.serve.specs.Steps.{replies, reports, refusing, request_step, step}
-use Rattle.serve.specs.Logs.{request_row}
+use Rattle.serve.specs.Logs.{request_row, names_stop}
 use Rattle.serve.specs.Service.{Stays, AreAsked, with_own, is_own, own_asks, replies_at}
 use Rattle.serve.specs.Exchanges.{Exchanges}
-use Rattle.serve.specs.Served.{Exchange, IsServed, AreServed, AreOwnTold, IsServedAlone, asked_in, carried_in}
+use Rattle.serve.specs.Served.{Exchange, AsksToStop, IsServed, AreServed, AreOwnTold, IsServedAlone, asked_in, carried_in}
 use Rattle.serve.specs.Runs.{IsOwnMachine, IsOwnRecord}
 
 -- a list of steps asks one list of things
@@ -112,11 +112,11 @@ SecretsAreNotLogged = (r : Option Organization) (at : ℕ) (asked : Asked) (secr
 abbrev pub HasNoReply : {T : Type 0} → Result T LinkFault → Type 0
 HasNoReply result = IsErrOf result Ended ⊎ (IsErrOf result Read ⊎ IsErrOf result Continue)
 
--- an exchange is one of `Served`, whatever its link did
+-- an exchange is one of `Served`, whatever its link did; and only `stop` has the row of a `stop` that was answered `ok`
 abbrev pub ExchangesAreServed : Type 0
 ExchangesAreServed = (door : Door) (at : ℕ) (received : List ℕ) (left : Option (List ℕ)) (old new : List ℕ → Option Organization) (before after : Option (List ℕ)) (is_down : Bool) (row : Option LogRow) (result : Result (Unit {0}) LinkFault)
     → IsMoment at → Exchanges door at received left old new before after is_down row result → (HasNoReply result → Stays old new)
-    → (e : Exchange) × (e.at ≡ at) × (e.received ≡ received) × Appends before after e.written × IsServed door e old new
+    → (e : Exchange) × (e.at ≡ at) × (e.received ≡ received) × Appends before after e.written × IsServed door e old new × (names_stop row ≡ true → AsksToStop e)
 
 -- isolation of exchanges in a row
 abbrev pub EachIsServedAlone : Type 0

@@ -1,5 +1,5 @@
 -- The log row of an exchange: by what was asked, the record before it, and the answer.
-use Rattle.std.specs.Prelude.{◌≡◌, ◌≢◌, ◌⊎◌, ℕ, zero, suc, true, false, ◌==◌, if◌then◌else◌, List, Option, Some, None, Result, Ok, Err}
+use Rattle.std.specs.Prelude.{◌≡◌, ◌≢◌, ◌⊎◌, ◌&&◌, ℕ, zero, suc, Bool, true, false, is_none, ◌==◌, if◌then◌else◌, List, Option, Some, None, Result, Ok, Err}
 use Rattle.std.specs.Option.{option_or}
 use Rattle.basis.specs.Acts.{act_number}
 use Rattle.basis.specs.Checks.{and_then}
@@ -12,7 +12,7 @@ use Rattle.sha2.specs.Sha256.{sha256}
 use Rattle.docs.specs.declared.logs.LogAct.{LogAct}
 use Rattle.docs.specs.declared.logs.LogAct.TheVariants as logged
 use Rattle.docs.specs.declared.logs.LogRow.{LogRow}
-use Rattle.docs.specs.declared.logs.OperatorAct.TheVariants.{AddOrganization, LimitOrganization, RemoveOrganization, ListOrganizations, AddToken, ListTokens, RevokeToken}
+use Rattle.docs.specs.declared.logs.OperatorAct.TheVariants.{AddOrganization, LimitOrganization, RemoveOrganization, ListOrganizations, AddToken, ListTokens, RevokeToken, Stop}
 use Rattle.machine.specs.Laws.{holds}
 use Rattle.machine.specs.Records.{workspace_in}
 use Rattle.machine.specs.Rules.{Outcome, refused, held, done, no_state, state, workspace, the_run, versions, runs, Ruling, rules}
@@ -24,7 +24,7 @@ use Rattle.route.specs.declared.routes.Asked.{Asked}
 use Rattle.route.specs.declared.routes.AskedAct.{AskedAct}
 use Rattle.route.specs.declared.routes.AskedAct.TheVariants.{ListWorkspaces, OfWorkspace}
 use Rattle.wire.specs.Replies.{Answer, unavailable_answer}
-use Rattle.serve.specs.Asks.{Ask, silent, requests, commands}
+use Rattle.serve.specs.Asks.{Ask, silent, requests, commands, stops}
 use Rattle.serve.specs.Asks as ask
 use Rattle.serve.specs.Checks.{known_caller, may_do, admitted, in_reach, digest_checked, task_of, checked, id_of_act}
 use Rattle.serve.specs.Steps.{seen_at, request_step, refusing}
@@ -178,6 +178,19 @@ command_row at command answer = operator_row at (Some (act_commanded command)) (
 abbrev pub no_command_row : ℕ → Answer → LogRow
 no_command_row at answer = operator_row at None None None answer
 
+-- the row of the command that ends the service: it names no organization
+abbrev pub stop_row : ℕ → Answer → LogRow
+stop_row at answer = operator_row at (Some (logged.OfOperator Stop)) None None answer
+
+-- whether a row is that of a `stop` that was answered `ok`
+abbrev pub is_stop : Option LogAct → Bool
+is_stop (Some (logged.OfOperator Stop)) = true
+is_stop other = false
+
+abbrev pub names_stop : Option LogRow → Bool
+names_stop None = false
+names_stop (Some row) = is_stop row.act && is_none row.refusal
+
 -- the row of a request, by what is asked, what was answered, the token's name, the ID in the document, and what the rules did
 abbrev pub row_of_request : ℕ → Asked → Answer → Option (List ℕ) → Option (List ℕ) → Trace → LogRow
 row_of_request at asked answer token id trace = record {
@@ -206,6 +219,7 @@ row_of_ask r silent answer = None
 row_of_ask r (ask.refused at awaited refusal is_head false) answer = Some (with_answer (refusing refusal r).answer (silent_row at))
 row_of_ask r (ask.refused at awaited refusal is_head true) answer = Some (no_command_row at (refusing refusal r).answer)
 row_of_ask r (requests at awaited asked content_md5 body) answer = Some (request_row r at asked content_md5 body)
+row_of_ask r (stops at) answer = Some (stop_row at answer)
 row_of_ask r (commands at command) answer = Some (command_row at command answer)
 
 -- the row of the 503 of a failed allocation or store, if nothing was read of what is asked
@@ -242,4 +256,5 @@ IsUnavailableRow r silent row = ⊥
 IsUnavailableRow r (ask.refused at awaited refusal is_head false) row = row ≡ unavailable_row at
 IsUnavailableRow r (ask.refused at awaited refusal is_head true) row = (refusal ≢ BadSecret) × (row ≡ no_command_row at (unavailable_answer false))
 IsUnavailableRow r (requests at awaited asked content_md5 body) row = (row ≡ unavailable_row at) ⊎ IsUnavailableRequest r at asked content_md5 body row
+IsUnavailableRow r (stops at) row = (row ≡ no_command_row at (unavailable_answer false)) ⊎ (row ≡ stop_row at (unavailable_answer false))
 IsUnavailableRow r (commands at command) row = (row ≡ no_command_row at (unavailable_answer false)) ⊎ (row ≡ command_row at command (unavailable_answer false))

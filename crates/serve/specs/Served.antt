@@ -12,7 +12,7 @@ use Rattle.wire.specs.Messages.{Reads, unfinished, AwaitsContinue, IsAwaited}
 use Rattle.wire.specs.Replies.{Answer, IsReplyText, unavailable_answer}
 use Rattle.serve.specs.declared.doors.Door.{Door}
 use Rattle.serve.specs.declared.doors.Door.TheVariants.{Closed, Open}
-use Rattle.serve.specs.Asks.{Ask, silent, refused, requests, commands, Owner, organization}
+use Rattle.serve.specs.Asks.{Ask, silent, refused, requests, commands, stops, Owner, organization}
 use Rattle.serve.specs.Doors.{ComesToDoor, reported_answer, BringsSecret, CarriesOut}
 use Rattle.serve.specs.Runs.{IsOwnRecord}
 use Rattle.serve.specs.Service.{Stays, own_asks, replies_at, record_for}
@@ -30,16 +30,21 @@ pub record Exchange : Type 0 where
   pub is_whole : Bool
   pub ask : Option Ask
 
+-- what it carried out is `stop`
+abbrev pub AsksToStop : Exchange → Type 0
+AsksToStop e = (at : ℕ) × (e.ask ≡ Some (stops at))
+
 -- the bytes are a message at the open door with its secret
 abbrev pub BringsSecretTo : Door → List ℕ → Type 0
 BringsSecretTo Closed bytes = ⊥
 BringsSecretTo (Open digest) bytes = (message : Message) × (awaited : Bool) × ComesToDoor bytes message awaited × BringsSecret digest message
 
--- an operator's command came with the secret
+-- an operator's command, or `stop`, came with the secret
 abbrev pub IsLetIn : Door → List ℕ → Ask → Type 0
 IsLetIn door bytes silent = ⊤
 IsLetIn door bytes (refused now due refusal is_head at_door) = ⊤
 IsLetIn door bytes (requests now due asked content_md5 body) = ⊤
+IsLetIn door bytes (stops now) = BringsSecretTo door bytes
 IsLetIn door bytes (commands now command) = BringsSecretTo door bytes
 
 -- these bytes are the text, or the front of it

@@ -20,7 +20,7 @@ use Rattle.wire.specs.Links.{continue_if}
 use Rattle.wire.specs.Replies.{IsReplyText}
 use Rattle.serve.specs.declared.steps.Step.{Step}
 use Rattle.serve.specs.declared.steps.Step.TheVariants.{Request, Command}
-use Rattle.serve.specs.Asks.{Ask, silent, refused, requests, commands, Owner, organization, unattributed, operator, owner_of}
+use Rattle.serve.specs.Asks.{Ask, silent, refused, requests, commands, stops, Owner, organization, unattributed, operator, owner_of}
 use Rattle.serve.specs.declared.steps.Admin.{Admin}
 use Rattle.serve.specs.declared.steps.Admin.TheVariants.{OrgAdd, OrgLimit, OrgRemove, OrgList, TokenAdd, TokenList, TokenRevoke}
 use Rattle.serve.specs.Steps.{Said, nothing, replies, reports, lists, lists_tokens, command_step, step}
@@ -215,6 +215,7 @@ abbrev pub IsListed : (List ℕ → Option Organization) → Ask → List ℕ �
 IsListed records silent text = ⊤
 IsListed records (refused at awaited refusal is_head at_door) text = ⊤
 IsListed records (requests at awaited asked content_md5 body) text = ⊤
+IsListed records (stops at) text = ⊤
 IsListed records (commands at command) text = IsListedBy records command text
 
 -- no record changes

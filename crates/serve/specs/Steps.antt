@@ -19,7 +19,7 @@ use Rattle.route.specs.declared.routes.Asked.{Asked}
 use Rattle.wire.specs.Replies.{Answer, empty_answer, no_content_answer, document_answer, refused_answer}
 use Rattle.serve.specs.declared.steps.Admin.{Admin}
 use Rattle.serve.specs.declared.steps.Admin.TheVariants.{OrgAdd, OrgLimit, OrgRemove, OrgList, TokenAdd, TokenList, TokenRevoke}
-use Rattle.serve.specs.Asks.{Ask, silent, requests, commands}
+use Rattle.serve.specs.Asks.{Ask, silent, requests, commands, stops}
 use Rattle.serve.specs.Asks as ask
 use Rattle.serve.specs.Checks.{checked}
 use Rattle.serve.specs.declared.checks.Task.{Task}
@@ -103,12 +103,13 @@ command_said (TokenAdd org name role secret bounds) answer = reports answer
 command_said (TokenList org) answer = lists_tokens
 command_said (TokenRevoke org name) answer = reports answer
 
--- the step of an organization's machine: what is said, and the record afterwards; an unattributed step changes no record and reads none
+-- the step of an organization's machine: what is said, and the record afterwards; an unattributed step and `stop` change no record and read none
 abbrev pub step : Option Organization → Ask → Effect Said (Option Organization)
 step r silent = effect nothing r
 step r (ask.refused at awaited refusal is_head at_door) = effect (replies awaited at (refused_answer refusal (error_text refusal) is_head)) r
 step r (requests at awaited asked content_md5 body) =
     let done = request_step r at asked content_md5 body in effect (replies awaited at done.answer) done.left
+step r (stops at) = effect (reports Done) r
 step r (commands at command) =
     let done = command_step r command in effect (command_said command done.answer) done.left
 

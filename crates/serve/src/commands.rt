@@ -3,6 +3,7 @@ ghost use Rattle.std.specs.Prelude.{◌≡◌, ℕ, IfOk, OnErr, length, ◌≤�
 ghost use Rattle.machine.specs.StoreCalls.{Unchanged, Lasts};
 ghost use Rattle.machine.specs.Tokens.{ListsOrganizations, token_list_answer};
 ghost use Rattle.machine.specs.declared.keeps.AdminAnswer.{AdminAnswer};
+ghost use Rattle.machine.specs.declared.keeps.AdminAnswer.TheVariants.{Done};
 ghost use Rattle.serve.specs.Asks.{commands};
 ghost use Rattle.serve.specs.Inner.Taking.{IsOnOne, IsReported, IsCarriedOut};
 ghost use Rattle.serve.specs.Service.{Carries, Stays, IsAdminAnswer, org_lines, token_lines, admin_word, reported_text, reported_refusal};
@@ -146,6 +147,14 @@ fn report_answer(alloc: Global, answer: &AdminAnswer) -> Result<CommandReport, D
         refusal: reported_refusal(answer),
         text: Bytes::new(text),
     })
+}
+
+/// The word `ok`, of what is done by others.
+pub fn report_done(alloc: Global) -> Result<CommandReport, Down>
+    ensures { IfOk result (IsReported Done) }
+{
+    let answer = AdminAnswer::Done;
+    report_answer(alloc, &answer)
 }
 
 // Lists all organizations, which changes nothing.

@@ -1,16 +1,17 @@
 //! The operator's door: an operator's command in a request.
-ghost use Rattle.std.specs.Prelude.{◌≡◌, ◌≢◌, false, Some, None, IfOk, IfErr, OnOk, OnErr};
+ghost use Rattle.std.specs.Prelude.{◌≡◌, ◌≢◌, false, Some, None, IfOk, IfErr, OnOk, OnErr, IsErrOf};
 ghost use Rattle.basis.specs.Inner.Checks.{Follows};
 ghost use Rattle.machine.specs.StoreCalls.{Lasts};
+ghost use Rattle.machine.specs.declared.keeps.AdminAnswer.TheVariants.{Done};
 ghost use Rattle.docs.specs.Bodies.{error_text};
 ghost use Rattle.wire.specs.Replies.{text_answer, refused_answer, unavailable_answer};
-ghost use Rattle.serve.specs.Doors.{opened_by, command_in, command_asked};
-ghost use Rattle.serve.specs.Logs.{act_commanded, org_commanded, token_commanded, command_row, no_command_row};
+ghost use Rattle.serve.specs.Doors.{opened_by, door_command, command_in, command_asked, reported_answer};
+ghost use Rattle.serve.specs.Logs.{act_commanded, org_commanded, token_commanded, command_row, no_command_row, stop_row};
 ghost use Rattle.serve.specs.Service.{Stays};
-ghost use Rattle.serve.specs.Inner.Doors.{Operates, TurnsAway, OperatesOrNot, IsRowSoFar};
+ghost use Rattle.serve.specs.Inner.Doors.{row_commanded, Operates, TurnsAway, OperatesOrNot, IsRowSoFar};
 
 use crate::checks::digest_checked;
-use crate::commands::{CommandReport, report};
+use crate::commands::{CommandReport, report, report_done};
 use crate::lines::{MAX_LINE, only_line};
 use crate::logs::operator_row;
 use crate::messages::is_head;
@@ -42,8 +43,29 @@ impl Door {
     }
 }
 
+/// A command at the operator's door.
+#[derive(Drop)]
+pub enum DoorCommand {
+    /// An operator's command on the store.
+    OnStore(Admin),
+    /// The service ends.
+    Stop,
+}
+
+// The command at the door that a line is.
+fn read_door_command(alloc: Global, line: &[u8]) -> Result<DoorCommand, Unfit>
+    ensures ok { IfOk result (λ command. door_command line.now ≡ Some command) }
+    ensures syntax { IsErrOf result Unfit.Syntax → door_command line.now ≡ None }
+{
+    if line == b"stop".as_slice() {
+        return Ok(DoorCommand::Stop);
+    }
+    let command = read_command_line(alloc, line)?;
+    Ok(DoorCommand::OnStore(command))
+}
+
 // The command that a body is.
-fn command_in(alloc: Global, body: &[u8]) -> Result<Admin, Refusal>
+fn command_in(alloc: Global, body: &[u8]) -> Result<DoorCommand, Refusal>
     ensures { Follows result (command_in body.now) }
 {
     if body.len() > MAX_LINE {
@@ -52,7 +74,7 @@ fn command_in(alloc: Global, body: &[u8]) -> Result<Admin, Refusal>
     let Some(line) = only_line(body) else {
         return Err(Refusal::BadBody);
     };
-    match read_command_line(alloc, line) {
+    match read_door_command(alloc, line) {
         Ok(command) => Ok(command),
         Err(Unfit::Syntax) => Err(Refusal::BadBody),
         Err(Unfit::Down) => Err(Refusal::Unavailable),
@@ -61,7 +83,7 @@ fn command_in(alloc: Global, body: &[u8]) -> Result<Admin, Refusal>
 
 // The command that a message asks for once it may enter, or the refusal of the first check that fails: Content-MD5, the
 // body. `Unavailable` if an allocation fails.
-fn command_asked(alloc: Global, message: &Message) -> Result<Admin, Refusal>
+fn command_asked(alloc: Global, message: &Message) -> Result<DoorCommand, Refusal>
     ensures { Follows result (command_asked message.now) }
 {
     digest_checked(&message.content_md5, &message.body)?;
@@ -174,13 +196,69 @@ fn carry_out<K: Keep>(
     asked: Admin,
 ) -> Result<Operated, LogRow>
     ensures lasts { Lasts K.clean K.sound K.keyed K.shielded keep.old keep.new }
-    ensures ok { K.clean keep.new → K.sound keep.old → IfOk result (Operates at asked (K.rows keep.old) (K.rows keep.new)) }
+    ensures ok { K.clean keep.new → K.sound keep.old → IfOk result (Operates at (DoorCommand.OnStore asked) (K.rows keep.old) (K.rows keep.new)) }
     ensures err { K.clean keep.new → OnErr result (Stays (K.rows keep.old) (K.rows keep.new)) }
     ensures row { IfErr result (λ row. row ≡ command_row at asked (unavailable_answer false)) }
 {
     match report(alloc, keep, &asked) {
         Ok(reported) => Ok(answered(at, asked, reported)),
         Err(Down) => Err(row_so_far(at, asked)),
+    }
+}
+
+fn stop_row(at: Moment, reply: &Reply) -> LogRow
+    ensures { result ≡ stop_row at reply.now }
+{
+    let act = LogAct::OfOperator(OperatorAct::Stop);
+    operator_row(at, Some(act), None, None, reply)
+}
+
+// The reply and the row for `stop`.
+fn stopped(at: Moment, reported: CommandReport) -> Operated
+    ensures reply { result.reply ≡ text_answer reported.refusal reported.text }
+    ensures row { result.row ≡ stop_row at (text_answer reported.refusal reported.text) }
+{
+    let CommandReport { refusal, text } = reported;
+    let reply = Reply::text(refusal, text);
+    let row = stop_row(at, &reply);
+    Operated { reply, row }
+}
+
+// The row of its 503.
+fn down_row(at: Moment) -> LogRow
+    ensures { result ≡ stop_row at (unavailable_answer false) }
+{
+    let reply = Reply::unavailable(false);
+    stop_row(at, &reply)
+}
+
+// Answers `stop`. It changes nothing: whoever serves the connections ends the service, by the row.
+fn stop(alloc: Global, at: Moment) -> Result<Operated, LogRow>
+    ensures reply { IfOk result (λ done. done.reply ≡ reported_answer Done) }
+    ensures row { IfOk result (λ done. done.row ≡ stop_row at (reported_answer Done)) }
+    ensures down { IfErr result (λ row. row ≡ stop_row at (unavailable_answer false)) }
+{
+    match report_done(alloc) {
+        Ok(reported) => Ok(stopped(at, reported)),
+        Err(Down) => Err(down_row(at)),
+    }
+}
+
+// Carries out a command at the door.
+fn obey<K: Keep>(
+    alloc: Global,
+    keep: &mut K,
+    at: Moment,
+    asked: DoorCommand,
+) -> Result<Operated, LogRow>
+    ensures lasts { Lasts K.clean K.sound K.keyed K.shielded keep.old keep.new }
+    ensures ok { K.clean keep.new → K.sound keep.old → IfOk result (Operates at asked (K.rows keep.old) (K.rows keep.new)) }
+    ensures err { K.clean keep.new → OnErr result (Stays (K.rows keep.old) (K.rows keep.new)) }
+    ensures row { IfErr result (λ row. row ≡ row_commanded at asked (unavailable_answer false)) }
+{
+    match asked {
+        DoorCommand::OnStore(command) => carry_out(alloc, keep, at, command),
+        DoorCommand::Stop => stop(alloc, at),
     }
 }
 
@@ -229,7 +307,7 @@ pub fn operate<K: Keep>(
         return turn_away(alloc, at, why, is_head(message));
     }
     match command_asked(alloc, message) {
-        Ok(asked) => carry_out(alloc, keep, at, asked),
+        Ok(asked) => obey(alloc, keep, at, asked),
         Err(refusal) => turn_away(alloc, at, refusal, is_head(message)),
     }
 }

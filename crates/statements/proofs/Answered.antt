@@ -1,34 +1,6 @@
 -- The first row of an answer, as a function of typed rows.
-use Rattle.std.proofs.Common.{◌≡◌, ℕ, ℤ, pos, Bool, false, List, [], ◌∷◌, map, filter, find, length, slice_get, Option, Some, None, option_map, refl, sym, ap, ◌∙◌, subst, arith, Ordering, Less, Equal, Greater, int_cmp, nat_cmp, is_eq, map-id}
-use Rattle.std.specs.List.{list_all, AllZip}
-use Rattle.std.specs.Ordering.{ordering_then}
+use Rattle.statements.proofs.Outside.{◌≡◌, ℕ, ℤ, pos, Bool, false, List, [], ◌∷◌, map, filter, find, length, slice_get, Option, Some, None, option_map, refl, sym, ap, ◌∙◌, subst, arith, Ordering, Less, Equal, Greater, int_cmp, nat_cmp, is_eq, map-id, list_all, AllZip, ordering_then, ints, nat_tests, slice_get-map, length_permutation, Collation, Binary, Key, value_cmp, length-map, Null, Int, Row, value_cmp-Int, then-Equal, Trees, CountRows, count, Env, Term, col, eval, holds, eval_all, Grouping, IsSummary, value_over, Query, Output, inner, end, output, output_cmp, page, IsAnswer, overlay, only_one, Select, State, first_as, reads_as, IsKeyedBy, sort_by, slice_get-filter}
 use Rattle.std.specs.List.Sorted.{IsPermutation}
-use Rattle.std.proofs.lemmas.Int.{ints}
-use Rattle.std.proofs.lemmas.Bool.Decides.{nat_tests}
-use Rattle.std.proofs.lemmas.Option.{slice_get-map}
-use Rattle.std.proofs.lemmas.List.Sorted.{length_permutation}
-use Rattle.sqlite_value.specs.declared.keys.Collation.{Collation}
-use Rattle.sqlite_value.specs.declared.keys.Collation.TheVariants.{Binary}
-use Rattle.sqlite_value.specs.declared.keys.Key.{Key}
-use Rattle.sqlite_value.specs.Order.{value_cmp}
-use Rattle.std.proofs.lemmas.List.{length-map}
-use Rattle.sqlite_value.specs.declared.value.Value.TheVariants.{Null, Int}
-use Rattle.sqlite_value.specs.Order.{Row}
-use Rattle.sqlite_value.proofs.OrderLemmas.{value_cmp-Int, then-Equal}
-use Rattle.sqlite_trees.specs.Tree.{Trees}
-use Rattle.sqlite_sql.specs.declared.aggregate.AggregateOp.TheVariants.{CountRows}
-use Rattle.sqlite_sql.specs.Aggregate.{count}
-use Rattle.sqlite_sql.specs.Term.{Env, Term, col, eval, holds, eval_all}
-use Rattle.sqlite_sql.specs.Group.{Grouping, IsSummary, value_over}
-use Rattle.sqlite_sql.specs.Query.{Query, Output, inner, end, output, output_cmp, page, IsAnswer}
-use Rattle.sqlite_sql.specs.Program.{overlay}
-use Rattle.sqlite_sql.proofs.AggregateLemmas.{only_one}
-use Rattle.sqlite_schema.specs.declared.command.Command.TheVariants.{Select}
-use Rattle.sqlite.specs.State.{State}
-use Rattle.sqlite.proofs.Callers.{first_as, reads_as}
-use Rattle.sqlite_keyed.specs.Keyed.{IsKeyedBy}
-use Rattle.sqlite_keyed.specs.Lists.{sort_by}
-use Rattle.sqlite_keyed.proofs.ListLemmas.{slice_get-filter}
 use Rattle.sqlite_typed.proofs.AnswerLemmas.{Source, last_table, at_end, answer_by_keys, answer_sorted, IsNoTie, no_tie_after, count_is}
 use Rattle.statements.specs.Rows.{Kept, id_of, stored}
 use Rattle.statements.specs.Calls.{FirstRow}

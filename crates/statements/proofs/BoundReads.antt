@@ -1,8 +1,5 @@
 -- What the query on the table bound reads of its rows.
-use Rattle.std.proofs.Common.{ℕ, List, [], ◌∷◌, Option, refl}
-use Rattle.sqlite_value.specs.declared.value.Value.TheVariants.{Text}
-use Rattle.sqlite_value.specs.Order.{Row}
-use Rattle.sqlite.specs.State.{State}
+use Rattle.statements.proofs.Outside.{ℕ, List, [], ◌∷◌, Option, refl, Text, Row, State}
 use Rattle.statements.specs.Schema.{bound_table}
 use Rattle.statements.specs.Rows.{bound_cells}
 use Rattle.statements.specs.Tables.{Tables, Holds, bound_layout}

@@ -1,16 +1,6 @@
 -- What the texts on the table bound mean, in each schema that has it, and the table token.
-use Rattle.std.proofs.Common.{◌≡◌, ℕ, false, List, [], ◌∷◌, codes, Some, None, Ok, refl}
-use Rattle.sqlite_value.specs.declared.value.Value.TheVariants.{Null, Text}
-use Rattle.sqlite_value.specs.declared.keys.Collation.TheVariants.{Binary}
-use Rattle.sqlite_sql.specs.Term.{lit, col}
-use Rattle.sqlite_sql.specs.Query.{Query}
-use Rattle.sqlite_schema.specs.declared.schema.Schema.{Schema}
+use Rattle.statements.proofs.Outside.{◌≡◌, ℕ, false, List, [], ◌∷◌, codes, Some, None, Ok, refl, Null, Text, Binary, lit, col, Query, Schema, Insert, Delete, command, insert_or_abort, insert, new_rows, source_of, queried, timed, returning, shows, places, as_row, inserted, selected, program, query, everything}
 use Rattle.sqlite_schema.specs.declared.command.Source.TheVariants.{Values, Query as Queried}
-use Rattle.sqlite_schema.specs.declared.command.Command.TheVariants.{Insert, Delete}
-use Rattle.sqlite_resolve.specs.Compile.{command, insert_or_abort, insert, new_rows, source_of, queried, timed, returning, shows}
-use Rattle.sqlite_resolve.specs.Write.{places, as_row, inserted, selected}
-use Rattle.sqlite_resolve.specs.Program.{program, query}
-use Rattle.sqlite_tied.specs.Compute.{everything}
 use Rattle.statements.specs.declared.bounds.TheConstants.{ADD_BOUND, FIND_BOUND, REMOVE_BOUND, FILL_BOUNDS}
 use Rattle.statements.specs.Place.{StandsAt}
 use Rattle.statements.specs.Schema.{bound_table, token_table}

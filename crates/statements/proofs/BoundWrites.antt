@@ -1,10 +1,5 @@
 -- What the writes to the table bound do to its rows.
-use Rattle.std.proofs.Common.{◌≡◌, ℕ, List, [], ◌∷◌, Option, Ok, refl, ◌∙◌, map, true, false, ap, arith}
-use Rattle.sqlite_value.specs.declared.value.Value.TheVariants.{Text}
-use Rattle.sqlite_sql.specs.Program.{overlay}
-use Rattle.sqlite.specs.State.{State, Executes}
-use Rattle.sqlite_typed.specs.Columns.{or_null}
-use Rattle.sqlite_keyed.proofs.ListLemmas.{filter_all, all_of}
+use Rattle.statements.proofs.Outside.{◌≡◌, ℕ, List, [], ◌∷◌, Option, Ok, refl, ◌∙◌, map, true, false, ap, arith, Text, overlay, State, Executes, or_null, filter_all, all_of}
 use Rattle.statements.specs.Place.{tree_of}
 use Rattle.statements.specs.Schema.{bound_table, token_table}
 use Rattle.statements.specs.Rows.{Kept, TokenRow, bound_cells, token_cells, number}

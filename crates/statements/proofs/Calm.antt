@@ -1,21 +1,8 @@
 -- A query changes nothing, whatever the schema is.
-use Rattle.std.proofs.Common.{◌≡◌, ◌⊎◌, inl, inr, ℕ, ◌+◌, Bool, true, false, cond, List, [], Option, None, Result, Ok, Err, IsSome, refl, ap, subst}
-use Rattle.sqlite_value.specs.Order.{Row}
-use Rattle.sqlite_trees.specs.Tree.{Trees}
+use Rattle.statements.proofs.Outside.{◌≡◌, ◌⊎◌, inl, inr, ℕ, ◌+◌, Bool, true, false, cond, List, [], Option, None, Result, Ok, Err, IsSome, refl, ap, subst, Row, Trees, Schema, Command, Select, Rows, Checked, and_then, Compiled, CompileError, command, returning, timed, small, meaning, planned, compiled, with_command, Error, Database, RefusesToRead, understood, reads_listing, if_select, is_select, listing_schema, State, IsUnchanged, IsRolledBack, QueriesRow, QueriesRowInside, Shown, ShowsRows, FailsToQuery, FailsToShow, IsNotRun, CommitsShowing, store_error, Survives}
 use Rattle.sqlite_trees.specs.declared.error.StoreError.{StoreError}
 use Rattle.sqlite_trees.specs.declared.error.StoreError.TheVariants.{OutOfMemory, Io, Corrupt, Full, Broken, Unstorable}
-use Rattle.sqlite_schema.specs.declared.schema.Schema.{Schema}
-use Rattle.sqlite_schema.specs.declared.command.Command.{Command}
-use Rattle.sqlite_schema.specs.declared.command.Command.TheVariants.{Select, Rows}
-use Rattle.sqlite_resolve.specs.Lowering.{Checked, and_then}
-use Rattle.sqlite_resolve.specs.declared.compiled.Compiled.{Compiled}
-use Rattle.sqlite_resolve.specs.declared.error.CompileError.{CompileError}
-use Rattle.sqlite_resolve.specs.Compile.{command, returning, timed, small, meaning, planned, compiled, with_command}
-use Rattle.sqlite.specs.declared.error.Error.{Error}
 use Rattle.sqlite.specs.declared.error.Error.TheVariants.{QueryReturnedNoRows}
-use Rattle.sqlite.specs.Effect.{Database, RefusesToRead}
-use Rattle.sqlite.specs.Listing.{understood, reads_listing, if_select, is_select, listing_schema}
-use Rattle.sqlite.specs.State.{State, IsUnchanged, IsRolledBack, QueriesRow, QueriesRowInside, Shown, ShowsRows, FailsToQuery, FailsToShow, IsNotRun, CommitsShowing, store_error, Survives}
 use Rattle.sqlite_ast.specs.declared.Statement.TheVariants as written
 use Rattle.statements.specs.Calls.{IsQuery}
 

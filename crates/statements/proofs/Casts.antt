@@ -1,16 +1,9 @@
 -- The cells of each table are what its columns make of them.
-use Rattle.std.proofs.Common.{◌≡◌, ℕ, pos, List, ◌∷◌, Option, Some, None, refl, ap₂}
-use Rattle.sqlite_value.specs.declared.value.Value.TheVariants.{Text}
-use Rattle.sqlite_value.specs.declared.value.Value.{Value}
-use Rattle.sqlite_value.specs.Order.{Row}
+use Rattle.statements.proofs.Outside.{◌≡◌, ℕ, pos, List, ◌∷◌, Option, Some, None, refl, ap₂, Text, Value, Row, cast, cast_all, or_null, Holder, RunAction}
 use Rattle.sqlite_schema.specs.declared.schema.Kind.TheVariants as kind
-use Rattle.sqlite_rules.specs.Cast.{cast, cast_all}
-use Rattle.sqlite_typed.specs.Columns.{or_null}
-use Rattle.basis.specs.declared.rows.Holder.{Holder}
 use Rattle.basis.specs.declared.rows.Holder.TheVariants.{Nobody, Lock, Run as HeldByRun}
 use Rattle.statements.specs.Schema.{meta_table, org_table, token_table, ws_table, version_table, run_table, page_table, vpage_table, bound_table, edition_table, retention_table}
 use Rattle.statements.specs.Rows.{OrgRow, TokenRow, WsRow, VersionRow, RunRow, PageRow, VpageRow, BoundRow, RetentionRow, kind_cell, lock_id_cell, run_cell, meta_cells, org_cells, token_cells, ws_cells, version_cells, run_cells, page_cells, vpage_cells, bound_cells, edition_cells, retention_cells, number, action_code}
-use Rattle.basis.specs.declared.runs.RunAction.{RunAction}
 use Rattle.statements.proofs.Own.{cast_int, cast_null}
 use Rattle.statements.proofs.RunSettings.{run_settings_cast}
 

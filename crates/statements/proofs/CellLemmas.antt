@@ -1,9 +1,5 @@
 -- From the cell that is refused to its row.
-use Rattle.std.proofs.Common.{◌≤◌, ℕ, Result, IfErr, arith}
-use Rattle.std.proofs.lemmas.Result.{IfErr-weaker}
-use Rattle.sqlite.specs.declared.error.Error.{Error}
-use Rattle.sqlite_value.specs.declared.value.Value.{Value}
-use Rattle.sqlite_value.specs.Order.{Row, column}
+use Rattle.statements.proofs.Outside.{◌≤◌, ℕ, Result, IfErr, arith, IfErr-weaker, Error, Value, Row, column}
 use Rattle.statements.specs.Cells.{IsRefused, AreRefused}
 
 pub refused_by : {X : Type 0} (r : Result X Error) (Is : Value → Type 0) (Has : Row → Type 0) (row : Row) (at last : ℕ) → (Has row → Is (column row at)) → at ≤ last → IfErr r (IsRefused Is row at) → IfErr r (AreRefused Has row last)

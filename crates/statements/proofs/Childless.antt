@@ -1,36 +1,5 @@
 -- A token that goes takes no row of bound along, where none is of its name; nor does a workspace a row of keeping.
-use Rattle.std.proofs.Common.{◌≡◌, ◌≢◌, inr, ℕ, ◌<ℤ◌, Bool, true, false, cond, ◌&&◌, List, [], ◌∷◌, map, filter, Some, option_and_then, unwrap_or, Ok, refl, sym, ap, ◌∙◌, subst, arith, is_eq, IsPermutation}
-use Rattle.std.specs.List.{AllByRecursion, list_all, list_any}
-use Rattle.std.specs.Str.{bytes_eq}
-use Rattle.std.proofs.lemmas.Bool.{and_parts}
-use Rattle.std.proofs.lemmas.Cmp.{tied_itself, int_cmp_total}
-use Rattle.std.proofs.lemmas.List.Elements.{All-from_recursion, recursion_from_All}
-use Rattle.std.proofs.lemmas.List.Sorted.{All-permutation}
-use Rattle.std.proofs.Math.Bool.{and-false}
-use Rattle.sqlite_value.specs.declared.value.Value.TheVariants.{Text}
-use Rattle.sqlite_value.specs.declared.keys.Order.{Order}
-use Rattle.sqlite_value.specs.Keys.{plain}
-use Rattle.sqlite_value.specs.Order.{Row}
-use Rattle.sqlite_value.proofs.OrderLemmas.{value_cmp-Int}
-use Rattle.sqlite_trees.specs.Tree.{has_rowid}
-use Rattle.sqlite_sql.specs.Term.{holds}
-use Rattle.sqlite_sql.specs.Program.{overlay}
-use Rattle.sqlite_schema.specs.declared.schema.Keys.TheVariants.{Enforced}
-use Rattle.sqlite_schema.specs.declared.schema.Reference.{Reference}
-use Rattle.sqlite_schema.specs.declared.schema.Schema.{Schema}
-use Rattle.sqlite_schema.specs.declared.command.Command.TheVariants.{Delete}
-use Rattle.sqlite_schema.specs.Rules.{agree, ParentKey, parent_key, key_in, key_places, declared_order}
-use Rattle.sqlite_rules.specs.Action.{pairs, loses}
-use Rattle.sqlite_rules.specs.Calls.{ids_of}
-use Rattle.sqlite_rules.specs.declared.error.Rowids.TheVariants.{Given}
-use Rattle.sqlite_rules.specs.Edit.{row_at, edit_of}
-use Rattle.sqlite_rules.proofs.ListLemmas.{all_has}
-use Rattle.sqlite_tied.specs.Compute.{everything}
-use Rattle.sqlite.specs.State.{State, Executes}
-use Rattle.sqlite_keyed.specs.Keyed.{IsKeyedBy}
-use Rattle.sqlite_keyed.proofs.KeyedLemmas.{Less-from_lt}
-use Rattle.sqlite_keyed.proofs.ListLemmas.{map-map, all_both, all_weaker}
-use Rattle.basis.proofs.NameLemmas.{equal_bytes}
+use Rattle.statements.proofs.Outside.{◌≡◌, ◌≢◌, inr, ℕ, ◌<ℤ◌, Bool, true, false, cond, ◌&&◌, List, [], ◌∷◌, map, filter, Some, option_and_then, unwrap_or, Ok, refl, sym, ap, ◌∙◌, subst, arith, is_eq, IsPermutation, AllByRecursion, list_all, list_any, bytes_eq, and_parts, tied_itself, int_cmp_total, All-from_recursion, recursion_from_All, All-permutation, and-false, Text, Order, plain, Row, value_cmp-Int, has_rowid, holds, overlay, Enforced, Reference, Schema, Delete, agree, ParentKey, parent_key, key_in, key_places, declared_order, pairs, loses, ids_of, Given, row_at, edit_of, all_has, everything, State, Executes, IsKeyedBy, Less-from_lt, map-map, all_both, all_weaker, equal_bytes}
 use Rattle.statements.specs.Place.{at_of, tree_of, IsPassive, IsOwn}
 use Rattle.statements.specs.Schema.{token_table, ws_table, bound_table, retention_table, to_token, to_ws}
 use Rattle.statements.specs.Rows.{Kept, id_of, stored, TokenRow, WsRow, BoundRow, RetentionRow, token_cells, ws_cells, bound_cells, retention_cells}

@@ -1,14 +1,8 @@
 -- The numbers by which SQL keeps a flag, a role, a status or an action: each means one. Moments and limits fit into an integer of SQL. Texts and numbers that may be absent.
-use Rattle.std.proofs.Common.{◌≡◌, ◌≤◌, inl, inr, Bool, true, false, not, cond, ℕ, ℤ, pos, int_eq, SFits, w64, arith, refl, sym, ap, ◌∙◌, subst, List, Option, Some, None, option_map, Bor}
-use Rattle.sqlite_value.specs.declared.value.Value.TheVariants.{Text, Int}
+use Rattle.statements.proofs.Outside.{◌≡◌, ◌≤◌, inl, inr, Bool, true, false, not, cond, ℕ, ℤ, pos, int_eq, SFits, w64, arith, refl, sym, ap, ◌∙◌, subst, List, Option, Some, None, option_map, Bor, Text, Int, MAX_MOMENT, MAX_SERIAL, Role, RunStatus, Pending, Planning, Planned, Applying, Applied, PlannedAndFinished, Errored, Discarded, Canceled, RunAction}
 use Rattle.sqlite.specs.Values.{or_null, bound_value}
 use Rattle.sqlite_typed.specs.Columns.{or_null as typed_null}
-use Rattle.basis.specs.declared.numbers.TheConstants.{MAX_MOMENT, MAX_SERIAL}
-use Rattle.basis.specs.declared.roles.Role.{Role}
 use Rattle.basis.specs.declared.roles.Role.TheVariants.{Read, Write, Admin}
-use Rattle.basis.specs.declared.runs.RunStatus.{RunStatus}
-use Rattle.basis.specs.declared.runs.RunStatus.TheVariants.{Pending, Planning, Planned, Applying, Applied, PlannedAndFinished, Errored, Discarded, Canceled}
-use Rattle.basis.specs.declared.runs.RunAction.{RunAction}
 use Rattle.basis.specs.declared.runs.RunAction.TheVariants.{ReportPlanned, ReportUnchanged, Fail, Confirm, ReportApplied, Discard, Cancel}
 use Rattle.statements.specs.Calls.{LimitsTo}
 use Rattle.statements.specs.Rows.{number, role_code, status_code, action_code, role_at, status_at, action_at}

@@ -1,13 +1,6 @@
 -- What texts show, set and insert of a table, by the names of its columns.
-use Rattle.std.proofs.Common.{ℕ, suc, cond, List, [], ◌∷◌, map, Option, Some}
-use Rattle.std.specs.List.{position_or_len}
-use Rattle.std.specs.Str.{bytes_eq}
-use Rattle.sqlite_value.specs.declared.value.Value.TheVariants.{Null}
-use Rattle.sqlite_value.specs.declared.keys.Collation.{Collation}
-use Rattle.sqlite_value.specs.declared.keys.Collation.TheVariants.{Binary}
-use Rattle.sqlite_sql.specs.Term.{Term, lit, col}
+use Rattle.statements.proofs.Outside.{ℕ, suc, cond, List, [], ◌∷◌, map, Option, Some, position_or_len, bytes_eq, Null, Collation, Binary, Term, lit, col, Table}
 use Rattle.sqlite_schema.specs.declared.schema.Column.{Column}
-use Rattle.sqlite_schema.specs.declared.schema.Table.{Table}
 
 abbrev pub names_of : List Column → List (List ℕ)
 names_of = map (λ (c : Column). c.name)

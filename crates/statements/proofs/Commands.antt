@@ -1,14 +1,5 @@
 -- The queries that the texts stand for.
-use Rattle.std.proofs.Common.{ℕ, pos, negsuc, Bool, false, List, [], ◌∷◌, Some, None}
-use Rattle.sqlite_value.specs.declared.value.Value.TheVariants.{Int}
-use Rattle.sqlite_value.specs.declared.keys.Collation.{Collation}
-use Rattle.sqlite_value.specs.declared.keys.Collation.TheVariants.{Binary}
-use Rattle.sqlite_sql.specs.Term.{Term, lit, col, op2}
-use Rattle.sqlite_sql.specs.Query.{Query, Join, inner, end}
-use Rattle.sqlite_sql.specs.declared.aggregate.AggregateOp.TheVariants.{CountRows}
-use Rattle.sqlite_sql.specs.declared.ops.CompareOp.TheVariants.{Eq, Lt, Gt, Ge}
-use Rattle.sqlite_sql.specs.declared.ops.BinaryOp.TheVariants.{Compare}
-use Rattle.sqlite_draft.specs.declared.query.Draft.{Draft}
+use Rattle.statements.proofs.Outside.{ℕ, pos, negsuc, Bool, false, List, [], ◌∷◌, Some, None, Int, Collation, Binary, Term, lit, col, op2, Query, Join, inner, end, CountRows, Eq, Lt, Gt, Ge, Compare, Draft}
 use Rattle.statements.proofs.Answered.{by_rowid, by_column_and_rowid}
 use Rattle.statements.proofs.Listed.{sorted_by}
 

@@ -1,28 +1,9 @@
 -- Terms of WHERE at typed values.
-use Rattle.std.proofs.Common.{◌≡◌, ℕ, pos, Bool, true, false, not, ◌&&◌, if◌then◌else◌, List, Option, Some, None, refl, sym, ap, ◌∙◌, ◌≤◌, ◌+◌, ◌-ℤ◌, int_cmp, int_eq, int_lt, eqb, arith, Ordering, Less, Equal, Greater, is_eq}
-use Rattle.std.specs.Prelude.{nat_lt}
-use Rattle.std.specs.Str.{bytes_eq}
-use Rattle.std.proofs.lemmas.Map.Text.{is_eq-slice_cmp}
-use Rattle.std.proofs.lemmas.Int.{ints}
-use Rattle.std.proofs.lemmas.Bool.Decides.{nat_tests}
-use Rattle.std.proofs.Math.Bool.{and_assoc}
-use Rattle.sqlite_value.specs.declared.keys.Collation.TheVariants.{Binary}
-use Rattle.sqlite_value.specs.declared.value.Value.TheVariants.{Null, Int, Real, Text, Blob}
-use Rattle.sqlite_value.specs.declared.value.Value.{Value}
-use Rattle.sqlite_value.specs.Order.{value_cmp}
-use Rattle.sqlite_value.proofs.OrderLemmas.{value_cmp-Int, value_cmp_total}
-use Rattle.std.specs.Ordering.{ordering_reverse}
-use Rattle.sqlite_sql.specs.declared.ops.CompareOp.TheVariants.{Eq, Lt, Gt}
-use Rattle.sqlite_sql.specs.declared.ops.BinaryOp.TheVariants.{Compare}
-use Rattle.sqlite_sql.specs.Ops.{is_true, from_truth, binary}
-use Rattle.sqlite_typed.specs.Columns.{or_null}
-use Rattle.basis.specs.declared.runs.RunStatus.{RunStatus}
-use Rattle.basis.specs.declared.runs.RunStatus.TheVariants.{Pending, Planning, Planned, Applying, Applied, PlannedAndFinished, Errored, Discarded, Canceled}
+use Rattle.statements.proofs.Outside.{◌≡◌, ℕ, pos, Bool, true, false, not, ◌&&◌, if◌then◌else◌, List, Option, Some, None, refl, sym, ap, ◌∙◌, ◌≤◌, ◌+◌, ◌-ℤ◌, int_cmp, int_eq, int_lt, eqb, arith, Ordering, Less, Equal, Greater, is_eq, nat_lt, bytes_eq, is_eq-slice_cmp, ints, nat_tests, and_assoc, Binary, Null, Int, Real, Text, Blob, Value, value_cmp, value_cmp-Int, value_cmp_total, ordering_reverse, Eq, Lt, Gt, Compare, is_true, from_truth, binary, or_null, RunStatus, Pending, Planning, Planned, Applying, Applied, PlannedAndFinished, Errored, Discarded, Canceled, difference_fits, at_texts, at_blobs, at_ints, then_term, last_term}
 use Rattle.statements.specs.Rows.{flag, status_code}
 use Rattle.basis.specs.Runs.{is_open}
 use Rattle.statements.specs.Finds.{is_pending_of, is_key_of, is_one_less}
 use Rattle.statements.specs.Listings.{is_behind}
-use Rattle.sqlite_typed.proofs.TestLemmas.{difference_fits, at_texts, at_blobs, at_ints, then_term, last_term}
 
 pub same_text : (a b : List ℕ) → is_true (binary (Compare Eq Binary) (Text a) (Text b)) ≡ bytes_eq a b
 same_text a b = at_texts _ Eq a b ∙ is_eq-slice_cmp a b

@@ -1,12 +1,7 @@
 -- The tables of the versions of the schema: each version has those of the one before it, and more.
 use Rattle.std.proofs.Common.{◌≡◌, ℕ, zero, suc, nat_lt, nat_le, ◌<◌, ◌≤◌, ◌&&◌, Bool, true, List, [], ◌∷◌, ◌++◌, length, take, slice_get, Option, Some, None, is_some, unwrap_or, arith, refl, sym, ap, ◌∙◌, subst}
-use Rattle.std.proofs.lemmas.List.{take-append-drop}
-use Rattle.std.specs.List.{AllByRecursion, list_all}
-use Rattle.std.proofs.lemmas.Bool.{and_parts}
-use Rattle.std.proofs.lemmas.Bool.Decides.{nat_tests}
-use Rattle.sqlite_trees.specs.Tree.{IsAscending}
+use Rattle.statements.proofs.Outside.{take-append-drop, AllByRecursion, list_all, and_parts, nat_tests, IsAscending, all-slice_get}
 use Rattle.statements.specs.declared.making.TheConstants.{SCHEMA_VERSION}
-use Rattle.sqlite_keyed.proofs.ListLemmas.{all-slice_get}
 use Rattle.statements.specs.Tables.{table_counts, is_known, count_in, schema_tables, added_by, our_tables}
 
 module _ {X : Type 0} where

@@ -1,9 +1,6 @@
 -- The typed rows of a database are those that it holds.
 use Rattle.std.proofs.Common.{◌≡◌, ℕ, nat_lt, arith, Bool, true, false, cond, unsigned_abs, List, [], map, Option, Some, None, refl, ap, ◌∙◌}
-use Rattle.sqlite_typed.specs.Columns.{or_null, int_of, unless_null}
-use Rattle.std.proofs.lemmas.Bool.Decides.{nat_tests}
-use Rattle.sqlite_keyed.proofs.ListLemmas.{map_back}
-use Rattle.sqlite.specs.Effect.{Database}
+use Rattle.statements.proofs.Outside.{or_null, int_of, unless_null, nat_tests, map_back, Database}
 use Rattle.statements.specs.Rows.{Kept, TokenRow, WsRow, RunRow, BoundRow, stored, token_cells, ws_cells, run_cells, bound_cells, number, kept_by, token_at, ws_at, run_at, bound_at}
 use Rattle.statements.specs.declared.making.TheConstants.{SCHEMA_VERSION}
 use Rattle.statements.specs.Tables.{Layout, Tables, Holds, HoldsIn, count_in, rows_in, up_to, rows_of, tables_of, tables_at}

@@ -1,26 +1,7 @@
 -- What an edit makes of a table, as a function of its typed rows.
-use Rattle.std.proofs.Common.{◌≡◌, ℕ, ℤ, pos, ◌+ℤ◌, Bool, false, None, List, [], ◌∷◌, ◌++◌, map, filter, fold, drop, refl, sym, ap, ap₂, ◌∙◌, subst, IsPermutation}
-use Rattle.std.specs.List.{list_all}
-use Rattle.std.proofs.lemmas.List.Sorted.{IsPermutation-refl, IsPermutation-trans, IsPermutation-cons, IsPermutation-middle}
+use Rattle.statements.proofs.Outside.{◌≡◌, ℕ, ℤ, pos, ◌+ℤ◌, Bool, false, None, List, [], ◌∷◌, ◌++◌, map, filter, fold, drop, refl, sym, ap, ap₂, ◌∙◌, subst, IsPermutation, list_all, IsPermutation-refl, IsPermutation-trans, IsPermutation-cons, IsPermutation-middle, Null, Int, Row, Trees, rowid, put_row, holds, eval_all, Query, Output, output, inner, end, matches, page, IsKept, IsAnswer, IsGrouped, Table, Chosen, Given, cast_row, edit_of, edited, numbered, next_rowid, put_all, without_all, ids_of, IsKeyedBy, insert_by, next_key, update_where, delete_where, without_key, along_permutation, map-map, map_same, insert_next, IsKeyedBy-insert_by, last_table, at_end}
 use Rattle.std.proofs.lemmas.List.Folds.{fold-map}
-use Rattle.sqlite_value.specs.declared.value.Value.TheVariants.{Null, Int}
-use Rattle.sqlite_value.specs.Order.{Row}
-use Rattle.sqlite_trees.specs.Tree.{Trees, rowid, put_row}
-use Rattle.sqlite_sql.specs.Term.{holds, eval_all}
-use Rattle.sqlite_sql.specs.Query.{Query, Output, output, inner, end, matches, page, IsKept, IsAnswer}
-use Rattle.sqlite_sql.specs.Group.{IsGrouped}
-use Rattle.sqlite_schema.specs.declared.schema.Table.{Table}
-use Rattle.sqlite_rules.specs.declared.error.Rowids.TheVariants.{Chosen, Given}
-use Rattle.sqlite_rules.specs.Cast.{cast_row}
-use Rattle.sqlite_rules.specs.Edit.{edit_of, edited, numbered, next_rowid, put_all, without_all}
-use Rattle.sqlite_rules.specs.Calls.{ids_of}
 use Rattle.sqlite_rules.proofs.PlaceLemmas.{given as numbered_given}
-use Rattle.sqlite_keyed.specs.Keyed.{IsKeyedBy, insert_by, next_key}
-use Rattle.sqlite_keyed.specs.Lists.{update_where, delete_where, without_key}
-use Rattle.sqlite_keyed.proofs.ListLemmas.{along_permutation, map-map, map_same}
-use Rattle.sqlite_keyed.proofs.SliceLemmas.{insert_next}
-use Rattle.sqlite_keyed.proofs.KeyedLemmas.{IsKeyedBy-insert_by}
-use Rattle.sqlite_typed.proofs.AnswerLemmas.{last_table, at_end}
 use Rattle.sqlite_typed.proofs.RowLemmas.{puts-map, deletes-map}
 use Rattle.statements.specs.Rows.{Kept, id_of, stored}
 use Rattle.statements.specs.Changes.{with_next, with_all}

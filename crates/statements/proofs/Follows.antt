@@ -1,14 +1,5 @@
 -- A table of ours that follows another one: its rows go where rows of that one go, and no other write elsewhere changes them.
-use Rattle.std.proofs.Common.{◌≡◌, ◌≢◌, inr, ◌⊎◌, ℕ, zero, suc, ◌+◌, ◌<◌, Bool, true, false, cond, List, [], ◌∷◌, find, slice_get, Option, Some, None, option_map, option_and_then, refl, sym, ap, ◌∙◌, subst, arith}
-use Rattle.std.specs.Prelude.{⊤}
-use Rattle.std.specs.List.{AllByRecursion, position_from}
-use Rattle.sqlite_value.specs.declared.keys.Order.{Order}
-use Rattle.sqlite_schema.specs.declared.schema.Reference.{Reference}
-use Rattle.sqlite_schema.specs.declared.schema.Schema.{Schema}
-use Rattle.sqlite_schema.specs.declared.schema.Table.{Table}
-use Rattle.sqlite_schema.specs.Names.{same_name}
-use Rattle.sqlite_schema.specs.Rules.{ParentKey, key_in, key_places, declared_order}
-use Rattle.sqlite_keyed.proofs.ListLemmas.{all_weaker}
+use Rattle.statements.proofs.Outside.{◌≡◌, ◌≢◌, inr, ◌⊎◌, ℕ, zero, suc, ◌+◌, ◌<◌, Bool, true, false, cond, List, [], ◌∷◌, find, slice_get, Option, Some, None, option_map, option_and_then, refl, sym, ap, ◌∙◌, subst, arith, ⊤, AllByRecursion, position_from, Order, Reference, Schema, Table, same_name, ParentKey, key_in, key_places, declared_order, all_weaker}
 use Rattle.statements.specs.Place.{RefersPassively, IsOwn, at_of, tree_of}
 use Rattle.statements.specs.Schema.{token_table, ws_table, bound_table, retention_table}
 use Rattle.statements.proofs.Lead.{GoesTo}

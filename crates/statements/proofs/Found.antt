@@ -1,9 +1,5 @@
 -- What is found in a list after a write, and in a list of rows that are apart.
-use Rattle.std.proofs.Common.{◌≡◌, Bool, true, false, not, cond, List, [], ◌∷◌, ◌++◌, filter, find, Some, None, option_map, refl, sym, ap, subst, ◌∙◌}
-use Rattle.std.specs.List.{AllByRecursion}
-use Rattle.sqlite_keyed.specs.Lists.{update_where, delete_where}
-use Rattle.sqlite_keyed.specs.Rules.{AreApart}
-use Rattle.sqlite_keyed.proofs.ListLemmas.{all_weaker, ascending-append, filter_all}
+use Rattle.statements.proofs.Outside.{◌≡◌, Bool, true, false, not, cond, List, [], ◌∷◌, ◌++◌, filter, find, Some, None, option_map, refl, sym, ap, subst, ◌∙◌, AllByRecursion, update_where, delete_where, AreApart, all_weaker, ascending-append, filter_all}
 
 module _ {X : Type 0} where
   pub found_passes : (p : X → Bool) (xs : List X) (x : X) → find p xs ≡ Some x → p x ≡ true

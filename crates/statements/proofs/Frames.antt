@@ -1,25 +1,6 @@
 -- A database holds the rows of our tables after one of the tables has got other rows.
-use Rattle.std.proofs.Common.{◌≡◌, ◌≢◌, ℕ, zero, suc, ◌+◌, ◌/◌, ◌<◌, Bool, true, false, cond, List, [], ◌∷◌, ◌++◌, map, take, length, slice_get, Option, Some, None, Ok, option_map, arith, refl, sym, ap, ◌∙◌, subst}
+use Rattle.statements.proofs.Outside.{◌≡◌, ◌≢◌, ℕ, zero, suc, ◌+◌, ◌/◌, ◌<◌, Bool, true, false, cond, List, [], ◌∷◌, ◌++◌, map, take, length, slice_get, Option, Some, None, Ok, option_map, arith, refl, sym, ap, ◌∙◌, subst, AllByRecursion, list_all, slice_get-map, Null, Int, Row, Term, holds, eval_all, cast_all, Schema, Table, Command, Insert, Update, Delete, Values, IsKeyedBy, next_key, update_where, delete_where, IsKeyedBy-update_where, IsKeyedBy-delete_where, all_weaker, all-slice_get, Database, value_rows, stamped, State, Executes, slice_get-take}
 use Rattle.std.specs.Prelude.{◌==◌}
-use Rattle.std.specs.List.{AllByRecursion, list_all}
-use Rattle.std.proofs.lemmas.Option.{slice_get-map}
-use Rattle.sqlite_value.specs.declared.value.Value.TheVariants.{Null, Int}
-use Rattle.sqlite_value.specs.Order.{Row}
-use Rattle.sqlite_sql.specs.Term.{Term, holds, eval_all}
-use Rattle.sqlite_rules.specs.Cast.{cast_all}
-use Rattle.sqlite_schema.specs.declared.schema.Schema.{Schema}
-use Rattle.sqlite_schema.specs.declared.schema.Table.{Table}
-use Rattle.sqlite_schema.specs.declared.command.Command.{Command}
-use Rattle.sqlite_schema.specs.declared.command.Command.TheVariants.{Insert, Update, Delete}
-use Rattle.sqlite_schema.specs.declared.command.Source.TheVariants.{Values}
-use Rattle.sqlite_keyed.specs.Keyed.{IsKeyedBy, next_key}
-use Rattle.sqlite_keyed.specs.Lists.{update_where, delete_where}
-use Rattle.sqlite_keyed.proofs.KeyedLemmas.{IsKeyedBy-update_where, IsKeyedBy-delete_where}
-use Rattle.sqlite_keyed.proofs.ListLemmas.{all_weaker, all-slice_get}
-use Rattle.sqlite.specs.Effect.{Database, value_rows}
-use Rattle.sqlite.specs.Rows.{stamped}
-use Rattle.sqlite.specs.State.{State, Executes}
-use Rattle.sqlite.proofs.MarkLemmas.{slice_get-take}
 use Rattle.statements.specs.Place.{tree_of, StandsAt, IsOwn, AreOwn}
 use Rattle.statements.specs.Rows.{Kept, id_of, stored}
 use Rattle.statements.specs.declared.making.TheConstants.{SCHEMA_VERSION}

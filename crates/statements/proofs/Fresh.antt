@@ -1,28 +1,7 @@
 -- A row that was added has a key that no row before it has: UNIQUE sees to it.
-use Rattle.std.proofs.Common.{◌≡◌, ℕ, ℤ, Bool, true, false, not, ◌&&◌, cond, List, [], ◌∷◌, ◌++◌, map, find, slice_get, slice_index_or, Some, None, option_map, Ok, refl, ap, subst, ◌∙◌, arith, eq-eqb}
+use Rattle.statements.proofs.Outside.{◌≡◌, ℕ, ℤ, Bool, true, false, not, ◌&&◌, cond, List, [], ◌∷◌, ◌++◌, map, find, slice_get, slice_index_or, Some, None, option_map, Ok, refl, ap, subst, ◌∙◌, arith, eq-eqb, AllByRecursion, ints, Row, plain, Int, Ne, Index, Schema, Table, Insert, Source, agree, differ, clashes, guards, passes, Trees, rowid, automatic, IsGuarded, IsSound, all_has, at_ints, IsDatabase, State, Executes, runs_as, IsKeyedBy, next_key, all-slice_get, all_from_test, all_unmap, all_weaker, none_from_any}
 use Rattle.std.specs.Prelude.{◌<ℤ◌}
-use Rattle.std.specs.List.{AllByRecursion}
-use Rattle.std.proofs.lemmas.Int.{ints}
-use Rattle.sqlite_value.specs.Order.{Row}
-use Rattle.sqlite_value.specs.Keys.{plain}
-use Rattle.sqlite_value.specs.declared.value.Value.TheVariants.{Int}
-use Rattle.sqlite_sql.specs.declared.ops.CompareOp.TheVariants.{Ne}
 use Rattle.sqlite_schema.specs.declared.schema.Constraint.TheVariants.{Unique}
-use Rattle.sqlite_schema.specs.declared.schema.Index.{Index}
-use Rattle.sqlite_schema.specs.declared.schema.Schema.{Schema}
-use Rattle.sqlite_schema.specs.declared.schema.Table.{Table}
-use Rattle.sqlite_schema.specs.declared.command.Command.TheVariants.{Insert}
-use Rattle.sqlite_schema.specs.declared.command.Source.{Source}
-use Rattle.sqlite_schema.specs.Rules.{agree, differ, clashes, guards, passes}
-use Rattle.sqlite_trees.specs.Tree.{Trees, rowid}
-use Rattle.sqlite_catalog.specs.Listing.{automatic, IsGuarded, IsSound}
-use Rattle.sqlite_rules.proofs.ListLemmas.{all_has}
-use Rattle.sqlite_typed.proofs.TestLemmas.{at_ints}
-use Rattle.sqlite.specs.Effect.{IsDatabase}
-use Rattle.sqlite.specs.State.{State, Executes}
-use Rattle.sqlite.proofs.Callers.{runs_as}
-use Rattle.sqlite_keyed.specs.Keyed.{IsKeyedBy, next_key}
-use Rattle.sqlite_keyed.proofs.ListLemmas.{all-slice_get, all_from_test, all_unmap, all_weaker, none_from_any}
 use Rattle.statements.specs.Place.{at_of, tree_of, IsOwn}
 use Rattle.statements.specs.Rows.{Kept, id_of, stored}
 use Rattle.statements.proofs.Meaning.{Means}

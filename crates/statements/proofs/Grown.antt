@@ -1,20 +1,7 @@
 -- A schema that got one more table, and what stands in it.
-use Rattle.std.proofs.Common.{◌≡◌, ◌≢◌, ℕ, zero, suc, ◌+◌, ◌<◌, ◌≤◌, max, Bool, true, false, cond, List, [], ◌∷◌, ◌++◌, length, find, fold, slice_get, Some, None, option_map, unwrap_or, refl, sym, ap, ◌∙◌, subst, arith}
+use Rattle.statements.proofs.Outside.{◌≡◌, ◌≢◌, ℕ, zero, suc, ◌+◌, ◌<◌, ◌≤◌, max, Bool, true, false, cond, List, [], ◌∷◌, ◌++◌, length, find, fold, slice_get, Some, None, option_map, unwrap_or, refl, sym, ap, ◌∙◌, subst, arith, AllByRecursion, position_from, nat_tests, IsAscending, Schema, Table, Reference, Index, same_name, table_named, next_tree, past_views, KeepsRows, same_itself, most_from, Database, all-append, all_weaker, all-slice_get}
 use Rattle.std.specs.Prelude.{◌==◌}
-use Rattle.std.specs.List.{AllByRecursion, position_from}
-use Rattle.std.proofs.lemmas.Bool.Decides.{nat_tests}
 use Rattle.std.proofs.lemmas.Bool.{eq-eqb}
-use Rattle.sqlite_trees.specs.Tree.{IsAscending}
-use Rattle.sqlite_schema.specs.declared.schema.Schema.{Schema}
-use Rattle.sqlite_schema.specs.declared.schema.Table.{Table}
-use Rattle.sqlite_schema.specs.declared.schema.Reference.{Reference}
-use Rattle.sqlite_schema.specs.declared.schema.Index.{Index}
-use Rattle.sqlite_schema.specs.Names.{same_name, table_named}
-use Rattle.sqlite_catalog.specs.Change.{next_tree, past_views, KeepsRows}
-use Rattle.sqlite_catalog.proofs.StepLemmas.{same_itself}
-use Rattle.sqlite_catalog.proofs.ListFacts.{most_from}
-use Rattle.sqlite.specs.Effect.{Database}
-use Rattle.sqlite_keyed.proofs.ListLemmas.{all-append, all_weaker, all-slice_get}
 use Rattle.statements.specs.Place.{at_of, tree_of, StandsAt, IsOwn}
 use Rattle.statements.specs.Tables.{StoredTable, HasRows, HoldsAll, tables_in}
 use Rattle.statements.specs.Making.{bare_table, KeepsTables, sequence_name, IsNotNamed, NamesNoOther}

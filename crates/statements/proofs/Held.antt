@@ -1,17 +1,7 @@
 -- Our tables, each as one value, and as a database that holds those of a version has it.
 use Rattle.std.proofs.Common.{◌≡◌, ◌≢◌, ◌<◌, ◌+◌, inl, inr, arith, ℕ, zero, suc, nat_lt, Bool, true, false, List, [], ◌∷◌, map, take, slice_get, Option, Some, None, option_map, refl, sym, ap, ◌∙◌, subst}
 use Rattle.std.specs.Prelude.{◌==◌}
-use Rattle.std.proofs.lemmas.Bool.Decides.{nat_tests}
-use Rattle.std.proofs.lemmas.List.{take-map}
-use Rattle.std.proofs.lemmas.Option.{slice_get-map}
-use Rattle.sqlite_trees.specs.Tree.{IsAscending}
-use Rattle.sqlite_value.specs.Order.{Row}
-use Rattle.sqlite_schema.specs.declared.schema.Schema.{Schema}
-use Rattle.sqlite_schema.specs.declared.schema.Table.{Table}
-use Rattle.sqlite_keyed.specs.Keyed.{IsKeyedBy}
-use Rattle.sqlite_keyed.proofs.ListLemmas.{all-slice_get, ascending-map, ascending_from_map}
-use Rattle.sqlite.specs.Effect.{Database}
-use Rattle.sqlite.proofs.MarkLemmas.{slice_get-take}
+use Rattle.statements.proofs.Outside.{nat_tests, take-map, slice_get-map, IsAscending, Row, Schema, Table, IsKeyedBy, all-slice_get, ascending-map, ascending_from_map, Database, slice_get-take}
 use Rattle.statements.specs.Place.{tree_of, IsOwn, AreOwn}
 use Rattle.statements.specs.Rows.{Kept, id_of, OrgRow, TokenRow, WsRow, VersionRow, RunRow, PageRow, VpageRow, BoundRow, RetentionRow, stored}
 use Rattle.statements.specs.Schema.{token_table, ws_table}

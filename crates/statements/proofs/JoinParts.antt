@@ -1,19 +1,12 @@
 -- The parts of a query that joins tables, each by itself: together they are more than one `rw` takes.
-use Rattle.std.proofs.Common.{◌≡◌, ℕ, true, false, List, [], Some, None, Ok, refl}
-use Rattle.sqlite_value.specs.declared.keys.Collation.TheVariants.{Binary}
-use Rattle.sqlite_sql.specs.Term.{col}
+use Rattle.statements.proofs.Outside.{◌≡◌, ℕ, true, false, List, [], Some, None, Ok, refl, Binary, col, take_slot, Context, named, parts, having, assembled, ungrouped, lower, sorts, keys}
 use Rattle.sqlite_ast.specs.declared.Expr.TheViews.{out-Core, roll-Core, out-Source, roll-Source}
 use Rattle.sqlite_ast.specs.declared.Expr.TheBlock.{hidden-the_row-Source-5, shown-the_row-Source-5, hidden-the_row-Shown-4, shown-the_row-Shown-4, hidden-the_row-Expr-0, shown-the_row-Expr-0, hidden-the_row-Expr-1, shown-the_row-Expr-1}
 use denote.Hole.Carrier.{out, roll, shown, hidden}
 use Rattle.sqlite_resolve.specs.declared.scope.Output.{Output}
 use Rattle.sqlite_resolve.specs.declared.state.Carried.{Carried}
 use Rattle.sqlite_resolve.specs.declared.state.State.{State}
-use Rattle.sqlite_resolve.specs.Lowering.{take_slot}
-use Rattle.sqlite_resolve.specs.Scope.{Context}
-use Rattle.sqlite_resolve.specs.Select.{named, parts, having, assembled, ungrouped}
-use Rattle.sqlite_resolve.specs.Expr.{lower}
 use Rattle.sqlite_resolve.specs.Body.{tests, body, bounds, bound, table_in, result, matching, joins, join, inner_join, shared}
-use Rattle.sqlite_resolve.specs.Order.{sorts, keys}
 
 -- what unfolds where the parts are put together, and not inside of them
 unfoldable pub composed : Unit {0}

@@ -1,14 +1,6 @@
 -- The only row of an answer: it shows the only row of a table that passes, with that of another table that LEFT JOIN adds.
-use Rattle.std.proofs.Common.{◌≡◌, ◌≢◌, ℕ, Bool, true, false, cond, List, [], ◌∷◌, ◌++◌, map, filter, flat_map, find, slice_get, Some, None, refl, sym, ap, ap₂, ◌∙◌, subst, IsPermutation}
-use Rattle.std.specs.List.{list_all}
-use Rattle.std.proofs.lemmas.List.Sorted.{length_permutation}
+use Rattle.statements.proofs.Outside.{◌≡◌, ◌≢◌, ℕ, Bool, true, false, cond, List, [], ◌∷◌, ◌++◌, map, filter, flat_map, find, slice_get, Some, None, refl, sym, ap, ap₂, ◌∙◌, subst, IsPermutation, list_all, length_permutation, Row, Trees, Term, Env, holds, eval_all, Query, Join, Output, inner, left, end, matches, or_nulls, output, page, IsAnswer, only_one, flat_map-map, flat_map_same_on, flat_map_none, filter-map, filter_same, slice_get-filter}
 use Rattle.std.proofs.lemmas.List.Concat.{flat_map_single}
-use Rattle.sqlite_value.specs.Order.{Row}
-use Rattle.sqlite_trees.specs.Tree.{Trees}
-use Rattle.sqlite_sql.specs.Term.{Term, Env, holds, eval_all}
-use Rattle.sqlite_sql.specs.Query.{Query, Join, Output, inner, left, end, matches, or_nulls, output, page, IsAnswer}
-use Rattle.sqlite_sql.proofs.AggregateLemmas.{only_one}
-use Rattle.sqlite_keyed.proofs.ListLemmas.{flat_map-map, flat_map_same_on, flat_map_none, filter-map, filter_same, slice_get-filter}
 use Rattle.statements.specs.Rows.{Kept, stored}
 use Rattle.statements.proofs.Lefts.{row_or}
 

@@ -1,17 +1,6 @@
 -- Rows under rising keys, taken out and put in again in whatever order a statement comes to them.
-use Rattle.std.proofs.Common.{◌≡◌, ℤ, ◌<ℤ◌, Bool, true, false, not, cond, List, [], ◌∷◌, map, filter, fold, refl, sym, ap, ◌∙◌, arith, Ordering, Less, Equal, Greater, int_cmp, int_eq, IsPermutation}
-use Rattle.std.specs.List.{AllByRecursion}
-use Rattle.std.specs.Ordering.{match_ordering}
-use Rattle.std.proofs.lemmas.Int.{ints}
-use Rattle.std.proofs.lemmas.List.Elements.{All-from_recursion, recursion_from_All}
-use Rattle.std.proofs.lemmas.List.Sorted.{All-permutation, IsPermutation-refl, IsPermutation-trans, IsPermutation-cons}
-use Rattle.sqlite_trees.specs.Tree.{IsAscending}
-use Rattle.sqlite_keyed.specs.Keyed.{IsKeyedBy, insert_by}
-use Rattle.sqlite_keyed.specs.Lists.{update_where, delete_where, without_key}
-use Rattle.sqlite_keyed.proofs.ListLemmas.{all-filter, all_map, all_weaker, along_permutation, ascending-filter, ascending-map, ascending_weaker}
-use Rattle.sqlite_keyed.proofs.KeyedLemmas.{Less-from_lt, int_eq_apart}
+use Rattle.statements.proofs.Outside.{◌≡◌, ℤ, ◌<ℤ◌, Bool, true, false, not, cond, List, [], ◌∷◌, map, filter, fold, refl, sym, ap, ◌∙◌, arith, Ordering, Less, Equal, Greater, int_cmp, int_eq, IsPermutation, AllByRecursion, match_ordering, ints, All-from_recursion, recursion_from_All, All-permutation, IsPermutation-refl, IsPermutation-trans, IsPermutation-cons, IsAscending, IsKeyedBy, insert_by, update_where, delete_where, without_key, all-filter, all_map, all_weaker, along_permutation, ascending-filter, ascending-map, ascending_weaker, Less-from_lt, int_eq_apart, filter_swap}
 use Rattle.sqlite_keyed.proofs.WriteLemmas.{removes_delete}
-use Rattle.sqlite_catalog.proofs.ListFacts.{filter_swap}
 
 module _ {X : Type 0} (key : X → ℤ) where
   -- keys may be taken out in any order

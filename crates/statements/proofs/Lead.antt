@@ -1,25 +1,14 @@
 -- A table keeps its rows, whatever actions of foreign keys of other tables a write sets off: where its references are passive, and also where it
 -- follows one table alone whose own references are passive, if that table isn't written, or no row that goes has a child.
-use Rattle.std.proofs.Common.{◌≡◌, ◌≢◌, ◌⊎◌, inl, inr, ℕ, zero, suc, ◌+◌, ℤ, Bool, true, false, cond, List, [], ◌∷◌, ◌++◌, Option, Some, None, Ok, slice_get, refl, sym, ap, ◌∙◌, subst, ◌&&◌, length}
+use Rattle.statements.proofs.Outside.{◌≡◌, ◌≢◌, ◌⊎◌, inl, inr, ℕ, zero, suc, ◌+◌, ℤ, Bool, true, false, cond, List, [], ◌∷◌, ◌++◌, Option, Some, None, Ok, slice_get, refl, sym, ap, ◌∙◌, subst, ◌&&◌, length, cases_Bool, and_parts, eqb-true, Row, Trees, Enforced, Deferred, Off, Reference, Table, Schema, agree, ParentKey, parent_key, Edit, taken_by, Applies, Work, work_by, work_for, refuses, max_depth, action_edit, Acts, ActsOn, AreChildren, Goes, Leads, Writes, deed_for, deed_of, pairs, loses, is_child_of, all-append, all-slice_get, all_weaker}
 use Rattle.std.specs.Prelude.{nat_lt, ◌==◌}
 use Rattle.std.specs.List.{AllByRecursion, flat_map, filter_map, list_any}
-use Rattle.std.proofs.lemmas.Bool.{cases_Bool, and_parts, eqb-true}
-use Rattle.sqlite_value.specs.Order.{Row}
-use Rattle.sqlite_trees.specs.Tree.{Trees}
 use Rattle.sqlite_schema.specs.declared.schema.Action.{Action}
 use Rattle.sqlite_schema.specs.declared.schema.Action.TheVariants.{NoAction, Restrict, Cascade, SetNull, SetDefault}
 use Rattle.sqlite_schema.specs.declared.schema.Keys.{Keys}
-use Rattle.sqlite_schema.specs.declared.schema.Keys.TheVariants.{Enforced, Deferred, Off}
-use Rattle.sqlite_schema.specs.declared.schema.Reference.{Reference}
-use Rattle.sqlite_schema.specs.declared.schema.Table.{Table}
-use Rattle.sqlite_schema.specs.declared.schema.Schema.{Schema}
-use Rattle.sqlite_schema.specs.Rules.{agree, ParentKey, parent_key}
 use Rattle.sqlite_rules.specs.declared.action.Deed.{Deed}
 use Rattle.sqlite_rules.specs.declared.action.Deed.TheVariants.{Refuse}
-use Rattle.sqlite_rules.specs.Edit.{Edit, taken_by, Applies}
 use Rattle.sqlite_rules.specs.Lists.{Has}
-use Rattle.sqlite_rules.specs.Action.{Work, work_by, work_for, refuses, max_depth, action_edit, Acts, ActsOn, AreChildren, Goes, Leads, Writes, deed_for, deed_of, pairs, loses, is_child_of}
-use Rattle.sqlite_keyed.proofs.ListLemmas.{all-append, all-slice_get, all_weaker}
 use Rattle.statements.specs.Place.{is_passive, IsPassive, RefersPassively}
 
 deed_of_refuses : (keys : Keys) (deletes : Bool) (a : Action) (d : Deed) → is_passive a ≡ true → deed_of keys deletes a ≡ Some d → refuses d ≡ true

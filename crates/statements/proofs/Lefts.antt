@@ -1,12 +1,7 @@
 -- LEFT JOIN with a table of which no more than one row matches.
-use Rattle.std.proofs.Common.{◌≡◌, Bool, true, false, cond, List, [], ◌∷◌, ◌++◌, map, filter, flat_map, find, Option, Some, None, append-nil, refl, ap, ◌∙◌}
-use Rattle.std.specs.List.{list_all, AllByRecursion}
-use Rattle.sqlite_value.specs.Order.{Row}
-use Rattle.sqlite_trees.specs.Tree.{Trees, IsAscending}
-use Rattle.sqlite_sql.specs.Term.{Term, Env, holds}
-use Rattle.sqlite_sql.specs.Query.{Join, left, matches, or_nulls}
-use Rattle.sqlite_keyed.proofs.ListLemmas.{filter-map, filter_same, filter_none}
-use Rattle.std.proofs.Common.{ℕ}
+use Rattle.statements.proofs.Outside.{◌≡◌, Bool, true, false, cond, List, [], ◌∷◌, ◌++◌, map, filter, flat_map, find, Option, Some, None, append-nil, refl, sym, ap, ◌∙◌, list_all, AllByRecursion, Row, Trees, IsAscending, Term, Env, holds, Join, left, matches, or_nulls, filter-map, filter_same, filter_none, ℕ, bytes_eq, and_parts, equal_bytes}
+use Rattle.statements.specs.Rows.{Kept, Owned}
+use Rattle.statements.specs.Changes.{is_of}
 
 -- the row that was found, or one with no column
 abbrev pub row_or : {Y : Type 0} → (Y → Row) → Option Y → Row
@@ -42,3 +37,11 @@ module _ {Y : Type 0} (cells : Y → Row) (p : Y → Bool) where
         let below = λ (r : Row). matches db terms more (env ++ r ∷ []) in
         let last : below (row_or cells (find p ys)) ++ [] ≡ below (row_or cells (find p ys)) = rw append-nil refl in
         ap (flat_map below) found_is ∙ last
+
+-- two rows of one organization and name clash
+pub one_named : {T : Type 0} (org name : List ℕ) (a b : Kept (Owned T)) → is_of a.1.org a.1.name b ≡ false → is_of org name a ≡ true → is_of org name b ≡ false
+one_named org name a b apart mine =
+    let same = and_parts (bytes_eq a.1.org org) (bytes_eq a.1.name name) mine in
+    let one = equal_bytes a.1.org org same.0 in
+    let two = equal_bytes a.1.name name same.1 in
+    sym (λ i. is_of (one i) (two i) b) ∙ apart

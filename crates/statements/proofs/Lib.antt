@@ -23,6 +23,7 @@ pub mod Grown
 pub mod Held
 pub mod JoinParts
 pub mod Joined
+pub mod Outside
 pub mod RetentionReads
 pub mod RetentionTexts
 pub mod RetentionWrites

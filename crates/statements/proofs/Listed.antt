@@ -1,27 +1,6 @@
 -- The rows of one of our tables in an order with no ties, as a function of typed rows.
-use Rattle.std.proofs.Common.{◌≡◌, inl, inr, ℕ, ◌≤◌, ◌==◌, ℤ, pos, Bool, false, cond, ◌&&◌, List, [], ◌∷◌, ◌++◌, map, flat_map, filter, take, length, None, refl, sym, ap, ◌∙◌, subst, arith, Ordering, Equal, int_cmp, nat_cmp, is_eq, IsPermutation}
-use Rattle.std.specs.Prelude.{nat_lt}
-use Rattle.std.specs.List.{list_all, AllZip}
-use Rattle.std.specs.Ordering.{ordering_then}
-use Rattle.std.proofs.lemmas.List.{take_all, take-take, take-append-le, take-map}
-use Rattle.std.specs.Cmp.{nat_cmp_total, on_total}
-use Rattle.sqlite_value.specs.declared.keys.Collation.TheVariants.{Binary}
-use Rattle.sqlite_value.specs.declared.keys.Key.{Key}
-use Rattle.sqlite_value.specs.declared.value.Value.TheVariants.{Null, Int}
-use Rattle.sqlite_value.specs.Order.{Row, value_cmp}
-use Rattle.sqlite_value.proofs.OrderLemmas.{value_cmp-Int, then-Equal}
-use Rattle.sqlite_trees.specs.Tree.{Trees, IsAscending}
-use Rattle.sqlite_sql.specs.Term.{Term, Env, col, holds, eval_all}
-use Rattle.sqlite_sql.specs.Query.{Query, Join, Output, inner, end, matches, output, output_cmp, as_count, limited, page, IsAnswer}
-use Rattle.sqlite_sql.specs.Program.{overlay}
+use Rattle.statements.proofs.Outside.{◌≡◌, inl, inr, ℕ, ◌≤◌, ◌==◌, ℤ, pos, Bool, false, cond, ◌&&◌, List, [], ◌∷◌, ◌++◌, map, flat_map, filter, take, length, None, refl, sym, ap, ◌∙◌, subst, arith, Ordering, Equal, int_cmp, nat_cmp, is_eq, IsPermutation, nat_lt, list_all, AllZip, ordering_then, take_all, take-take, take-append-le, take-map, nat_cmp_total, on_total, Binary, Key, Null, Int, Row, value_cmp, value_cmp-Int, then-Equal, Trees, IsAscending, Term, Env, col, holds, eval_all, Query, Join, Output, inner, end, matches, output, output_cmp, as_count, limited, page, IsAnswer, overlay, Schema, Table, Select, State, Shown, Begins, reads_as, begins_as, sort_by, map-map, flat_map-map, flat_map_same_on, filter_as_flat_map, filter_same, filter-map, ascending-map, ascending_weaker, ascending-filter}
 use Rattle.sqlite_sql.proofs.QueryLemmas.{output_cmp_total}
-use Rattle.sqlite_schema.specs.declared.schema.Schema.{Schema}
-use Rattle.sqlite_schema.specs.declared.schema.Table.{Table}
-use Rattle.sqlite_schema.specs.declared.command.Command.TheVariants.{Select}
-use Rattle.sqlite.specs.State.{State, Shown, Begins}
-use Rattle.sqlite.proofs.Callers.{reads_as, begins_as}
-use Rattle.sqlite_keyed.specs.Lists.{sort_by}
-use Rattle.sqlite_keyed.proofs.ListLemmas.{map-map, flat_map-map, flat_map_same_on, filter_as_flat_map, filter_same, filter-map, ascending-map, ascending_weaker, ascending-filter}
 use Rattle.sqlite_keyed.proofs.SortLemmas.{HasNoTies, sorted_is-sort_by, sort_by-map}
 use Rattle.statements.specs.Place.{tree_of, IsOwn}
 use Rattle.statements.specs.Rows.{Kept, stored}

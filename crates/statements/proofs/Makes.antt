@@ -1,40 +1,14 @@
 -- What a CREATE TABLE and a CREATE INDEX do, in a database with whatever schema.
-use Rattle.std.proofs.Common.{◌≡◌, ◌≢◌, ◌⊎◌, inl, inr, ℕ, ◌+◌, ◌<◌, Bool, true, false, cond, ◌||◌, ◌&&◌, List, [], ◌∷◌, ◌++◌, slice_get, slice_range, Option, Some, None, is_some, Result, Ok, Err, refl, sym, ap, ◌∙◌, subst, arith, append_assoc, append-nil}
-use Rattle.std.specs.List.{AllByRecursion, AllZip, position_from}
-use Rattle.std.proofs.lemmas.Bool.{cases_Bool, or_parts}
-use Rattle.sqlite_value.specs.Order.{Row}
-use Rattle.sqlite_trees.specs.Tree.{Trees, IsAscending}
+use Rattle.statements.proofs.Outside.{◌≡◌, ◌≢◌, ◌⊎◌, inl, inr, ℕ, ◌+◌, ◌<◌, Bool, true, false, cond, ◌||◌, ◌&&◌, List, [], ◌∷◌, ◌++◌, slice_get, slice_range, Option, Some, None, is_some, Result, Ok, Err, refl, sym, ap, ◌∙◌, subst, arith, append_assoc, append-nil, AllByRecursion, AllZip, position_from, cases_Bool, or_parts, Row, Trees, IsAscending, Statement, Parsed, Schema, Table, Index, Command, CreateTable, CreateIndex, Nothing, same_name, table_named, Checked, and_then, Compiled, CompileError, table_at, first, command, create_table, create_index, creates, returning, timed, small, meaning, planned, compiled, with_command, table_defined_by, next_tree, KeepsRows, IsTableRow, no_table, rows_trans, Database, IsDatabase, is_query, Tally, AtPlace, Defines, MakesIndex, MakesSequence, lacks_sequence, sequence_text, understood, reads_listing, if_select, is_select, listing_schema, everything, all-slice_get, ascending_weaker}
 use Rattle.sqlite_ast.specs.declared.CreateTable.{CreateTable as TableText}
 use Rattle.sqlite_ast.specs.declared.CreateIndex.{CreateIndex as IndexText}
-use Rattle.sqlite_ast.specs.declared.Statement.{Statement}
 use Rattle.sqlite_ast.specs.declared.Statement.TheVariants as written
-use Rattle.sqlite_syntax.specs.declared.statement.Parsed.{Parsed}
-use Rattle.sqlite_schema.specs.declared.schema.Schema.{Schema}
-use Rattle.sqlite_schema.specs.declared.schema.Table.{Table}
-use Rattle.sqlite_schema.specs.declared.schema.Index.{Index}
-use Rattle.sqlite_schema.specs.declared.command.Command.{Command}
-use Rattle.sqlite_schema.specs.declared.command.Command.TheVariants.{CreateTable, CreateIndex, Nothing}
 use Rattle.sqlite_schema.specs.declared.command.Returning.{Returning}
-use Rattle.sqlite_schema.specs.Names.{same_name, table_named}
-use Rattle.sqlite_resolve.specs.Lowering.{Checked, and_then}
-use Rattle.sqlite_resolve.specs.declared.compiled.Compiled.{Compiled}
-use Rattle.sqlite_resolve.specs.declared.error.CompileError.{CompileError}
 use Rattle.sqlite_resolve.specs.declared.error.CompileError.TheVariants.{Misuse, Exists, Unsupported}
-use Rattle.sqlite_resolve.specs.Body.{table_at}
 use Rattle.sqlite_resolve.specs.Define as define
-use Rattle.sqlite_resolve.specs.Compile.{first, command, create_table, create_index, creates, returning, timed, small, meaning, planned, compiled, with_command, table_defined_by}
-use Rattle.sqlite_catalog.specs.Change.{next_tree, KeepsRows}
 use Rattle.sqlite_catalog.specs.Calls.{CreatesTable}
-use Rattle.sqlite_catalog.specs.Listing.{IsTableRow}
-use Rattle.sqlite_catalog.proofs.StepLemmas.{no_table}
-use Rattle.sqlite_catalog.proofs.AlterLemmas.{rows_trans}
 use Rattle.sqlite.specs.Clock as clock
-use Rattle.sqlite.specs.Effect.{Database, IsDatabase, is_query}
-use Rattle.sqlite.specs.Does.{Tally, AtPlace, Defines, MakesIndex, MakesSequence, lacks_sequence, sequence_text}
-use Rattle.sqlite.specs.Listing.{understood, reads_listing, if_select, is_select, listing_schema}
-use Rattle.sqlite_tied.specs.Compute.{everything}
 use Rattle.sqlite.specs.State.{State, mode_of, Executes, ExecutesIn, Runs, Writes, shows_rows, is_pragma, text_of}
-use Rattle.sqlite_keyed.proofs.ListLemmas.{all-slice_get, ascending_weaker}
 use Rattle.statements.specs.Making.{KeepsTables, sequence_name}
 use Rattle.statements.specs.Inner.Making.{Grows, IsMaker}
 use Rattle.statements.specs.Tables.{StoredTable, HasRows, HoldsAll, tables_in}

@@ -1,14 +1,6 @@
 -- What a text means, from what its syntax tree means.
-use Rattle.std.proofs.Common.{◌≡◌, ℕ, false, List, [], None, Ok, Err, refl}
-use Rattle.sqlite_ast.specs.declared.Statement.{Statement}
+use Rattle.statements.proofs.Outside.{◌≡◌, ℕ, false, List, [], None, Ok, Err, refl, Statement, Parsed, Schema, Command, Checked, first, command, returning, timed, meaning, planned, compiled, with_command, understood, reads_listing, IsPlain, command_of}
 use Rattle.sqlite_ast.specs.declared.Statement.TheVariants.{Empty}
-use Rattle.sqlite_syntax.specs.declared.statement.Parsed.{Parsed}
-use Rattle.sqlite_schema.specs.declared.schema.Schema.{Schema}
-use Rattle.sqlite_schema.specs.declared.command.Command.{Command}
-use Rattle.sqlite_resolve.specs.Lowering.{Checked}
-use Rattle.sqlite_resolve.specs.Compile.{first, command, returning, timed, meaning, planned, compiled, with_command}
-use Rattle.sqlite.specs.Listing.{understood, reads_listing}
-use Rattle.sqlite.proofs.Callers.{IsPlain, command_of}
 
 -- The text is this command, it shows no row of a write and reads no clock, and it is no query on the list of tables.
 abbrev pub Means : Schema → Command → List ℕ → Type 0

@@ -1,20 +1,7 @@
 -- What the texts on the table meta mean and do, in each schema that has it.
-use Rattle.std.proofs.Common.{◌≡◌, ℕ, pos, true, false, List, [], ◌∷◌, map, codes, find, Option, Some, None, Ok, int_eq, refl, ◌∙◌, subst, ◌<◌, arith}
-use Rattle.sqlite_value.specs.declared.keys.Collation.TheVariants.{Binary}
-use Rattle.sqlite_value.specs.Order.{Row}
-use Rattle.sqlite_sql.specs.Program.{overlay}
-use Rattle.sqlite_sql.specs.Term.{col, eval_all}
-use Rattle.sqlite_sql.specs.Query.{Query}
-use Rattle.sqlite_schema.specs.declared.schema.Schema.{Schema}
-use Rattle.sqlite_schema.specs.declared.schema.Table.{Table}
-use Rattle.sqlite.specs.Effect.{Database}
-use Rattle.sqlite_schema.specs.declared.command.Command.TheVariants.{Delete}
+use Rattle.statements.proofs.Outside.{◌≡◌, ℕ, pos, true, false, List, [], ◌∷◌, map, codes, find, Option, Some, None, Ok, int_eq, refl, ◌∙◌, subst, ◌<◌, arith, Binary, Row, overlay, col, eval_all, Query, Schema, Table, Database, Delete, everything, State, Executes, delete_where, at_ints, last_term}
 use Rattle.sqlite_ast.specs.declared.Expr.TheVariants.{Binary as Two}
 use Rattle.sqlite_ast.specs.declared.Binary.TheVariants.{Eq}
-use Rattle.sqlite_tied.specs.Compute.{everything}
-use Rattle.sqlite.specs.State.{State, Executes}
-use Rattle.sqlite_keyed.specs.Lists.{delete_where}
-use Rattle.sqlite_typed.proofs.TestLemmas.{at_ints, last_term}
 use Rattle.sqlite_sql.specs.declared.ops.CompareOp.TheVariants as compare
 use Rattle.statements.specs.declared.making.TheConstants.{CLEAR_VERSION, VERSION, SCHEMA_VERSION}
 use Rattle.statements.specs.Place.{StandsAt, tree_of}

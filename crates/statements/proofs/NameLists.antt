@@ -1,28 +1,6 @@
 -- Rows in the order of their names, as the entries of a finite map.
-use Rattle.std.proofs.Common.{◌≡◌, ℕ, Bool, true, false, cond, ◌&&◌, List, [], ◌∷◌, map, filter, take, refl, sym, ap, ◌∙◌, subst, Ordering, Equal, is_eq}
-use Rattle.std.specs.Str.{bytes_eq}
-use Rattle.std.specs.List.{list_all, AllByRecursion, AllZip}
-use Rattle.std.specs.Ordering.{ordering_then}
-use Rattle.std.specs.Cmp.Lexicographic.{nat_list_cmp_total}
-use Rattle.std.specs.FinMap.{from_entries, entries}
+use Rattle.statements.proofs.Outside.{◌≡◌, ℕ, Bool, true, false, cond, ◌&&◌, List, [], ◌∷◌, map, filter, take, refl, sym, ap, ◌∙◌, subst, Ordering, Equal, is_eq, bytes_eq, list_all, AllByRecursion, AllZip, ordering_then, nat_list_cmp_total, from_entries, entries, take-map, is_eq-slice_cmp, Text, Row, value_cmp, value_cmp-Text, then-Equal, IsAscending, Env, holds, eval_all, Query, Join, output, output_cmp, page, Table, Select, State, Shown, overlay, sort_by, AreApart, map-map, filter-map, filter_all, all_of, ascending_weaker, ascending-filter, turn_eq, equal_bytes}
 use Rattle.std.proofs.lemmas.Cmp.{on_total}
-use Rattle.std.proofs.lemmas.List.{take-map}
-use Rattle.std.proofs.lemmas.Map.Text.{is_eq-slice_cmp}
-use Rattle.sqlite_value.specs.declared.value.Value.TheVariants.{Text}
-use Rattle.sqlite_value.specs.Order.{Row, value_cmp}
-use Rattle.sqlite_value.proofs.OrderLemmas.{value_cmp-Text, then-Equal}
-use Rattle.sqlite_trees.specs.Tree.{IsAscending}
-use Rattle.sqlite_sql.specs.Term.{Env, holds, eval_all}
-use Rattle.sqlite_sql.specs.Query.{Query, Join, output, output_cmp, page}
-use Rattle.sqlite_schema.specs.declared.schema.Table.{Table}
-use Rattle.sqlite_schema.specs.declared.command.Command.TheVariants.{Select}
-use Rattle.sqlite.specs.State.{State, Shown}
-use Rattle.sqlite_sql.specs.Program.{overlay}
-use Rattle.sqlite_keyed.specs.Lists.{sort_by}
-use Rattle.sqlite_keyed.specs.Rules.{AreApart}
-use Rattle.sqlite_keyed.proofs.ListLemmas.{map-map, filter-map, filter_all, all_of, ascending_weaker, ascending-filter}
-use Rattle.sqlite_typed.proofs.TestLemmas.{turn_eq}
-use Rattle.basis.proofs.NameLemmas.{equal_bytes}
 use Rattle.statements.specs.Place.{tree_of, IsOwn}
 use Rattle.statements.specs.Rows.{Kept, OrgRow, TokenRow, WsRow, stored}
 use Rattle.statements.specs.Changes.{is_org, is_token, is_ws_of, is_ws}

@@ -1,10 +1,5 @@
 -- What the queries on the table org read of its rows.
-use Rattle.std.specs.List.{AllZip}
-use Rattle.std.proofs.Common.{◌≡◌, ℕ, List, [], ◌∷◌, Option, codes, refl}
-use Rattle.sqlite_value.specs.declared.value.Value.TheVariants.{Text}
-use Rattle.sqlite_value.specs.Order.{Row}
-use Rattle.sqlite_sql.specs.Query.{end}
-use Rattle.sqlite.specs.State.{State, Shown}
+use Rattle.statements.proofs.Outside.{AllZip, ◌≡◌, ℕ, List, [], ◌∷◌, Option, codes, refl, Text, Row, end, State, Shown}
 use Rattle.statements.specs.Schema.{org_table}
 use Rattle.statements.specs.Rows.{org_cells}
 use Rattle.statements.specs.Tables.{Tables, Holds, org_layout}

@@ -1,13 +1,5 @@
 -- What the texts on the table org mean, in each schema that has it.
-use Rattle.std.proofs.Common.{ℕ, false, List, [], ◌∷◌, codes, Some, None, refl}
-use Rattle.sqlite_value.specs.declared.value.Value.TheVariants.{Null}
-use Rattle.sqlite_value.specs.declared.keys.Collation.TheVariants.{Binary}
-use Rattle.sqlite_sql.specs.Term.{lit, col}
-use Rattle.sqlite_sql.specs.Query.{Query}
-use Rattle.sqlite_schema.specs.declared.schema.Schema.{Schema}
-use Rattle.sqlite_schema.specs.declared.command.Source.TheVariants.{Values}
-use Rattle.sqlite_schema.specs.declared.command.Command.TheVariants.{Insert, Update, Delete}
-use Rattle.sqlite_tied.specs.Compute.{everything}
+use Rattle.statements.proofs.Outside.{ℕ, false, List, [], ◌∷◌, codes, Some, None, refl, Null, Binary, lit, col, Query, Schema, Values, Insert, Update, Delete, everything}
 use Rattle.statements.specs.declared.organizations.TheConstants.{ADD_ORG, SET_CAP, REMOVE_ORG, ORG_CAP, LIST_ORGS}
 use Rattle.statements.specs.Place.{StandsAt}
 use Rattle.statements.specs.Schema.{org_table}

@@ -1,7 +1,5 @@
 -- What the writes to the table org do to its rows.
-use Rattle.std.proofs.Common.{ℕ, List, [], ◌∷◌, Ok, refl}
-use Rattle.sqlite_value.specs.declared.value.Value.TheVariants.{Text}
-use Rattle.sqlite.specs.State.{State, Executes}
+use Rattle.statements.proofs.Outside.{ℕ, List, [], ◌∷◌, Ok, refl, Text, State, Executes}
 use Rattle.statements.specs.Rows.{number}
 use Rattle.statements.specs.Tables.{Tables, Holds}
 use Rattle.statements.specs.Changes.{is_org, org_row_added, org_row_removed, org_capped}

@@ -1,44 +1,10 @@
 -- What a write to one of our tables leaves, whatever else stands in the database.
-use Rattle.std.proofs.Common.{inl, inr, ◌≡◌, ◌≢◌, ◌^◌, ℕ, suc, ℤ, Bool, true, false, arith, List, [], ◌∷◌, ◌++◌, ◌/◌, map, filter, find, drop, length, not, ◌==◌, slice_get, option_map, is_some, None, Ok, refl, sym, ap, ap₂, ◌∙◌, subst}
+use Rattle.statements.proofs.Outside.{inl, inr, ◌≡◌, ◌≢◌, ◌^◌, ℕ, suc, ℤ, Bool, true, false, arith, List, [], ◌∷◌, ◌++◌, ◌/◌, map, filter, find, drop, length, not, ◌==◌, slice_get, option_map, is_some, None, Ok, refl, sym, ap, ap₂, ◌∙◌, subst, AllByRecursion, list_all, ne_eqb, length-map, length_permutation, Value, Null, Int, Row, Trees, unary, Term, holds, eval_all, Query, inner, end, page, overlay, Reference, Schema, Table, Enforced, Insert, Update, Delete, Source, IsAnswer, map-map, map_same, all-slice_get, all_of, all_weaker, cast, cast_all, cast_row, Chosen, Given, ids_of, Edit, Applies, edited, edit_of, taken_by, Writes, pairs, value_rows, stamped, one_step, State, Executes, IsKeyedBy, insert_by, next_key, update_where, delete_where, slice_get-filter, insert_next, is_some-map, IsKeyedBy-insert_by}
 use Rattle.std.specs.Prelude.{nat_le}
-use Rattle.std.specs.List.{AllByRecursion, list_all}
-use Rattle.std.proofs.lemmas.Bool.{ne_eqb}
-use Rattle.std.proofs.lemmas.List.{length-map}
-use Rattle.std.proofs.lemmas.List.Sorted.{length_permutation}
-use Rattle.sqlite_value.specs.declared.value.Value.{Value}
-use Rattle.sqlite_value.specs.declared.value.Value.TheVariants.{Null, Int}
-use Rattle.sqlite_value.specs.Order.{Row}
-use Rattle.sqlite_trees.specs.Tree.{Trees}
-use Rattle.sqlite_sql.specs.Ops.{unary}
-use Rattle.sqlite_sql.specs.Term.{Term, holds, eval_all}
-use Rattle.sqlite_sql.specs.Query.{Query, inner, end, page}
-use Rattle.sqlite_sql.specs.Program.{overlay}
 use Rattle.sqlite_schema.specs.declared.schema.Kind.TheVariants.{Integer}
-use Rattle.sqlite_schema.specs.declared.schema.Reference.{Reference}
-use Rattle.sqlite_schema.specs.declared.schema.Schema.{Schema}
-use Rattle.sqlite_schema.specs.declared.schema.Table.{Table}
-use Rattle.sqlite_schema.specs.declared.schema.Keys.TheVariants.{Enforced}
-use Rattle.sqlite_schema.specs.declared.command.Command.TheVariants.{Insert, Update, Delete}
-use Rattle.sqlite_schema.specs.declared.command.Source.{Source}
 use Rattle.sqlite_schema.specs.declared.command.Source.TheVariants.{Values, Query as Queried}
-use Rattle.sqlite_sql.specs.Query.{IsAnswer}
-use Rattle.sqlite_keyed.proofs.ListLemmas.{map-map, map_same, all-slice_get, all_of, all_weaker}
 use Rattle.statements.specs.Changes.{with_all}
-use Rattle.sqlite_rules.specs.Cast.{cast, cast_all, cast_row}
-use Rattle.sqlite_rules.specs.declared.error.Rowids.TheVariants.{Chosen, Given}
-use Rattle.sqlite_rules.specs.Calls.{ids_of}
-use Rattle.sqlite_rules.specs.Edit.{Edit, Applies, edited, edit_of, taken_by}
-use Rattle.sqlite_rules.specs.Action.{Writes, pairs}
 use Rattle.sqlite_rules.proofs.ActionLemmas.{no_works}
-use Rattle.sqlite.specs.Effect.{value_rows}
-use Rattle.sqlite.specs.Rows.{stamped}
-use Rattle.sqlite.proofs.Callers.{one_step}
-use Rattle.sqlite.specs.State.{State, Executes}
-use Rattle.sqlite_keyed.specs.Keyed.{IsKeyedBy, insert_by, next_key}
-use Rattle.sqlite_keyed.specs.Lists.{update_where, delete_where}
-use Rattle.sqlite_keyed.proofs.ListLemmas.{slice_get-filter}
-use Rattle.sqlite_keyed.proofs.SliceLemmas.{insert_next, is_some-map}
-use Rattle.sqlite_keyed.proofs.KeyedLemmas.{IsKeyedBy-insert_by}
 use Rattle.statements.specs.Place.{at_of, tree_of, is_passive, RefersPassively, IsPassive, IsOwn}
 use Rattle.statements.specs.Rows.{Kept, id_of, stored}
 use Rattle.statements.proofs.Meaning.{Means}

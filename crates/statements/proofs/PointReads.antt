@@ -1,22 +1,5 @@
 -- What a query over one of our tables reads of its rows, whatever else stands in the database.
-use Rattle.std.proofs.Common.{◌≡◌, ◌<ℤ◌, ℕ, pos, Bool, false, List, [], ◌∷◌, map, filter, find, length, slice_get, Option, Some, None, option_map, ap, ◌∙◌, subst, Ordering, Less, Equal, int_cmp, nat_cmp}
-use Rattle.std.specs.List.{list_all}
-use Rattle.std.specs.Ordering.{ordering_then}
-use Rattle.sqlite_value.specs.declared.keys.Collation.TheVariants.{Binary}
-use Rattle.sqlite_value.specs.declared.value.Value.TheVariants.{Null, Int}
-use Rattle.sqlite_value.specs.Order.{Row, value_cmp}
-use Rattle.sqlite_sql.specs.Aggregate.{count}
-use Rattle.sqlite_sql.specs.Term.{lit, holds, eval_all}
-use Rattle.sqlite_sql.specs.Query.{Query, page, output, output_cmp}
-use Rattle.sqlite_sql.specs.Program.{overlay}
-use Rattle.sqlite_schema.specs.declared.schema.Schema.{Schema}
-use Rattle.sqlite_schema.specs.declared.schema.Table.{Table}
-use Rattle.sqlite_schema.specs.declared.command.Command.TheVariants.{Select}
-use Rattle.sqlite.specs.State.{State}
-use Rattle.sqlite_keyed.specs.Keyed.{IsKeyedBy}
-use Rattle.sqlite_keyed.specs.Lists.{sort_by}
-use Rattle.sqlite_keyed.proofs.ListLemmas.{ascending-filter}
-use Rattle.sqlite_typed.proofs.AnswerLemmas.{IsNoTie}
+use Rattle.statements.proofs.Outside.{◌≡◌, ◌<ℤ◌, ℕ, pos, Bool, false, List, [], ◌∷◌, map, filter, find, length, slice_get, Option, Some, None, option_map, ap, ◌∙◌, subst, Ordering, Less, Equal, int_cmp, nat_cmp, list_all, ordering_then, Binary, Null, Int, Row, value_cmp, count, lit, holds, eval_all, Query, page, output, output_cmp, overlay, Schema, Table, Select, State, IsKeyedBy, sort_by, ascending-filter, IsNoTie}
 use Rattle.statements.specs.Place.{tree_of, IsOwn}
 use Rattle.statements.specs.Rows.{Kept, id_of, stored}
 use Rattle.statements.specs.Calls.{FirstRow, Pins}

@@ -1,14 +1,8 @@
 -- Names that begin with a prefix are those from it on, up to the least text behind all of them.
-use Rattle.std.proofs.Common.{◌≡◌, ◌≢◌, ℕ, zero, suc, ◌+◌, ◌-◌, ◌<◌, length, take, get_or, slice_range, IsTrue, ◌++◌, ap₂, Bool, true, false, ◌&&◌, if◌then◌else◌, List, [], ◌∷◌, refl, sym, ap, ◌∙◌, arith, Ordering, Some, Bor, Less, Equal, Greater, is_lt, is_gt, true≢false}
+use Rattle.statements.proofs.Outside.{◌≡◌, ◌≢◌, ℕ, zero, suc, ◌+◌, ◌-◌, ◌<◌, length, take, get_or, slice_range, IsTrue, ◌++◌, ap₂, Bool, true, false, ◌&&◌, if◌then◌else◌, List, [], ◌∷◌, refl, sym, ap, ◌∙◌, arith, Ordering, Some, Bor, Less, Equal, Greater, is_lt, is_gt, true≢false, slice_partial_cmp, nat_list_cmp_total, nat_tests, upto, list_all, and_parts, eqb-true, admits, is_prefix, is_ws_byte, has_length}
 use Rattle.std.specs.Prelude.{nat_eq, ◌==◌}
 use Rattle.std.specs.Ordering.{ordering_then, partial_ordering_then, partial_lt, is_some_and, ordering_reverse, nat_cmp, is_le}
-use Rattle.std.specs.Cmp.Lexicographic.{slice_partial_cmp, nat_list_cmp_total}
-use Rattle.std.proofs.lemmas.Bool.Decides.{nat_tests}
-use Rattle.std.proofs.lemmas.Cmp.{upto}
-use Rattle.std.specs.List.{list_all}
-use Rattle.std.proofs.lemmas.Bool.{and_parts, eqb-true}
 use Rattle.basis.specs.declared.names.TheConstants.{MAX_PREFIX}
-use Rattle.basis.specs.Names.{admits, is_prefix, is_ws_byte, has_length}
 use Rattle.statements.specs.Listings.{text_cmp, is_behind, later_of, end_of}
 
 -- no text is below the empty one

@@ -1,13 +1,6 @@
 -- A row that was read as a value is the row of that value alone, and the row of a value is read as it.
-use Rattle.std.proofs.Common.{◌≡◌, ◌+◌, ℕ, pos, Bool, not, int_eq, unsigned_abs, List, [], ◌∷◌, Option, Some, None, refl, sym, ap, ◌∙◌, subst}
-use Rattle.sqlite_value.specs.declared.value.Value.{Value}
+use Rattle.statements.proofs.Outside.{◌≡◌, ◌+◌, ℕ, pos, Bool, not, int_eq, unsigned_abs, List, [], ◌∷◌, Option, Some, None, refl, sym, ap, ◌∙◌, subst, Value, Row, column, or_null, bytes_of, int_of, unless_null, Role, RunStatus, RunAction, Holder}
 use Rattle.sqlite_value.specs.declared.value.Value.TheVariants as cell
-use Rattle.sqlite_value.specs.Order.{Row, column}
-use Rattle.sqlite_typed.specs.Columns.{or_null, bytes_of, int_of, unless_null}
-use Rattle.basis.specs.declared.roles.Role.{Role}
-use Rattle.basis.specs.declared.runs.RunStatus.{RunStatus}
-use Rattle.basis.specs.declared.runs.RunAction.{RunAction}
-use Rattle.basis.specs.declared.rows.Holder.{Holder}
 use Rattle.basis.specs.declared.rows.Holder.TheVariants.{Nobody, Lock, Run as HeldByRun}
 use Rattle.statements.specs.declared.rows.Workspace.{Workspace}
 use Rattle.statements.specs.declared.rows.NamedWorkspace.{NamedWorkspace}
@@ -18,7 +11,7 @@ use Rattle.statements.specs.declared.rows.NamedRole.{NamedRole}
 use Rattle.statements.specs.declared.rows.NamedToken.{NamedToken}
 use Rattle.basis.specs.declared.roles.Bounds.{Bounds}
 use Rattle.statements.specs.Rows.{Token, number, flag, role_code, status_code, action_code, run_settings_cells, kind_cell, lock_id_cell, lock_text_cell, run_cell, holder_of, status_at, action_at, number_at, bytes_at, holder_at, workspace_in_row, version_in_row, run_in_row}
-use Rattle.statements.specs.Calls.{IsFlagCell, IsTextOrNull, IsActionOrNull, IsHolderIn, IsWorkspaceIn, IsVersionIn, IsRunIn, IsNamedRow, IsOrganization, IsNamedRole, IsNamedToken, IsNumberOrNull, IsBound}
+use Rattle.statements.specs.Calls.{IsFlagCell, IsTextOrNull, IsActionOrNull, IsHolderIn, IsWorkspaceIn, IsVersionIn, IsRunIn, IsNamedRow, IsOrganization, IsNamedToken, IsNumberOrNull, IsBound}
 use Rattle.statements.proofs.Codes.{same_role, same_status, flag_back, status_back, action_back}
 use Rattle.statements.proofs.RunSettings.{run_settings_back}
 
@@ -145,8 +138,8 @@ named_workspace_read name w kept before retention last is was v reported =
 pub organization_read : (name : List ℕ) (cap : ℕ) (o : Organization) → IsOrganization (cell.Text name ∷ number cap ∷ []) o → o ≡ record { name = name; cap = cap }
 organization_read name cap o reported = λ i. record { name = text_read name o.name reported.name i; cap = number_read cap o.cap reported.cap i }
 
-pub named_role_read : (name : List ℕ) (role : Role) (r : NamedRole) → IsNamedRole (cell.Text name ∷ number (role_code role) ∷ []) r → r ≡ record { name = name; role = role }
-named_role_read name role r reported = λ i. record { name = text_read name r.name reported.name i; role = role_read role r.role reported.role i }
+pub named_role_read : (name : List ℕ) (role : Role) (r : NamedRole) → cell.Text name ≡ cell.Text r.name → number (role_code role) ≡ number (role_code r.role) → r ≡ record { name = name; role = role }
+named_role_read name role r named is = λ i. record { name = text_read name r.name named i; role = role_read role r.role is i }
 
 pub named_token_read : (name : List ℕ) (it : Token) (x : NamedToken) → IsNamedToken (cell.Text name ∷ cell.Blob it.digest ∷ number (role_code it.role) ∷ []) x → x ≡ record { name = name; it = it }
 named_token_read name it x reported = λ i. record {

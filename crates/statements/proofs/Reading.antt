@@ -1,16 +1,9 @@
 -- What a SELECT from one table means, from what its parts mean.
-use Rattle.std.proofs.Common.{◌≡◌, ℕ, suc, List, [], Ok, refl}
-use Rattle.sqlite_ast.specs.declared.Core.{Core, out-Core}
-use Rattle.sqlite_ast.specs.declared.Sort.{Sort}
+use Rattle.statements.proofs.Outside.{◌≡◌, ℕ, suc, List, [], Ok, refl, Core, out-Core, Sort, Term, Schema, Program, named, paging, command, read}
 use Rattle.sqlite_ast.specs.declared.Select.{Select, out-Select}
 use Rattle.sqlite_ast.specs.declared.Statement.TheVariants as written
-use Rattle.sqlite_sql.specs.Term.{Term}
-use Rattle.sqlite_schema.specs.declared.schema.Schema.{Schema}
-use Rattle.sqlite_schema.specs.declared.program.Program.{Program}
 use Rattle.sqlite_schema.specs.declared.command.Command.TheVariants as made
-use Rattle.sqlite_resolve.specs.Select.{named, paging}
 use Rattle.sqlite_resolve.specs.Program.{Shown, Building, viewing, single, alone, whole, level, with, query_to, query, sources, program}
-use Rattle.sqlite_resolve.specs.Compile.{command, read}
 
 -- One SELECT over stored tables, with no WITH and no other part. How deep queries nest is left open here, so that no recursion is opened.
 module _ (s : Schema) (q : Select) (core : Core) (order : List Sort) (page : Term × Term) (shown : Shown)

@@ -1,16 +1,6 @@
 -- What the texts on the table keeping mean, in each schema that has it, and the table ws.
-use Rattle.std.proofs.Common.{◌≡◌, ℕ, pos, false, List, [], ◌∷◌, codes, Some, None, Ok, refl}
-use Rattle.sqlite_value.specs.declared.value.Value.TheVariants.{Null, Int}
-use Rattle.sqlite_value.specs.declared.keys.Collation.TheVariants.{Binary}
-use Rattle.sqlite_sql.specs.Term.{lit, col}
-use Rattle.sqlite_sql.specs.Query.{Query}
-use Rattle.sqlite_schema.specs.declared.schema.Schema.{Schema}
+use Rattle.statements.proofs.Outside.{◌≡◌, ℕ, pos, false, List, [], ◌∷◌, codes, Some, None, Ok, refl, Null, Int, Binary, lit, col, Query, Schema, Insert, Update, Delete, command, insert_or_abort, insert, new_rows, source_of, queried, timed, returning, shows, places, as_row, inserted, selected, program, query, everything}
 use Rattle.sqlite_schema.specs.declared.command.Source.TheVariants.{Values, Query as Queried}
-use Rattle.sqlite_schema.specs.declared.command.Command.TheVariants.{Insert, Update, Delete}
-use Rattle.sqlite_resolve.specs.Compile.{command, insert_or_abort, insert, new_rows, source_of, queried, timed, returning, shows}
-use Rattle.sqlite_resolve.specs.Write.{places, as_row, inserted, selected}
-use Rattle.sqlite_resolve.specs.Program.{program, query}
-use Rattle.sqlite_tied.specs.Compute.{everything}
 use Rattle.statements.specs.declared.retentions.TheConstants.{ADD_RETENTION, FIND_RETENTION, SET_RETENTION, REMOVE_RETENTION, FILL_RETENTIONS}
 use Rattle.statements.specs.Place.{StandsAt}
 use Rattle.statements.specs.Schema.{ws_table, retention_table}

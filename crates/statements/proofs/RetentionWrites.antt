@@ -1,9 +1,5 @@
 -- What the writes to the table keeping do to its rows.
-use Rattle.std.proofs.Common.{◌≡◌, ℕ, List, [], ◌∷◌, Ok, refl, ◌∙◌, map, true, false, ap, arith}
-use Rattle.sqlite_value.specs.declared.value.Value.TheVariants.{Text}
-use Rattle.sqlite_sql.specs.Program.{overlay}
-use Rattle.sqlite.specs.State.{State, Executes}
-use Rattle.sqlite_keyed.proofs.ListLemmas.{filter_all, all_of}
+use Rattle.statements.proofs.Outside.{◌≡◌, ℕ, List, [], ◌∷◌, Ok, refl, ◌∙◌, map, true, false, ap, arith, Text, overlay, State, Executes, filter_all, all_of}
 use Rattle.statements.specs.Place.{tree_of}
 use Rattle.statements.specs.Schema.{ws_table, retention_table}
 use Rattle.statements.specs.Rows.{Kept, WsRow, ws_cells, retention_cells, number}

@@ -1,10 +1,5 @@
 -- What the queries on the table run read of its rows.
-use Rattle.std.specs.List.{AllZip}
-use Rattle.std.proofs.Common.{◌≡◌, ℕ, List, [], ◌∷◌, Option, Some, codes, refl, ◌∙◌}
-use Rattle.sqlite_value.specs.declared.value.Value.TheVariants.{Text}
-use Rattle.sqlite_value.specs.Order.{Row}
-use Rattle.sqlite_keyed.proofs.ListLemmas.{first_taken}
-use Rattle.sqlite.specs.State.{State}
+use Rattle.statements.proofs.Outside.{AllZip, ◌≡◌, ℕ, List, [], ◌∷◌, Option, Some, codes, refl, ◌∙◌, Text, Row, first_taken, State}
 use Rattle.statements.specs.Schema.{run_table}
 use Rattle.statements.specs.Rows.{run_cells, number}
 use Rattle.statements.specs.Tables.{Tables, Holds, run_layout}

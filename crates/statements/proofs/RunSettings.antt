@@ -1,8 +1,5 @@
 -- How the runs of a workspace go: what has to be proved of each column of it.
-use Rattle.std.proofs.Common.{◌≡◌, ◌+◌, ◌++◌, ◌∷◌, ap₂, drop}
-use Rattle.sqlite_value.specs.Order.{Row}
-use Rattle.sqlite_rules.specs.Cast.{cast_all}
-use Rattle.basis.specs.declared.rows.RunSettings.{RunSettings}
+use Rattle.statements.proofs.Outside.{◌≡◌, ◌+◌, ◌++◌, ◌∷◌, ap₂, drop, Row, cast_all, RunSettings}
 use Rattle.statements.specs.Schema.{ws_table}
 use Rattle.statements.specs.Rows.{run_settings_cells, run_settings_at, run_settings_width}
 use Rattle.statements.proofs.Codes.{flag_back}

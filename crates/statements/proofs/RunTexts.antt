@@ -1,14 +1,5 @@
 -- What the texts on the table run mean, in each schema that has it.
-use Rattle.std.proofs.Common.{ℕ, false, List, [], ◌∷◌, codes, Some, None, refl}
-use Rattle.sqlite_value.specs.declared.value.Value.TheVariants.{Null}
-use Rattle.sqlite_value.specs.declared.keys.Collation.TheVariants.{Binary}
-use Rattle.sqlite_sql.specs.Term.{Term, lit, col}
-use Rattle.sqlite_sql.specs.Query.{Query}
-use Rattle.sqlite_schema.specs.declared.schema.Schema.{Schema}
-use Rattle.sqlite_schema.specs.declared.command.Source.TheVariants.{Values}
-use Rattle.sqlite_schema.specs.declared.command.Command.TheVariants.{Insert, Update, Delete}
-use Rattle.sqlite_ast.specs.declared.Expr.TheVariants.{Integer}
-use Rattle.sqlite_tied.specs.Compute.{everything}
+use Rattle.statements.proofs.Outside.{ℕ, false, List, [], ◌∷◌, codes, Some, None, refl, Null, Binary, Term, lit, col, Query, Schema, Values, Insert, Update, Delete, Integer, everything}
 use Rattle.statements.specs.declared.runs.TheConstants.{FIRST_WAITING, RUN_STATUS, FIND_RUN, FIND_KEYED_RUN, COUNT_OPEN_RUNS, SET_RUN_STATUS, RECORD_ACTION, ADD_RUN, REMOVE_RUNS, LIST_RUNS}
 use Rattle.statements.specs.Place.{StandsAt}
 use Rattle.statements.specs.Schema.{run_table}

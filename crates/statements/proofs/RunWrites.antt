@@ -1,10 +1,5 @@
 -- What the writes to the table run do to its rows.
-use Rattle.std.proofs.Common.{ℕ, Bool, List, [], ◌∷◌, Option, Some, Ok, refl}
-use Rattle.sqlite_typed.specs.Columns.{or_null}
-use Rattle.sqlite_value.specs.declared.value.Value.TheVariants.{Text}
-use Rattle.sqlite.specs.State.{State, Executes}
-use Rattle.basis.specs.declared.runs.RunStatus.{RunStatus}
-use Rattle.basis.specs.declared.runs.RunAction.{RunAction}
+use Rattle.statements.proofs.Outside.{ℕ, Bool, List, [], ◌∷◌, Option, Some, Ok, refl, or_null, Text, State, Executes, RunStatus, RunAction}
 use Rattle.statements.specs.Rows.{flag, number, status_code, action_code}
 use Rattle.statements.specs.Tables.{Tables, Holds}
 use Rattle.statements.specs.Changes.{is_run_row, is_run_of, run_changed_to, run_acted, run_added, run_made, runs_removed}

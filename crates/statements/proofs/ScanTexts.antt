@@ -1,12 +1,5 @@
 -- What the texts for all rows of a table mean, in each schema that has it.
-use Rattle.std.proofs.Common.{◌≡◌, ℕ, false, List, [], ◌∷◌, codes, None, Ok, refl}
-use Rattle.sqlite_sql.specs.Term.{Term, col}
-use Rattle.sqlite_schema.specs.declared.schema.Schema.{Schema}
-use Rattle.sqlite_schema.specs.declared.schema.Table.{Table}
-use Rattle.sqlite_ast.specs.declared.Core.{Core}
-use Rattle.sqlite_resolve.specs.Select.{named}
-use Rattle.sqlite_resolve.specs.Program.{program}
-use Rattle.sqlite_tied.specs.Compute.{everything}
+use Rattle.statements.proofs.Outside.{◌≡◌, ℕ, false, List, [], ◌∷◌, codes, None, Ok, refl, Term, col, Schema, Table, Core, named, program, everything, Draft}
 use Rattle.statements.specs.declared.scans.TheConstants.{ALL_ORGS, ALL_TOKENS, ALL_WSS, ALL_VERSIONS, ALL_RUNS, ALL_BOUNDS, ALL_RETENTIONS, ALL_METAS, ALL_EDITIONS}
 use Rattle.statements.specs.Place.{StandsAt}
 use Rattle.statements.specs.Schema.{org_table, token_table, ws_table, version_table, run_table, bound_table, retention_table, meta_table, edition_table}
@@ -15,7 +8,6 @@ use Rattle.statements.proofs.Selects.{IsSelect, Asks, asks}
 use Rattle.statements.proofs.Writes.{plain_program}
 use Rattle.statements.proofs.Columns.{names_of, shown_of, orders_of}
 use Rattle.statements.proofs.Wholes.{whole, whole_draft}
-use Rattle.sqlite_draft.specs.declared.query.Draft.{Draft}
 
 -- ---- of any table: its rowid, and these of its columns
 

@@ -1,13 +1,8 @@
 -- What the texts that make the tables and the indexes are.
-use Rattle.std.proofs.Common.{false, List, [], ◌∷◌, map, refl}
-use Rattle.std.specs.List.{AllZip}
+use Rattle.statements.proofs.Outside.{false, List, [], ◌∷◌, map, refl, AllZip, Statement, first, everything, Table}
 use Rattle.sqlite_ast.specs.declared.CreateTable.{CreateTable}
 use Rattle.sqlite_ast.specs.declared.CreateIndex.{CreateIndex}
-use Rattle.sqlite_ast.specs.declared.Statement.{Statement}
 use Rattle.sqlite_ast.specs.declared.Statement.TheVariants as written
-use Rattle.sqlite_resolve.specs.Compile.{first}
-use Rattle.sqlite_tied.specs.Compute.{everything}
-use Rattle.sqlite_schema.specs.declared.schema.Table.{Table}
 use Rattle.statements.specs.declared.making.TheConstants.{TABLE_TEXTS, FIRST, SECOND, THIRD, MAKE_META, MAKE_ORG, MAKE_TOKEN, MAKE_WS, MAKE_VERSION, MAKE_RUN, MAKE_PAGE, MAKE_VPAGE, MAKE_BOUND, MAKE_EDITION, MAKE_KEEPING, MAKE_RUN_INDEX, MAKE_VPAGE_INDEX}
 use Rattle.statements.specs.Schema.{meta_table, org_table, token_table, ws_table, version_table, run_table, page_table, vpage_table, bound_table, edition_table, retention_table}
 use Rattle.statements.specs.Tables.{our_tables}

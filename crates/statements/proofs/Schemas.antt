@@ -1,20 +1,7 @@
 -- The tables of all versions are made one after another, and a version is raised to the next.
-use Rattle.std.proofs.Common.{◌≡◌, ◌≢◌, ◌≤◌, ◌+◌, ℕ, zero, suc, true, ◌<◌, length, take, get_or, IsTrue, arith, List, [], ◌∷◌, ◌++◌, map, Result, Ok, Err, OnOk, OnErr, refl, sym, ap, ◌∙◌, subst, append_assoc, append-nil}
-use Rattle.std.proofs.lemmas.List.{map-append}
+use Rattle.statements.proofs.Outside.{◌≡◌, ◌≢◌, ◌≤◌, ◌+◌, ℕ, zero, suc, true, ◌<◌, length, take, get_or, IsTrue, arith, List, [], ◌∷◌, ◌++◌, map, Result, Ok, Err, OnOk, OnErr, refl, sym, ap, ◌∙◌, subst, append_assoc, append-nil, map-append, AllByRecursion, AllZip, Table, table_named, all_weaker, all_both, all-append, all-slice_get, Database, state, State, HasCleanDisk, KeepsCommit, Transaction, Ghosts, doubt, keeps_then, rows_trans}
 use Rattle.std.specs.Borrow.{Bor}
-use Rattle.std.specs.List.{AllByRecursion, AllZip}
 use Rattle.std.specs.Result.{IsErr}
-use Rattle.sqlite_schema.specs.declared.schema.Table.{Table}
-use Rattle.sqlite_schema.specs.Names.{table_named}
-use Rattle.sqlite_keyed.proofs.ListLemmas.{all_weaker, all_both, all-append, all-slice_get}
-use Rattle.sqlite.specs.Effect.{Database}
-use Rattle.sqlite.specs.Held.{state}
-use Rattle.sqlite.specs.State.{State, HasCleanDisk, KeepsCommit}
-use Rattle.sqlite.specs.declared.transaction.Transaction.{Transaction}
-use Rattle.sqlite_trees.specs.declared.store.Store.{Ghosts}
-use Rattle.sqlite_trees.specs.View.{doubt}
-use Rattle.sqlite.proofs.InsideLemmas.{keeps_then}
-use Rattle.sqlite_catalog.proofs.AlterLemmas.{rows_trans}
 use Rattle.statements.specs.Place.{IsOwn, RefersPassively, at_of, tree_of}
 use Rattle.statements.specs.Schema.{edition_table}
 use Rattle.statements.specs.Steps.{LeavesBeside}

@@ -1,22 +1,8 @@
 -- What a text means that is one SELECT, from what its parts mean.
-use Rattle.std.proofs.Common.{◌≡◌, ℕ, List, [], Option, Ok, refl}
-use Rattle.sqlite_value.specs.declared.keys.Collation.{Collation}
-use Rattle.sqlite_ast.specs.declared.Core.{Core, out-Core}
-use Rattle.sqlite_ast.specs.declared.Expr.{Expr}
-use Rattle.sqlite_ast.specs.declared.Sort.{Sort}
+use Rattle.statements.proofs.Outside.{◌≡◌, ℕ, List, [], Option, Ok, refl, Collation, Core, out-Core, Expr, Sort, out-Select, Term, Query, Draft, Schema, Table, Select, named, paging, first, command, timed, returning, everything}
 use Rattle.sqlite_ast.specs.declared.Select as ast
-use Rattle.sqlite_ast.specs.declared.Select.{out-Select}
 use Rattle.sqlite_ast.specs.declared.Statement.TheVariants as written
-use Rattle.sqlite_sql.specs.Term.{Term}
-use Rattle.sqlite_sql.specs.Query.{Query}
-use Rattle.sqlite_draft.specs.declared.query.Draft.{Draft}
-use Rattle.sqlite_schema.specs.declared.schema.Schema.{Schema}
-use Rattle.sqlite_schema.specs.declared.schema.Table.{Table}
-use Rattle.sqlite_schema.specs.declared.command.Command.TheVariants.{Select}
-use Rattle.sqlite_resolve.specs.Select.{named, paging}
 use Rattle.sqlite_resolve.specs.Program.{Shown, Building, sources, program}
-use Rattle.sqlite_resolve.specs.Compile.{first, command, timed, returning}
-use Rattle.sqlite_tied.specs.Compute.{everything}
 use Rattle.statements.specs.Place.{StandsAt}
 use Rattle.statements.specs.Calls.{IsQuery}
 use Rattle.statements.proofs.SyntaxTrees.{select}

@@ -1,19 +1,7 @@
 -- Lists in the order of a key, and finite maps of them.
-use Rattle.std.proofs.Common.{◌≡◌, ◌<◌, ◌<ℤ◌, ◌+◌, ℕ, ℤ, Bool, true, false, ◌&&◌, cond, List, [], ◌∷◌, ◌++◌, map, filter, length, reverse, take, get_or, refl, sym, ap, ◌∙◌, subst, Ordering, Less, Equal, Greater, int_cmp, is_eq, is_gt, true≢false}
-use Rattle.std.specs.List.{AllByRecursion, AllZip}
-use Rattle.std.proofs.lemmas.List.{take_more, nil_from_length}
+use Rattle.statements.proofs.Outside.{◌≡◌, ◌<◌, ◌<ℤ◌, ◌+◌, ℕ, ℤ, Bool, true, false, ◌&&◌, cond, List, [], ◌∷◌, ◌++◌, map, filter, length, reverse, take, get_or, refl, sym, ap, ◌∙◌, subst, Ordering, Less, Equal, Greater, int_cmp, is_eq, is_gt, true≢false, AllByRecursion, AllZip, take_more, nil_from_length, IsTotalOrder, ordering_reverse, ordering_then, upto, from_entries, entries, empty, entries-insert, len-entries, len-empty, zip_more, IsAscending, IsKeyedBy, sort_by, insert_sorted, all_weaker, all-filter, Less-from_lt}
 use Rattle.std.proofs.lemmas.Grind.{reverse_onto}
-use Rattle.std.specs.Cmp.{IsTotalOrder}
-use Rattle.std.specs.Ordering.{ordering_reverse, ordering_then}
-use Rattle.std.proofs.lemmas.Cmp.{upto}
-use Rattle.std.specs.FinMap.{from_entries, entries, empty, entries-insert, len-entries, len-empty}
 use Rattle.std.specs.FinMap.Entries.{put, by_order}
-use Rattle.sqlite_rules.proofs.PlaceLemmas.{zip_more}
-use Rattle.sqlite_trees.specs.Tree.{IsAscending}
-use Rattle.sqlite_keyed.specs.Keyed.{IsKeyedBy}
-use Rattle.sqlite_keyed.specs.Lists.{sort_by, insert_sorted}
-use Rattle.sqlite_keyed.proofs.ListLemmas.{all_weaker, all-filter}
-use Rattle.sqlite_keyed.proofs.KeyedLemmas.{Less-from_lt}
 
 module _ {A : Type 0} (p q : A → Bool) where
   -- two tests, one after the other

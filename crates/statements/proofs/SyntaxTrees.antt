@@ -1,6 +1,6 @@
 -- The statements as they are written, without the blanks of their texts.
 use Rattle.std.specs.Prelude.{ℕ, suc, Bool, true, false, List, [], ◌∷◌, ◌++◌, map, zip, codes, Option, Some, None}
-use Rattle.sqlite_ast.specs.declared.Expr.{Expr}
+use Rattle.statements.proofs.Outside.{Expr, Sort, roll-Sort, Statement}
 use Rattle.sqlite_ast.specs.declared.Expr.TheVariants.{Column, Parameter, Integer, Text, Null, CallStar, Binary as Two}
 use Rattle.sqlite_ast.specs.declared.Binary.TheVariants.{And, Eq, Lt, Gt, Ge, Sub}
 use Rattle.sqlite_ast.specs.declared.Conflict.TheVariants.{Abort}
@@ -10,9 +10,7 @@ use Rattle.sqlite_ast.specs.declared.Source.{Source, roll-Source}
 use Rattle.sqlite_ast.specs.declared.Shown.{Shown}
 use Rattle.sqlite_ast.specs.declared.Shown.TheVariants.{One}
 use Rattle.sqlite_ast.specs.declared.Core.{Core, roll-Core}
-use Rattle.sqlite_ast.specs.declared.Sort.{Sort, roll-Sort}
 use Rattle.sqlite_ast.specs.declared.Select.{Select, roll-Select}
-use Rattle.sqlite_ast.specs.declared.Statement.{Statement}
 use Rattle.sqlite_ast.specs.declared.Statement.TheVariants as written
 use Rattle.statements.specs.Schema.{run_settings_columns}
 use Rattle.statements.proofs.Columns.{names_of}
@@ -141,9 +139,6 @@ token_role_core = from_table (shown_columns (codes "role" ∷ [])) (codes "token
 abbrev pub named_token_role_core : Core
 named_token_role_core = from_table (shown_columns (codes "role" ∷ [])) (codes "token") (at_key (codes "org") (codes "name"))
 
-abbrev pub list_tokens_core : Core
-list_tokens_core = from_table (shown_columns (codes "name" ∷ codes "role" ∷ [])) (codes "token") (is_given (codes "org") 1)
-
 abbrev pub list_digest_tokens_core : Core
 list_digest_tokens_core = from_table (shown_columns (codes "name" ∷ codes "digest" ∷ codes "role" ∷ [])) (codes "token") (is_given (codes "org") 1)
 
@@ -222,13 +217,26 @@ find_token_columns = One (named_of (codes "token") (codes "name")) None (codes "
 abbrev pub of_token : Expr
 of_token = also (Two Eq (named_of (codes "bound") (codes "org")) (Parameter 1)) (Two Eq (named_of (codes "bound") (codes "name")) (named_of (codes "token") (codes "name")))
 
+-- the tokens that pass, each with its row of bound
+abbrev pub tokens_joined : Expr → Core
+tokens_joined test =
+    let token = roll-Source (record { is_left = false; origin = Table (codes "token"); alias = None; on = None; using = [] }) in
+    roll-Core (record { distinct = false; shown = find_token_columns; from = token ∷ joined_left (codes "bound") of_token ∷ []; filter = Some test; group = []; having = None })
+
+abbrev pub list_tokens_test : Expr
+list_tokens_test = Two Eq (named_of (codes "token") (codes "org")) (Parameter 1)
+
+abbrev pub list_tokens_core : Core
+list_tokens_core = tokens_joined list_tokens_test
+
+abbrev pub by_token_name : List Sort
+by_token_name = roll-Sort (record { key = named_of (codes "token") (codes "name"); descending = false; nulls_first = None }) ∷ []
+
 abbrev pub find_token_test : Expr
-find_token_test = also (Two Eq (named_of (codes "token") (codes "org")) (Parameter 1)) (is_given (codes "digest") 2)
+find_token_test = also list_tokens_test (is_given (codes "digest") 2)
 
 abbrev pub find_token_core : Core
-find_token_core =
-    let token = roll-Source (record { is_left = false; origin = Table (codes "token"); alias = None; on = None; using = [] }) in
-    roll-Core (record { distinct = false; shown = find_token_columns; from = token ∷ joined_left (codes "bound") of_token ∷ []; filter = Some find_token_test; group = []; having = None })
+find_token_core = tokens_joined find_token_test
 
 -- the row is one of the workspace, by its columns of these names
 abbrev pub of_workspace : List ℕ → Expr

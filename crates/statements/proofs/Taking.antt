@@ -1,18 +1,6 @@
 -- A query whose rows are taken one at a time.
-use Rattle.std.proofs.Common.{◌≡◌, ◌⊎◌, inl, inr, ℕ, ◌+◌, ◌≤◌, false, List, [], ◌∷◌, ◌++◌, length, None, Some, Result, Ok, Err, IsSome, refl, sym, ap, subst, ◌∙◌, arith, length-append}
-use Rattle.sqlite_value.specs.Order.{Row}
-use Rattle.sqlite_trees.specs.declared.store.Store.{Ghosts}
-use Rattle.sqlite_resolve.specs.declared.compiled.Compiled.{Compiled}
-use Rattle.sqlite_resolve.specs.declared.error.CompileError.{CompileError}
-use Rattle.sqlite_schema.specs.declared.schema.Schema.{Schema}
-use Rattle.sqlite.specs.declared.error.Error.{Error}
-use Rattle.sqlite.specs.Effect.{Database}
+use Rattle.statements.proofs.Outside.{◌≡◌, ◌⊎◌, inl, inr, ℕ, ◌+◌, ◌≤◌, false, List, [], ◌∷◌, ◌++◌, length, None, Some, Result, Ok, Err, IsSome, refl, sym, ap, subst, ◌∙◌, arith, length-append, Row, Ghosts, Compiled, CompileError, Schema, Error, Database, Held, state, understood, reads_listing, IsSourceOf, State, HasCleanDisk, IsUnchanged, IsRolledBack, Fails, Survives, Shown, ShowsRows, Begins, CommitsShowing, given_begin, unchanged_then, survives_then}
 use Rattle.sqlite.specs.Given.{Returns, HasGiven, HasBegun, Advances}
-use Rattle.sqlite.specs.Held.{Held, state}
-use Rattle.sqlite.specs.Listing.{understood, reads_listing, IsSourceOf}
-use Rattle.sqlite.specs.State.{State, HasCleanDisk, IsUnchanged, IsRolledBack, Fails, Survives, Shown, ShowsRows, Begins, CommitsShowing}
-use Rattle.sqlite.proofs.Callers.{given_begin, unchanged_then}
-use Rattle.sqlite.proofs.StateLemmas.{survives_then}
 use Rattle.statements.specs.Calls.{IsQuery, FirstRows}
 use Rattle.statements.proofs.Calm.{silent, survives_query}
 use Rattle.statements.proofs.Transactions.{clean_before}

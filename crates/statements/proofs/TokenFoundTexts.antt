@@ -1,24 +1,8 @@
--- What the text that finds a token by its digest, with its row of bound, means in each schema that has the tables token and bound.
-use Rattle.std.proofs.Common.{◌≡◌, ℕ, true, false, List, [], ◌∷◌, ◌++◌, codes, Some, None, Ok, refl}
-use Rattle.sqlite_value.specs.declared.keys.Collation.TheVariants.{Binary}
-use Rattle.sqlite_sql.specs.declared.ops.CompareOp.TheVariants.{Eq}
-use Rattle.sqlite_sql.specs.declared.ops.BinaryOp.TheVariants.{Compare}
-use Rattle.sqlite_sql.specs.Term.{Term, col, op2}
-use Rattle.sqlite_sql.specs.Query.{Query, Join, left, end}
-use Rattle.sqlite_schema.specs.declared.schema.Schema.{Schema}
-use Rattle.sqlite_schema.specs.declared.command.Command.TheVariants.{Select}
-use Rattle.sqlite_draft.specs.declared.join.Step.TheVariants.{Left}
-use Rattle.sqlite_resolve.specs.declared.scope.Bound.{Bound}
-use Rattle.sqlite_resolve.specs.declared.scope.Level.{Level}
+-- What the texts that find tokens with their rows of bound mean, by a digest or all of an organization, in each schema that has the tables
+-- token and bound.
+use Rattle.statements.proofs.Outside.{◌≡◌, ℕ, true, false, List, [], ◌∷◌, ◌++◌, codes, Some, None, Ok, refl, Binary, Eq, Compare, Term, col, op2, Query, Join, left, end, Schema, Select, Left, Bound, Level, Joined, nothing, Context, outermost, inside, named, lower, within, outputs, left_join, tests, sorts, everything}
 use Rattle.sqlite_resolve.specs.declared.scope.Output.{Output}
-use Rattle.sqlite_resolve.specs.declared.body.Joined.{Joined}
-use Rattle.sqlite_resolve.specs.Lowering.{nothing}
-use Rattle.sqlite_resolve.specs.Scope.{Context}
-use Rattle.sqlite_resolve.specs.Select.{outermost, inside, named}
-use Rattle.sqlite_resolve.specs.Expr.{lower}
-use Rattle.sqlite_resolve.specs.Body.{within, outputs, left_join, tests}
-use Rattle.sqlite_tied.specs.Compute.{everything}
-use Rattle.statements.specs.declared.tokens.TheConstants.{FIND_TOKEN}
+use Rattle.statements.specs.declared.tokens.TheConstants.{FIND_TOKEN, LIST_TOKENS}
 use Rattle.statements.specs.Place.{StandsAt}
 use Rattle.statements.specs.Schema.{token_table, bound_table}
 use Rattle.statements.specs.Calls.{IsQuery}
@@ -28,7 +12,8 @@ use Rattle.statements.proofs.Selects.{IsSelect, asks_query, select_means}
 use Rattle.statements.proofs.Writes.{plain_program}
 use Rattle.statements.proofs.JoinParts.{composed, by_bytes, shown_as, read_so_far, no_tests, no_sorts}
 use Rattle.statements.proofs.Joined.{matching}
-use Rattle.statements.proofs.Commands.{is_at, point_rest, matching_draft, no_page}
+use Rattle.statements.proofs.Listed.{sorted_by, joined_listing}
+use Rattle.statements.proofs.Commands.{is_at, point_rest, matching_draft, joined_draft, no_page}
 
 find_token_reads : IsSelect FIND_TOKEN.now st.find_token_core [] None
 unfolding everything
@@ -37,8 +22,21 @@ find_token_reads = refl
 pub find_token_is_query : IsQuery FIND_TOKEN.now
 find_token_is_query = asks_query FIND_TOKEN.now st.find_token_core [] None find_token_reads
 
+list_tokens_reads : IsSelect LIST_TOKENS.now st.list_tokens_core st.by_token_name None
+unfolding everything
+list_tokens_reads = refl
+
+pub list_tokens_is_query : IsQuery LIST_TOKENS.now
+list_tokens_is_query = asks_query LIST_TOKENS.now st.list_tokens_core st.by_token_name None list_tokens_reads
+
+abbrev found_columns : List Term
+found_columns = col 1 2 ∷ col 1 4 ∷ col 2 3 ∷ col 2 4 ∷ []
+
+abbrev pub list_tokens_rest : Query
+list_tokens_rest = point_rest (is_at 1 0 ∷ []) found_columns no_page
+
 abbrev pub find_token_rest : Query
-find_token_rest = point_rest (is_at 1 0 ∷ is_at 3 1 ∷ []) (col 1 2 ∷ col 1 4 ∷ col 2 3 ∷ col 2 4 ∷ []) no_page
+find_token_rest = point_rest (is_at 1 0 ∷ is_at 3 1 ∷ []) found_columns no_page
 
 -- the row of bound is that of the token
 abbrev pub of_token : List Term
@@ -86,3 +84,22 @@ module _ (s : Schema) (at tree : ℕ) (h : StandsAt s (codes "token") token_tabl
   find_token_means =
       select_means FIND_TOKEN.now st.find_token_core [] None find_token_reads s no_page (matching_draft find_token_rest tree with_bound) (matching find_token_rest tree with_bound) find_token_names (Some Binary ∷ Some Binary ∷ Some Binary ∷ Some Binary ∷ []) refl refl (λ again. refl)
       find_token_named (rw (h.low, k.low, h.treed, k.treed) refl)
+
+  those_of_org : tests lower found_inside [] (Some st.list_tokens_test) (read_so_far 3 99_989 nothing) ≡ Ok (is_at 1 0 ∷ [], read_so_far 3 99_986 nothing)
+  unfolding everything
+  those_of_org = rw (h.found, h.found, h.found) refl
+
+  by_name : sorts lower (inside s (level find_token_shown) false) find_token_shown st.by_token_name (read_so_far 3 99_986 nothing) ≡ Ok (sorted_by 2, read_so_far 3 99_985 by_bytes)
+  unfolding everything
+  by_name = rw (h.found, h.found) refl
+
+  list_tokens_named : named s st.list_tokens_core st.by_token_name no_page ≡ Ok ((joined_draft list_tokens_rest tree with_bound 2), find_token_names, (Some Binary ∷ Some Binary ∷ Some Binary ∷ Some Binary ∷ []))
+  unfolding composed
+  list_tokens_named = rw (h.named, k.named, columns_are, h.found, no_tests found_inside (read_so_far 3 99_996 by_bytes))
+      (rw (k.found, joins_bound _, those_of_org) (rw (no_tests (inside s (level find_token_shown) false) (read_so_far 3 99_986 nothing), by_name) refl))
+
+  pub list_tokens_means : Means s (Select (plain_program (joined_listing list_tokens_rest tree with_bound 2)) find_token_names) LIST_TOKENS.now
+  unfolding everything
+  list_tokens_means =
+      select_means LIST_TOKENS.now st.list_tokens_core st.by_token_name None list_tokens_reads s no_page (joined_draft list_tokens_rest tree with_bound 2) (joined_listing list_tokens_rest tree with_bound 2) find_token_names (Some Binary ∷ Some Binary ∷ Some Binary ∷ Some Binary ∷ []) refl refl (λ again. refl)
+      list_tokens_named (rw (h.low, k.low, h.treed, k.treed) refl)

@@ -1,14 +1,6 @@
 -- What the texts on the table token mean, in each schema that has it.
-use Rattle.std.proofs.Common.{ℕ, false, List, [], ◌∷◌, codes, Some, None, refl}
-use Rattle.sqlite_value.specs.declared.value.Value.TheVariants.{Null}
-use Rattle.sqlite_value.specs.declared.keys.Collation.TheVariants.{Binary}
-use Rattle.sqlite_sql.specs.Term.{lit, col}
-use Rattle.sqlite_sql.specs.Query.{Query}
-use Rattle.sqlite_schema.specs.declared.schema.Schema.{Schema}
-use Rattle.sqlite_schema.specs.declared.command.Source.TheVariants.{Values}
-use Rattle.sqlite_schema.specs.declared.command.Command.TheVariants.{Insert, Delete}
-use Rattle.sqlite_tied.specs.Compute.{everything}
-use Rattle.statements.specs.declared.tokens.TheConstants.{ADD_TOKEN, TOKEN_ROLE, NAMED_TOKEN_ROLE, LIST_TOKENS, LIST_DIGEST_TOKENS, REMOVE_TOKEN}
+use Rattle.statements.proofs.Outside.{ℕ, false, List, [], ◌∷◌, codes, Some, None, refl, Null, Binary, lit, col, Query, Schema, Values, Insert, Delete, everything}
+use Rattle.statements.specs.declared.tokens.TheConstants.{ADD_TOKEN, TOKEN_ROLE, NAMED_TOKEN_ROLE, LIST_DIGEST_TOKENS, REMOVE_TOKEN}
 use Rattle.statements.specs.Place.{StandsAt}
 use Rattle.statements.specs.Schema.{token_table}
 use Rattle.statements.proofs.SyntaxTrees as st
@@ -24,12 +16,6 @@ token_role_rest = point_rest (is_at 1 0 ∷ is_at 3 1 ∷ []) (col 1 4 ∷ []) n
 
 abbrev pub named_token_role_rest : Query
 named_token_role_rest = point_rest (is_at 1 0 ∷ is_at 2 1 ∷ []) (col 1 4 ∷ []) no_page
-
-abbrev pub token_names : List (List ℕ)
-token_names = codes "name" ∷ codes "role" ∷ []
-
-abbrev pub list_tokens_rest : Query
-list_tokens_rest = point_rest (is_at 1 0 ∷ []) (col 1 2 ∷ col 1 4 ∷ []) no_page
 
 abbrev pub digest_token_names : List (List ℕ)
 digest_token_names = codes "name" ∷ codes "digest" ∷ codes "role" ∷ []
@@ -48,12 +34,6 @@ unfolding everything
 named_token_role_asks =
     asks st.named_token_role_core (st.by_rowid false) None (λ tree. point_draft named_token_role_rest tree false) (Some Binary ∷ []) refl refl (λ s tree. refl) (λ s again. refl)
     (λ s at tree h. rw (h.named, h.found, h.found, h.found, h.small) refl) (λ s at tree h. rw (h.low, h.treed) refl)
-
-pub list_tokens_asks : Asks token_table LIST_TOKENS.now (λ tree. listing list_tokens_rest tree 2) token_names
-unfolding everything
-list_tokens_asks =
-    asks st.list_tokens_core (st.by_column (codes "name")) None (λ tree. listing_draft list_tokens_rest tree 2) (Some Binary ∷ Some Binary ∷ []) refl refl (λ s tree. refl) (λ s again. refl)
-    (λ s at tree h. rw (h.named, h.found, h.found, h.found, h.found) refl) (λ s at tree h. rw (h.low, h.treed) refl)
 
 pub list_digest_tokens_asks : Asks token_table LIST_DIGEST_TOKENS.now (λ tree. listing list_digest_tokens_rest tree 2) digest_token_names
 unfolding everything

@@ -1,8 +1,5 @@
 -- What the writes to the table token do to its rows.
-use Rattle.std.proofs.Common.{ℕ, List, [], ◌∷◌, Ok, refl}
-use Rattle.sqlite_value.specs.declared.value.Value.TheVariants.{Text, Blob}
-use Rattle.sqlite.specs.State.{State, Executes}
-use Rattle.basis.specs.declared.roles.Role.{Role}
+use Rattle.statements.proofs.Outside.{ℕ, List, [], ◌∷◌, Ok, refl, Text, Blob, State, Executes, Role}
 use Rattle.statements.specs.Rows.{number, role_code}
 use Rattle.statements.specs.Tables.{Tables, Holds}
 use Rattle.statements.specs.Changes.{is_token, token_row_added, token_row_removed, HasNoBound}

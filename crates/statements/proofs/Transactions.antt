@@ -1,21 +1,9 @@
 -- From what a text does to what a function of it promises.
-use Rattle.std.proofs.Common.{◌≡◌, ◌⊎◌, inl, ◌≤◌, ℕ, Bool, false, IsTrue, not, ◌==◌, List, [], ◌∷◌, Option, Some, None, Result, Ok, Err, IfOk, OnOk, OnErr, refl, ap, subst, ◌∙◌, arith}
-use Rattle.std.specs.List.{AllZip}
-use Rattle.sqlite_value.specs.Order.{Row}
-use Rattle.sqlite_trees.specs.Tree.{Trees}
-use Rattle.sqlite_trees.specs.View.{doubt}
-use Rattle.sqlite_trees.specs.declared.store.Store.{Ghosts}
-use Rattle.sqlite.specs.Held.{Held, state}
-use Rattle.sqlite.specs.State.{State, HasCleanDisk, Executes, Shown, KeepsCommit, IsUnchanged, IsRolledBack, Survives}
-use Rattle.sqlite.specs.declared.transaction.Transaction.{Transaction}
-use Rattle.sqlite.specs.declared.error.Error.{Error}
+use Rattle.statements.proofs.Outside.{◌≡◌, ◌⊎◌, inl, ◌≤◌, ℕ, Bool, false, IsTrue, not, ◌==◌, List, [], ◌∷◌, Option, Some, None, Result, Ok, Err, IfOk, OnOk, OnErr, refl, ap, subst, ◌∙◌, arith, AllZip, Row, Trees, doubt, Ghosts, Held, state, State, HasCleanDisk, Executes, Shown, KeepsCommit, IsUnchanged, IsRolledBack, Survives, Transaction, Error, Database, keeps_then, survives_then}
 use Rattle.statements.specs.Calls.{Wrote, WroteAny, FirstRow, IsCalm, AreAllRead, IsRead, IsOnly, AreRead, IsCount, IsNumber, Pins}
 use Rattle.statements.specs.Rows.{number}
-use Rattle.sqlite.specs.Effect.{Database}
 use Rattle.statements.specs.Making.{Alters, MakesBy}
 use Rattle.statements.specs.Steps.{AnyRows, Equals, EqualsWhere, Moves, Writes, Queries}
-use Rattle.sqlite.proofs.InsideLemmas.{keeps_then}
-use Rattle.sqlite.proofs.StateLemmas.{survives_then}
 use Rattle.statements.specs.Tables.{Tables, Holds, our_tables}
 use Rattle.statements.proofs.Frames.{Turns, left_then}
 

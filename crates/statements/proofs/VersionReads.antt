@@ -1,10 +1,5 @@
 -- What the queries on the table version read of its rows.
-use Rattle.std.specs.List.{AllZip}
-use Rattle.std.proofs.Common.{◌≡◌, ℕ, true, List, [], ◌∷◌, Option, codes, refl, pos, Ordering, Less, Equal, int_cmp}
-use Rattle.sqlite_value.specs.declared.value.Value.TheVariants.{Text, Int}
-use Rattle.sqlite_value.specs.Order.{Row, value_cmp}
-use Rattle.sqlite_keyed.proofs.ListLemmas.{first_taken}
-use Rattle.sqlite.specs.State.{State}
+use Rattle.statements.proofs.Outside.{AllZip, ◌≡◌, ℕ, true, List, [], ◌∷◌, Option, codes, refl, pos, Ordering, Less, Equal, int_cmp, Text, Int, Row, value_cmp, first_taken, State, IsNoTie, ordering_then}
 use Rattle.basis.specs.declared.rows.VersionRow.{VersionRow as Version}
 use Rattle.statements.specs.Schema.{version_table}
 use Rattle.statements.specs.Rows.{Kept, VersionRow, id_of, version_cells, number}
@@ -18,8 +13,6 @@ use Rattle.statements.proofs.Held.{IsHeld, versions_held}
 use Rattle.statements.proofs.Listed.{by_column, numbered_are}
 use Rattle.statements.proofs.PointReads.{first_own, ranked_own, least_own}
 use Rattle.statements.proofs.Answered.{in_order_of_both, untied_down}
-use Rattle.sqlite_typed.proofs.AnswerLemmas.{IsNoTie}
-use Rattle.std.specs.Ordering.{ordering_then}
 use Rattle.statements.proofs.ReadBack.{number_read, version_reported}
 use Rattle.statements.proofs.Conditions.{two_texts, two_texts_number, two_texts_above, two_texts_below}
 use Rattle.statements.proofs.VersionTexts.{list_versions_asks, list_versions_rest, list_versions_names, newest_version_asks, newest_version_rest, oldest_below_asks, oldest_below_rest, version_size_asks, version_size_rest}

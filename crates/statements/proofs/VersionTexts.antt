@@ -1,14 +1,5 @@
 -- What the texts on the table version mean, in each schema that has it.
-use Rattle.std.proofs.Common.{ℕ, true, false, List, [], ◌∷◌, codes, Some, None, refl}
-use Rattle.sqlite_value.specs.declared.value.Value.TheVariants.{Null}
-use Rattle.sqlite_value.specs.declared.keys.Collation.TheVariants.{Binary}
-use Rattle.sqlite_sql.specs.Term.{Term, lit, col}
-use Rattle.sqlite_sql.specs.Query.{Query}
-use Rattle.sqlite_schema.specs.declared.schema.Schema.{Schema}
-use Rattle.sqlite_schema.specs.declared.command.Source.TheVariants.{Values}
-use Rattle.sqlite_schema.specs.declared.command.Command.TheVariants.{Insert, Delete}
-use Rattle.sqlite_ast.specs.declared.Expr.TheVariants.{Integer}
-use Rattle.sqlite_tied.specs.Compute.{everything}
+use Rattle.statements.proofs.Outside.{ℕ, true, false, List, [], ◌∷◌, codes, Some, None, refl, Null, Binary, Term, lit, col, Query, Schema, Values, Insert, Delete, Integer, everything}
 use Rattle.statements.specs.declared.versions.TheConstants.{NEWEST_VERSION, OLDEST_VERSION_BELOW, VERSION_SIZE, ADD_VERSION, REMOVE_VERSION, LIST_VERSIONS}
 use Rattle.statements.specs.Place.{StandsAt}
 use Rattle.statements.specs.Schema.{version_table}

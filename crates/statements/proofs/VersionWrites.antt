@@ -1,10 +1,5 @@
 -- What the writes to the table version do to its rows.
-use Rattle.std.proofs.Common.{◌≡◌, ℕ, false, List, [], ◌∷◌, None, Ok, refl, sym, ◌∙◌}
-use Rattle.sqlite_value.specs.declared.value.Value.TheVariants.{Text}
-use Rattle.sqlite_value.specs.Order.{Row}
-use Rattle.sqlite_value.specs.Keys.{first_key}
-use Rattle.sqlite.specs.State.{State, Executes}
-use Rattle.sqlite_keyed.proofs.ListLemmas.{all_weaker}
+use Rattle.statements.proofs.Outside.{◌≡◌, ℕ, false, List, [], ◌∷◌, None, Ok, refl, sym, ◌∙◌, Text, Row, first_key, State, Executes, all_weaker}
 use Rattle.statements.specs.Schema.{version_table}
 use Rattle.statements.specs.Rows.{VersionRow, version_cells, number}
 use Rattle.statements.specs.Tables.{Tables, Holds, version_layout}

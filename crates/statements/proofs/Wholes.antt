@@ -1,17 +1,5 @@
 -- All rows of one of our tables, in the order of their rowids.
-use Rattle.std.proofs.Common.{◌≡◌, ℕ, true, false, List, [], ◌∷◌, map, Result, refl, ap, ◌∙◌, map-id}
-use Rattle.std.specs.List.{AllZip}
-use Rattle.std.proofs.lemmas.Result.{IfOk-weaker}
-use Rattle.sqlite_value.specs.Order.{Row}
-use Rattle.sqlite_trees.specs.declared.store.Store.{Ghosts}
-use Rattle.sqlite_sql.specs.Term.{Term, eval_all}
-use Rattle.sqlite_sql.specs.Query.{Query}
-use Rattle.sqlite_sql.specs.Program.{overlay}
-use Rattle.sqlite_draft.specs.declared.query.Draft.{Draft}
-use Rattle.sqlite_schema.specs.declared.command.Command.TheVariants.{Select}
-use Rattle.sqlite.specs.Held.{Held, state}
-use Rattle.sqlite.specs.State.{State, Shown}
-use Rattle.sqlite_keyed.proofs.ListLemmas.{filter_all, all_of}
+use Rattle.statements.proofs.Outside.{◌≡◌, ℕ, true, false, List, [], ◌∷◌, map, Result, refl, ap, ◌∙◌, map-id, AllZip, IfOk-weaker, Row, Ghosts, Term, eval_all, Query, overlay, Draft, Select, Held, state, State, Shown, filter_all, all_of}
 use Rattle.statements.specs.declared.making.TheConstants.{SCHEMA_VERSION}
 use Rattle.statements.specs.Place.{tree_of}
 use Rattle.statements.specs.Rows.{Kept, stored}

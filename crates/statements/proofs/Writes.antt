@@ -1,25 +1,6 @@
 -- What a text that was run has done, in terms of the rows that its query answers.
-use Rattle.std.proofs.Common.{◌≡◌, ◌⊎◌, inl, inr, ℕ, ℤ, Bool, true, false, cond, MatchBool, List, [], length, slice_get, unwrap_or, Some, None, Ok, Err, Result, refl, sym, ap, subst, ◌∙◌}
-use Rattle.sqlite_value.specs.declared.value.Value.TheVariants.{Null}
-use Rattle.sqlite_value.specs.Order.{Row}
-use Rattle.sqlite_sql.specs.Query.{Query, IsAnswer}
-use Rattle.sqlite_sql.specs.Program.{overlay}
-use Rattle.sqlite_schema.specs.declared.program.Program.{Program}
-use Rattle.sqlite_schema.specs.declared.schema.Table.{Table}
-use Rattle.sqlite_schema.specs.declared.schema.Keys.TheVariants.{Enforced}
-use Rattle.sqlite_schema.specs.declared.command.Command.TheVariants.{Insert, Update, Delete}
-use Rattle.sqlite_schema.specs.declared.command.Source.{Source}
-use Rattle.sqlite_rules.specs.declared.error.Rowids.TheVariants.{Above, Chosen, Given}
-use Rattle.sqlite_rules.specs.Edit.{edit_of, taken_by}
-use Rattle.sqlite_rules.specs.Calls.{ids_of}
-use Rattle.sqlite_rules.specs.Action.{Writes}
+use Rattle.statements.proofs.Outside.{◌≡◌, ◌⊎◌, inl, inr, ℕ, ℤ, Bool, true, false, cond, MatchBool, List, [], length, slice_get, unwrap_or, Some, None, Ok, Err, Result, refl, sym, ap, subst, ◌∙◌, Null, Row, Query, IsAnswer, overlay, Program, Table, Enforced, Insert, Update, Delete, Source, Above, Chosen, Given, edit_of, taken_by, ids_of, Writes, Database, IsSource, Task, Written, stamped, Tally, Concludes, State, mode_of, Executes, runs_as, length-map}
 use Rattle.sqlite_rules.proofs.PlaceLemmas.{given as numbered_given}
-use Rattle.sqlite.specs.Effect.{Database, IsSource}
-use Rattle.sqlite.specs.Rows.{Task, Written, stamped}
-use Rattle.sqlite.specs.Does.{Tally, Concludes}
-use Rattle.sqlite.specs.State.{State, mode_of, Executes}
-use Rattle.sqlite.proofs.Callers.{runs_as}
-use Rattle.std.proofs.lemmas.List.{length-map}
 use Rattle.statements.proofs.Meaning.{Means}
 
 -- a part that gave a value did not stop on the way

@@ -1,27 +1,7 @@
 -- What the parts of the list of workspaces mean, each by itself: its columns, the tables that it joins, WHERE and ORDER BY.
-use Rattle.std.proofs.Common.{◌≡◌, ℕ, ◌+◌, ◌-◌, pos, true, false, List, [], ◌∷◌, ◌++◌, map, length, codes, Option, Some, Ok, refl}
-use Rattle.sqlite_value.specs.declared.keys.Collation.{Collation}
-use Rattle.sqlite_value.specs.declared.keys.Collation.TheVariants.{Binary}
-use Rattle.sqlite_value.specs.declared.value.Value.TheVariants.{Int}
+use Rattle.statements.proofs.Outside.{◌≡◌, ℕ, ◌+◌, ◌-◌, pos, true, false, List, [], ◌∷◌, ◌++◌, map, length, codes, Option, Some, Ok, refl, Collation, Binary, Int, Eq, Compare, Arith, Term, lit, col, op2, Query, Join, left, end, Schema, Table, Left, Bound, Level, Joined, nothing, Context, outermost, inside, named, lower, within, outputs, left_join, tests, sorts, everything}
 use Rattle.sqlite_sql.specs.declared.ops.ArithOp.TheVariants.{Sub}
-use Rattle.sqlite_sql.specs.declared.ops.CompareOp.TheVariants.{Eq}
-use Rattle.sqlite_sql.specs.declared.ops.BinaryOp.TheVariants.{Compare, Arith}
-use Rattle.sqlite_sql.specs.Term.{Term, lit, col, op2}
-use Rattle.sqlite_sql.specs.Query.{Query, Join, left, end}
-use Rattle.sqlite_schema.specs.declared.schema.Schema.{Schema}
-use Rattle.sqlite_schema.specs.declared.schema.Table.{Table}
-use Rattle.sqlite_draft.specs.declared.join.Step.TheVariants.{Left}
-use Rattle.sqlite_resolve.specs.declared.scope.Bound.{Bound}
-use Rattle.sqlite_resolve.specs.declared.scope.Level.{Level}
 use Rattle.sqlite_resolve.specs.declared.scope.Output.{Output}
-use Rattle.sqlite_resolve.specs.declared.body.Joined.{Joined}
-use Rattle.sqlite_resolve.specs.Lowering.{nothing}
-use Rattle.sqlite_resolve.specs.Scope.{Context}
-use Rattle.sqlite_resolve.specs.Select.{outermost, inside, named}
-use Rattle.sqlite_resolve.specs.Expr.{lower}
-use Rattle.sqlite_resolve.specs.Body.{within, outputs, left_join, tests}
-use Rattle.sqlite_resolve.specs.Order.{sorts}
-use Rattle.sqlite_tied.specs.Compute.{everything}
 use Rattle.statements.specs.Place.{StandsAt}
 use Rattle.statements.specs.Schema.{ws_table, retention_table, version_table}
 use Rattle.statements.proofs.SyntaxTrees as st

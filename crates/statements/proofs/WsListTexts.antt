@@ -1,9 +1,5 @@
 -- What the texts of the list of workspaces mean, in each schema that has the tables ws, keeping and version.
-use Rattle.std.proofs.Common.{ℕ, codes, Some, refl}
-use Rattle.sqlite_schema.specs.declared.schema.Schema.{Schema}
-use Rattle.sqlite_schema.specs.declared.command.Command.TheVariants.{Select}
-use Rattle.sqlite_ast.specs.declared.Expr.TheVariants.{Parameter}
-use Rattle.sqlite_tied.specs.Compute.{everything}
+use Rattle.statements.proofs.Outside.{ℕ, codes, Some, refl, Schema, Select, Parameter, everything}
 use Rattle.statements.specs.Place.{StandsAt}
 use Rattle.statements.specs.Schema.{ws_table, retention_table, version_table}
 use Rattle.statements.specs.Calls.{IsQuery}

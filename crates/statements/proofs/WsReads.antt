@@ -1,14 +1,5 @@
 -- What the queries on the table ws read of its rows.
-use Rattle.std.specs.List.{AllZip}
-use Rattle.std.proofs.Common.{◌≡◌, ◌≢◌, ◌∙◌, sym, ap, Bool, true, false, ◌&&◌, ℕ, ℤ, List, [], ◌∷◌, find, Option, Some, None, option_map, codes, refl, ◌==◌, eq-eqb}
-use Rattle.sqlite_value.specs.declared.value.Value.TheVariants.{Text, Int}
-use Rattle.sqlite_value.specs.Order.{Row, column}
-use Rattle.sqlite_sql.specs.Query.{Join, left, end}
-use Rattle.sqlite_sql.specs.Term.{Env}
-use Rattle.sqlite_sql.specs.Program.{overlay}
-use Rattle.sqlite_typed.specs.Columns.{or_null}
-use Rattle.sqlite_keyed.proofs.ListLemmas.{ascending_weaker}
-use Rattle.sqlite.specs.State.{State, Shown}
+use Rattle.statements.proofs.Outside.{AllZip, ◌≡◌, ◌≢◌, ◌∙◌, sym, ap, Bool, true, false, ◌&&◌, ℕ, ℤ, List, [], ◌∷◌, find, Option, Some, None, option_map, codes, refl, ◌==◌, eq-eqb, Text, Int, Row, column, Join, left, end, Env, overlay, or_null, ascending_weaker, State, Shown, at_texts, then_term, last_term, Lt, Gt, Ge, admits, equal_bytes, bytes_eq}
 use Rattle.statements.specs.Place.{tree_of}
 use Rattle.statements.specs.Schema.{ws_table, retention_table, version_table}
 use Rattle.statements.specs.Rows.{Kept, WsRow, VersionRow, RetentionRow, stored, ws_cells, version_cells, retention_cells, number}
@@ -22,29 +13,15 @@ use Rattle.statements.specs.declared.workspaces.TheConstants.{LIST_WS, LIST_WS_W
 use Rattle.statements.proofs.Held.{IsHeld, wss_held, versions_held, retentions_held}
 use Rattle.statements.proofs.NameLists.{by_text, wss_apart, names_within, own_names}
 use Rattle.statements.proofs.Listed.{Ends, limit_enough}
-use Rattle.statements.proofs.Lefts.{row_or, left_is}
+use Rattle.statements.proofs.Lefts.{row_or, left_is, one_named}
 use Rattle.statements.proofs.Own.{stored_tree}
 use Rattle.statements.proofs.Prefixes.{within, all_admitted}
-use Rattle.sqlite_typed.proofs.TestLemmas.{at_texts, then_term, last_term}
-use Rattle.sqlite_sql.specs.declared.ops.CompareOp.TheVariants.{Lt, Gt, Ge}
-use Rattle.basis.specs.Names.{admits}
-use Rattle.basis.proofs.NameLemmas.{equal_bytes}
-use Rattle.std.specs.Str.{bytes_eq}
-use Rattle.std.proofs.lemmas.Bool.{and_parts}
 use Rattle.statements.proofs.PointReads.{first_own, count_own}
 use Rattle.statements.proofs.ReadBack.{text_read, workspace_reported, workspace_back, named_workspace_read}
 use Rattle.statements.proofs.Conditions.{one_text, two_texts, same_text, text_after, one_number, two_texts_one_less}
 use Rattle.statements.proofs.WsListParts.{of_workspace, of_version_before, with_both, list_ws_rest, list_ws_names, list_ws_within_rest}
 use Rattle.statements.proofs.WsListTexts.{list_ws_means, list_ws_within_means}
 use Rattle.statements.proofs.WsTexts.{find_ws_names, find_ws_asks, find_ws_rest, count_ws_asks, count_ws_rest, list_names_asks, list_names_rest}
-
--- two rows for one workspace of an organization clash
-one_retention : (org ws : List ℕ) (a b : Kept RetentionRow) → is_retention a.1.org a.1.name b ≡ false → is_retention org ws a ≡ true → is_retention org ws b ≡ false
-one_retention org ws a b apart mine =
-    let same = and_parts (bytes_eq a.1.org org) (bytes_eq a.1.name ws) mine in
-    let one = equal_bytes a.1.org org same.0 in
-    let two = equal_bytes a.1.name ws same.1 in
-    sym (λ i. is_retention (one i) (two i) b) ∙ apart
 
 three_true : (a b c : Bool) → (a && (b && c)) ≡ true → (a ≡ true) × (b ≡ true) × (c ≡ true)
 three_true true true c h = (refl, refl, h)
@@ -127,7 +104,7 @@ module _ (old new : State) (t : Tables) (h : Holds old.now t) where
   both_found org more apart terms x =
       left_is (stored retention_cells) (is_retention org x.1.name) (overlay old.now.trees []) (tree_of old.now.schema retention_table.name) t.retentions
       (stored_tree old.now.trees (tree_of old.now.schema retention_table.name) kept.own.place.low ∙ kept.rows) (of_workspace 2) ((Text org ∷ more) ∷ stored ws_cells x ∷ [])
-      (λ y. two_texts y.1.org org y.1.name x.1.name) (ascending_weaker _ _ (λ a b. one_retention org x.1.name a b) t.retentions apart.retentions) terms (left (tree_of old.now.schema version_table.name) (of_version_before 3) end)
+      (λ y. two_texts y.1.org org y.1.name x.1.name) (ascending_weaker _ _ (λ a b. one_named org x.1.name a b) t.retentions apart.retentions) terms (left (tree_of old.now.schema version_table.name) (of_version_before 3) end)
       ∙ left_is (stored version_cells) (is_version_before org x.1.name x.1.it.next_version) (overlay old.now.trees []) (tree_of old.now.schema version_table.name) t.versions
       (stored_tree old.now.trees (tree_of old.now.schema version_table.name) made.own.place.low ∙ made.rows) (of_version_before 3) ((Text org ∷ more) ∷ stored ws_cells x ∷ kept_row org x ∷ [])
       (λ y. two_texts_one_less y.1.org org y.1.name x.1.name y.1.it.number x.1.it.next_version) (ascending_weaker _ _ (λ a b. one_version org x.1.name x.1.it.next_version a b) t.versions apart.versions) terms end

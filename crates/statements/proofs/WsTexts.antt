@@ -1,13 +1,5 @@
 -- What the texts on the table ws mean, in each schema that has it.
-use Rattle.std.proofs.Common.{ℕ, pos, false, List, [], ◌∷◌, ◌++◌, length, codes, Some, None, refl}
-use Rattle.sqlite_value.specs.declared.value.Value.TheVariants.{Null, Int}
-use Rattle.sqlite_value.specs.declared.keys.Collation.TheVariants.{Binary}
-use Rattle.sqlite_sql.specs.Term.{Term, lit, col}
-use Rattle.sqlite_sql.specs.Query.{Query}
-use Rattle.sqlite_schema.specs.declared.schema.Schema.{Schema}
-use Rattle.sqlite_schema.specs.declared.command.Source.TheVariants.{Values}
-use Rattle.sqlite_schema.specs.declared.command.Command.TheVariants.{Insert, Update, Delete}
-use Rattle.sqlite_tied.specs.Compute.{everything}
+use Rattle.statements.proofs.Outside.{ℕ, pos, false, List, [], ◌∷◌, ◌++◌, length, codes, Some, None, refl, Null, Int, Binary, Term, lit, col, Query, Schema, Values, Insert, Update, Delete, everything}
 use Rattle.statements.specs.Place.{StandsAt}
 use Rattle.statements.specs.Schema.{ws_table}
 use Rattle.statements.specs.declared.workspaces.TheConstants.{FIND_WS, ADD_WS, SET_RUN_SETTINGS, HOLD, RELEASE_LOCK, SET_NEXT_VERSION, SET_NEXT_RUN, REMOVE_WS, COUNT_WS, LIST_NAMES}

@@ -1,15 +1,5 @@
 -- What the writes to the table ws do to its rows.
-use Rattle.std.proofs.Common.{◌≡◌, ◌≢◌, ℕ, false, not, ◌==◌, is_some, List, [], ◌∷◌, None, Ok, refl, sym, ap, ◌∙◌, arith}
-use Rattle.sqlite_value.specs.declared.value.Value.TheVariants.{Text}
-use Rattle.sqlite_value.specs.Order.{Row}
-use Rattle.sqlite_value.specs.Keys.{first_key}
-use Rattle.sqlite_sql.specs.Term.{Term, eval_all}
-use Rattle.sqlite_sql.specs.Query.{Query}
-use Rattle.sqlite_schema.specs.declared.command.Command.TheVariants.{Update}
-use Rattle.sqlite.specs.State.{State, Executes}
-use Rattle.sqlite_keyed.proofs.ListLemmas.{all_weaker}
-use Rattle.basis.specs.declared.rows.RunSettings.{RunSettings}
-use Rattle.basis.specs.declared.rows.Holder.{Holder}
+use Rattle.statements.proofs.Outside.{◌≡◌, ◌≢◌, ℕ, false, not, ◌==◌, is_some, List, [], ◌∷◌, None, Ok, refl, sym, ap, ◌∙◌, arith, Text, Row, first_key, Term, eval_all, Query, Update, State, Executes, all_weaker, RunSettings, Holder}
 use Rattle.statements.specs.declared.rows.Workspace.{Workspace}
 use Rattle.statements.specs.Place.{at_of, tree_of, StandsAt, IsOwn}
 use Rattle.statements.specs.Schema.{ws_table, retention_table}

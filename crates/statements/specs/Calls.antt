@@ -20,7 +20,6 @@ use Rattle.statements.specs.declared.rows.Workspace.{Workspace}
 use Rattle.statements.specs.declared.rows.NamedWorkspace.{NamedWorkspace}
 use Rattle.statements.specs.declared.rows.Organization.{Organization}
 use Rattle.basis.specs.declared.rows.RunRow.{RunRow as Run}
-use Rattle.statements.specs.declared.rows.NamedRole.{NamedRole}
 use Rattle.statements.specs.declared.rows.NamedToken.{NamedToken}
 use Rattle.statements.specs.declared.rows.BoundedRole.{BoundedRole}
 use Rattle.basis.specs.declared.roles.Bounds.{Bounds}
@@ -151,10 +150,6 @@ pub record IsRunIn (at : ℕ) (row : Row) (r : Run) : Type 0 where
 
 abbrev pub IsRunRow : Row → Run → Type 0
 IsRunRow row r = IsRunIn 0 row r
-
-pub record IsNamedRole (row : Row) (r : NamedRole) : Type 0 where
-  pub name : column row 0 ≡ cell.Text r.name
-  pub role : column row 1 ≡ number (role_code r.role)
 
 pub record IsNamedToken (row : Row) (x : NamedToken) : Type 0 where
   pub name : column row 0 ≡ cell.Text x.name

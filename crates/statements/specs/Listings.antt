@@ -1,5 +1,6 @@
 -- What each list reads of the rows, and the law that the rows must obey for this.
-use Rattle.std.specs.Prelude.{◌+◌, ◌==◌, ◌&&◌, ℕ, Bool, List, [], ◌∷◌, map, filter, take, nat_lt, if◌then◌else◌}
+use Rattle.std.specs.Prelude.{◌+◌, ◌==◌, ◌&&◌, ℕ, Bool, List, [], ◌∷◌, map, filter, take, nat_lt, None, if◌then◌else◌}
+use Rattle.std.specs.Option.{unwrap_or}
 use Rattle.std.specs.declared.cmp.Ordering.{Ordering}
 use Rattle.std.specs.Ordering.{nat_cmp, is_lt}
 use Rattle.std.specs.Cmp.Lexicographic.{slice_cmp}
@@ -8,9 +9,10 @@ use Rattle.sqlite_keyed.specs.Lists.{sort_by}
 use Rattle.sqlite_keyed.specs.Rules.{AreApart}
 use Rattle.std.specs.Str.{bytes_eq}
 use Rattle.basis.specs.Names.{admits}
+use Rattle.basis.specs.declared.roles.Bounds.{Bounds}
 use Rattle.basis.specs.declared.roles.Role.{Role}
 use Rattle.basis.specs.declared.rows.VersionRow.{VersionRow as Version}
-use Rattle.statements.specs.declared.rows.NamedRole.{NamedRole}
+use Rattle.statements.specs.declared.rows.BoundedRole.{BoundedRole}
 use Rattle.statements.specs.declared.rows.NamedToken.{NamedToken}
 use Rattle.statements.specs.declared.rows.Workspace.{Workspace}
 use Rattle.statements.specs.declared.rows.NamedWorkspace.{NamedWorkspace}
@@ -18,8 +20,8 @@ use Rattle.basis.specs.declared.rows.RunRow.{RunRow as Run}
 use Rattle.statements.specs.declared.rows.Organization.{Organization}
 use Rattle.statements.specs.Rows.{Kept, Token, TokenRow}
 use Rattle.statements.specs.Tables.{Tables}
-use Rattle.statements.specs.Finds.{retention_of, version_before, version_cmp, run_cmp}
-use Rattle.statements.specs.Changes.{is_org, is_token, is_ws_of, is_ws, is_retention, is_version_of, is_version, is_run_of}
+use Rattle.statements.specs.Finds.{bound_of, retention_of, version_before, version_cmp, run_cmp}
+use Rattle.statements.specs.Changes.{is_org, is_token, is_bound, is_ws_of, is_ws, is_retention, is_version_of, is_version, is_run_of}
 
 -- the order of names: by their bytes
 abbrev pub text_cmp : List ℕ → List ℕ → Ordering
@@ -51,12 +53,17 @@ is_token_of org x = bytes_eq x.1.org org
 abbrev pub roles_by_name : List ℕ → Tables → FinMap text_cmp Role
 roles_by_name org t = from_entries (map (λ x. (x.1.name, x.1.it.role)) (filter (is_token_of org) t.tokens))
 
-abbrev pub role_row : List ℕ × Role → NamedRole
-role_row e = record { name = e.0; role = e.1 }
+-- no expiry, and the empty prefix
+abbrev pub no_bounds : Bounds
+no_bounds = record { until = None; prefix = [] }
+
+-- a token with the expiry and the prefix in its row of bound; without such a row, it has none
+abbrev pub bounded_row : List ℕ → Tables → List ℕ × Role → BoundedRole
+bounded_row org t e = record { token = record { name = e.0; role = e.1 }; bounds = unwrap_or (bound_of org e.0 t) no_bounds }
 
 -- those of an organization, in the order of their names' bytes
-abbrev pub token_rows_of : List ℕ → Tables → List NamedRole
-token_rows_of org t = map role_row (entries (roles_by_name org t))
+abbrev pub bounded_tokens_of : List ℕ → Tables → List BoundedRole
+bounded_tokens_of org t = map (bounded_row org t) (entries (roles_by_name org t))
 
 abbrev pub tokens_by_name : List ℕ → Tables → FinMap text_cmp Token
 tokens_by_name org t = from_entries (map (λ x. (x.1.name, x.1.it)) (filter (is_token_of org) t.tokens))
@@ -70,6 +77,11 @@ digest_tokens_of org t = map digest_token_row (entries (tokens_by_name org t))
 
 abbrev pub TokensApart : Tables → Type 0
 TokensApart t = AreApart (λ a b. is_token a.1.org a.1.name b) t.tokens
+
+-- a token has at most one row, and at most one row of bound
+pub record BoundedTokensApart (t : Tables) : Type 0 where
+  pub tokens : TokensApart t
+  pub bounds : AreApart (λ a b. is_bound a.1.org a.1.name b) t.bounds
 
 -- ---- workspaces
 

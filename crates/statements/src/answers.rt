@@ -1,5 +1,5 @@
 //! Reads each value that a query returns from its row.
-ghost use Rattle.statements.specs.Calls.{IsOrganization, IsVersionRow, IsRunRow, IsNamedRole, IsNamedToken, IsBound, IsBoundedRole, IsBody, IsNumber, IsRole, IsStatus};
+ghost use Rattle.statements.specs.Calls.{IsOrganization, IsVersionRow, IsRunRow, IsNamedToken, IsBound, IsBoundedRole, IsBody, IsNumber, IsRole, IsStatus};
 
 use crate::calls::Read;
 use crate::cells::{
@@ -74,17 +74,6 @@ impl Read for RunStatus {
 
     fn of_row(row: &Row) -> Result<RunStatus, Error> {
         status_in(row, 0)
-    }
-}
-
-impl Read for NamedRole {
-    ghost is_in = { IsNamedRole };
-
-    fn of_row(row: &Row) -> Result<NamedRole, Error> {
-        Ok(NamedRole {
-            role: role_in(row, 1)?,
-            name: Text::new(row.get(0)?),
-        })
     }
 }
 

@@ -1,13 +1,13 @@
 //! Statements on the table token. When a token is added or removed, so is its row of bound.
 ghost use Rattle.statements.specs.Steps.{AnyRows, Equals, EqualsWhere, Writes, Queries};
 ghost use Rattle.statements.specs.Changes.{token_row_added, token_row_removed, token_added, token_removed, HasNoBound};
-ghost use Rattle.statements.specs.Listings.{token_rows_of, digest_tokens_of, TokensApart};
+ghost use Rattle.statements.specs.Listings.{bounded_tokens_of, BoundedTokensApart, digest_tokens_of, TokensApart};
 ghost use Rattle.statements.specs.Finds.{IsBoundedRoleOf, role_of_digest, role_of_name};
 
 use crate::bounds;
 use crate::calls::{all_rows, first_row, read_all, read_one, read_only, write};
 use crate::encoding::role_number;
-use crate::rows::{BoundedRole, NamedRole, NamedToken};
+use crate::rows::{BoundedRole, NamedToken};
 use basis::{Bounds, Items, Role};
 use sqlite::{Alter, Connection, Error, Transaction, params};
 use std::alloc::Global;
@@ -56,15 +56,17 @@ pub fn find_by_digest<S: Alter>(
     read_only(rows)
 }
 
-const LIST_TOKENS: &str = "SELECT name, role FROM token WHERE org = ?1 ORDER BY name";
+const LIST_TOKENS: &str =
+    "SELECT token.name, role, until, prefix FROM token LEFT JOIN bound ON bound.org = ?1 AND bound.name = token.name WHERE token.org = ?1 ORDER BY token.name";
 
-/// All tokens of an organization, in the order of their names' bytes.
+/// All tokens of an organization with their expiries and prefixes, in the order of their names' bytes. Fails
+/// if one has no row of bound.
 pub fn list<S: Alter>(
     alloc: Global,
     conn: &mut Connection<S>,
     org: &str,
-) -> Result<Items<NamedRole>, Error>
-    ensures { Queries S.Store (EqualsWhere TokensApart (token_rows_of org.now)) conn.old conn.new result }
+) -> Result<Items<BoundedRole>, Error>
+    ensures { Queries S.Store (EqualsWhere BoundedTokensApart (bounded_tokens_of org.now)) conn.old conn.new result }
 {
     let rows = all_rows(conn, LIST_TOKENS, params![org]);
     read_all(alloc, rows)

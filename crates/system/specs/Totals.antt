@@ -10,7 +10,7 @@ use Rattle.program.specs.declared.totals.Totals.{Totals}
 
 -- the same numbers
 abbrev pub found_totals : Totals → checks.Totals
-found_totals t = record { organizations = t.organizations; workspaces = t.workspaces; versions = t.versions; runs = t.runs; newest = t.newest }
+found_totals t = record { organizations = t.organizations; workspaces = t.workspaces; versions = t.versions; runs = t.runs; newest = t.newest; made = t.made }
 
 -- No fault was found exactly if the tables of the database are ours and sound, each page's key is the SHA-256 of its bytes, and no run is
 -- missing; and these are the numbers of their rows.

@@ -251,6 +251,7 @@ fn reported(findings: checks::Findings) -> Findings
             versions: totals.versions,
             runs: totals.runs,
             newest: totals.newest,
+            made: totals.made,
         },
     }
 }

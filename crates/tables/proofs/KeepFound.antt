@@ -1,10 +1,18 @@
 -- What is found by more than one query.
-use Rattle.tables.proofs.Outside.{◌≡◌, ℕ, List, Option, Some, None, is_some, IsSome, IfSome, option_map, Result, Ok, Err, OnOk, sym, ap, ◌∙◌, subst, unwrap_or, Ghosts, Held, State, Bounds, bound_of, IsBoundedRoleOf, Equals, Sees, Tables, Holds, sees_then, sees_as}
+use Rattle.std.proofs.Common.{◌≡◌, ℕ, List, Option, Some, None, is_some, IsSome, IfSome, option_map, Ok, sym, ap, ◌∙◌, subst}
+use Rattle.std.specs.Option.{unwrap_or}
+use Rattle.sqlite_trees.specs.declared.store.Store.{Ghosts}
+use Rattle.sqlite.specs.Held.{Held}
+use Rattle.basis.specs.declared.roles.Bounds.{Bounds}
 use Rattle.machine.specs.declared.keeps.TokenRow.{TokenRow}
 use Rattle.statements.specs.declared.rows.NamedRole.{NamedRole}
 use Rattle.statements.specs.declared.rows.BoundedRole.{BoundedRole}
+use Rattle.statements.specs.Finds.{bound_of, IsBoundedRoleOf}
+use Rattle.statements.specs.Steps.{Equals, Sees}
+use Rattle.statements.specs.Tables.{Tables}
 use Rattle.tables.specs.Records.{caller_with, no_bounds, IsBound}
 use Rattle.tables.specs.Inner.Lists.{token_row_in, asker_in}
+use Rattle.texts.proofs.Many.{sees_then, sees_as}
 
 module _ {S : Type 0} (g : Ghosts S) where
   -- what two looks, one after the other, find
@@ -37,11 +45,6 @@ module _ {S : Type 0} (g : Ghosts S) where
 
 abbrev pub asker_by : BoundedRole → TokenRow
 asker_by b = record { name = b.token.name; caller = caller_with b.token.role b.bounds }
-
--- what was found is there
-pub found_there : {A X F : Type 0} (q : Tables → Option A) (x : A) (a : State) (o : Option A) (result : Result X F) → o ≡ Some x → ((t : Tables) → Holds a.now t → o ≡ q t) → OnOk result ((t : Tables) → Holds a.now t → IsSome (q t))
-found_there q x a o (Ok y) is found = λ t held. ap is_some (sym (found t held) ∙ is)
-found_there q x a o (Err e) is found = tt
 
 module _ (org digest : List ℕ) (t : Tables) where
   -- the token that was found with how far it reaches is who asks

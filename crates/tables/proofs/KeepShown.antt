@@ -1,15 +1,37 @@
 -- From the rows of a connection to the records of its store.
-use Rattle.tables.proofs.Outside.{◌≡◌, ◌≢◌, ℕ, ◌<◌, List, [], map, Option, Some, IfSome, IsTrue, refl, sym, ap, ◌∙◌, subst, Database, State, KeepsCommit, is_ws_name, workspace_in, placed, seen_in, changed_by, IsDue, unit_of, version_text, Needed, needs, asker_of, get, Act, Change, Organization, AdminAnswer, edition_moved, AnyRows, Tables, Holds, tables_of, SCHEMA_VERSION, tables-held, unwrap_or, listing_of, AreOrganizations, OrgsApart, TokensApart, WorkspacesApart, VersionsApart, RunsApart}
+use Rattle.std.proofs.Common.{◌≡◌, ◌≢◌, ℕ, ◌<◌, List, [], map, Option, Some, IfSome, IsTrue, refl, sym, ap, ◌∙◌, subst}
+use Rattle.sqlite.specs.Effect.{Database}
+use Rattle.sqlite.specs.State.{State, KeepsCommit}
+use Rattle.basis.specs.Names.{is_ws_name}
+use Rattle.machine.specs.Records.{workspace_in, placed, seen_in}
+use Rattle.machine.specs.Changes.{changed_by, IsDue}
+use Rattle.machine.specs.Units.{unit_of, version_text}
+use Rattle.machine.specs.Needs.{Needed, needs}
 use Rattle.machine.specs.Tokens as tokens
+use Rattle.machine.specs.Tokens.{asker_of}
+use Rattle.std.specs.FinMap.{get}
+use Rattle.machine.specs.declared.acts.Act.{Act}
+use Rattle.machine.specs.declared.acts.Change.{Change}
+use Rattle.machine.specs.declared.records.Organization.{Organization}
+use Rattle.machine.specs.declared.keeps.AdminAnswer.{AdminAnswer}
 use Rattle.machine.specs.declared.keeps.TokenRow.{TokenRow}
+use Rattle.statements.specs.Changes.{edition_moved}
+use Rattle.statements.specs.Steps.{AnyRows}
+use Rattle.statements.specs.Tables.{Tables, Holds, tables_of}
+use Rattle.statements.specs.declared.making.TheConstants.{SCHEMA_VERSION}
+use Rattle.statements.proofs.Decoding.{tables-held}
 use Rattle.tables.specs.Inner.Edits.{changed_rows, TakesEdit}
 use Rattle.tables.specs.Records.{record_of}
+use Rattle.std.specs.Option.{unwrap_or}
+use Rattle.basis.specs.Listings.{listing_of}
 use Rattle.basis.specs.declared.rows.Listing.{Listing}
 use Rattle.basis.specs.declared.rows.RunRow.{RunRow}
 use Rattle.basis.specs.declared.rows.VersionRow.{VersionRow}
 use Rattle.basis.specs.declared.rows.WsRow.{WsRow}
 use Rattle.machine.specs.Showing as showing
+use Rattle.machine.specs.Tokens.{AreOrganizations}
 use Rattle.machine.specs.declared.keeps.OrgRow.{OrgRow}
+use Rattle.statements.specs.Listings.{OrgsApart, BoundedTokensApart, WorkspacesApart, VersionsApart, RunsApart}
 use Rattle.tables.specs.Inner.Lists.{versions_listed_in, runs_listed_in, workspaces_listed_in, asker_in, token_list_answer_in, organizations_listed_in}
 use Rattle.tables.specs.Inner.Units.{unit_in}
 use Rattle.tables.specs.Stores.{records_of}
@@ -118,8 +140,8 @@ module _ {memo : Memo} (db : Database) (a : State) (s : IsSoundKeep db memo a) w
       → IsTrue a.is_open × ((t : Tables) → Holds a.committed t → WorkspacesApart t → list ≡ workspaces_listed_in (unwrap_or after []) prefix org t) → list ≡ showing.workspaces_after after prefix (records_of db org)
   workspaces_shown org after prefix list reported = reported.1 now (held reported.0) (workspaces_apart now s.store.sound) ∙ workspaces_reported now org s.store.sound after prefix
 
-  pub tokens_shown : (org : List ℕ) (answer : AdminAnswer) → IsTrue a.is_open × ((t : Tables) → Holds a.committed t → TokensApart t → answer ≡ token_list_answer_in org t) → answer ≡ tokens.token_list_answer (records_of db org)
-  tokens_shown org answer reported = reported.1 now (held reported.0) s.store.sound.tokens_apart ∙ token_list_answer now org
+  pub tokens_shown : (org : List ℕ) (answer : AdminAnswer) → IsTrue a.is_open × ((t : Tables) → Holds a.committed t → BoundedTokensApart t → answer ≡ token_list_answer_in org t) → answer ≡ tokens.token_list_answer (records_of db org)
+  tokens_shown org answer reported = reported.1 now (held reported.0) (record { tokens = s.store.sound.tokens_apart; bounds = s.store.sound.bounds_apart }) ∙ token_list_answer now org
 
   pub organizations_shown : (rows : List OrgRow) → IsTrue a.is_open × ((t : Tables) → Holds a.committed t → OrgsApart t → rows ≡ organizations_listed_in t) → AreOrganizations (records_of db) rows
   organizations_shown rows reported = subst (AreOrganizations (records_of db)) (sym (reported.1 now (held reported.0) s.store.sound.orgs_apart)) (organizations_reported now s.store.sound)

@@ -38,7 +38,7 @@ pub use Rattle.machine.specs.declared.acts.Edit.{Edit}
 pub use Rattle.machine.specs.declared.acts.Edit.TheVariants.{AddRun, AddVersion, Configure, Hold, Make, Purge, Release, Remove, Report}
 pub use Rattle.machine.specs.declared.acts.Unit.TheVariants.{Present}
 pub use Rattle.machine.specs.declared.keeps.AdminAnswer.{AdminAnswer}
-pub use Rattle.machine.specs.declared.keeps.AdminAnswer.TheVariants.{Absent, Done, Exists, InUse, Tokens}
+pub use Rattle.machine.specs.declared.keeps.AdminAnswer.TheVariants.{Absent, Done, Exists, InUse}
 pub use Rattle.machine.specs.declared.records.Organization.{Organization}
 pub use Rattle.machine.specs.declared.records.Token.{Token}
 pub use Rattle.machine.specs.declared.records.Version.{Version}
@@ -74,7 +74,7 @@ pub use Rattle.statements.proofs.Transactions.{clean_before, moves_more}
 pub use Rattle.statements.specs.Belonging.{AreAmong, AreNamedApart, AreOfOrgs}
 pub use Rattle.statements.specs.Changes.{HasNoRetention, edition_moved, held_by, is_bound, is_digest_of, is_of, is_org, is_retention, is_run_of, is_run_row, is_token, is_version, is_version_below, is_version_of, is_ws, is_ws_of, kept_first, new_version, org_capped, org_row_added, org_row_removed, released_from, retention_changed, run_acted, run_added, run_changed_to, run_made, runs_removed, token_added, token_removed, unbounded, version_removed, with_all, with_it, with_next, with_next_run, with_next_version, with_run_settings, workspace_made, ws_added, ws_changed, ws_removed}
 pub use Rattle.statements.specs.Finds.{IsBoundedRoleOf, back_by_number, bound_in, bound_of, cap_of, first_waiting_of, is_version_before, named_role, newest_of, oldest_below, open_runs_of, retention_of, role_of_digest, role_of_name, run_cmp, size_of, status_at_number, version_before, version_cmp, workspace_of, workspaces_of}
-pub use Rattle.statements.specs.Listings.{NamesApart, OrgsApart, RunsApart, TokensApart, VersionsApart, WorkspacesApart, digest_token_row, digest_tokens_of, organizations_in, role_row, roles_by_name, run_rows_after, token_rows_of, tokens_by_name, version_rows_after, workspace_names_of, workspace_rows_after, workspaces_by_name}
+pub use Rattle.statements.specs.Listings.{NamesApart, OrgsApart, RunsApart, TokensApart, VersionsApart, WorkspacesApart, digest_token_row, digest_tokens_of, organizations_in, run_rows_after, tokens_by_name, version_rows_after, workspace_names_of, workspace_rows_after, workspaces_by_name}
 pub use Rattle.statements.specs.Making.{Alters, HasEdition, HasMeta, HasSchema, IsNotNamed, KeepsForeign, NamesNoOther, Raises, raised, sequence_name, stored_schema_version}
 pub use Rattle.statements.specs.Rows.{BoundRow, Kept, OrgRow, Owned, PageRow, RetentionRow, RunRow, TokenRow, VersionRow, VpageRow, WsRow, id_of, run_settings_at}
 pub use Rattle.statements.specs.Schema.{column, edition_table, meta_table, version_table}
@@ -83,7 +83,7 @@ pub use Rattle.statements.specs.Tables.{Holds, HoldsIn, IsOurs, Tables, added_by
 pub use Rattle.statements.specs.declared.making.TheConstants.{SCHEMA_VERSION}
 pub use Rattle.statements.specs.declared.rows.NamedToken.{NamedToken}
 pub use Rattle.statements.specs.declared.rows.Rows.{Rows}
-pub use Rattle.std.proofs.Common.{All, Bool, Equal, Err, Greater, IfErr, IfSome, IsErr, IsSome, IsSomeAnd, IsTrue, Less, List, None, Ok, OnErr, OnOk, Option, Ordering, Result, Some, T, [], ap, append-nil, ap₂, arith, cond, drop, false, filter, find, get_or, inl, inr, int_cmp, is_eq, is_gt, is_none, is_some, length, map, map-id, min, nat_cmp, nat_le, nat_lt, not, option_copied, option_map, pos, refl, reverse, rules, slice_get, slice_index_or, subst, suc, sym, take, true, true≢false, zero, ℕ, ◌&&◌, ◌++◌, ◌+◌, ◌-◌, ◌<◌, ◌==◌, ◌||◌, ◌↔◌, ◌∙◌, ◌∷◌, ◌≡◌, ◌≢◌, ◌≤◌, ◌⊎◌}
+pub use Rattle.std.proofs.Common.{All, Bool, Equal, Err, Greater, IfErr, IfSome, IsErr, IsSomeAnd, IsTrue, Less, List, None, Ok, OnErr, OnOk, Option, Ordering, Result, Some, T, [], ap, append-nil, ap₂, arith, cond, drop, false, filter, find, get_or, inl, inr, int_cmp, is_eq, is_gt, is_none, is_some, length, map, map-id, min, nat_cmp, nat_le, nat_lt, not, option_copied, option_map, pos, refl, reverse, rules, slice_get, slice_index_or, subst, suc, sym, take, true, true≢false, zero, ℕ, ◌&&◌, ◌++◌, ◌+◌, ◌-◌, ◌<◌, ◌==◌, ◌||◌, ◌↔◌, ◌∙◌, ◌∷◌, ◌≡◌, ◌≢◌, ◌≤◌, ◌⊎◌}
 pub use Rattle.std.proofs.Math.Bool.{and_assoc, and_comm, or-false}
 pub use Rattle.std.proofs.lemmas.Bool.{and_from, and_parts, eq-eqb, eqb-true, false_from_ne_true, le-ltb, leb-false, lt-ltb, ltb-false, ltb-true, ne_eqb, not-true, or_from, or_parts, or_right}
 pub use Rattle.std.proofs.lemmas.Bool.Decides.{nat_tests}

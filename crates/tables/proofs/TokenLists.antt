@@ -1,16 +1,26 @@
 -- The list of an organization's tokens.
-use Rattle.tables.proofs.Outside.{◌≡◌, ℕ, Bool, true, false, cond, List, [], ◌∷◌, map, filter, Option, Some, None, option_map, refl, sym, ap, ap₂, ◌∙◌, from_entries, entries, Role, equal_bytes, name_cmp, Tokens, Token, Kept, TokenRow, Tables, cap_of, roles_by_name, role_row}
+use Rattle.std.proofs.Common.{◌≡◌, ℕ, Bool, true, false, cond, List, [], ◌∷◌, map, filter, Option, Some, None, option_map, refl, sym, ap, ap₂, ◌∙◌}
+use Rattle.std.specs.FinMap.{from_entries, entries}
+use Rattle.basis.specs.declared.roles.Role.{Role}
 use Rattle.basis.specs.declared.roles.Caller.{Caller}
+use Rattle.basis.proofs.NameLemmas.{equal_bytes}
+use Rattle.machine.specs.Order.{name_cmp}
 use Rattle.machine.specs.Tokens as tokens
+use Rattle.machine.specs.declared.keeps.AdminAnswer.TheVariants.{Tokens}
 use Rattle.machine.specs.declared.keeps.TokenRow.{TokenRow as AnyRow}
+use Rattle.machine.specs.declared.records.Token.{Token}
+use Rattle.statements.specs.Rows.{Kept, TokenRow}
+use Rattle.statements.specs.Tables.{Tables}
+use Rattle.statements.specs.Finds.{cap_of}
+use Rattle.statements.specs.Listings.{roles_by_name, bounded_row}
 use Rattle.tables.specs.Records.{caller_with, bounds_at, token_at, is_token_of, tokens_at, organization_at, record_of}
-use Rattle.tables.specs.Inner.Lists.{token_row_in, tokens_listed_in, token_list_answer_by, token_list_answer_in}
+use Rattle.tables.specs.Inner.Lists.{token_row_of, tokens_listed_in, token_list_answer_by, token_list_answer_in}
 use Rattle.tables.proofs.Ranks.{entries_shown}
 
 module _ (t : Tables) (org : List ℕ) where
   -- a token's row as it is listed, from its role, its name, and how far it reaches
   abbrev shown : List ℕ × Role → AnyRow
-  shown e = token_row_in org t (role_row e)
+  shown e = token_row_of (bounded_row org t e)
 
   abbrev row_of : List ℕ × Caller → AnyRow
   row_of e = record { name = e.0; caller = e.1 }
@@ -47,7 +57,7 @@ module _ (t : Tables) (org : List ℕ) where
   by_record [] = refl
   by_record (e ∷ es) = ap (λ rows. tokens.token_row e.0 e.1 ∷ rows) (by_record es)
 
-  by_rows : (es : List (List ℕ × Role)) → map row_of (map by_role es) ≡ map (token_row_in org t) (map role_row es)
+  by_rows : (es : List (List ℕ × Role)) → map row_of (map by_role es) ≡ map token_row_of (map (bounded_row org t) es)
   by_rows [] = refl
   by_rows (e ∷ es) = ap (λ rows. shown e ∷ rows) (by_rows es)
 

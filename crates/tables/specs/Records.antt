@@ -1,5 +1,5 @@
 -- The record of an organization that the rows of the tables denote.
-use Rattle.std.specs.Prelude.{ℕ, Bool, List, [], map, filter, Option, None, option_map, IsSome, IfSome}
+use Rattle.std.specs.Prelude.{ℕ, Bool, List, map, filter, Option, option_map, IsSome, IfSome}
 use Rattle.std.specs.Option.{unwrap_or}
 use Rattle.std.specs.Str.{bytes_eq}
 use Rattle.std.specs.FinMap.{FinMap, from_entries}
@@ -22,6 +22,7 @@ use Rattle.statements.specs.Rows.{Kept, TokenRow}
 use Rattle.statements.specs.Tables.{Tables}
 use Rattle.statements.specs.Changes.{is_ws_of, is_version_of, is_run_of}
 use Rattle.statements.specs.Finds.{version_cmp, run_cmp, cap_of, named_role_of, bound_of, retention_of, workspace_of}
+pub use Rattle.statements.specs.Listings.{no_bounds}
 use Rattle.texts.specs.Texts.{text_of}
 
 -- ---- what cells denote
@@ -33,10 +34,6 @@ settings_of_cells retention w = record { runs = w.runs; retention = retention }
 -- the cells have the number of the text's bytes; the text is in pages
 abbrev pub version_of_cells : List ℕ → VersionCells → Version
 version_of_cells text v = record { number = v.number; serial = v.serial; lineage = v.lineage; created = v.created; text = text }
-
--- no expiry, and the empty prefix
-abbrev pub no_bounds : Bounds
-no_bounds = record { until = None; prefix = [] }
 
 abbrev pub caller_with : Role → Bounds → Caller
 caller_with role bounds = record { role = role; until = bounds.until; prefix = bounds.prefix }

@@ -1,11 +1,10 @@
 //! The caller that a token identifies, and the bounds of the token, read from the tables.
-ghost use Rattle.std.specs.Prelude.{◌≡◌, false, IsSome, OnOk};
+ghost use Rattle.std.specs.Prelude.{◌≡◌, false, OnOk};
 ghost use Rattle.sqlite.specs.Held.{state};
 ghost use Rattle.sqlite.specs.State.{HasCleanDisk};
-ghost use Rattle.statements.specs.Finds.{bound_of};
-ghost use Rattle.statements.specs.Steps.{Equals, Sees};
+ghost use Rattle.statements.specs.Steps.{Equals};
 ghost use Rattle.statements.specs.Tables.{Tables, Holds};
-ghost use Rattle.tables.specs.Records.{caller_with, bounds_at, IsBound};
+ghost use Rattle.tables.specs.Records.{caller_with, IsBound};
 ghost use Rattle.tables.specs.Inner.Lists.{asker_in};
 ghost use Rattle.tables.specs.Inner.Steps.{EndsIdle, ReadsCommitted};
 
@@ -13,19 +12,7 @@ use crate::transactions::assert_committed;
 use basis::{Bounds, Caller, Role};
 use machine::TokenRow;
 use sqlite::{Alter, Connection, Error};
-use statements::rows::NamedRole;
-use statements::{bounds, tokens};
-
-/// The expiry and the prefix of a token. Fails if the token has no row of bound.
-fn bounds_of<S: Alter>(conn: &mut Connection<S>, org: &str, name: &str) -> Result<Bounds, Error>
-    ensures unchanged { Sees S.Store (Equals (λ t. bounds_at t org.now name.now)) conn.old conn.new result }
-    ensures there { HasCleanDisk (state S.Store conn.new) → OnOk result ((t : Tables) → Holds (state S.Store conn.old).now t → IsSome (bound_of org.now name.now t)) }
-{
-    match bounds::find(conn, org, name)? {
-        None => Err(Error::QueryReturnedNoRows),
-        Some(bounds) => Ok(bounds),
-    }
-}
+use statements::tokens;
 
 fn caller_with(role: Role, bounds: Bounds) -> Caller
     ensures { result ≡ caller_with role bounds }
@@ -35,19 +22,6 @@ fn caller_with(role: Role, bounds: Bounds) -> Caller
         until: bounds.until,
         prefix: bounds.prefix,
     }
-}
-
-/// The caller with a token of this name and role.
-pub(crate) fn caller_as<S: Alter>(
-    conn: &mut Connection<S>,
-    org: &str,
-    token: &NamedRole,
-) -> Result<Caller, Error>
-    ensures unchanged { Sees S.Store (Equals (λ t. caller_with token.now.role (bounds_at t org.now token.now.name))) conn.old conn.new result }
-    ensures there { HasCleanDisk (state S.Store conn.new) → OnOk result ((t : Tables) → Holds (state S.Store conn.old).now t → IsSome (bound_of org.now token.now.name t)) }
-{
-    let bounds = bounds_of(conn, org, token.name.as_str())?;
-    Ok(caller_with(token.role, bounds))
 }
 
 /// The caller and the name of the organization's token with this digest. Fails if the token has no row of

@@ -4,20 +4,20 @@ ghost use Rattle.sqlite.specs.Held.{state};
 ghost use Rattle.basis.specs.Listings.{listing_of};
 ghost use Rattle.machine.specs.Showing.{holder_id};
 ghost use Rattle.statements.specs.Steps.{Equals, EqualsWhere, Sees};
-ghost use Rattle.statements.specs.Listings.{OrgsApart, TokensApart, WorkspacesApart, VersionsApart, RunsApart};
-ghost use Rattle.tables.specs.Inner.Lists.{versions_listed_in, runs_listed_in, newest_number_in, newest_by, newest_shown_in, ws_row_in, workspaces_listed_in, token_row_in, tokens_listed_in, token_list_answer_in, org_row_in, organizations_listed_in};
+ghost use Rattle.statements.specs.Listings.{OrgsApart, BoundedTokensApart, WorkspacesApart, VersionsApart, RunsApart};
+ghost use Rattle.tables.specs.Inner.Lists.{versions_listed_in, runs_listed_in, newest_number_in, newest_by, newest_shown_in, ws_row_in, workspaces_listed_in, token_row_of, tokens_listed_in, token_list_answer_in, org_row_in, organizations_listed_in};
 ghost use Rattle.tables.specs.Inner.Steps.{EndsIdle, ReadsCommitted};
 
-use crate::callers::caller_as;
 use crate::transactions::assert_committed;
 use crate::versions::kept;
 use basis::rows::MAX_ITEMS;
 use basis::{
-    Holder, HolderId, Items, Listing, Number, RunRow, Settings, VersionRow, WsName, WsPrefix, WsRow,
+    Caller, Holder, HolderId, Items, Listing, Number, RunRow, Settings, VersionRow, WsName,
+    WsPrefix, WsRow,
 };
 use machine::{AdminAnswer, OrgRow, TokenRow};
 use sqlite::{Alter, Connection, Error, ErrorCode};
-use statements::rows::{NamedRole, NamedWorkspace, Organization as OrganizationCells};
+use statements::rows::{BoundedRole, NamedWorkspace, Organization as OrganizationCells};
 use statements::{organizations, runs, tokens, versions, workspaces};
 use std::alloc::Global;
 
@@ -245,29 +245,25 @@ pub(crate) fn list_of_organizations<S: Alter>(
 }
 
 /// A token as an operator's list shows it.
-fn token_row<S: Alter>(
-    conn: &mut Connection<S>,
-    org: &str,
-    token: &NamedRole,
-) -> Result<TokenRow, Error>
-    ensures { Sees S.Store (Equals (λ t. token_row_in org.now t token.now)) conn.old conn.new result }
+fn token_row(token: &BoundedRole) -> Result<TokenRow, Error>
+    ensures { IfOk result (λ row. row ≡ token_row_of token.now) }
 {
-    let caller = caller_as(conn, org, token)?;
-    let name = token.name.clone()?;
+    let name = token.token.name.clone()?;
+    let prefix = token.bounds.prefix.clone()?;
+    let caller = Caller {
+        role: token.token.role,
+        until: token.bounds.until,
+        prefix,
+    };
     Ok(TokenRow { name, caller })
 }
 
-fn list_tokens<S: Alter>(
-    conn: &mut Connection<S>,
-    alloc: Global,
-    org: &str,
-    tokens: &[NamedRole],
-) -> Result<Items<TokenRow>, Error>
-    ensures { Sees S.Store (Equals (λ t. map (token_row_in org.now t) tokens.now)) conn.old conn.new result }
+fn token_rows(alloc: Global, tokens: &[BoundedRole]) -> Result<Items<TokenRow>, Error>
+    ensures { IfOk result (λ rows. rows ≡ map token_row_of tokens.now) }
 {
     let mut rows = Items::new(Vec::new(alloc));
     for token in tokens {
-        let row = token_row(conn, org, token)?;
+        let row = token_row(token)?;
         push(&mut rows, row)?;
     }
     Ok(rows)
@@ -279,10 +275,11 @@ fn list_of_tokens<S: Alter>(
     alloc: Global,
     org: &str,
 ) -> Result<Items<TokenRow>, Error>
-    ensures { Sees S.Store (EqualsWhere TokensApart (tokens_listed_in org.now)) conn.old conn.new result }
+    ensures { Sees S.Store (EqualsWhere BoundedTokensApart (tokens_listed_in org.now)) conn.old conn.new result }
 {
-    let rows = tokens::list(alloc, conn, org)?;
-    list_tokens(conn, alloc, org, rows.as_slice())
+    let tokens = tokens::list(alloc, conn, org)?;
+    let rows = token_rows(alloc, tokens.as_slice())?;
+    Ok(rows)
 }
 
 /// The answer to the list of an organization's tokens.
@@ -293,7 +290,7 @@ pub(crate) fn token_list_answer<S: Alter>(
 ) -> Result<AdminAnswer, Error>
     requires idle { conn.old.in_transaction ≡ false }
     ensures ends { EndsIdle S.Store conn.old conn.new }
-    ensures unchanged { ReadsCommitted (EqualsWhere TokensApart (token_list_answer_in org.now)) (state S.Store conn.old) (state S.Store conn.new) result }
+    ensures unchanged { ReadsCommitted (EqualsWhere BoundedTokensApart (token_list_answer_in org.now)) (state S.Store conn.old) (state S.Store conn.new) result }
 {
     assert_committed(conn);
     let cap = organizations::cap(conn, org)?;

@@ -1,21 +1,7 @@
 -- What a piece that is put, and the pieces of a text, leave of the rows.
-use Rattle.std.proofs.Common.{◌≡◌, ◌<◌, ◌≤◌, ◌⊎◌, inl, inr, ℕ, zero, suc, ◌+◌, nat_lt, Bool, true, false, cond, List, [], ◌∷◌, ◌++◌, length, filter, find, Option, Some, None, option_map, refl, sym, ap, ◌∙◌, subst, arith}
-use Rattle.std.specs.Prelude.{unwrap_or}
-use Rattle.std.specs.List.{AllByRecursion}
-use Rattle.std.proofs.lemmas.Bool.{false_from_ne_true, true≢false, ltb-true, ltb-false}
-use Rattle.std.proofs.lemmas.Option.{same_Some}
+use Rattle.texts.proofs.Outside.{◌≡◌, ◌<◌, ◌≤◌, ◌⊎◌, inl, inr, ℕ, zero, suc, ◌+◌, nat_lt, Bool, true, false, cond, List, [], ◌∷◌, ◌++◌, length, filter, find, Option, Some, None, option_map, refl, sym, ap, ◌∙◌, subst, arith, unwrap_or, AllByRecursion, false_from_ne_true, true≢false, ltb-true, ltb-false, same_Some, AreApart, all_weaker, all-append, Kept, id_of, VpageRow, Tables, find_pushed, find_pushed_other, apart_pushed, none_passes, none_found, PageId, page_bytes, page_uses, equal_page, twin_limit, twin_for, put_found, page_put, Page, pages_in, HasSoundPages, PutsPage, put_is, put_keeps}
 use Rattle.sqlite_keyed.specs.Keyed.{next_key}
-use Rattle.sqlite_keyed.specs.Rules.{AreApart}
-use Rattle.sqlite_keyed.proofs.ListLemmas.{all_weaker, all-append}
-use Rattle.statements.specs.Rows.{Kept, id_of, VpageRow}
-use Rattle.statements.specs.Tables.{Tables}
 use Rattle.statements.specs.Changes.{with_next}
-use Rattle.statements.proofs.Found.{find_pushed, find_pushed_other, apart_pushed, none_passes, none_found}
-use Rattle.pages.specs.declared.store.PageId.{PageId}
-use Rattle.pages.specs.Rows.{page_bytes, page_uses, equal_page}
-use Rattle.pages.specs.Puts.{twin_limit, twin_for, put_found, page_put}
-use Rattle.pages.specs.Pages.{Page, pages_in, HasSoundPages, PutsPage}
-use Rattle.pages.proofs.PageLaws.{put_is, put_keeps}
 use Rattle.texts.specs.Texts.{is_place_of, is_place, names_page, place_added, page_name, bytes_named, piece_of, piece_at, piece_added, pieces_added, TwinsFit, HasNoPlaces, HasSoundPlaces}
 use Rattle.texts.proofs.PieceLists.{counted_more}
 use Rattle.texts.proofs.PlaceLaws.{IsOtherPlace, place_parts, place_from, version_from, other_place, named_from, named_not, same_page, bytes_are, uses_are, named_there, piece_stays}

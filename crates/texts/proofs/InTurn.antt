@@ -1,24 +1,9 @@
 -- Rows that show a place and the bytes of its page, taken one at a time and in turn.
-use Rattle.std.proofs.Common.{◌≡◌, ◌⊎◌, inl, inr, ℕ, ◌+◌, List, [], ◌∷◌, ◌++◌, false, Some, None, Result, Ok, Err, refl, sym, ◌∙◌, subst, arith}
-use Rattle.std.specs.List.{AllByRecursion}
+use Rattle.texts.proofs.Outside.{◌≡◌, ◌⊎◌, inl, inr, ℕ, ◌+◌, List, [], ◌∷◌, ◌++◌, false, Some, None, Result, Ok, Err, refl, sym, ◌∙◌, subst, arith, AllByRecursion, Blob, Row, column, all_weaker, all-append, Ghosts, Error, Held, state, HasCleanDisk, IsUnchanged, KeepsCommit, Fails, Survives, Shown, CommitsShowing, FailsToQuery, number, IsQuery, FirstRows, failed_calm, number_read, LeavesAsIs, clean_before, as_it_is, one_query, unchanged_then}
 use Rattle.std.specs.Result.{IsErr}
-use Rattle.sqlite_value.specs.declared.value.Value.TheVariants.{Blob}
-use Rattle.sqlite_value.specs.Order.{Row, column}
-use Rattle.sqlite_keyed.proofs.ListLemmas.{all_weaker, all-append}
-use Rattle.sqlite_trees.specs.declared.store.Store.{Ghosts}
-use Rattle.sqlite.specs.declared.error.Error.{Error}
 use Rattle.sqlite.specs.Given.{Advances, HasBegun}
-use Rattle.sqlite.specs.Held.{Held, state}
-use Rattle.sqlite.specs.State.{HasCleanDisk, IsUnchanged, KeepsCommit, Fails, Survives, Shown, CommitsShowing, FailsToQuery}
-use Rattle.statements.specs.Rows.{number}
-use Rattle.statements.specs.Calls.{IsQuery, FirstRows}
-use Rattle.statements.proofs.Calm.{failed_calm}
-use Rattle.statements.proofs.ReadBack.{number_read}
 use Rattle.statements.proofs.Taking.{Takes, takes_none, takes_all, takes_more, calm_failed}
 use Rattle.sqlite.proofs.InsideLemmas.{unchanged_keeps}
-use Rattle.statements.specs.Steps.{LeavesAsIs}
-use Rattle.statements.proofs.Transactions.{clean_before}
-use Rattle.pages.proofs.Sequences.{as_it_is, one_query, unchanged_then}
 use Rattle.texts.proofs.Many.{nothing_more}
 use Rattle.texts.specs.Inner.Calls.{ShowsPlace, AreInTurn, JoinsRows}
 use Rattle.texts.proofs.NextPiece.{none_there, there_more, joined_more}

@@ -1,7 +1,5 @@
 -- Where each page has the key of its bytes, it has it after a text was put, and after one was taken away.
-use Rattle.std.proofs.Common.{ℕ, zero, suc, List, Option, Some, None}
-use Rattle.statements.specs.Tables.{Tables}
-use Rattle.pages.specs.declared.store.PageId.{PageId}
+use Rattle.texts.proofs.Outside.{ℕ, zero, suc, List, Option, Some, None, Tables, PageId}
 use Rattle.pages.proofs.KeyedPages.{AreKeyed, put_keyed, released_keyed}
 use Rattle.texts.specs.Texts.{piece_at, pieces_added, KeysFit, page_at, place_removed, released_at, pieces_removed}
 

@@ -4,6 +4,7 @@ pub mod KeyedTexts
 pub mod Many
 pub mod NextPiece
 pub mod OnePiece
+pub mod Outside
 pub mod PieceLaws
 pub mod PieceLists
 pub mod PlaceLaws

@@ -1,12 +1,5 @@
 -- Writes, and reads, one after another: what they leave and tell, be it none.
-use Rattle.std.proofs.Common.{◌≡◌, IsTrue, Option, Some, Result, Ok, Err, OnOk, refl}
-use Rattle.sqlite_trees.specs.declared.store.Store.{Ghosts}
-use Rattle.sqlite.specs.Held.{Held, state}
-use Rattle.sqlite.specs.State.{State, HasCleanDisk, IsUnchanged}
-use Rattle.statements.specs.Steps.{AnyRows, LeavesAsIs, Moves, Queries, Sees}
-use Rattle.statements.specs.Tables.{Tables, Holds}
-use Rattle.statements.proofs.Transactions.{clean_before, moves_then}
-use Rattle.pages.proofs.Sequences.{as_it_is, one_query, unchanged_then, still_holds, failed_behind, moved_behind}
+use Rattle.texts.proofs.Outside.{◌≡◌, IsTrue, Option, Some, Result, Ok, Err, OnOk, refl, Ghosts, Held, state, State, HasCleanDisk, IsUnchanged, AnyRows, LeavesAsIs, Moves, Queries, Sees, Tables, Holds, clean_before, moves_then, as_it_is, one_query, unchanged_then, still_holds, failed_behind, moved_behind}
 pub use Rattle.pages.proofs.Sights.{reads_failed, nothing_more}
 
 -- whatever holds, holds where a call was done

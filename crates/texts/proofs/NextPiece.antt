@@ -1,11 +1,7 @@
 -- A text's pieces one by one: from the first so many to one more.
 use Rattle.std.proofs.Common.{◌≡◌, ◌<◌, ◌≤◌, ℕ, zero, suc, ◌+◌, ◌*◌, ◌/◌, nat_lt, Bool, true, false, cond, ◌&&◌, List, [], ◌++◌, is_some, Option, Some, None, IsSome, option_map, unwrap_or, inl, inr, refl, sym, ap, ap₂, ◌∙◌, subst, arith}
-use Rattle.std.proofs.lemmas.Bool.{cases_Bool, ltb-true, ltb-false, lt-ltb, le-ltb}
-use Rattle.std.specs.Str.{bytes_eq}
+use Rattle.texts.proofs.Outside.{cases_Bool, ltb-true, ltb-false, lt-ltb, le-ltb, bytes_eq, Tables, IsKeyFor, twin_limit, twin_for}
 use Rattle.std.proofs.Math.Bool.{and-false}
-use Rattle.statements.specs.Tables.{Tables}
-use Rattle.pages.specs.Pages.{IsKeyFor}
-use Rattle.pages.specs.Puts.{twin_limit, twin_for}
 use Rattle.texts.specs.declared.texts.TheConstants.{PAGE_BYTES}
 use Rattle.texts.specs.Texts.{piece_at, pieces_added, TwinsFit, KeysFit, piece_of, AreThere, joined, are_pieces}
 use Rattle.texts.specs.Inner.Calls.{piece_placed, is_piece_of}

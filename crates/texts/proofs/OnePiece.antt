@@ -1,14 +1,7 @@
 -- One piece of a text: the page that it is, or was.
-use Rattle.std.proofs.Common.{◌≡◌, ◌<◌, ℕ, true, List, is_some, Option, Some, None, IsSome, option_map, Result, Ok, Err, IfOk, OnOk, OnErr, refl, sym, ◌∙◌, subst}
+use Rattle.texts.proofs.Outside.{◌≡◌, ◌<◌, ℕ, true, List, is_some, Option, Some, None, IsSome, option_map, Result, Ok, Err, IfOk, OnOk, OnErr, refl, sym, ◌∙◌, subst, State, IsUnchanged, KeepsCommit, AnyRows, Moves, Tables, Holds, is_page, page_bytes, pages_in, HasSoundPages, ReleasesPage, one_query, still_holds, twin_limit, twin_for, page_put, page_released}
 use Rattle.std.specs.Prelude.{find}
-use Rattle.sqlite.specs.State.{State, IsUnchanged, KeepsCommit}
 use Rattle.sqlite.proofs.Callers.{unchanged_then}
-use Rattle.statements.specs.Steps.{AnyRows, Moves}
-use Rattle.statements.specs.Tables.{Tables, Holds}
-use Rattle.pages.specs.Rows.{is_page, page_bytes}
-use Rattle.pages.specs.Pages.{pages_in, HasSoundPages, ReleasesPage}
-use Rattle.pages.proofs.Sequences.{one_query, still_holds}
-use Rattle.pages.specs.Puts.{twin_limit, twin_for, page_put, page_released}
 use Rattle.texts.specs.Texts.{place_added}
 use Rattle.texts.specs.Inner.Calls.{piece_placed}
 use Rattle.texts.proofs.Many.{reads_failed}

@@ -1,13 +1,7 @@
 -- The pieces that a text is cut into, and the text that they make.
-use Rattle.std.proofs.Common.{◌≡◌, ◌<◌, ◌≤◌, ℕ, zero, suc, ◌+◌, ◌*◌, min, Bool, true, ◌&&◌, List, [], ◌++◌, length, take, drop, Option, Some, refl, sym, ap, ap₂, ◌∙◌, arith}
-use Rattle.std.specs.Prelude.{unwrap_or}
-use Rattle.std.specs.Str.{bytes_eq}
+use Rattle.texts.proofs.Outside.{◌≡◌, ◌<◌, ◌≤◌, ℕ, zero, suc, ◌+◌, ◌*◌, min, Bool, true, ◌&&◌, List, [], ◌++◌, length, take, drop, Option, Some, refl, sym, ap, ap₂, ◌∙◌, arith, unwrap_or, bytes_eq, and_from, and_parts, length-take, length-drop, length-append, take_all, take_at, drop_at, bytes_eq-Decides, Tables}
 use Rattle.std.specs.Cmp.{both_ways}
-use Rattle.std.proofs.lemmas.Bool.{and_from, and_parts}
-use Rattle.std.proofs.lemmas.List.{length-take, length-drop, length-append, take_all, take_at, drop_at}
-use Rattle.std.proofs.lemmas.Slice.Eq.{bytes_eq-Decides}
 use Rattle.std.proofs.Math.Seq.{take-add}
-use Rattle.statements.specs.Tables.{Tables}
 use Rattle.texts.specs.declared.texts.TheConstants.{PAGE_BYTES}
 use Rattle.texts.specs.Texts.{pages_for, piece_at, piece_size, piece_of, joined, text_of, are_pieces, IsWhole}
 

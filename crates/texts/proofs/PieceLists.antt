@@ -1,12 +1,6 @@
 -- Lists in which what passes a test is found, counted, put at the end and taken away.
-use Rattle.std.proofs.Common.{◌≡◌, ◌≤◌, ℕ, ◌+◌, Bool, true, false, not, cond, List, [], ◌∷◌, ◌++◌, length, filter, find, Some, refl, sym, ap, ◌∙◌, subst, arith}
-use Rattle.std.proofs.lemmas.Bool.{false_from_ne_true, true≢false}
-use Rattle.std.proofs.lemmas.List.{length-append}
+use Rattle.texts.proofs.Outside.{◌≡◌, ◌≤◌, ℕ, ◌+◌, Bool, true, false, not, cond, List, [], ◌∷◌, ◌++◌, length, filter, find, Some, refl, sym, ap, ◌∙◌, subst, arith, false_from_ne_true, true≢false, length-append, delete_where, AreApart, all_weaker, none_deleted}
 use Rattle.std.proofs.lemmas.List.Elements.{filter-append}
-use Rattle.sqlite_keyed.specs.Lists.{delete_where}
-use Rattle.sqlite_keyed.specs.Rules.{AreApart}
-use Rattle.sqlite_keyed.proofs.ListLemmas.{all_weaker}
-use Rattle.statements.proofs.Found.{none_deleted}
 
 module _ {X : Type 0} where
   module _ (p : X → Bool) where

@@ -1,14 +1,5 @@
 -- The rows of vpage by the places that they stand for, and the pages that they name.
-use Rattle.std.proofs.Common.{◌≡◌, ◌≤◌, ◌⊎◌, inl, inr, ℕ, Bool, true, false, ◌&&◌, ◌==◌, List, length, filter, find, Option, Some, None, option_map, refl, sym, ap, ◌∙◌, arith}
-use Rattle.std.specs.Prelude.{unwrap_or}
-use Rattle.std.specs.Str.{bytes_eq}
-use Rattle.std.proofs.lemmas.Bool.{false_from_ne_true, and_from, and_parts, eqb-true, eq-eqb, true≢false}
-use Rattle.std.proofs.lemmas.Slice.Eq.{bytes_eq-Decides}
-use Rattle.statements.specs.Rows.{Kept, PageRow, VpageRow}
-use Rattle.statements.specs.Tables.{Tables}
-use Rattle.pages.specs.Rows.{is_page, page_bytes, page_uses}
-use Rattle.pages.specs.Pages.{Page, pages_in}
-use Rattle.pages.specs.declared.store.PageId.{PageId}
+use Rattle.texts.proofs.Outside.{◌≡◌, ◌≤◌, ◌⊎◌, inl, inr, ℕ, Bool, true, false, ◌&&◌, ◌==◌, List, length, filter, find, Option, Some, None, option_map, refl, sym, ap, ◌∙◌, arith, unwrap_or, bytes_eq, false_from_ne_true, and_from, and_parts, eqb-true, eq-eqb, true≢false, bytes_eq-Decides, Kept, PageRow, VpageRow, Tables, is_page, page_bytes, page_uses, Page, pages_in, PageId}
 use Rattle.texts.specs.Texts.{is_place_of, is_place, names_page, page_name, page_at, bytes_named, piece_of, HasSoundPlaces}
 use Rattle.texts.proofs.PieceLists.{counted_some}
 

@@ -1,27 +1,8 @@
 -- What the query on the table vpage reads of its rows.
-use Rattle.std.proofs.Common.{◌≡◌, ℕ, List, [], ◌∷◌, Option, codes, refl, ◌∙◌}
-use Rattle.sqlite_value.specs.declared.value.Value.TheVariants.{Null, Text, Blob}
-use Rattle.sqlite_value.specs.Order.{Row}
-use Rattle.sqlite_sql.specs.Program.{overlay}
-use Rattle.sqlite_schema.specs.declared.command.Command.TheVariants.{Select}
-use Rattle.sqlite.specs.State.{State, Shown}
-use Rattle.sqlite.proofs.Callers.{reads_as}
-use Rattle.statements.specs.Place.{tree_of}
-use Rattle.statements.specs.Schema.{vpage_table}
-use Rattle.statements.specs.Rows.{vpage_cells, number}
-use Rattle.statements.specs.Tables.{Tables, Holds, vpage_layout}
-use Rattle.statements.specs.Calls.{FirstRow, Pins}
+use Rattle.texts.proofs.Outside.{◌≡◌, ℕ, List, [], ◌∷◌, Option, codes, refl, ◌∙◌, Null, Text, Blob, Row, overlay, Select, State, Shown, reads_as, tree_of, vpage_table, vpage_cells, number, Tables, Holds, vpage_layout, FirstRow, Pins, IsHeld, vpages_held, two_texts_number, listing, stored_tree, plain_program, number_read, blob_read, IsPageName, PageId}
 use Rattle.texts.specs.declared.places.TheConstants.{PAGE_AT, PLACES}
-use Rattle.statements.proofs.Held.{IsHeld, vpages_held}
-use Rattle.statements.proofs.Conditions.{two_texts_number}
 use Rattle.statements.proofs.Edits.{all_shown}
-use Rattle.statements.proofs.Listed.{listing}
-use Rattle.statements.proofs.Own.{stored_tree}
-use Rattle.statements.proofs.Writes.{plain_program}
 use Rattle.statements.proofs.PointReads.{first_own}
-use Rattle.statements.proofs.ReadBack.{number_read, blob_read}
-use Rattle.pages.specs.Rows.{IsPageName}
-use Rattle.pages.specs.declared.store.PageId.{PageId}
 use Rattle.texts.specs.Texts.{is_place_of, is_place, page_name, page_at}
 use Rattle.texts.specs.Inner.Calls.{AreRowsOf}
 use Rattle.texts.proofs.PlaceTexts.{page_at_asks, page_at_rest, places_names, places_asks, places_rest}

@@ -1,7 +1,5 @@
 -- What the text for all rows of vpage means.
-use Rattle.std.proofs.Common.{codes, refl}
-use Rattle.sqlite_tied.specs.Compute.{everything}
-use Rattle.statements.specs.Schema.{vpage_table}
+use Rattle.texts.proofs.Outside.{codes, refl, everything, vpage_table}
 use Rattle.statements.proofs.Columns.{names_of}
 use Rattle.statements.proofs.ScanTexts.{AsksAll, asks_all}
 use Rattle.texts.specs.declared.scans.TheConstants.{ALL_PLACES}

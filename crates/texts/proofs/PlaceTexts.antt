@@ -1,25 +1,9 @@
 -- The statements on the table vpage: how they are written, and what their texts mean in each schema that has it.
-use Rattle.std.proofs.Common.{ℕ, false, List, [], ◌∷◌, codes, Some, None, refl}
-use Rattle.sqlite_value.specs.declared.value.Value.TheVariants.{Null}
-use Rattle.sqlite_value.specs.declared.keys.Collation.TheVariants.{Binary}
-use Rattle.sqlite_sql.specs.Term.{Term, lit, col}
-use Rattle.sqlite_sql.specs.Query.{Query}
-use Rattle.sqlite_schema.specs.declared.schema.Schema.{Schema}
+use Rattle.texts.proofs.Outside.{ℕ, false, List, [], ◌∷◌, codes, Some, None, refl, Null, Binary, Term, lit, col, Query, Schema, Insert, Delete, Expr, Parameter, everything, StandsAt, vpage_table, Means, means, plain_program, is_at, delete_query, point_rest, point_draft, listing_draft, no_page, listing, Asks, asks}
 use Rattle.sqlite_schema.specs.declared.command.Source.TheVariants.{Values}
-use Rattle.sqlite_schema.specs.declared.command.Command.TheVariants.{Insert, Delete}
-use Rattle.sqlite_ast.specs.declared.Expr.{Expr}
-use Rattle.sqlite_ast.specs.declared.Expr.TheVariants.{Parameter}
-use Rattle.sqlite_tied.specs.Compute.{everything}
-use Rattle.statements.specs.Place.{StandsAt}
-use Rattle.statements.specs.Schema.{vpage_table}
 use Rattle.statements.proofs.SyntaxTrees as st
-use Rattle.statements.proofs.Meaning.{Means, means}
-use Rattle.statements.proofs.Writes.{plain_program}
 use Rattle.statements.proofs.Answered.{point}
-use Rattle.statements.proofs.Commands.{is_at, delete_query, point_rest, point_draft, listing_draft, no_page}
-use Rattle.statements.proofs.Listed.{listing}
 use Rattle.texts.specs.declared.places.TheConstants.{ADD_PLACE, REMOVE_PLACES, PLACES, PAGE_AT}
-use Rattle.statements.proofs.Selects.{Asks, asks}
 
 -- WHERE of a place of a version
 abbrev at_place : Expr

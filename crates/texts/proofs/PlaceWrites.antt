@@ -1,19 +1,9 @@
 -- What the writes to the table vpage do to its rows.
-use Rattle.std.proofs.Common.{◌≡◌, ℕ, pos, true, ◌&&◌, List, [], ◌∷◌, Ok, refl, eqb}
-use Rattle.std.specs.Str.{bytes_eq}
-use Rattle.sqlite_value.specs.declared.keys.Collation.TheVariants.{Binary}
-use Rattle.sqlite_value.specs.declared.value.Value.TheVariants.{Int, Text, Blob}
-use Rattle.sqlite_sql.specs.declared.ops.CompareOp.TheVariants.{Eq}
-use Rattle.sqlite_sql.specs.declared.ops.BinaryOp.TheVariants.{Compare}
+use Rattle.texts.proofs.Outside.{◌≡◌, ℕ, pos, true, ◌&&◌, List, [], ◌∷◌, Ok, refl, eqb, bytes_eq, Binary, Int, Text, Blob, Eq, Compare, State, Executes, number, Tables, Holds, vpages, same_text, same_number, two_texts_number}
 use Rattle.sqlite_sql.specs.Ops.{is_true, binary}
 use Rattle.sqlite_typed.proofs.TestLemmas.{then_term, last_term}
-use Rattle.sqlite.specs.State.{State, Executes}
-use Rattle.statements.specs.Rows.{number}
-use Rattle.statements.specs.Tables.{Tables, Holds}
 use Rattle.texts.specs.declared.places.TheConstants.{ADD_PLACE, REMOVE_PLACES}
-use Rattle.statements.proofs.Held.{vpages}
 use Rattle.statements.proofs.Casts.{vpage_casts}
-use Rattle.statements.proofs.Conditions.{same_text, same_number, two_texts_number}
 use Rattle.statements.proofs.Frames.{Turns, deleted, inserted}
 use Rattle.texts.specs.Texts.{is_place_of, place_added}
 use Rattle.texts.specs.Inner.Calls.{places_removed}

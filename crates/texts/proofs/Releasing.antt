@@ -1,28 +1,6 @@
 -- The rows of a version and their pages: a text is taken away by the rows that its version shows.
-use Rattle.std.proofs.Common.{◌≡◌, ◌==◌, ◌<◌, ◌≤◌, ◌⊎◌, inl, inr, ℕ, zero, suc, ◌+◌, ◌-◌, nat_lt, Bool, true, false, ◌&&◌, not, cond, List, [], ◌∷◌, map, filter, find, length, slice_get, slice_index_or, IsSome, Option, Some, None, option_map, Result, Ok, Err, IfOk, IfErr, OnOk, OnErr, refl, sym, ap, ap₂, ◌∙◌, subst, arith}
-use Rattle.std.specs.Str.{bytes_eq}
-use Rattle.std.specs.List.{AllByRecursion}
-use Rattle.std.proofs.lemmas.Bool.{lt-ltb, le-ltb}
-use Rattle.std.proofs.lemmas.List.Sorted.{IsPermutation-sym}
+use Rattle.texts.proofs.Outside.{◌≡◌, ◌==◌, ◌<◌, ◌≤◌, ◌⊎◌, inl, inr, ℕ, zero, suc, ◌+◌, ◌-◌, nat_lt, Bool, true, false, ◌&&◌, not, cond, List, [], ◌∷◌, map, filter, find, length, slice_get, slice_index_or, IsSome, Option, Some, None, option_map, Result, Ok, Err, IfOk, IfErr, OnOk, OnErr, refl, sym, ap, ap₂, ◌∙◌, subst, arith, bytes_eq, AllByRecursion, lt-ltb, le-ltb, IsPermutation-sym, slice_get_within, all-permutation, Row, column, delete_where, all_kept, all-slice_get, State, KeepsCommit, Shown, FailsToQuery, IsTooLate, IsUnchanged, IsRolledBack, Error, IsQuery, Kept, VpageRow, number, AnyRows, LeavesAsIs, Moves, Tables, Holds, shown_calm, failed_calm, number_read, page_bytes, page_uses, page_used, page_removed, released_found, page_released, moves_then, none_passes, as_it_is, one_query, still_holds, failed_behind, moved_behind}
 use Rattle.std.proofs.lemmas.Bool.Decides.{nat_tests}
-use Rattle.std.proofs.lemmas.Option.{slice_get_within}
-use Rattle.sqlite_trees.proofs.ListLemmas.{all-permutation}
-use Rattle.sqlite_value.specs.Order.{Row, column}
-use Rattle.sqlite_keyed.specs.Lists.{delete_where}
-use Rattle.sqlite_keyed.proofs.ListLemmas.{all_kept, all-slice_get}
-use Rattle.sqlite.specs.State.{State, KeepsCommit, Shown, FailsToQuery, IsTooLate, IsUnchanged, IsRolledBack}
-use Rattle.sqlite.specs.declared.error.Error.{Error}
-use Rattle.statements.specs.Calls.{IsQuery}
-use Rattle.statements.specs.Rows.{Kept, VpageRow, number}
-use Rattle.statements.specs.Steps.{AnyRows, LeavesAsIs, Moves}
-use Rattle.statements.specs.Tables.{Tables, Holds}
-use Rattle.statements.proofs.Calm.{shown_calm, failed_calm}
-use Rattle.statements.proofs.ReadBack.{number_read}
-use Rattle.pages.specs.Rows.{page_bytes, page_uses, page_used, page_removed}
-use Rattle.pages.specs.Puts.{released_found, page_released}
-use Rattle.statements.proofs.Transactions.{moves_then}
-use Rattle.statements.proofs.Found.{none_passes}
-use Rattle.pages.proofs.Sequences.{as_it_is, one_query, still_holds, failed_behind, moved_behind}
 use Rattle.texts.specs.Texts.{pages_for, text_removed, is_place_of, is_place, place_removed, page_name, page_at, released_at, bytes_named, piece_of, pieces_removed, WereThere}
 use Rattle.texts.specs.Inner.Calls.{places_removed, place_shown, AreRowsOf, name_in, row_at, name_at, released_by, WereReleased}
 use Rattle.texts.proofs.NextPiece.{one_more, each_more}

@@ -1,21 +1,6 @@
 -- What a piece that is taken away, and the pieces of a text, leave of the rows.
-use Rattle.std.proofs.Common.{◌≡◌, ◌<◌, ◌≤◌, ◌⊎◌, inl, inr, ℕ, zero, suc, ◌+◌, ◌-◌, nat_lt, Bool, true, false, not, cond, List, length, filter, find, Option, Some, None, option_map, refl, sym, ap, ◌∙◌, subst, arith}
-use Rattle.std.specs.Prelude.{unwrap_or}
-use Rattle.std.specs.List.{AllByRecursion}
-use Rattle.std.proofs.lemmas.Bool.{ltb-true, ltb-false}
-use Rattle.std.proofs.lemmas.Option.{same_Some}
-use Rattle.sqlite_keyed.specs.Lists.{delete_where}
-use Rattle.sqlite_keyed.specs.Rules.{AreApart}
-use Rattle.sqlite_keyed.proofs.ListLemmas.{all-filter}
+use Rattle.texts.proofs.Outside.{◌≡◌, ◌<◌, ◌≤◌, ◌⊎◌, inl, inr, ℕ, zero, suc, ◌+◌, ◌-◌, nat_lt, Bool, true, false, not, cond, List, length, filter, find, Option, Some, None, option_map, refl, sym, ap, ◌∙◌, subst, arith, unwrap_or, AllByRecursion, ltb-true, ltb-false, same_Some, delete_where, AreApart, all-filter, Kept, VpageRow, Tables, find_left, find_deleted, none_passes, none_found, none_deleted, PageId, page_bytes, page_uses, page_used, page_removed, released_found, page_released, Page, pages_in, HasSoundPages, less_used, ReleasesPage, release_is, release_keeps}
 use Rattle.sqlite_keyed.proofs.RuleLemmas.{apart_delete}
-use Rattle.statements.specs.Rows.{Kept, VpageRow}
-use Rattle.statements.specs.Tables.{Tables}
-use Rattle.statements.proofs.Found.{find_left, find_deleted, none_passes, none_found, none_deleted}
-use Rattle.pages.specs.declared.store.PageId.{PageId}
-use Rattle.pages.specs.Rows.{page_bytes, page_uses, page_used, page_removed}
-use Rattle.pages.specs.Puts.{released_found, page_released}
-use Rattle.pages.specs.Pages.{Page, pages_in, HasSoundPages, less_used, ReleasesPage}
-use Rattle.pages.proofs.PageLaws.{release_is, release_keeps}
 use Rattle.texts.specs.Texts.{is_place, names_page, place_removed, page_name, page_at, released_at, piece_of, piece_removed, pieces_removed, HasSoundPlaces}
 use Rattle.texts.proofs.PieceLists.{counted_some, counted_less}
 use Rattle.texts.proofs.PlaceLaws.{IsOtherPlace, places_clash, named_from, named_not, same_page, bytes_are, uses_are, page_there, named_there, piece_stays}

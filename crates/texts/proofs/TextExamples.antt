@@ -1,9 +1,6 @@
 -- Worked texts, computed by the definitions themselves. The key keeps a page's first byte.
-use Rattle.std.proofs.Common.{◌≡◌, ℕ, true, false, List, [], ◌∷◌, map, None, refl}
+use Rattle.texts.proofs.Outside.{◌≡◌, ℕ, true, false, List, [], ◌∷◌, map, None, refl, Tables, no_rows, page_added, page_used, equal_page, free_from}
 use Rattle.std.specs.Prelude.{codes}
-use Rattle.statements.specs.Tables.{Tables, no_rows}
-use Rattle.pages.specs.Rows.{page_added, page_used, equal_page}
-use Rattle.pages.specs.Puts.{free_from}
 use Rattle.texts.specs.Texts.{place_added, pages_for, piece_size, text_added, text_removed, piece_of, text_of, are_pieces, HasNoPlaces}
 
 abbrev org : List ℕ

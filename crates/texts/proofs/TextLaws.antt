@@ -1,12 +1,5 @@
 -- What putting a text and taking it away leave of the texts of versions: soundness, the text itself, and every other.
-use Rattle.std.proofs.Common.{◌≡◌, ◌<◌, ℕ, false, List, [], ◌∷◌, length, find, Some, None, refl, sym, ap, ◌∙◌, subst}
-use Rattle.std.specs.List.{AllByRecursion}
-use Rattle.std.proofs.lemmas.Bool.{false_from_ne_true, true≢false}
-use Rattle.sqlite_keyed.proofs.ListLemmas.{all_weaker}
-use Rattle.statements.specs.Rows.{Kept, PageRow, VpageRow}
-use Rattle.statements.specs.Tables.{Tables, no_rows}
-use Rattle.statements.proofs.Found.{none_passes, none_found}
-use Rattle.pages.specs.Rows.{page_bytes}
+use Rattle.texts.proofs.Outside.{◌≡◌, ◌<◌, ℕ, false, List, [], ◌∷◌, length, find, Some, None, refl, sym, ap, ◌∙◌, subst, AllByRecursion, false_from_ne_true, true≢false, all_weaker, Kept, PageRow, VpageRow, Tables, no_rows, none_passes, none_found, page_bytes}
 use Rattle.texts.specs.Texts.{is_place_of, is_place, pages_for, piece_at, page_at, piece_of, text_added, text_removed, text_of, TwinsFit, are_pieces, IsWhole, HasNoPlaces, HasSoundPlaces}
 use Rattle.texts.proofs.PlaceLaws.{IsOtherVersion, other_version, other_rows, version_parts, version_from, place_from, piece_stays}
 use Rattle.texts.proofs.PieceLaws.{whole_stays, text_stays, compared_stays, text_pieces, pieces_whole}

@@ -1,34 +1,8 @@
 -- What the query that a text is read by shows: for each place of a version the bytes of its page.
-use Rattle.std.proofs.Common.{◌≡◌, ℕ, Bool, true, false, cond, List, [], ◌∷◌, ◌++◌, map, filter, find, flat_map, Option, Some, None, option_map, Result, Ok, Err, IfOk, OnOk, OnErr, refl, sym, ap, ◌∙◌, subst}
-use Rattle.std.specs.List.{list_all, AllByRecursion}
-use Rattle.std.proofs.lemmas.Bool.{true≢false}
-use Rattle.std.proofs.lemmas.List.Sorted.{IsPermutation-sym}
-use Rattle.sqlite_value.specs.declared.value.Value.TheVariants.{Null, Text, Blob}
-use Rattle.sqlite_value.specs.Order.{Row, column}
+use Rattle.texts.proofs.Outside.{◌≡◌, ℕ, Bool, true, false, cond, List, [], ◌∷◌, ◌++◌, map, filter, find, flat_map, Option, Some, None, option_map, Result, Ok, Err, IfOk, OnOk, OnErr, refl, sym, ap, ◌∙◌, subst, list_all, AllByRecursion, true≢false, IsPermutation-sym, Null, Text, Blob, Row, column, all-permutation, Env, holds, eval_all, Query, Output, matches, or_nulls, output, IsAnswer, overlay, State, Shown, KeepsCommit, reads_as, Select, all_of, all_weaker, all_map, all_unmap, all-flat_map, flat_map-map, filter-map, filter_same, tree_of, vpage_table, page_table, Kept, VpageRow, PageRow, stored, vpage_cells, page_cells, number, Tables, Holds, vpage_layout, page_layout, IsHeld, vpages_held, pages_held, joined_listing, plain_program, stored_tree, number_read, blob_read, two_texts_number, none_passes, is_page, LeavesAsIs}
 use Rattle.sqlite_trees.specs.Tree.{Trees}
-use Rattle.sqlite_trees.proofs.ListLemmas.{all-permutation}
-use Rattle.sqlite_sql.specs.Term.{Env, holds, eval_all}
-use Rattle.sqlite_sql.specs.Query.{Query, Output, matches, or_nulls, output, IsAnswer}
-use Rattle.sqlite_sql.specs.Program.{overlay}
-use Rattle.sqlite.specs.State.{State, Shown, KeepsCommit}
-use Rattle.sqlite.proofs.Callers.{reads_as}
-use Rattle.sqlite_schema.specs.declared.command.Command.TheVariants.{Select}
-use Rattle.sqlite_keyed.proofs.ListLemmas.{all_of, all_weaker, all_map, all_unmap, all-flat_map, flat_map-map, filter-map, filter_same}
-use Rattle.statements.specs.Place.{tree_of}
-use Rattle.statements.specs.Schema.{vpage_table, page_table}
-use Rattle.statements.specs.Rows.{Kept, VpageRow, PageRow, stored, vpage_cells, page_cells, number}
-use Rattle.statements.specs.Tables.{Tables, Holds, vpage_layout, page_layout}
 use Rattle.texts.specs.declared.reading.TheConstants.{TEXT_PIECES}
-use Rattle.statements.proofs.Held.{IsHeld, vpages_held, pages_held}
-use Rattle.statements.proofs.Listed.{joined_listing}
 use Rattle.statements.proofs.Lefts.{row_or}
-use Rattle.statements.proofs.Writes.{plain_program}
-use Rattle.statements.proofs.Own.{stored_tree}
-use Rattle.statements.proofs.ReadBack.{number_read, blob_read}
-use Rattle.statements.proofs.Conditions.{two_texts_number}
-use Rattle.statements.proofs.Found.{none_passes}
-use Rattle.pages.specs.Rows.{is_page}
-use Rattle.statements.specs.Steps.{LeavesAsIs}
 use Rattle.pages.proofs.PageWrites.{blob_number}
 use Rattle.texts.specs.Texts.{is_place_of, is_place, page_name, bytes_named, piece_of, joined, AreThere}
 use Rattle.texts.specs.Inner.Calls.{ShowsPlace, AreInTurn}

@@ -1,28 +1,11 @@
 -- The query that a text is read by: how it is written, and what it means in each schema that has the tables vpage and page.
-use Rattle.std.proofs.Common.{ℕ, false, List, [], ◌∷◌, codes, Some, None, refl}
-use Rattle.sqlite_value.specs.declared.keys.Collation.TheVariants.{Binary}
-use Rattle.sqlite_sql.specs.declared.ops.CompareOp.TheVariants.{Eq}
-use Rattle.sqlite_sql.specs.declared.ops.BinaryOp.TheVariants.{Compare}
-use Rattle.sqlite_sql.specs.Term.{Term, col, op2}
-use Rattle.sqlite_sql.specs.Query.{Query, Join, left, end}
-use Rattle.sqlite_schema.specs.declared.schema.Schema.{Schema}
-use Rattle.sqlite_schema.specs.declared.command.Command.TheVariants.{Select}
-use Rattle.sqlite_ast.specs.declared.Expr.{Expr}
+use Rattle.texts.proofs.Outside.{ℕ, false, List, [], ◌∷◌, codes, Some, None, refl, Binary, Eq, Compare, Term, col, op2, Query, Join, left, end, Schema, Select, Expr, everything, StandsAt, vpage_table, page_table, IsQuery, Means, IsSelect, asks_query, select_means, plain_program, joined_listing, is_at, point_rest, joined_draft, no_page}
 use Rattle.sqlite_ast.specs.declared.Expr.TheVariants.{Binary as Two}
 use Rattle.sqlite_ast.specs.declared.Binary.TheVariants as sign
 use Rattle.sqlite_ast.specs.declared.Origin.TheVariants.{Table}
 use Rattle.sqlite_ast.specs.declared.Source.{roll-Source}
 use Rattle.sqlite_ast.specs.declared.Core.{Core, roll-Core}
-use Rattle.sqlite_tied.specs.Compute.{everything}
-use Rattle.statements.specs.Place.{StandsAt}
-use Rattle.statements.specs.Schema.{vpage_table, page_table}
-use Rattle.statements.specs.Calls.{IsQuery}
 use Rattle.statements.proofs.SyntaxTrees as st
-use Rattle.statements.proofs.Meaning.{Means}
-use Rattle.statements.proofs.Selects.{IsSelect, asks_query, select_means}
-use Rattle.statements.proofs.Writes.{plain_program}
-use Rattle.statements.proofs.Listed.{joined_listing}
-use Rattle.statements.proofs.Commands.{is_at, point_rest, joined_draft, no_page}
 use Rattle.texts.specs.declared.reading.TheConstants.{TEXT_PIECES}
 
 -- the row of page is the one that the row of vpage names

@@ -18,7 +18,7 @@ use Rattle.machine.specs.declared.records.Organization.{Organization}
 use Rattle.route.specs.declared.routes.Asked.{Asked}
 use Rattle.docs.specs.Bodies.{error_text}
 use Rattle.wire.specs.Replies.{Answer, refused_answer}
-use Rattle.serve.specs.Asks.{Ask, silent, requests, commands}
+use Rattle.serve.specs.Asks.{Ask, silent, requests, commands, stops}
 use Rattle.serve.specs.Asks as ask
 use Rattle.serve.specs.Checks.{known_caller}
 use Rattle.serve.specs.Steps.{Answered, request_step}
@@ -58,6 +58,7 @@ abbrev pub IsPrepared : (List ℕ → Option Organization) → Ask → Prepared 
 IsPrepared rows silent p = ⊥
 IsPrepared rows (ask.refused at awaited refusal is_head at_door) p = (p.reply ≡ refused_answer refusal (error_text refusal) is_head) × (p.change ≡ None)
 IsPrepared rows (requests at awaited asked content_md5 body) p = Foresees (rows asked.caller) asked.caller (request_step (rows asked.caller) at asked content_md5 body) p.reply p.change
+IsPrepared rows (stops at) p = ⊥
 IsPrepared rows (commands at command) p = ⊥
 
 -- the documents of an act that is to be done are in their ranges

@@ -12,11 +12,12 @@ use Rattle.machine.specs.declared.keeps.AdminAnswer.{AdminAnswer}
 use Rattle.machine.specs.declared.keeps.AdminAnswer.TheVariants.{Absent, Tokens}
 use Rattle.machine.specs.declared.keeps.OrgRow.{OrgRow}
 use Rattle.machine.specs.declared.keeps.TokenRow.{TokenRow}
+use Rattle.statements.specs.declared.rows.BoundedRole.{BoundedRole}
 use Rattle.statements.specs.declared.rows.NamedRole.{NamedRole}
 use Rattle.statements.specs.declared.rows.NamedWorkspace.{NamedWorkspace}
 use Rattle.statements.specs.declared.rows.Organization.{Organization as OrganizationCells}
 use Rattle.statements.specs.Finds.{cap_of, named_role_of, newest_of, workspaces_of}
-use Rattle.statements.specs.Listings.{organizations_in, token_rows_of, workspace_rows_after, version_rows_after, run_rows_after}
+use Rattle.statements.specs.Listings.{organizations_in, bounded_tokens_of, workspace_rows_after, version_rows_after, run_rows_after}
 use Rattle.statements.specs.Tables.{Tables}
 use Rattle.tables.specs.Records.{settings_of_cells, caller_with, bounds_at}
 
@@ -62,8 +63,11 @@ token_row_in org t token = record { name = token.name; caller = caller_with toke
 abbrev pub asker_in : List ℕ → List ℕ → Tables → Option TokenRow
 asker_in org digest t = option_map (token_row_in org t) (named_role_of org digest t)
 
+abbrev pub token_row_of : BoundedRole → TokenRow
+token_row_of b = record { name = b.token.name; caller = caller_with b.token.role b.bounds }
+
 abbrev pub tokens_listed_in : List ℕ → Tables → List TokenRow
-tokens_listed_in org t = map (token_row_in org t) (token_rows_of org t)
+tokens_listed_in org t = map token_row_of (bounded_tokens_of org t)
 
 abbrev pub token_list_answer_by : Option ℕ → List ℕ → Tables → AdminAnswer
 token_list_answer_by None org t = Absent

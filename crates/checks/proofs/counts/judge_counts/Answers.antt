@@ -1,7 +1,4 @@
-use Rattle.std.proofs.Common.{◌≡◌, ℕ, ◌+◌, ◌==◌, not, cond, List, [], ◌∷◌, ◌++◌, Option, take, refl, sym, ap, subst, arith, ◌∙◌}
-use Rattle.std.specs.Prelude.{unwrap_or}
-use Rattle.std.specs.BTreeMap.{get}
-use Rattle.std.proofs.lemmas.List.{take_all}
+use Rattle.checks.proofs.Outside.{◌≡◌, ℕ, ◌+◌, ◌==◌, not, cond, List, [], ◌∷◌, ◌++◌, Option, take, refl, sym, ap, subst, arith, ◌∙◌, unwrap_or, get, take_all}
 use Rattle.checks.specs.declared.found.FaultKind.TheVariants as kind
 use Rattle.checks.specs.Judging.{Judges}
 use Rattle.checks.specs.Faults.{org_fault, TooMany}

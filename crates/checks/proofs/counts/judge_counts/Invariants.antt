@@ -1,5 +1,4 @@
-use Rattle.std.proofs.Common.{◌≡◌, ℕ, List, [], take}
-use Rattle.std.specs.Prelude.{unwrap_or}
+use Rattle.checks.proofs.Outside.{◌≡◌, ℕ, List, [], take, unwrap_or}
 use Rattle.checks.specs.Judging.{Judges}
 use Rattle.checks.specs.Faults.{TooMany}
 use Rattle.checks.specs.Inner.Firsts.{value_at}

@@ -1,5 +1,4 @@
-use Rattle.std.proofs.Common.{◌≡◌, [], refl, ap, ◌∙◌, subst}
-use Rattle.std.proofs.lemmas.List.{take_all}
+use Rattle.checks.proofs.Outside.{◌≡◌, [], refl, ap, ◌∙◌, subst, take_all}
 use Rattle.checks.specs.Judging.{noted, OfSome, Decides, AreReported}
 use Rattle.checks.specs.Faults.{table_fault}
 use Rattle.checks.proofs.StoreLemmas.{none_reported, noted_more, reported_more_names}

@@ -1,6 +1,4 @@
-use Rattle.std.proofs.Common.{List, subst, ◌∙◌}
-use Rattle.std.proofs.lemmas.Result.{on_ok_weaker}
-use Rattle.statements.specs.Rows.{Kept, WsRow}
+use Rattle.checks.proofs.Outside.{List, subst, ◌∙◌, on_ok_weaker, Kept, WsRow}
 use Rattle.checks.specs.Judging.{Judges}
 use Rattle.checks.specs.Faults.{TooMany}
 use Rattle.checks.specs.Inner.Counts.{AreFew}

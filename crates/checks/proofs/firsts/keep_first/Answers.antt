@@ -1,6 +1,5 @@
-use Rattle.std.proofs.Common.{rules, ◌≡◌}
+use Rattle.checks.proofs.Outside.{rules, ◌≡◌, get}
 use Rattle.std.specs.Prelude.{None}
-use Rattle.std.specs.BTreeMap.{get}
 use Rattle.checks.specs.Inner.Firsts.{key_cmp}
 use Rattle.checks.proofs.FirstsLemmas.{keeps_new}
 use Rattle.checks.proofs.firsts.keep_first.Goals as goal

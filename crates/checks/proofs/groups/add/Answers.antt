@@ -1,5 +1,4 @@
-use Rattle.std.proofs.Common.{◌∙◌, ◌++◌, ◌∷◌, [], ap}
-use Rattle.std.proofs.lemmas.List.{map-append}
+use Rattle.checks.proofs.Outside.{◌∙◌, ◌++◌, ◌∷◌, [], ap, map-append}
 use Rattle.checks.specs.Inner.Groups.{lent}
 use Rattle.checks.proofs.GroupLemmas.{put_back}
 use Rattle.checks.proofs.groups.add.Goals as goal

@@ -1,7 +1,4 @@
-use Rattle.std.proofs.Common.{◌≡◌, ℕ, List, take}
-use Rattle.std.specs.List.{list_any}
-use Rattle.sqlite_keyed.specs.Rules.{AreApart}
-use Rattle.statements.specs.Changes.{is_digest_of}
+use Rattle.checks.proofs.Outside.{◌≡◌, ℕ, List, take, list_any, AreApart, is_digest_of}
 use Rattle.checks.specs.Judging.{Judges}
 use Rattle.checks.specs.Faults.{SameDigests}
 use Rattle.checks.specs.Inner.Keys.{has_key}

@@ -1,7 +1,4 @@
-use Rattle.std.proofs.Common.{◌&&◌, ◌||◌, ap, ap₂, sym, ◌∙◌}
-use Rattle.std.specs.Str.{bytes_eq}
-use Rattle.statements.specs.Changes.{is_of}
-use Rattle.tables.proofs.Using.{any_more}
+use Rattle.checks.proofs.Outside.{◌&&◌, ◌||◌, ap, ap₂, sym, ◌∙◌, bytes_eq, is_of, any_more}
 use Rattle.checks.specs.declared.found.FaultKind.TheVariants as kind
 use Rattle.checks.specs.Faults.{name_fault}
 use Rattle.checks.specs.Inner.Keys.{has_key}

@@ -1,7 +1,4 @@
-use Rattle.std.proofs.Common.{◌||◌, [], not, ap, ap₂, sym, ◌∙◌}
-use Rattle.std.specs.Str.{bytes_eq}
-use Rattle.statements.specs.Changes.{is_org}
-use Rattle.tables.proofs.Using.{any_more}
+use Rattle.checks.proofs.Outside.{◌||◌, [], not, ap, ap₂, sym, ◌∙◌, bytes_eq, is_org, any_more}
 use Rattle.checks.specs.declared.found.FaultKind.TheVariants as kind
 use Rattle.checks.specs.Faults.{org_fault}
 use Rattle.checks.specs.Inner.Keys.{has_key}

@@ -1,7 +1,4 @@
-use Rattle.std.proofs.Common.{◌&&◌, ◌||◌, ◌==◌, [], None, not, ap, ap₂, sym, ◌∙◌}
-use Rattle.std.proofs.Math.Bool.{and_comm}
-use Rattle.std.specs.Str.{bytes_eq}
-use Rattle.tables.proofs.Using.{any_more}
+use Rattle.checks.proofs.Outside.{◌&&◌, ◌||◌, ◌==◌, [], None, not, ap, ap₂, sym, ◌∙◌, and_comm, bytes_eq, any_more}
 use Rattle.checks.specs.declared.found.FaultKind.TheVariants as kind
 use Rattle.checks.specs.Judging.{fault_of}
 use Rattle.checks.specs.Inner.Keys.{has_key}

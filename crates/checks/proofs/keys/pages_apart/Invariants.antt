@@ -1,7 +1,4 @@
-use Rattle.std.proofs.Common.{◌≡◌, ℕ, ◌&&◌, ◌==◌, List, [], take}
-use Rattle.std.specs.Str.{bytes_eq}
-use Rattle.std.specs.List.{list_any}
-use Rattle.sqlite_keyed.specs.Rules.{AreApart}
+use Rattle.checks.proofs.Outside.{◌≡◌, ℕ, ◌&&◌, ◌==◌, List, [], take, bytes_eq, list_any, AreApart}
 use Rattle.checks.specs.Judging.{Judges}
 use Rattle.checks.specs.Faults.{SamePages}
 use Rattle.checks.specs.Inner.Keys.{has_key}

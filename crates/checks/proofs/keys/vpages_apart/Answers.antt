@@ -1,7 +1,4 @@
-use Rattle.std.proofs.Common.{◌&&◌, ◌||◌, ◌==◌, Some, ap₂, sym, ◌∙◌}
-use Rattle.std.specs.Str.{bytes_eq}
-use Rattle.texts.specs.Texts.{is_place}
-use Rattle.tables.proofs.Using.{any_more}
+use Rattle.checks.proofs.Outside.{◌&&◌, ◌||◌, ◌==◌, Some, ap₂, sym, ◌∙◌, bytes_eq, is_place, any_more}
 use Rattle.checks.specs.declared.found.FaultKind.TheVariants as kind
 use Rattle.checks.specs.Judging.{fault_of}
 use Rattle.checks.specs.Faults.{place_fault}

@@ -1,7 +1,4 @@
-use Rattle.std.proofs.Common.{◌≡◌, ℕ, List, take}
-use Rattle.std.specs.List.{list_any}
-use Rattle.sqlite_keyed.specs.Rules.{AreApart}
-use Rattle.texts.specs.Texts.{is_place}
+use Rattle.checks.proofs.Outside.{◌≡◌, ℕ, List, take, list_any, AreApart, is_place}
 use Rattle.checks.specs.Judging.{Judges}
 use Rattle.checks.specs.Faults.{SamePlaces}
 use Rattle.checks.specs.Inner.Keys.{has_key}

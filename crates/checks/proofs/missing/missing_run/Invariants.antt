@@ -1,5 +1,4 @@
-use Rattle.std.proofs.Common.{◌≤◌, List}
-use Rattle.statements.specs.Rows.{Kept, RunRow}
+use Rattle.checks.proofs.Outside.{◌≤◌, List, Kept, RunRow}
 use Rattle.checks.specs.Missing.{HasRunsBelow}
 use Rattle.checks.specs.Inner.Missing.{HasRunKeys}
 use Rattle.checks.proofs.missing.missing_run.Given as goal

@@ -1,6 +1,4 @@
-use Rattle.std.proofs.Common.{◌∙◌, ◌||◌, ap₂, sym}
-use Rattle.statements.specs.Changes.{is_run_row}
-use Rattle.tables.proofs.Using.{any_more}
+use Rattle.checks.proofs.Outside.{◌∙◌, ◌||◌, ap₂, sym, is_run_row, any_more}
 use Rattle.checks.specs.Inner.Firsts.{IsKeyOf}
 use Rattle.checks.proofs.PlacesLemmas.{version_parts}
 use Rattle.checks.proofs.missing.run_keys.Goals as goal

@@ -1,8 +1,4 @@
-use Rattle.std.proofs.Common.{◌≡◌, true, subst, ◌∙◌}
-use Rattle.std.specs.List.{list_any}
-use Rattle.std.proofs.lemmas.List.{take_all}
-use Rattle.statements.specs.Belonging.{AreAmong}
-use Rattle.statements.specs.Changes.{is_of}
+use Rattle.checks.proofs.Outside.{◌≡◌, true, subst, ◌∙◌, list_any, take_all, AreAmong, is_of}
 use Rattle.checks.specs.Judging.{fault_of, Breaks, Judges}
 use Rattle.checks.specs.Faults.{Unmatched}
 use Rattle.checks.specs.Inner.Keys.{has_key}

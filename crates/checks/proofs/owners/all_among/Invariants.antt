@@ -1,5 +1,4 @@
-use Rattle.std.proofs.Common.{take}
-use Rattle.statements.specs.Belonging.{AreAmong}
+use Rattle.checks.proofs.Outside.{take, AreAmong}
 use Rattle.checks.specs.Judging.{Judges}
 use Rattle.checks.specs.Faults.{Unmatched}
 use Rattle.checks.proofs.owners.all_among.Given as goal

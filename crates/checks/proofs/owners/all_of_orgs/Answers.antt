@@ -1,6 +1,4 @@
-use Rattle.std.proofs.Common.{◌≡◌, [], true, refl, ◌∙◌}
-use Rattle.std.specs.List.{list_any}
-use Rattle.statements.specs.Changes.{is_org}
+use Rattle.checks.proofs.Outside.{◌≡◌, [], true, refl, ◌∙◌, list_any, is_org}
 use Rattle.checks.specs.declared.found.FaultKind.TheVariants as kind
 use Rattle.checks.specs.Judging.{Breaks}
 use Rattle.checks.specs.Faults.{name_fault}

@@ -1,5 +1,4 @@
-use Rattle.std.proofs.Common.{take}
-use Rattle.statements.specs.Belonging.{AreOfOrgs}
+use Rattle.checks.proofs.Outside.{take, AreOfOrgs}
 use Rattle.checks.specs.Judging.{Judges}
 use Rattle.checks.specs.Faults.{OfNoOrg}
 use Rattle.checks.proofs.owners.all_of_orgs.Given as goal

@@ -1,6 +1,4 @@
-use Rattle.std.proofs.Common.{◌≡◌, ℕ, List, [], take}
-use Rattle.std.specs.List.{list_any}
-use Rattle.statements.specs.Changes.{is_org}
+use Rattle.checks.proofs.Outside.{◌≡◌, ℕ, List, [], take, list_any, is_org}
 use Rattle.checks.specs.Inner.Keys.{has_key}
 use Rattle.checks.proofs.owners.org_keys.Given as goal
 

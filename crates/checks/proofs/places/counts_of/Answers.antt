@@ -1,7 +1,5 @@
-use Rattle.std.proofs.Common.{◌∙◌, ◌+◌, ◌≤◌, ℕ, Bool, [], cond, ap, arith}
+use Rattle.checks.proofs.Outside.{◌∙◌, ◌+◌, ◌≤◌, ℕ, Bool, [], cond, ap, arith, get, names_page}
 use Rattle.std.specs.Prelude.{Option, unwrap_or}
-use Rattle.std.specs.BTreeMap.{get}
-use Rattle.texts.specs.Texts.{names_page}
 use Rattle.checks.specs.Inner.Firsts.{key_cmp, value_at}
 use Rattle.checks.proofs.FirstsLemmas.{empty_at}
 use Rattle.checks.proofs.PlacesLemmas.{page_parts, count_more, few}

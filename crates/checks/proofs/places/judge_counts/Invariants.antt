@@ -1,5 +1,4 @@
-use Rattle.std.proofs.Common.{take}
-use Rattle.std.specs.List.{AllByRecursion}
+use Rattle.checks.proofs.Outside.{take, AllByRecursion}
 use Rattle.checks.specs.Judging.{Judges}
 use Rattle.checks.specs.Faults.{PagesMiscounted}
 use Rattle.checks.specs.Pages.{IsCountedIn}

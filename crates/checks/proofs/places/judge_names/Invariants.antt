@@ -1,6 +1,4 @@
-use Rattle.std.proofs.Common.{List, take}
-use Rattle.std.specs.List.{AllByRecursion}
-use Rattle.statements.specs.declared.rows.PageHead.{PageHead}
+use Rattle.checks.proofs.Outside.{List, take, AllByRecursion, PageHead}
 use Rattle.checks.specs.Judging.{Judges}
 use Rattle.checks.specs.Faults.{PagesMissing}
 use Rattle.checks.specs.Pages.{NamesPage}

@@ -1,7 +1,4 @@
-use Rattle.std.proofs.Common.{List, take}
-use Rattle.std.specs.List.{AllByRecursion}
-use Rattle.statements.specs.declared.rows.PageHead.{PageHead}
-use Rattle.statements.specs.Rows.{Kept, VpageRow}
+use Rattle.checks.proofs.Outside.{List, take, AllByRecursion, PageHead, Kept, VpageRow}
 use Rattle.checks.specs.Judging.{Judges}
 use Rattle.checks.specs.Faults.{TextsBroken}
 use Rattle.checks.specs.Pages.{HasTextIn}

@@ -1,5 +1,4 @@
-use Rattle.std.proofs.Common.{◌∙◌, Bool, [], Some, None, cond, ap}
-use Rattle.std.specs.Option.{option_or}
+use Rattle.checks.proofs.Outside.{◌∙◌, Bool, [], Some, None, cond, ap, option_or}
 use Rattle.checks.specs.Inner.Firsts.{value_at}
 use Rattle.checks.specs.Pages.{is_head}
 use Rattle.checks.proofs.FirstsLemmas.{empty_at}

@@ -1,7 +1,5 @@
-use Rattle.std.proofs.Common.{◌∙◌, ℕ, Bool, Some, None, cond, ap}
+use Rattle.checks.proofs.Outside.{◌∙◌, ℕ, Bool, Some, None, cond, ap, option_or, is_place}
 use Rattle.std.specs.Prelude.{Option}
-use Rattle.std.specs.Option.{option_or}
-use Rattle.texts.specs.Texts.{is_place}
 use Rattle.checks.specs.Inner.Keys.{is_key}
 use Rattle.checks.specs.Inner.Firsts.{value_at}
 use Rattle.checks.specs.Pages.{named_size_in}

@@ -1,5 +1,4 @@
-use Rattle.std.proofs.Common.{List, take}
-use Rattle.statements.specs.declared.rows.PageHead.{PageHead}
+use Rattle.checks.proofs.Outside.{List, take, PageHead}
 use Rattle.checks.specs.Inner.Places.{HasPageSizes, HasPieces}
 use Rattle.checks.proofs.places.pieces_of.Given as goal
 

@@ -1,6 +1,4 @@
-use Rattle.std.proofs.Common.{◌≡◌, ◌<◌, ℕ, List, Some}
-use Rattle.statements.specs.declared.rows.PageHead.{PageHead}
-use Rattle.statements.specs.Rows.{Kept, VpageRow}
+use Rattle.checks.proofs.Outside.{◌≡◌, ◌<◌, ℕ, List, Some, PageHead, Kept, VpageRow}
 use Rattle.texts.specs.declared.texts.TheConstants.{PAGE_BYTES}
 use Rattle.checks.specs.Pages.{piece_in}
 use Rattle.checks.specs.Inner.Places.{HasPieces}

@@ -1,6 +1,4 @@
-use Rattle.std.proofs.Common.{◌∙◌, Bool, Some, None, cond, ap}
-use Rattle.std.specs.Option.{option_or}
-use Rattle.statements.specs.Changes.{is_version}
+use Rattle.checks.proofs.Outside.{◌∙◌, Bool, Some, None, cond, ap, option_or, is_version}
 use Rattle.checks.specs.Inner.Firsts.{value_at, IsKeyOf}
 use Rattle.checks.proofs.FirstsLemmas.{empty_at}
 use Rattle.checks.proofs.PlacesLemmas.{version_parts, first_more}

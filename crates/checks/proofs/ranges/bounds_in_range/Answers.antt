@@ -1,6 +1,4 @@
-use Rattle.std.proofs.Common.{sym, ap, ap₂, ◌∙◌}
-use Rattle.basis.specs.Names.{is_prefix}
-use Rattle.tables.specs.Sound.{IsBoundRow}
+use Rattle.checks.proofs.Outside.{sym, ap, ap₂, ◌∙◌, is_prefix, IsBoundRow}
 use Rattle.checks.specs.declared.found.FaultKind.TheVariants as kind
 use Rattle.checks.specs.Judging.{Breaks}
 use Rattle.checks.specs.Faults.{name_fault}

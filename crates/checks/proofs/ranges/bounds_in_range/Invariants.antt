@@ -1,6 +1,4 @@
-use Rattle.std.proofs.Common.{take}
-use Rattle.std.specs.List.{AllByRecursion}
-use Rattle.tables.specs.Sound.{IsBoundRow}
+use Rattle.checks.proofs.Outside.{take, AllByRecursion, IsBoundRow}
 use Rattle.checks.specs.Judging.{Judges}
 use Rattle.checks.specs.Faults.{BoundsOutside}
 use Rattle.checks.proofs.ranges.bounds_in_range.Given as goal

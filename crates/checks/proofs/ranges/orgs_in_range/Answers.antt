@@ -1,6 +1,4 @@
-use Rattle.std.proofs.Common.{sym, ap, ◌∙◌}
-use Rattle.basis.specs.Names.{is_org_name}
-use Rattle.tables.specs.Sound.{IsOrgRow}
+use Rattle.checks.proofs.Outside.{sym, ap, ◌∙◌, is_org_name, IsOrgRow}
 use Rattle.checks.specs.declared.found.FaultKind.TheVariants as kind
 use Rattle.checks.specs.Judging.{Breaks}
 use Rattle.checks.specs.Faults.{org_fault}

@@ -1,6 +1,4 @@
-use Rattle.std.proofs.Common.{take}
-use Rattle.std.specs.List.{AllByRecursion}
-use Rattle.tables.specs.Sound.{IsOrgRow}
+use Rattle.checks.proofs.Outside.{take, AllByRecursion, IsOrgRow}
 use Rattle.checks.specs.Judging.{Judges}
 use Rattle.checks.specs.Faults.{OrgsOutside}
 use Rattle.checks.proofs.ranges.orgs_in_range.Given as goal

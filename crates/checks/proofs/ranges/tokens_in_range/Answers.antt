@@ -1,6 +1,4 @@
-use Rattle.std.proofs.Common.{length, sym, ap, ap₂, ◌∙◌}
-use Rattle.basis.specs.Names.{is_org_name}
-use Rattle.tables.specs.Sound.{IsTokenRow}
+use Rattle.checks.proofs.Outside.{length, sym, ap, ap₂, ◌∙◌, is_org_name, IsTokenRow}
 use Rattle.checks.specs.declared.found.FaultKind.TheVariants as kind
 use Rattle.checks.specs.Judging.{Breaks}
 use Rattle.checks.specs.Faults.{name_fault}

@@ -1,6 +1,4 @@
-use Rattle.std.proofs.Common.{take}
-use Rattle.std.specs.List.{AllByRecursion}
-use Rattle.tables.specs.Sound.{IsTokenRow}
+use Rattle.checks.proofs.Outside.{take, AllByRecursion, IsTokenRow}
 use Rattle.checks.specs.Judging.{Judges}
 use Rattle.checks.specs.Faults.{TokensOutside}
 use Rattle.checks.proofs.ranges.tokens_in_range.Given as goal

@@ -1,7 +1,4 @@
-use Rattle.std.proofs.Common.{◌∙◌, ◌||◌, ap, true, string_bytes}
-use Rattle.std.specs.Str.{bytes_eq}
-use Rattle.std.specs.BTreeSet.{contains_text}
-use Rattle.std.proofs.lemmas.Map.Text.{btree_set_updates_text}
+use Rattle.checks.proofs.Outside.{◌∙◌, ◌||◌, ap, true, string_bytes, bytes_eq, contains_text, btree_set_updates_text}
 use Rattle.checks.proofs.RunKeys.{either}
 use Rattle.checks.proofs.runs.add.Goals as goal
 

@@ -1,6 +1,4 @@
-use Rattle.std.proofs.Common.{◌≡◌, ◌∙◌, ◌&&◌, ◌+◌, add-one, ◌∷◌, ap, refl, sym, drop, drop-cons}
-use Rattle.std.specs.List.{list_all}
-use Rattle.std.specs.BTreeSet.{contains_text}
+use Rattle.checks.proofs.Outside.{◌≡◌, ◌∙◌, ◌&&◌, ◌+◌, add-one, ◌∷◌, ap, refl, sym, drop, drop-cons, list_all, contains_text}
 use Rattle.checks.specs.Inner.Groups.{lent}
 use Rattle.checks.specs.Runs.{keys_differ}
 use Rattle.checks.proofs.RunKeys.{is_unseen, all_unseen, one_more}

@@ -1,6 +1,4 @@
-use Rattle.std.proofs.Common.{◌≡◌, ◌&&◌, drop}
-use Rattle.std.specs.List.{list_all}
-use Rattle.std.specs.BTreeSet.{contains_text}
+use Rattle.checks.proofs.Outside.{◌≡◌, ◌&&◌, drop, list_all, contains_text}
 use Rattle.checks.specs.Inner.Groups.{lent}
 use Rattle.checks.specs.Runs.{keys_differ}
 use Rattle.checks.proofs.RunKeys.{is_unseen}

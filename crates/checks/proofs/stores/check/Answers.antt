@@ -1,6 +1,4 @@
-use Rattle.std.proofs.Common.{rules, ◌≡◌, [], refl}
-use Rattle.std.proofs.lemmas.Result.{IfOk-weaker}
-use Rattle.sqlite.specs.Held.{state}
+use Rattle.checks.proofs.Outside.{rules, ◌≡◌, [], refl, IfOk-weaker, state}
 use Rattle.checks.proofs.StoreLemmas.{none_long, others_reported, none_held, store_reported, totals_reported, store_sound}
 use Rattle.checks.proofs.stores.check.Goals as goal
 

@@ -1,6 +1,5 @@
-use Rattle.std.proofs.Common.{◌∙◌, ap}
+use Rattle.checks.proofs.Outside.{◌∙◌, ap, IfOk-weaker}
 use Rattle.std.specs.Prelude.{map}
-use Rattle.std.proofs.lemmas.Result.{IfOk-weaker}
 use Rattle.checks.specs.Lines.{fault_line}
 use Rattle.checks.proofs.StoreLemmas.{rows_reported}
 use Rattle.checks.proofs.stores.report.Goals as goal

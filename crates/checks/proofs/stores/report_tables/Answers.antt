@@ -1,6 +1,4 @@
-use Rattle.std.proofs.Common.{◌≡◌, ◌∙◌, sym, subst}
-use Rattle.std.proofs.lemmas.Result.{IfOk-weaker}
-use Rattle.sqlite.specs.Held.{state}
+use Rattle.checks.proofs.Outside.{◌≡◌, ◌∙◌, sym, subst, IfOk-weaker, state}
 use Rattle.checks.specs.Judging.{OfSome, AreReported}
 use Rattle.checks.specs.Faults.{table_fault}
 use Rattle.checks.proofs.StoreLemmas.{tables_reported}

@@ -1,5 +1,4 @@
-use Rattle.std.proofs.Common.{◌≡◌, ◌+◌, ◌++◌, ◌∷◌, [], map, take, ap, sym, subst, ◌∙◌}
-use Rattle.std.proofs.lemmas.List.{map-append, take_all}
+use Rattle.checks.proofs.Outside.{◌≡◌, ◌+◌, ◌++◌, ◌∷◌, [], map, take, ap, sym, subst, ◌∙◌, map-append, take_all}
 use Rattle.checks.specs.Totals.{IsGreatest, made_at}
 use Rattle.checks.proofs.RowLists.{next_row}
 use Rattle.checks.proofs.totals.newest.Goals as goal

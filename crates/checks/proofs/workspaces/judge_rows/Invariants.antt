@@ -1,5 +1,4 @@
-use Rattle.std.proofs.Common.{take}
-use Rattle.std.specs.List.{AllByRecursion}
+use Rattle.checks.proofs.Outside.{take, AllByRecursion}
 use Rattle.checks.specs.Judging.{OfSome, Judges}
 use Rattle.checks.specs.Inner.Workspaces.{IsLawfulAt, OfGroups}
 use Rattle.checks.proofs.workspaces.judge_rows.Given as goal

@@ -1,6 +1,4 @@
-use Rattle.std.proofs.Common.{ap}
-use Rattle.std.proofs.lemmas.Result.{on_ok_weaker}
-use Rattle.serde_json.specs.Data.{string}
+use Rattle.docs.proofs.Outside.{ap, on_ok_weaker, string}
 use Rattle.docs.proofs.Putting.{put_as, then_put}
 use Rattle.docs.proofs.bodies.put_run_holder.Goals as goal
 

@@ -1,6 +1,5 @@
-use Rattle.std.proofs.Common.{◌≡◌, length, arith, rules}
+use Rattle.docs.proofs.Outside.{◌≡◌, length, arith, rules, no_members}
 use Rattle.std.proofs.lemmas.Bool.Decides.{nat_tests}
-use Rattle.serde_json.specs.Data.{no_members}
 use Rattle.serde_json.specs.declared.value.Value.{the_lemmas}
 use Rattle.docs.proofs.Objects.{no_bytes}
 use Rattle.docs.proofs.documents.read_small_object.Goals as goal

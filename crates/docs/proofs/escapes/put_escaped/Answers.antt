@@ -1,5 +1,4 @@
-use Rattle.std.proofs.Common.{◌∙◌}
-use Rattle.std.proofs.lemmas.List.{drop_all}
+use Rattle.docs.proofs.Outside.{◌∙◌, drop_all}
 use Rattle.docs.proofs.Escaping.{escaped_end}
 use Rattle.docs.proofs.escapes.put_escaped.Goals as goal
 

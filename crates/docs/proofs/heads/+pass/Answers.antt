@@ -1,10 +1,4 @@
-use Rattle.std.proofs.Common.{◌≡◌, ◌-◌, ◌<◌, [], ◌∷◌, length, Some, None, refl, ap, ap₂, ◌∙◌, arith}
-use Rattle.json.specs.Token.{Token}
-use Rattle.json.specs.Json.{parse_map, after_end_array, read_key, items, members, value}
-use Rattle.json.specs.Reads.{token_of}
-use Rattle.json.proofs.Grammar.{left, left_none, left_some, value_is, value-begin_array, value-begin_object, read_key-shorter}
-use Rattle.serde_json.specs.Data.{null, boolean, number, string, array, object, no_members, put}
-use Rattle.serde_json.specs.Read.{of_json, of_items, converted}
+use Rattle.docs.proofs.Outside.{◌≡◌, ◌-◌, ◌<◌, [], ◌∷◌, length, Some, None, refl, ap, ap₂, ◌∙◌, arith, Token, parse_map, after_end_array, read_key, items, members, value, token_of, left, left_none, left_some, value_is, value-begin_array, value-begin_object, read_key-shorter, null, boolean, number, string, array, object, no_members, put, of_json, of_items, converted}
 use Rattle.serde_json.specs.View.{number_view}
 use Rattle.docs.proofs.Passing.{converted-array, converted-object, item_passed, item_refused, items_over, member_passed, member_refused, key_refused, members_over}
 use Rattle.docs.proofs.heads.+pass.Goals as goal

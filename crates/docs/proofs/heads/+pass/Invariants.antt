@@ -1,8 +1,4 @@
-use Rattle.std.proofs.Common.{◌≡◌, ℕ, ◌+◌, ◌*◌, ◌≤◌, length}
-use Rattle.json.specs.Json.{items, members, value}
-use Rattle.json.proofs.Grammar.{left}
-use Rattle.serde_json.specs.Data.{Members, no_members}
-use Rattle.serde_json.specs.Read.{of_items, of_members, converted}
+use Rattle.docs.proofs.Outside.{◌≡◌, ℕ, ◌+◌, ◌*◌, ◌≤◌, length, items, members, value, left, Members, no_members, of_items, of_members, converted}
 use Rattle.docs.proofs.heads.+pass.Given as goal
 
 abbrev pub decreases-pass : goal.decreases-pass

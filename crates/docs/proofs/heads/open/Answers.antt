@@ -1,5 +1,4 @@
-use Rattle.std.proofs.Common.{◌≡◌, [], ◌∷◌, true, false, ap, ◌∙◌, arith}
-use Rattle.json.specs.Reads.{token_of}
+use Rattle.docs.proofs.Outside.{◌≡◌, [], ◌∷◌, true, false, ap, ◌∙◌, arith, token_of}
 use Rattle.docs.specs.Inner.Heads.{opens_object, object_in}
 use Rattle.docs.proofs.Heading.{no_tokens, no_object, object_token}
 use Rattle.docs.proofs.heads.open.Goals as goal

@@ -1,7 +1,4 @@
-use Rattle.std.proofs.Common.{◌≡◌, ◌-◌, length, Some, refl, ◌∙◌, arith}
-use Rattle.json.specs.Json.{read_key, value}
-use Rattle.json.proofs.Grammar.{read_key-shorter}
-use Rattle.serde_json.specs.Data.{no_members, put}
+use Rattle.docs.proofs.Outside.{◌≡◌, ◌-◌, length, Some, refl, ◌∙◌, arith, read_key, value, read_key-shorter, no_members, put}
 use Rattle.docs.proofs.Passing.{member_passed, member_refused, key_refused, members_over}
 use Rattle.docs.proofs.heads.read_members.Goals as goal
 

@@ -1,7 +1,4 @@
-use Rattle.std.proofs.Common.{◌≡◌, ℕ, ◌≤◌, length}
-use Rattle.json.specs.Json.{members, value}
-use Rattle.serde_json.specs.Data.{Members, no_members}
-use Rattle.serde_json.specs.Read.{of_members, converted}
+use Rattle.docs.proofs.Outside.{◌≡◌, ℕ, ◌≤◌, length, members, value, Members, no_members, of_members, converted}
 use Rattle.docs.specs.Inner.Heads.{IsHeadOf}
 use Rattle.docs.proofs.heads.read_members.Given as goal
 

@@ -1,6 +1,5 @@
-use Rattle.std.proofs.Common.{◌≡◌, drop, get_or, true, false, ◌==◌, sym, ap, ◌∙◌, arith, take_all, length-drop}
+use Rattle.docs.proofs.Outside.{◌≡◌, drop, get_or, true, false, ◌==◌, sym, ap, ◌∙◌, arith, take_all, length-drop, number_of, number_from}
 use Rattle.fast_float.specs.Text.{scan}
-use Rattle.serde_json.specs.Read.{number_of, number_from}
 use Rattle.docs.proofs.heads.read_number.Goals as goal
 
 pub returns-then-has_minus : goal.returns-then-has_minus

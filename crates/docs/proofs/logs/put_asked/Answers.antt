@@ -1,5 +1,4 @@
-use Rattle.std.proofs.Common.{Some, ap}
-use Rattle.std.proofs.lemmas.Result.{on_ok_weaker}
+use Rattle.docs.proofs.Outside.{Some, ap, on_ok_weaker}
 use Rattle.docs.specs.Bodies.{number_value, text_value}
 use Rattle.docs.proofs.Putting.{put_as, then_put}
 use Rattle.docs.proofs.logs.put_asked.Goals as goal

@@ -1,5 +1,4 @@
-use Rattle.std.proofs.Common.{rules, ap}
-use Rattle.std.proofs.lemmas.Result.{on_ok_weaker}
+use Rattle.docs.proofs.Outside.{rules, ap, on_ok_weaker}
 use Rattle.basis.specs.Refusals.{line_of}
 use Rattle.docs.specs.Bodies.{number_value, text_value}
 use Rattle.docs.proofs.Putting.{put_as, then_put, text_made, number_made}

@@ -1,6 +1,4 @@
-use Rattle.std.proofs.Common.{◌≡◌, ◌<◌, ◌==◌, cond, length, get_or, ap, rules, arith}
-use Rattle.std.proofs.lemmas.List.Edits.{map_over_more}
-use Rattle.basis.specs.declared.runs.RunStatus.TheVariants.{Planning}
+use Rattle.machine.proofs.Outside.{◌≡◌, ◌<◌, ◌==◌, cond, length, get_or, ap, rules, arith, map_over_more, Planning}
 use Rattle.machine.specs.Settling.{begun}
 use Rattle.machine.proofs.edits.begin.Goals as goal
 

@@ -1,5 +1,4 @@
-use Rattle.std.proofs.Common.{◌≡◌, ◌<◌, ◌==◌, cond, length, get_or, Some, ap, rules, arith}
-use Rattle.std.proofs.lemmas.List.Edits.{map_over_more}
+use Rattle.machine.proofs.Outside.{◌≡◌, ◌<◌, ◌==◌, cond, length, get_or, Some, ap, rules, arith, map_over_more}
 use Rattle.machine.specs.Rules.{reported}
 use Rattle.machine.proofs.edits.record.Goals as goal
 

@@ -1,6 +1,4 @@
-use Rattle.std.proofs.Common.{pos, w64}
-use Rattle.std.proofs.lemmas.Int.{to_z-of_z}
-use Rattle.statements.proofs.Transactions.{writes_by}
+use Rattle.pages.proofs.Outside.{pos, w64, to_z-of_z, writes_by}
 use Rattle.pages.proofs.PageWrites.{add_page_does}
 use Rattle.pages.proofs.rows.add.Goals as goal
 

@@ -1,7 +1,4 @@
-use Rattle.std.proofs.Common.{pos, w64}
-use Rattle.std.proofs.lemmas.Int.{to_z-of_z}
-use Rattle.statements.proofs.Transactions.{queries_by}
-use Rattle.statements.specs.Calls.{IsBody}
+use Rattle.pages.proofs.Outside.{pos, w64, to_z-of_z, queries_by, IsBody}
 use Rattle.pages.proofs.PageTexts.{page_bytes_asks}
 use Rattle.pages.proofs.PageReads.{page_bytes_shows}
 use Rattle.pages.proofs.rows.bytes.Goals as goal

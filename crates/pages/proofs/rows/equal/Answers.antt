@@ -1,6 +1,5 @@
-use Rattle.sqlite.specs.Held.{state}
+use Rattle.pages.proofs.Outside.{state, reads_by}
 use Rattle.pages.specs.declared.rows.TheConstants.{EQUAL_PAGE}
-use Rattle.statements.proofs.Transactions.{reads_by}
 use Rattle.pages.specs.Inner.Calls.{IsPageUse}
 use Rattle.pages.specs.Rows.{equal_page}
 use Rattle.pages.proofs.PageTexts.{equal_page_asks}

@@ -1,6 +1,5 @@
-use Rattle.sqlite.specs.Held.{state}
+use Rattle.pages.proofs.Outside.{state, reads_by}
 use Rattle.pages.specs.declared.rows.TheConstants.{FIRST_PAGE}
-use Rattle.statements.proofs.Transactions.{reads_by}
 use Rattle.pages.specs.Inner.Calls.{IsFirstPage}
 use Rattle.pages.specs.Rows.{first_page}
 use Rattle.pages.proofs.PageTexts.{first_page_asks}

@@ -1,7 +1,5 @@
-use Rattle.sqlite.specs.Held.{state}
+use Rattle.pages.proofs.Outside.{state, reads_by, IsNumber}
 use Rattle.pages.specs.declared.rows.TheConstants.{FIRST_TWIN}
-use Rattle.statements.proofs.Transactions.{reads_by}
-use Rattle.statements.specs.Calls.{IsNumber}
 use Rattle.pages.specs.Rows.{first_twin}
 use Rattle.pages.proofs.PageTexts.{first_twin_asks}
 use Rattle.pages.proofs.PageReads.{first_twin_shows}

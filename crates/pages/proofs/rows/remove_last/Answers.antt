@@ -1,8 +1,5 @@
-use Rattle.std.proofs.Common.{pos, w64}
-use Rattle.std.proofs.lemmas.Int.{to_z-of_z}
-use Rattle.sqlite.specs.Held.{state}
+use Rattle.pages.proofs.Outside.{pos, w64, to_z-of_z, state, writes_by, any_wrote, finds_by}
 use Rattle.pages.specs.declared.rows.TheConstants.{REMOVE_LAST_PAGE}
-use Rattle.statements.proofs.Transactions.{writes_by, any_wrote, finds_by}
 use Rattle.pages.specs.Rows.{has_last}
 use Rattle.pages.proofs.PageWrites.{remove_last_page_does, remove_last_page_finds}
 use Rattle.pages.proofs.Referring.{spared_by, last_is_sound}

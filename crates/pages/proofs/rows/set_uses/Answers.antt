@@ -1,8 +1,5 @@
-use Rattle.std.proofs.Common.{pos, w64}
-use Rattle.std.proofs.lemmas.Int.{to_z-of_z}
-use Rattle.sqlite.specs.Held.{state}
+use Rattle.pages.proofs.Outside.{pos, w64, to_z-of_z, state, writes_by}
 use Rattle.pages.specs.declared.rows.TheConstants.{SET_PAGE_USES}
-use Rattle.statements.proofs.Transactions.{writes_by}
 use Rattle.pages.proofs.PageWrites.{set_page_uses_does}
 use Rattle.pages.proofs.Referring.{spared_by, used_is_sound}
 use Rattle.pages.proofs.rows.set_uses.Goals as goal

@@ -1,9 +1,5 @@
-use Rattle.std.proofs.Common.{pos, w64}
-use Rattle.std.proofs.lemmas.Int.{to_z-of_z}
-use Rattle.sqlite.specs.Held.{state}
+use Rattle.pages.proofs.Outside.{pos, w64, to_z-of_z, state, reads_by, IsNumber}
 use Rattle.pages.specs.declared.rows.TheConstants.{FIND_PAGE_USES}
-use Rattle.statements.proofs.Transactions.{reads_by}
-use Rattle.statements.specs.Calls.{IsNumber}
 use Rattle.pages.specs.Rows.{page_uses}
 use Rattle.pages.proofs.PageTexts.{page_uses_asks}
 use Rattle.pages.proofs.PageReads.{page_uses_shows}

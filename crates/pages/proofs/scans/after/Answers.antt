@@ -1,6 +1,4 @@
-use Rattle.std.proofs.Common.{w64}
-use Rattle.std.proofs.lemmas.Int.{to_z-of_z}
-use Rattle.statements.proofs.Transactions.{queries_by}
+use Rattle.pages.proofs.Outside.{w64, to_z-of_z, queries_by}
 use Rattle.pages.specs.Inner.Scans.{IsPageRow}
 use Rattle.pages.proofs.RowTexts.{row_after_asks}
 use Rattle.pages.proofs.RowReads.{row_after_shows}

@@ -1,11 +1,6 @@
-use Rattle.std.proofs.Common.{map, ℤ, None, Some, Option, Ok, sym, ◌∙◌, subst, rules, List, SFits, w64, arith, ◌<◌, length}
-use Rattle.std.proofs.lemmas.Int.{to_z-of_z}
-use Rattle.sqlite.specs.Held.{state}
-use Rattle.statements.specs.Steps.{AnyRows, Equals, Sees}
-use Rattle.statements.proofs.Held.{pages_held}
+use Rattle.pages.proofs.Outside.{map, ℤ, None, Some, Option, Ok, sym, ◌∙◌, subst, rules, List, SFits, w64, arith, ◌<◌, length, to_z-of_z, state, AnyRows, Equals, Sees, pages_held, Error}
 use Rattle.pages.specs.Heads.{head_in}
 use Rattle.pages.specs.declared.scans.Unhashed.{Unhashed}
-use Rattle.sqlite.specs.declared.error.Error.{Error}
 use Rattle.pages.specs.Inner.Scans.{unhashed_behind}
 use Rattle.pages.proofs.Behind.{AreReadBefore, reads_begin, reads_more, reads_end}
 use Rattle.pages.proofs.Sights.{SeenSoFar, seen_so_far, seen_more, seen_all, seen_failed, seen_in_vain}

@@ -1,8 +1,6 @@
-use Rattle.std.proofs.Common.{ap}
-use Rattle.sqlite.specs.Held.{state}
+use Rattle.pages.proofs.Outside.{ap, state, clean_before}
 use Rattle.pages.specs.Rows.{page_added}
 use Rattle.pages.specs.Puts.{free_twin}
-use Rattle.statements.proofs.Transactions.{clean_before}
 use Rattle.pages.proofs.Sequences.{still_inside, moved_behind}
 use Rattle.pages.proofs.store.add_new.Goals as goal
 

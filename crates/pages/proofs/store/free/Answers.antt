@@ -1,9 +1,7 @@
-use Rattle.std.proofs.Common.{◌≡◌, ◌<◌, Some, None, refl, sym, ap, ◌∙◌, arith}
-use Rattle.sqlite.specs.Held.{state}
+use Rattle.pages.proofs.Outside.{◌≡◌, ◌<◌, Some, None, refl, sym, ap, ◌∙◌, arith, state, clean_before}
 use Rattle.pages.specs.Rows.{page_uses}
 use Rattle.pages.specs.Puts.{twin_limit}
 use Rattle.pages.proofs.FreeTwins.{free_on, free_here, free_begin}
-use Rattle.statements.proofs.Transactions.{clean_before}
 use Rattle.pages.proofs.Sequences.{as_it_is, one_query, unchanged_then, still_holds}
 use Rattle.pages.proofs.store.free.Goals as goal
 

@@ -1,5 +1,4 @@
-use Rattle.std.proofs.Common.{◌≡◌, ◌-◌}
-use Rattle.sqlite.specs.Held.{state}
+use Rattle.pages.proofs.Outside.{◌≡◌, ◌-◌, state}
 use Rattle.pages.specs.Puts.{twin_limit}
 use Rattle.pages.proofs.FreeTwins.{FreeSoFar}
 use Rattle.pages.proofs.store.free.Given as goal

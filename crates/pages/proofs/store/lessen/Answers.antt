@@ -1,5 +1,4 @@
-use Rattle.std.proofs.Common.{◌-◌, cond, sym, ap}
-use Rattle.std.proofs.lemmas.Bool.{lt-ltb, le-ltb}
+use Rattle.pages.proofs.Outside.{◌-◌, cond, sym, ap, lt-ltb, le-ltb}
 use Rattle.pages.specs.Rows.{page_used, page_removed}
 use Rattle.pages.specs.Puts.{lessened}
 use Rattle.pages.proofs.Sequences.{steps_by, steps_are}

@@ -1,6 +1,4 @@
-use Rattle.std.proofs.Common.{sym, ◌∙◌}
-use Rattle.sqlite.specs.Held.{state}
-use Rattle.statements.proofs.Transactions.{clean_before}
+use Rattle.pages.proofs.Outside.{sym, ◌∙◌, state, clean_before}
 use Rattle.pages.proofs.Sequences.{one_query}
 use Rattle.pages.proofs.store.none_left.Goals as goal
 

@@ -1,5 +1,4 @@
-use Rattle.std.proofs.Common.{ap}
-use Rattle.sqlite.specs.Held.{state}
+use Rattle.pages.proofs.Outside.{ap, state}
 use Rattle.pages.specs.Puts.{twin_found, twin_for, put_found, page_put}
 use Rattle.pages.proofs.Sequences.{one_query, step_behind, reported_behind}
 use Rattle.pages.proofs.store.put_among.Goals as goal

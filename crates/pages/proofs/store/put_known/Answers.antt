@@ -1,8 +1,5 @@
-use Rattle.std.proofs.Common.{rules, ◌≡◌, ◌+◌, Some, sym, ◌∙◌}
+use Rattle.pages.proofs.Outside.{rules, ◌≡◌, ◌+◌, Some, sym, ◌∙◌, state, HasCleanDisk, Tables, Holds}
 use Rattle.std.proofs.lemmas.Result.{IfOk-weaker}
-use Rattle.sqlite.specs.Held.{state}
-use Rattle.sqlite.specs.State.{HasCleanDisk}
-use Rattle.statements.specs.Tables.{Tables, Holds}
 use Rattle.pages.specs.Puts.{page_put}
 use Rattle.pages.specs.Rows.{page_used, equal_page}
 use Rattle.pages.proofs.FirstPages.{found_equal, used_is_put, found_twin, found_fits}

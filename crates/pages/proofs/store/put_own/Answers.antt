@@ -1,5 +1,4 @@
-use Rattle.std.proofs.Common.{Ok, ℕ, List, sym, subst, arith}
-use Rattle.sqlite.specs.declared.error.Error.{Error}
+use Rattle.pages.proofs.Outside.{Ok, ℕ, List, sym, subst, arith, Error}
 use Rattle.pages.specs.Pages.{PutsUnder}
 use Rattle.pages.specs.declared.store.PageId.{PageId}
 use Rattle.pages.proofs.Promises.{puts_under}

@@ -1,5 +1,4 @@
-use Rattle.std.proofs.Common.{ap, ◌∙◌}
-use Rattle.sqlite.specs.Held.{state}
+use Rattle.pages.proofs.Outside.{ap, ◌∙◌, state}
 use Rattle.pages.specs.Puts.{twin_for, page_put}
 use Rattle.pages.specs.Inner.Calls.{put_with, twin_with}
 use Rattle.pages.proofs.FirstPages.{put_with_is, twin_with_is}

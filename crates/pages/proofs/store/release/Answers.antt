@@ -1,6 +1,4 @@
-use Rattle.std.proofs.Common.{ℕ, List, subst}
-use Rattle.sqlite.specs.Held.{state}
-use Rattle.statements.specs.Steps.{Steps}
+use Rattle.pages.proofs.Outside.{ℕ, List, subst, state, Steps}
 use Rattle.pages.specs.Pages.{ReleasesBy}
 use Rattle.pages.specs.Puts.{page_released}
 use Rattle.pages.proofs.store.release.Goals as goal

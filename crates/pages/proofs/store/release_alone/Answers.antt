@@ -1,9 +1,4 @@
-use Rattle.std.proofs.Common.{sym, ap, ◌∙◌}
-use Rattle.sqlite.specs.Held.{state}
-use Rattle.sqlite.specs.State.{HasCleanDisk}
-use Rattle.statements.specs.Steps.{AnyRows}
-use Rattle.statements.specs.Tables.{Tables, Holds}
-use Rattle.statements.proofs.Transactions.{clean_before, moves_more}
+use Rattle.pages.proofs.Outside.{sym, ap, ◌∙◌, state, HasCleanDisk, AnyRows, Tables, Holds, clean_before, moves_more}
 use Rattle.pages.specs.Pages.{pages_in, HasSoundPages, ReleasesPage, NamedAreThere}
 use Rattle.pages.specs.Puts.{page_released}
 use Rattle.pages.specs.Rows.{last_removed}

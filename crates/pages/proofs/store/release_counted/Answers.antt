@@ -1,5 +1,4 @@
-use Rattle.std.proofs.Common.{ap}
-use Rattle.sqlite.specs.Held.{state}
+use Rattle.pages.proofs.Outside.{ap, state}
 use Rattle.pages.specs.Puts.{released_found, page_released}
 use Rattle.pages.proofs.Sequences.{one_query, still_inside, step_behind}
 use Rattle.pages.proofs.Promises.{releases_if}

@@ -20,7 +20,7 @@ returns-clause-carries g c =
     let out = g.O.Write.contents in
     let err = g.E.ErrorStream.reported in
     let done = c.carry_each-exit in
-    inl (carries_lines g.K.Keep g.F.Files c.args.db.now c.args.first.now c.args.commands.now c.args.files.now c.open_one.new.files c.close_after.new.files
+    inl (carries_lines g.K.Keep g.F.Files c.args.db.now c.args.first.now c.args.lines.now c.args.files.now c.open_one.new.files c.close_after.new.files
     c.in-Ok.store c.new-service.result.keep done.new.service.keep c.into_keep.result done.result
     (out c.args.output.now) (out c.open_one.new.output) (out done.new.output) (err c.args.errors.now) (err c.open_one.new.errors) (err done.new.errors) (err c.close_after.new.errors)
     (subst (λ (opening : Opening). Opens g.K.Keep g.F.Files c.args.db.now opening c.args.files.now c.open_one.new.files c.in-Ok.store (error_stream (err c.args.errors.now) (err c.open_one.new.errors))) c.opening_of.ensures c.in-Ok.ensures.opened.0)

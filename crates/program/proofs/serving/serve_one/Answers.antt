@@ -1,4 +1,4 @@
-use Rattle.std.proofs.Common.{rules}
+use Rattle.std.proofs.Common.{refl, rules}
 use Rattle.program.proofs.serving.serve_one.Goals as goal
 
 pub returns-clause-answers : goal.returns-clause-answers
@@ -14,6 +14,7 @@ returns-clause-answers g c =
       exchanges = exchanged.ensures.reported;
       changes = exchanged.ensures.changes;
       lines = search rules;
+      stops = refl;
       logged = search rules;
       ends = search rules;
     }

@@ -1,6 +1,4 @@
-use Rattle.std.proofs.Common.{◌≡◌, ◌∙◌, ℕ, List, true, false, cond, Option, Some, None, Bor, ap, sym, subst, length, drop}
-use Rattle.std.specs.Prelude.{MatchOption, option_map}
-use Rattle.std.specs.Str.{IsCharBoundary}
+use Rattle.serve.proofs.Outside.{◌≡◌, ◌∙◌, ℕ, List, true, false, cond, Option, Some, None, Bor, ap, sym, subst, length, drop, MatchOption, option_map, IsCharBoundary}
 use Rattle.std.specs.Str.Pattern.{FindsTextPrefix, StripsPrefix}
 use Rattle.std.proofs.lemmas.Str.Pattern.{starts_text}
 use Rattle.serve.specs.Bounds.{behind}

@@ -1,6 +1,4 @@
-use Rattle.std.proofs.Common.{subst}
-use Rattle.std.proofs.lemmas.Result.{IfOk-weaker}
-use Rattle.machine.specs.declared.keeps.AdminAnswer.{AdminAnswer}
+use Rattle.serve.proofs.Outside.{subst, IfOk-weaker, AdminAnswer}
 use Rattle.serve.specs.Inner.Taking.{IsReported}
 use Rattle.serve.proofs.commands.report_tokens.Goals as goal
 

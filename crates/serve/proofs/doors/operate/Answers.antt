@@ -1,5 +1,4 @@
-use Rattle.std.proofs.Common.{inl, Ok, Err, sym}
-use Rattle.std.proofs.lemmas.Result.{IfOk-weaker}
+use Rattle.serve.proofs.Outside.{inl, Ok, Err, sym, IfOk-weaker}
 use Rattle.serve.proofs.DoorLemmas.{turned, not_let_in, let_in, row_of_none, row_of_some, row_of_command}
 use Rattle.serve.proofs.doors.operate.Goals as goal
 
@@ -15,12 +14,12 @@ returns-in-Err-clause-row g c =
 pub returns-in-Ok-clause-ok : goal.returns-in-Ok-clause-ok
 returns-in-Ok-clause-ok g c = λ clean sound.
     let asks = let_in c.args.digest.now c.args.message.now c.in_default.field-0 (Ok c.in-Ok.asked) (sym c.in_default.ensures) c.in-Ok.ensures in
-    IfOk-weaker c.carry_out.result _ _ (λ done operates. inl (c.in-Ok.asked, asks, operates)) (c.carry_out.ensures.ok clean sound)
+    IfOk-weaker c.obey.result _ _ (λ done operates. inl (c.in-Ok.asked, asks, operates)) (c.obey.ensures.ok clean sound)
 
 pub returns-in-Ok-clause-row : goal.returns-in-Ok-clause-row
 returns-in-Ok-clause-row g c =
     let asks = let_in c.args.digest.now c.args.message.now c.in_default.field-0 (Ok c.in-Ok.asked) (sym c.in_default.ensures) c.in-Ok.ensures in
-    row_of_command c.args.digest.now c.args.at c.args.message.now c.in-Ok.asked c.carry_out.result asks c.carry_out.ensures.row
+    row_of_command c.args.digest.now c.args.at c.args.message.now c.in-Ok.asked c.obey.result asks c.obey.ensures.row
 
 pub returns-in-Err-command_asked-clause-ok : goal.returns-in-Err-command_asked-clause-ok
 returns-in-Err-command_asked-clause-ok g c = λ clean sound.

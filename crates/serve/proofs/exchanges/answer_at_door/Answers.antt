@@ -1,5 +1,4 @@
-use Rattle.std.proofs.Common.{Bool, subst}
-use Rattle.wire.specs.Replies.{IsReplyText, unavailable_answer}
+use Rattle.serve.proofs.Outside.{Bool, subst, IsReplyText, unavailable_answer}
 use Rattle.serve.proofs.DoorLemmas.{told_at_door, unserved_at_door}
 use Rattle.serve.proofs.exchanges.answer_at_door.Goals as goal
 

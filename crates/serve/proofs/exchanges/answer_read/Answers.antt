@@ -1,9 +1,7 @@
 use Rattle.std.proofs.Common.{◌≡◌, Bool, true, Some, Result, Ok, Err, IfOk, IfErr, sym, ap, subst, rules}
-use Rattle.wire.specs.Replies.{IsReplyText, unavailable_answer}
-use Rattle.docs.specs.declared.logs.LogRow.{LogRow}
+use Rattle.serve.proofs.Outside.{IsReplyText, unavailable_answer, LogRow, lasts_behind}
 use Rattle.serve.specs.Inner.Replying.{PreparesFor, LogsFor, LogsDownFor, due_reply, due_row}
 use Rattle.serve.specs.declared.messages.Prepared.{Prepared}
-use Rattle.machine.proofs.LastingLemmas.{lasts_behind}
 use Rattle.serve.proofs.ExchangeLemmas.{AnswersRead, answered_read, asks_something, replied, refused_read, no_reply}
 use Rattle.serve.proofs.exchanges.answer_read.Goals as goal
 

@@ -1,7 +1,5 @@
-use Rattle.std.proofs.Common.{◌≡◌, ◌∙◌, ◌++◌, ℕ, List, Option, Result, Ok, Err, ap, sym, subst, append_assoc}
-use Rattle.std.proofs.KnownBytes.{Appends-trans}
+use Rattle.serve.proofs.Outside.{◌≡◌, ◌∙◌, ◌++◌, ℕ, List, Option, Result, Ok, Err, ap, sym, subst, append_assoc, Appends-trans, Appends}
 use Rattle.std.specs.Prelude.{OnOk}
-use Rattle.std.specs.Io.KnownBytes.{Appends}
 use Rattle.serve.proofs.lists.write_token.Goals as goal
 
 -- what is written of a caller stands behind its name, one piece after another

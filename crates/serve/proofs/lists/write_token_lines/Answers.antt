@@ -1,9 +1,4 @@
-use Rattle.std.proofs.Common.{◌∙◌, ◌+◌, ◌<◌, ℕ, List, [], Option, ap, sym, subst, take, length, get_or}
-use Rattle.std.specs.Io.KnownBytes.{Appends}
-use Rattle.std.specs.List.{flat_map}
-use Rattle.std.proofs.lemmas.List.{take_more, flat_map_more}
-use Rattle.std.proofs.KnownBytes.{Appends-trans}
-use Rattle.machine.specs.declared.keeps.TokenRow.{TokenRow}
+use Rattle.serve.proofs.Outside.{◌∙◌, ◌+◌, ◌<◌, ℕ, List, [], Option, ap, sym, subst, take, length, get_or, Appends, flat_map, take_more, flat_map_more, Appends-trans, TokenRow}
 use Rattle.serve.specs.Service.{token_line}
 use Rattle.serve.proofs.lists.write_token_lines.Goals as goal
 

@@ -1,6 +1,4 @@
-use Rattle.std.proofs.Common.{take}
-use Rattle.std.specs.List.{flat_map}
-use Rattle.std.specs.Io.KnownBytes.{Appends}
+use Rattle.serve.proofs.Outside.{take, flat_map, Appends}
 use Rattle.serve.specs.Service.{token_line}
 use Rattle.serve.proofs.lists.write_token_lines.Given as goal
 

@@ -1,6 +1,4 @@
-use Rattle.std.proofs.Common.{sym, subst}
-use Rattle.std.proofs.lemmas.Result.{IfOk-weaker}
-use Rattle.route.specs.Asks.{Asking}
+use Rattle.serve.proofs.Outside.{sym, subst, IfOk-weaker, Asking}
 use Rattle.serve.specs.Inner.Prepared.{IsPrepared}
 use Rattle.serve.specs.Inner.Replying.{IsLogged}
 use Rattle.serve.specs.Service.{asked_by}

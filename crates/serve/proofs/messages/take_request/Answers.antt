@@ -1,9 +1,7 @@
 use Rattle.std.proofs.Common.{◌≡◌, Some, Result, Ok, IfOk, ap, subst, ◌∙◌, rules}
-use Rattle.std.proofs.lemmas.Option.{same_Some}
-use Rattle.docs.specs.declared.logs.LogRow.{LogRow}
+use Rattle.serve.proofs.Outside.{same_Some, LogRow, lasts_behind}
 use Rattle.serve.specs.Inner.Replying.{PreparesFor, LogsFor}
 use Rattle.serve.specs.declared.messages.Prepared.{Prepared}
-use Rattle.machine.proofs.LastingLemmas.{lasts_behind}
 use Rattle.serve.proofs.ExchangeLemmas.{input_read, input_answered, asks_something}
 use Rattle.serve.proofs.messages.take_request.Goals as goal
 

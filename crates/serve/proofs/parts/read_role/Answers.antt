@@ -1,9 +1,5 @@
-use Rattle.std.proofs.Common.{◌≡◌, ◌≢◌, ℕ, List, Bool, true, false, cond, Option, Some, None, refl}
+use Rattle.serve.proofs.Outside.{◌≡◌, ◌≢◌, ℕ, List, Bool, true, false, cond, Option, Some, None, refl, bytes_eq, bytes_eq-Decides, role_word, Role}
 use Rattle.std.specs.Option.{IfSome, IfNone}
-use Rattle.std.specs.Str.{bytes_eq}
-use Rattle.std.proofs.lemmas.Slice.Eq.{bytes_eq-Decides}
-use Rattle.basis.specs.Roles.{role_word}
-use Rattle.basis.specs.declared.roles.Role.{Role}
 use Rattle.basis.specs.declared.roles.Role.TheVariants.{Read, Write, Admin}
 use Rattle.serve.specs.Parts.{role_of}
 use Rattle.serve.proofs.parts.read_role.Goals as goal

@@ -1,7 +1,5 @@
 use Rattle.std.proofs.Common.{◌≡◌, Some, None, rules, ap, subst, ◌∙◌}
-use Rattle.machine.specs.Records.{seen_in}
-use Rattle.machine.specs.Meaning.{ChangeIsDue}
-use Rattle.machine.specs.declared.acts.Decision.TheVariants.{Accepted}
+use Rattle.serve.proofs.Outside.{seen_in, ChangeIsDue, Accepted}
 use Rattle.serve.proofs.RecordLemmas.{refusal_foreseen, acceptance_foreseen}
 use Rattle.serve.proofs.requests.answer_decision.Goals as goal
 

@@ -1,5 +1,4 @@
-use Rattle.std.proofs.Common.{Ok, Err, IsSome, Option, ap, subst, sym, ◌≡◌, ◌∙◌, refl, inr}
-use Rattle.machine.specs.declared.records.Organization.{Organization}
+use Rattle.serve.proofs.Outside.{Ok, Err, IsSome, Option, ap, subst, sym, ◌≡◌, ◌∙◌, refl, inr, Organization}
 use Rattle.serve.specs.Logs.{traced}
 use Rattle.serve.specs.Steps.{carried}
 use Rattle.serve.specs.Inner.Judging.{missed}

@@ -1,5 +1,4 @@
-use Rattle.std.proofs.Common.{subst}
-use Rattle.std.proofs.lemmas.Result.{IfOk-weaker}
+use Rattle.serve.proofs.Outside.{subst, IfOk-weaker}
 use Rattle.serve.specs.Inner.Prepared.{IsTaskInRange}
 use Rattle.serve.proofs.requests.perform.Goals as goal
 

@@ -1,7 +1,4 @@
-use Rattle.std.proofs.Common.{Ok, Err, IsSome, Option, subst, sym, ◌≡◌, ap, ◌∙◌}
-use Rattle.std.proofs.lemmas.Result.{IfErr-weaker, IfOk-weaker}
-use Rattle.basis.specs.declared.refusals.Refusal.TheVariants.{Unavailable}
-use Rattle.machine.specs.declared.records.Organization.{Organization}
+use Rattle.serve.proofs.Outside.{Ok, Err, IsSome, Option, subst, sym, ◌≡◌, ap, ◌∙◌, IfErr-weaker, IfOk-weaker, Unavailable, Organization}
 use Rattle.serve.specs.Logs.{id_spelt, traced}
 use Rattle.serve.specs.Steps.{carried}
 use Rattle.serve.specs.Inner.Prepared.{Foresees}

@@ -1,7 +1,4 @@
-use Rattle.std.proofs.Common.{◌⊎◌, refl, rules, arith}
-use Rattle.sqlite.specs.Values.{bound}
-use Rattle.sqlite.specs.Held.{state}
-use Rattle.sqlite.specs.State.{HasCleanDisk, Survives, IsUnchanged, IsRolledBack, CommitsShowing}
+use Rattle.statements.proofs.Outside.{◌⊎◌, refl, rules, arith, bound, state, HasCleanDisk, Survives, IsUnchanged, IsRolledBack, CommitsShowing}
 use Rattle.statements.proofs.Calm.{failed_calm, survives_query}
 use Rattle.statements.proofs.Taking.{takes_none, taken_begin, takes_all}
 use Rattle.statements.proofs.calls.first_rows.Goals as goal

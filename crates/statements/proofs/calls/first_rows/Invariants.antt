@@ -1,5 +1,4 @@
-use Rattle.std.proofs.Common.{◌≡◌}
-use Rattle.sqlite.specs.Values.{bound}
+use Rattle.statements.proofs.Outside.{◌≡◌, bound}
 use Rattle.statements.proofs.Taking.{Takes}
 use Rattle.statements.proofs.calls.first_rows.Given as goal
 

@@ -1,5 +1,4 @@
-use Rattle.std.proofs.Common.{take}
-use Rattle.std.specs.List.{AllZip}
+use Rattle.statements.proofs.Outside.{take, AllZip}
 use Rattle.statements.proofs.calls.read_each.Given as goal
 
 abbrev pub invariant-loop-row : goal.invariant-loop-row

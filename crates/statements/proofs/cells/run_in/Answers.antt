@@ -1,5 +1,4 @@
-use Rattle.std.proofs.Common.{◌+◌, arith, rules}
-use Rattle.basis.specs.declared.numbers.TheConstants.{MAX_MOMENT, MAX_NUMBER}
+use Rattle.statements.proofs.Outside.{◌+◌, arith, rules, MAX_MOMENT, MAX_NUMBER}
 use Rattle.statements.specs.Cells.{HasRun, IsActionCell, IsBooleanCell, IsNullOr, IsStatusCell, IsTextCell, IsWithin}
 use Rattle.statements.proofs.CellLemmas.{refused_by}
 use Rattle.statements.proofs.cells.run_in.Goals as goal

@@ -1,5 +1,4 @@
-use Rattle.std.proofs.Common.{◌+◌, take, sym, subst, arith}
-use Rattle.std.proofs.lemmas.List.{length-map}
+use Rattle.statements.proofs.Outside.{◌+◌, take, sym, subst, arith, length-map}
 use Rattle.std.proofs.lemmas.Slice.Zip.{AllZip-long}
 use Rattle.statements.specs.Inner.Making.{IsMaker, texts_in, all_of}
 use Rattle.statements.proofs.Schemas.{MadeSoFar, made_all, made_more, made_failed, next_made, last_made}

@@ -1,6 +1,4 @@
-use Rattle.std.proofs.Common.{List, take}
-use Rattle.std.specs.List.{AllZip}
-use Rattle.sqlite_schema.specs.declared.schema.Table.{Table}
+use Rattle.statements.proofs.Outside.{List, take, AllZip, Table}
 use Rattle.statements.specs.Inner.Making.{IsMaker, texts_in, all_of}
 use Rattle.statements.proofs.Schemas.{MadeSoFar}
 use Rattle.statements.proofs.making.make_all.Given as goal

@@ -1,6 +1,4 @@
-use Rattle.sqlite.specs.Held.{state}
-use Rattle.std.proofs.Common.{◌≡◌, ℕ, List, [], Option}
-use Rattle.sqlite_schema.specs.declared.schema.Table.{Table}
+use Rattle.statements.proofs.Outside.{state, ◌≡◌, ℕ, List, [], Option, Table}
 use Rattle.statements.specs.Making.{HasMeta, stored_schema_version}
 use Rattle.statements.specs.Rows.{Kept}
 use Rattle.statements.specs.Calls.{IsNumber}

@@ -1,5 +1,4 @@
-use Rattle.std.proofs.Common.{[]}
-use Rattle.sqlite.specs.State.{Shown}
+use Rattle.statements.proofs.Outside.{[], Shown}
 use Rattle.statements.specs.Calls.{IsOrganization}
 use Rattle.statements.specs.declared.organizations.TheConstants.{LIST_ORGS}
 use Rattle.statements.proofs.Transactions.{queries_all}

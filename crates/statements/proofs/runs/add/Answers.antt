@@ -1,5 +1,4 @@
-use Rattle.std.proofs.Common.{pos, w64, option_map}
-use Rattle.std.proofs.lemmas.Int.{to_z-of_z}
+use Rattle.statements.proofs.Outside.{pos, w64, option_map, to_z-of_z}
 use Rattle.statements.proofs.Codes.{moment_fits, optional_text, bound_text, optional_action, bound_action}
 use Rattle.statements.proofs.Transactions.{writes_by}
 use Rattle.statements.proofs.RunWrites.{add_run_does}

@@ -1,5 +1,4 @@
-use Rattle.std.proofs.Common.{◌≡◌, pos, w64, None}
-use Rattle.std.proofs.lemmas.Int.{to_z-of_z}
+use Rattle.statements.proofs.Outside.{◌≡◌, pos, w64, None, to_z-of_z}
 use Rattle.statements.specs.Finds.{size_of}
 use Rattle.statements.specs.declared.versions.TheConstants.{ADD_VERSION}
 use Rattle.statements.proofs.Codes.{moment_fits, serial_fits}

@@ -1,5 +1,4 @@
-use Rattle.std.proofs.Common.{w64}
-use Rattle.std.proofs.lemmas.Int.{to_z-of_z}
+use Rattle.statements.proofs.Outside.{w64, to_z-of_z}
 use Rattle.statements.specs.Calls.{IsNamedRow, FirstRows}
 use Rattle.statements.specs.declared.workspaces.TheConstants.{LIST_WS_WITHIN}
 use Rattle.statements.proofs.Codes.{limit_fits}

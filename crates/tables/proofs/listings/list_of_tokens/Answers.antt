@@ -1,8 +1,11 @@
-use Rattle.tables.proofs.Outside.{map, ap, ◌∙◌, TokensApart, token_rows_of, Equals, EqualsWhere, sees_by, sees_then}
-use Rattle.tables.specs.Inner.Lists.{token_row_in, tokens_listed_in}
+use Rattle.std.proofs.Common.{map, ap, ◌∙◌}
+use Rattle.statements.specs.Listings.{BoundedTokensApart, bounded_tokens_of}
+use Rattle.statements.specs.Steps.{EqualsWhere}
+use Rattle.tables.specs.Inner.Lists.{token_row_of, tokens_listed_in}
+use Rattle.texts.proofs.Many.{sees_by, sees_as}
 use Rattle.tables.proofs.listings.list_of_tokens.Goals as goal
 
 pub returns : goal.returns
 returns g c =
-    sees_then g.S.Store (EqualsWhere TokensApart (token_rows_of c.args.org.now)) (Equals (λ t. map (token_row_in c.args.org.now t) c.as_slice.result.now)) (EqualsWhere TokensApart (tokens_listed_in c.args.org.now)) c.args.conn.now c.list.new.conn c.list_tokens.new.conn
-    c.in_ok-rows.rows c.list_tokens.result (λ list t reported seen apart. seen ∙ ap (map (token_row_in c.args.org.now t)) (c.as_slice.ensures ∙ reported apart)) (sees_by g.S.Store _ _ _ _ c.in_ok-rows.ensures) c.list_tokens.ensures
+    sees_as g.S.Store (EqualsWhere BoundedTokensApart (bounded_tokens_of c.args.org.now)) (EqualsWhere BoundedTokensApart (tokens_listed_in c.args.org.now)) c.args.conn.now c.list.new.conn c.in_ok-tokens.tokens c.in_ok-rows.rows
+    (λ t reported apart. c.in_ok-rows.ensures ∙ ap (map token_row_of) (c.as_slice.ensures ∙ reported apart)) (sees_by g.S.Store _ _ _ _ c.in_ok-tokens.ensures)

@@ -1,6 +1,4 @@
-use Rattle.std.proofs.Common.{pos, w64}
-use Rattle.std.proofs.lemmas.Int.{to_z-of_z}
-use Rattle.statements.proofs.Transactions.{writes_by}
+use Rattle.texts.proofs.Outside.{pos, w64, to_z-of_z, writes_by}
 use Rattle.texts.proofs.PlaceWrites.{add_place_does}
 use Rattle.texts.proofs.places.add.Goals as goal
 

@@ -1,6 +1,5 @@
 use Rattle.std.proofs.lemmas.Result.{IfOk-weaker}
-use Rattle.sqlite.specs.Held.{state}
-use Rattle.statements.proofs.Transactions.{clean_before}
+use Rattle.texts.proofs.Outside.{state, clean_before}
 use Rattle.texts.specs.declared.places.TheConstants.{PLACES}
 use Rattle.texts.proofs.PlaceTexts.{places_asks}
 use Rattle.texts.proofs.PlaceReads.{places_show}

@@ -1,7 +1,4 @@
-use Rattle.std.proofs.Common.{pos, w64}
-use Rattle.std.proofs.lemmas.Int.{to_z-of_z}
-use Rattle.statements.proofs.Transactions.{queries_by}
-use Rattle.pages.specs.Rows.{IsPageName}
+use Rattle.texts.proofs.Outside.{pos, w64, to_z-of_z, queries_by, IsPageName}
 use Rattle.texts.proofs.PlaceTexts.{page_at_asks}
 use Rattle.texts.proofs.PlaceReads.{page_at_shows}
 use Rattle.texts.proofs.places.find.Goals as goal

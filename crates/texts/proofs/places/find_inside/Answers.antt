@@ -1,9 +1,5 @@
-use Rattle.std.proofs.Common.{pos, w64}
-use Rattle.std.proofs.lemmas.Int.{to_z-of_z}
-use Rattle.sqlite.specs.Held.{state}
+use Rattle.texts.proofs.Outside.{pos, w64, to_z-of_z, state, reads_by, IsPageName}
 use Rattle.texts.specs.declared.places.TheConstants.{PAGE_AT}
-use Rattle.statements.proofs.Transactions.{reads_by}
-use Rattle.pages.specs.Rows.{IsPageName}
 use Rattle.texts.specs.Texts.{page_at}
 use Rattle.texts.proofs.PlaceTexts.{page_at_asks}
 use Rattle.texts.proofs.PlaceReads.{page_at_shows}

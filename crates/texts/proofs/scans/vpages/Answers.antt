@@ -1,6 +1,4 @@
-use Rattle.std.proofs.Common.{refl}
-use Rattle.statements.specs.Rows.{kept_by, vpage_at}
-use Rattle.statements.proofs.Held.{vpages}
+use Rattle.texts.proofs.Outside.{refl, kept_by, vpage_at, vpages}
 use Rattle.statements.proofs.Wholes.{scans}
 use Rattle.texts.proofs.PlaceScans.{all_places_asks}
 use Rattle.texts.proofs.scans.vpages.Goals as goal

@@ -1,9 +1,4 @@
-use Rattle.std.proofs.Common.{ℕ, List, ◌∙◌, subst}
-use Rattle.sqlite.specs.Held.{state}
-use Rattle.statements.proofs.Transactions.{clean_before}
-use Rattle.pages.specs.Pages.{IsKeyFor}
-use Rattle.pages.specs.Puts.{page_put}
-use Rattle.pages.proofs.Sequences.{still_holds, step_after, steps_by, steps_then, steps_are}
+use Rattle.texts.proofs.Outside.{ℕ, List, ◌∙◌, subst, state, clean_before, IsKeyFor, page_put, still_holds, step_after, steps_by, steps_then, steps_are}
 use Rattle.texts.specs.Texts.{piece_at, place_added}
 use Rattle.texts.specs.Inner.Calls.{piece_placed}
 use Rattle.texts.proofs.Many.{when_done}

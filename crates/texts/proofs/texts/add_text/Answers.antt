@@ -1,8 +1,4 @@
-use Rattle.std.proofs.Common.{◌≡◌, ◌<◌, ◌+◌, ℕ, List, [], length, refl, ◌∙◌, subst, arith}
-use Rattle.sqlite.specs.Held.{state}
-use Rattle.statements.specs.Steps.{AnyRows, Moves}
-use Rattle.pages.specs.Pages.{IsKeyFor}
-use Rattle.pages.specs.Puts.{twin_limit, twin_for}
+use Rattle.texts.proofs.Outside.{◌≡◌, ◌<◌, ◌+◌, ℕ, List, [], length, refl, ◌∙◌, subst, arith, state, AnyRows, Moves, IsKeyFor, twin_limit, twin_for}
 use Rattle.texts.specs.Texts.{pages_for, piece_at, pieces_added, TwinsFit, KeysFit}
 use Rattle.texts.specs.Inner.Calls.{piece_placed}
 use Rattle.texts.proofs.Many.{writes_none, writes_more}

@@ -1,5 +1,4 @@
-use Rattle.std.proofs.Common.{◌≡◌, ℕ, List}
-use Rattle.sqlite.specs.Held.{state}
+use Rattle.texts.proofs.Outside.{◌≡◌, ℕ, List, state}
 use Rattle.texts.specs.Inner.Ahead.{AreKeysOf}
 use Rattle.texts.specs.Texts.{pieces_added, TwinsFit, KeysFit}
 use Rattle.texts.proofs.Many.{WritesSoFar}

@@ -1,5 +1,4 @@
-use Rattle.std.proofs.Common.{take, sym, ap, ◌∙◌}
-use Rattle.std.proofs.lemmas.List.{take_all}
+use Rattle.texts.proofs.Outside.{take, sym, ap, ◌∙◌, take_all}
 use Rattle.texts.proofs.texts.piece_at.Goals as goal
 
 pub returns-then-rest-le-PAGE_BYTES : goal.returns-then-rest-le-PAGE_BYTES

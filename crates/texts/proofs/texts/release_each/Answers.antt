@@ -1,9 +1,4 @@
-use Rattle.std.proofs.Common.{◌≡◌, ◌+◌, [], IsSome, sym, ◌∙◌, ap, subst, arith}
-use Rattle.sqlite_value.specs.Order.{column}
-use Rattle.sqlite.specs.Held.{state}
-use Rattle.statements.specs.Steps.{AnyRows, Moves}
-use Rattle.pages.specs.Puts.{page_released}
-use Rattle.pages.specs.Rows.{page_bytes}
+use Rattle.texts.proofs.Outside.{◌≡◌, ◌+◌, [], IsSome, sym, ◌∙◌, ap, subst, arith, column, state, AnyRows, Moves, page_released, page_bytes}
 use Rattle.texts.specs.Inner.Calls.{row_at, name_at, released_by, WereReleased}
 use Rattle.texts.proofs.Many.{writes_more}
 use Rattle.texts.proofs.OnePiece.{released_there}

@@ -1,5 +1,4 @@
-use Rattle.std.proofs.Common.{◌≡◌}
-use Rattle.sqlite.specs.Held.{state}
+use Rattle.texts.proofs.Outside.{◌≡◌, state}
 use Rattle.texts.specs.Inner.Calls.{released_by, WereReleased}
 use Rattle.texts.proofs.Many.{WritesSoFar}
 use Rattle.texts.proofs.texts.release_each.Given as goal

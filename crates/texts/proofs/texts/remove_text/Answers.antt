@@ -1,8 +1,4 @@
-use Rattle.std.proofs.Common.{rules, ◌≡◌, length, sym, ◌∙◌, subst}
-use Rattle.sqlite.specs.Held.{state}
-use Rattle.sqlite.specs.State.{HasCleanDisk}
-use Rattle.statements.proofs.Transactions.{clean_before}
-use Rattle.pages.proofs.Sequences.{still_inside}
+use Rattle.texts.proofs.Outside.{rules, ◌≡◌, length, sym, ◌∙◌, subst, state, HasCleanDisk, clean_before, still_inside}
 use Rattle.texts.specs.Inner.Calls.{AreRowsOf}
 use Rattle.texts.proofs.Releasing.{text_gone, text_was_there}
 use Rattle.texts.proofs.texts.remove_text.Goals as goal

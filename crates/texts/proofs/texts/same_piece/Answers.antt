@@ -1,8 +1,4 @@
-use Rattle.std.proofs.Common.{option_map, sym, ap, ◌∙◌}
-use Rattle.std.specs.Str.{bytes_eq}
-use Rattle.sqlite.specs.Held.{state}
-use Rattle.statements.proofs.Transactions.{clean_before}
-use Rattle.pages.specs.Puts.{is_bytes_of}
+use Rattle.texts.proofs.Outside.{option_map, sym, ap, ◌∙◌, bytes_eq, state, clean_before, is_bytes_of}
 use Rattle.texts.specs.Texts.{bytes_named}
 use Rattle.texts.specs.Inner.Calls.{is_piece_of}
 use Rattle.texts.proofs.OnePiece.{got_behind}

@@ -1,6 +1,4 @@
-use Rattle.std.proofs.Common.{◌<◌, ◌+◌, length, true, Some, sym, ap, ◌∙◌, subst}
-use Rattle.sqlite.specs.Held.{state}
-use Rattle.pages.proofs.Sequences.{one_query, unchanged_then, still_holds}
+use Rattle.texts.proofs.Outside.{◌<◌, ◌+◌, length, true, Some, sym, ap, ◌∙◌, subst, state, one_query, unchanged_then, still_holds}
 use Rattle.texts.specs.Texts.{pages_for, piece_at, are_pieces, AreThere}
 use Rattle.texts.specs.Inner.Calls.{is_piece_of}
 use Rattle.texts.proofs.Many.{reads_more}

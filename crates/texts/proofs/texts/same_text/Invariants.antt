@@ -1,5 +1,4 @@
-use Rattle.std.proofs.Common.{◌≡◌, true, false}
-use Rattle.sqlite.specs.Held.{state}
+use Rattle.texts.proofs.Outside.{◌≡◌, true, false, state}
 use Rattle.texts.specs.Texts.{are_pieces, AreThere}
 use Rattle.texts.proofs.Many.{ReadsSoFar}
 use Rattle.texts.proofs.texts.same_text.Given as goal

@@ -1,6 +1,5 @@
-use Rattle.std.proofs.Common.{subst, ℕ}
+use Rattle.texts.proofs.Outside.{subst, ℕ, Equals, Sees}
 use Rattle.texts.specs.Texts.{joined}
-use Rattle.statements.specs.Steps.{Equals, Sees}
 use Rattle.texts.proofs.texts.text.Goals as goal
 
 pub returns-clause-queries : goal.returns-clause-queries

@@ -1,5 +1,4 @@
-use Rattle.std.proofs.Common.{◌∙◌, true≢false, sym}
-use Rattle.std.proofs.lemmas.Result.{on_ok_weaker}
+use Rattle.checks.proofs.Outside.{◌∙◌, true≢false, sym, on_ok_weaker}
 use Rattle.checks.proofs.JudgingLemmas.{judges_right, judges_fault}
 use Rattle.checks.proofs.found.Found.judge.Goals as goal
 

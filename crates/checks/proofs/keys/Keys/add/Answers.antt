@@ -1,5 +1,4 @@
-use Rattle.std.proofs.Common.{not, ap, ◌∙◌}
-use Rattle.std.specs.List.{list_any}
+use Rattle.checks.proofs.Outside.{not, ap, ◌∙◌, list_any}
 use Rattle.checks.specs.Inner.Keys.{is_key}
 use Rattle.checks.proofs.KeyLemmas.{key_among, key_added}
 use Rattle.checks.proofs.keys.Keys.add.Goals as goal

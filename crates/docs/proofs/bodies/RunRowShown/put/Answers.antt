@@ -1,7 +1,4 @@
-use Rattle.std.proofs.Common.{rules, ap, Some, ◌∙◌}
-use Rattle.std.proofs.lemmas.Result.{on_ok_weaker}
-use Rattle.serde_json.specs.Data.{string}
-use Rattle.basis.specs.Runs.{action_word}
+use Rattle.docs.proofs.Outside.{rules, ap, Some, ◌∙◌, on_ok_weaker, string, action_word}
 use Rattle.docs.specs.Bodies.{number_value, text_value}
 use Rattle.docs.proofs.Putting.{put_as, then_put, text_made, text_lent, action_is}
 use Rattle.docs.proofs.bodies.RunRowShown.put.Goals as goal

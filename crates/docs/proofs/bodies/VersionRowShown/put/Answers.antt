@@ -1,6 +1,4 @@
-use Rattle.std.proofs.Common.{ap, Some}
-use Rattle.std.proofs.lemmas.Result.{on_ok_weaker}
-use Rattle.serde_json.specs.Data.{string}
+use Rattle.docs.proofs.Outside.{ap, Some, on_ok_weaker, string}
 use Rattle.docs.specs.Bodies.{number_value}
 use Rattle.docs.proofs.Putting.{put_as, then_put}
 use Rattle.docs.proofs.bodies.VersionRowShown.put.Goals as goal

@@ -1,6 +1,4 @@
-use Rattle.std.proofs.Common.{rules, ap, Some}
-use Rattle.std.proofs.lemmas.Result.{on_ok_weaker}
-use Rattle.serde_json.specs.Data.{string, no_members}
+use Rattle.docs.proofs.Outside.{rules, ap, Some, on_ok_weaker, string, no_members}
 use Rattle.docs.specs.Bodies.{number_value}
 use Rattle.docs.specs.RunSettings.{run_settings_members}
 use Rattle.docs.proofs.Putting.{members_put, put_as, then_put, number_made}

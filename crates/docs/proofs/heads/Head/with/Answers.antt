@@ -1,5 +1,4 @@
-use Rattle.std.proofs.Common.{◌≡◌, true, false, codes, arith}
-use Rattle.std.specs.Str.{bytes_eq}
+use Rattle.docs.proofs.Outside.{◌≡◌, true, false, codes, arith, bytes_eq}
 use Rattle.docs.proofs.Heading.{with_serial, with_lineage, with_another}
 use Rattle.docs.proofs.heads.Head.with.Goals as goal
 

@@ -1,6 +1,4 @@
-use Rattle.std.proofs.Common.{ap}
-use Rattle.std.proofs.lemmas.Result.{on_ok_weaker}
-use Rattle.serde_json.specs.Data.{array}
+use Rattle.docs.proofs.Outside.{ap, on_ok_weaker, array}
 use Rattle.docs.specs.Bodies.{objects}
 use Rattle.docs.proofs.Putting.{put_as, then_put}
 use Rattle.docs.proofs.listings.ListingShown.put.Goals as goal

@@ -1,5 +1,4 @@
-use Rattle.std.proofs.Common.{arith, refl, sym, ◌∙◌}
-use Rattle.std.proofs.lemmas.Result.{on_ok_weaker}
+use Rattle.machine.proofs.Outside.{arith, refl, sym, ◌∙◌, on_ok_weaker}
 use Rattle.machine.proofs.MapLemmas.{index_within, got_at, changed_in_order, changed_at, none_at_gap}
 use Rattle.machine.proofs.PlainLemmas.{workspace_changed, absent_kept}
 use Rattle.machine.proofs.edits.NameMap+Workspace.apply.Goals as goal

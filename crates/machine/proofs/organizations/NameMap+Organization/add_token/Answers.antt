@@ -1,6 +1,5 @@
 use Rattle.machine.specs.Effects.{effect}
-use Rattle.std.proofs.Common.{arith, refl, ap, ◌∙◌}
-use Rattle.std.proofs.lemmas.Result.{IfOk-weaker}
+use Rattle.machine.proofs.Outside.{arith, refl, ap, ◌∙◌, IfOk-weaker}
 use Rattle.machine.specs.Tokens.{token_added}
 use Rattle.machine.proofs.MapLemmas.{index_within, got_at, changed_in_order, changed_own, changed_other, none_at_gap}
 use Rattle.machine.proofs.organizations.NameMap+Organization.add_token.Goals as goal

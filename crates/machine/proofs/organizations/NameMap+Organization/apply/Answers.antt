@@ -1,5 +1,4 @@
-use Rattle.std.proofs.Common.{arith, refl, ◌∙◌}
-use Rattle.std.proofs.lemmas.Result.{on_ok_weaker}
+use Rattle.machine.proofs.Outside.{arith, refl, ◌∙◌, on_ok_weaker}
 use Rattle.machine.proofs.MapLemmas.{index_within, got_at, changed_in_order, changed_own, changed_other, none_at_gap}
 use Rattle.machine.proofs.PlainLemmas.{organization_changed}
 use Rattle.machine.proofs.organizations.NameMap+Organization.apply.Goals as goal

@@ -1,5 +1,4 @@
-use Rattle.std.proofs.Common.{ap, sym, ◌∙◌, option_copied}
-use Rattle.std.specs.FinMap.{get}
+use Rattle.machine.proofs.Outside.{ap, sym, ◌∙◌, option_copied, get}
 use Rattle.machine.proofs.MapLemmas.{removed_own, removed_other}
 use Rattle.machine.proofs.PlainLemmas.{use_seen, removal_refused, unused_removed, forced_removed}
 use Rattle.machine.proofs.organizations.NameMap+Organization.leave.Goals.{else-not-is_forced-via-then-not-is_forced+else-has_use, else-not-is_forced-via-else-not-is_forced}

@@ -1,5 +1,4 @@
-use Rattle.std.proofs.Common.{ap, ◌∙◌}
-use Rattle.std.specs.FinMap.{get, get-empty}
+use Rattle.machine.proofs.Outside.{ap, ◌∙◌, get, get-empty}
 use Rattle.machine.specs.Order.{name_cmp}
 use Rattle.machine.proofs.KeepLemmas.{none_are_lawful}
 use Rattle.machine.proofs.plain.PlainKeep.new.Goals as goal

@@ -1,0 +1,6 @@
+use Rattle.std.proofs.Common.{arith}
+use Rattle.program.proofs.LineFaultLemmas.{other_token_add}
+use Rattle.program.proofs.line_faults.token_add_fault.Goals as goal
+
+pub returns-in_default : goal.returns-in_default
+returns-in_default c = other_token_add c.args.words.now (omega arith)
