@@ -21,6 +21,8 @@ Each kind of round is done N times (once), and ends with the service on the othe
     target     the machine that is being brought into step loses its power; the service goes on; then as `switch`
     disk       the disk of the serving machine fails; the service goes on over the other's; then as `switch`, and a new disk
     both       both lose their power at once; both are started, and the other takes over
+    alone      the other machine loses its power, the service goes on, and then the serving machine loses its power: the other, which is
+               started alone, must refuse to take over; then the first is started, too, and the other takes over
 
 A disk is served to qemu by this script. `--cache on` (qemu's `writeback`): the guest sees a disk with a cache, and has to flush it.
 `--cache off` (`writethrough`): qemu flushes after each write. Without power, each sector that was not flushed keeps what was
@@ -76,6 +78,8 @@ POLICY, HANDLERS = "fencing resource-and-stonith;", 'handlers { fence-peer "/bin
 # Status 7 of the handler: the peer is off, so its data may be counted as outdated.
 FENCE = """#!/bin/sh
 peer=b; [ "$(hostname)" = b ] && peer=a
+# started alone, this machine does not know what the other acknowledged meanwhile
+grep -q ' ds:UpToDate/' /proc/drbd || exit 1
 [ "$(echo off $peer | nc -w 20 10.0.2.2 %d)" = off ] && exit 7
 exit 1
 """
@@ -99,7 +103,10 @@ SERVE = (
     "until grep -q ':1F9A .* 0A ' /proc/net/tcp; do sleep .2; pidof custody > /dev/null || break; done; pidof custody"
 )
 STOP = "kill $(pidof custody); while pidof custody; do sleep .2; done > /dev/null"
-# A promotion is refused until the peer is fenced: it has to be repeated.
+# Whether this machine's disk counts as up to date.
+NEWEST = "drbdadm dstate r0 | grep -q ^UpToDate/"
+# A promotion is refused until the peer is fenced: it has to be repeated. DRBD would fence the peer of a machine that was started alone, too,
+# and take what that has for the newest: the handler (`FENCE`) refuses it.
 PROMOTE = "left=%d; until drbdadm primary r0; do left=$((left-1)); [ $left -gt 0 ] || exit 1; sleep 1; done"
 STATE = "grep -A1 ' cs:' /proc/drbd"
 
@@ -551,6 +558,7 @@ class Pair:
 
     def take_over(self, machine, tries=TAKEOVER):
         """Makes this machine the one that serves. The seconds for it to be primary, to mount, and to open the file."""
+        machine.run("for at in 1 2 3 4 5 6 7 8 9; do %s && break; sleep 1; done; %s || exit 3" % (NEWEST, NEWEST))
         came = machine.run("%s; %s; mount /dev/drbd0 /mnt || exit 2; %s; %s; %s" % (NOW, PROMOTE % tries, NOW, NOW, SERVE + " && " + NOW), TAKEOVER + tries)
         self.serving = machine
         marks = [float(line) for line in came.splitlines() if line.replace(".", "", 1).isdigit() and "." in line]
@@ -833,7 +841,29 @@ def both(pair):
     pair.done("both", first, "%.1f s from the cut to the first reply, with the start of both" % pair.answers(since), parts)
 
 
-KINDS = {kind.__name__: kind for kind in (power, switch, secondary, link, race, resync, target, disk, both)}
+def alone(pair):
+    first = pair.serving
+    second = pair.other(first)
+    pair.load()
+    pair.wait(3)
+    since = time.monotonic()
+    second.cut()
+    paused = pair.goes_on(since)
+    pair.wait(4)
+    first.cut(True)
+    pair.rest(True)
+    second.start()
+    second.reach()
+    second.run("drbdadm up r0")
+    said("whether the disk of a machine that was started alone is up to date", second.tried(NEWEST)[1], 1)
+    said("whether such a machine takes over", second.tried(PROMOTE % 10 + "; mount /dev/drbd0 /mnt && " + SERVE, 200)[1], 1)
+    pair.back(first)
+    parts = pair.take_over(second)
+    pair.takeovers += 1
+    pair.done("alone", first, "its requests waited %.1f s; started alone, the other refused" % paused, parts)
+
+
+KINDS = {kind.__name__: kind for kind in (power, switch, secondary, link, race, resync, target, disk, both, alone)}
 
 
 def unfenced(pair):
