@@ -288,6 +288,12 @@ class Machine:
                 raise Wrong("%s does not start: %s" % (self.name, self.tail("console")))
             time.sleep(0.5)
 
+    def come_back(self, command="drbdadm up r0"):
+        """Starts, and then runs this."""
+        self.start()
+        self.reach()
+        self.run(command)
+
     def tail(self, kind):
         with open("%s/%s.%s" % (self.pair.folder, kind, self.name), "rb") as file:
             return file.read()[-1000:].decode("latin-1")
@@ -621,9 +627,7 @@ class Pair:
 
     def back(self, machine):
         """Starts a machine that is off, as the other's secondary."""
-        machine.start()
-        machine.reach()
-        machine.run("drbdadm up r0")
+        machine.come_back()
         self.in_step(machine)
 
     def switched(self):
@@ -768,9 +772,7 @@ def resync(pair):
     if not status or "UpToDate" not in text:
         raise Wrong("a machine that is not in step took over: " + text)
     pair.rest(True)
-    first.start()
-    first.reach()
-    first.run("drbdadm up r0")
+    first.come_back()
     pair.take_over(first)
     away = pair.answers(since)
     pair.look()
@@ -811,9 +813,7 @@ def disk(pair):
     # A machine that is started before the other has fenced it would be switched off again.
     wait_for(lambda: len(pair.switch.offs) > offs, lambda: "a machine that is off is not fenced", 60)
     first.disk.renew()
-    first.start()
-    first.reach()
-    first.run("drbdadm create-md --force r0 && drbdadm up r0")
+    first.come_back("drbdadm create-md --force r0 && drbdadm up r0")
     since = time.monotonic()
     pair.in_step(first)
     text = "its requests waited %.1f s; then %.1f s without a reply; a new disk was in step after %.0f s"
@@ -852,9 +852,7 @@ def alone(pair):
     pair.wait(4)
     first.cut(True)
     pair.rest(True)
-    second.start()
-    second.reach()
-    second.run("drbdadm up r0")
+    second.come_back()
     said("whether the disk of a machine that was started alone is up to date", second.tried(NEWEST)[1], 1)
     said("whether such a machine takes over", second.tried(PROMOTE % 10 + "; mount /dev/drbd0 /mnt && " + SERVE, 200)[1], 1)
     pair.back(first)
