@@ -301,10 +301,10 @@ def line_of(stream):
     return stream.readline()
 
 
-def secret_file():
-    """A file to read the operator's secret from."""
+def secret_file(operators=OPERATOR + b"\n"):
+    """A file to read operators from: that of one secret, or others."""
     given = tempfile.TemporaryFile()
-    given.write(OPERATOR + b"\n")
+    given.write(operators)
     given.seek(0)
     return given
 

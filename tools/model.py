@@ -455,12 +455,12 @@ def row_of(at, **known):
 
 def rows_of_503(sent, row):
     """The rows that a 503 may have in place of the row of this request, by what was read before memory or the store was refused:
-    nothing; the head; then the token; then the document. (At the operator's door: nothing; that it came there; then the command.) The last
+    nothing; the head; then the token; then the document. (At the operator's door: nothing; that it came there; the operator; then the command.) The last
     row is due if only the change was left."""
     down = {"at": row["at"], "status": 503, "refusal": "down"}
     rows = [row_of(**down)]
     if "operator" in row:
-        return rows + [row_of(**down, operator=True, subject=None), {**row, **down}]
+        return rows + [row_of(**down, operator=by, subject=None) for by in (None, row["operator"])] + [{**row, **down}]
     if row["act"] is not None:
         down.update({key: row[key] for key in ["act", "organization", "workspace"]}, id=Asked(Message(sent)).id)
         rows += [row_of(**down), row_of(**{**down, "token": row["token"]}), row_of(**{**down, "token": row["token"], "id": row["id"]})]

@@ -763,12 +763,43 @@ def many_teams(page, shell, teams):
 
 
 def operators(page, shell):
-    """The operator's secret is replaced."""
-    shell.does("cp /root/operator.curl /room/former.curl")
+    """Operators are added, act under their names, get new secrets, and are removed."""
+    asks = "echo %s | OPERATOR=%s operator"
+    shell.does("cp /root/operator.curl /room/former.curl; useradd --create-home ann")
+    shell.runs(page, "add_operator /root/operator ann")
+    serves()
+    # (the shell of ann, who reads neither the file of the operators nor those of others)
+    names = "export OPERATOR="
+    as_ann = "runuser ann -s /bin/bash -c "
+    block = page.block(names)
+    shell.runs(page, names, [r"^acme \d+ \d+$"], block=as_ann + shlex.quote(block))
+    block += "echo org-add anns | operator; echo org-remove anns | operator; cat /root/operator ~root/operator.monitor.curl"
+    shell.does(as_ann + shlex.quote(block), [r"^acme ", "^ok$", "^ok$", "Permission denied"], ["1 "])
+    for command in ["stop", "org-add mine", "token-revoke acme root"]:
+        shell.does(asks % (command, "/root/operator.monitor.curl"), ["need-admin"], ["22 "])
+    shell.does(asks % ("token-list acme", "/root/operator.monitor.curl"), ["^root admin - -$"])
+    shell.does("cp /root/operator.contractor.curl /room; " + asks % ("org-list", "/room/operator.contractor.curl"), ["^acme "])
+    # (what a service would refuse leaves the file as it is, and no header)
+    for words, why in [("Ann", "NAME"), ("dan lists", "the line must be"), ("dan until=soon", "until="), ("dan list until=7", "the line must be")]:
+        shell.does("cp /root/operator /room/same; add_operator /root/operator %s; cmp /root/operator /room/same; ls /root/operator.*dan* /root/operator.new" % words, ["^custody: bad line 5$", why], [".*"] * 2)
+    shell.does("remove_operator /root/operator contract", ["has no operator contract"], ["1 "])
+    edited = page.inline("check_operators /root/operator.new < COPY && mv /root/operator.new /root/operator").replace("COPY", "/room/copy")
+    shell.does("{ cat /root/operator; echo; } > /room/copy; " + edited, ["^custody: bad line 5$"], [".*"])
+    shell.does("cp /root/operator /room/copy; %scmp /root/operator /room/same" % edited)
+    shell.runs(page, "list_operators /root/operator", ["^operator$", "^ann$", r"^contractor until=\d{10}$", "^monitor list$"])
+    serves()
+    shell.does(asks % ("org-list", "/room/operator.contractor.curl"), ["bad-token"], ["22 "])
+    said("the operators", shell.does("list_operators /root/operator; ls /root/operator.*"), "operator\nann\nmonitor list\n/root/operator.curl\n/root/operator.monitor.curl\n")
     shell.runs(page, "new_operator && systemctl restart custody")
     serves()
-    shell.does('curl -sS --noproxy "*" -K /room/former.curl --data-binary org-list --unix-socket %s http://localhost/operator' % SOCKET, ["bad-token"])
-    shell.runs(page, "exchanges | jq -ac 'select(.operator) ", [r'^\["20.*Z",200,"add token","acme","ci-3"\]$', r'^\["20.*Z",401,', "^acme:$", "^root admin - -$"])
+    shell.does(asks % ("org-list", "/room/former.curl"), ["bad-token"], ["22 "])
+    shell.does(as_ann + shlex.quote(page.block(names)), ["^acme "])
+    # (the stop of the last restart has the new secret, which the service does not know yet)
+    shell.runs(page, "exchanges | jq -ac 'select(has(", [
+        r'^\["20.*Z","operator",200,"add token","acme","ci-3"\]$', r'^\["20.*Z","ann",200,"add organization","anns",null\]$', r'^\["20.*Z","monitor",403,null,null,null\]$',
+        r'^\["20.*Z","operator",200,"stop",null,null\]$', r'^\["20.*Z",null,401,null,null,null\]$', r'^\["20.*Z","add organization","anns",null\]$'])
+    shell.runs(page, "echo org-list | operator | while", ["^acme:$", "^root admin - -$"])
+    shell.does("userdel --remove ann 2> /dev/null; rm /root/operator.monitor.curl")
 
 
 def locks(page, shell):
@@ -990,6 +1021,10 @@ def growing():
         block = ". /usr/share/custody/functions.sh\nadd_organization none"
         shell.runs(page, block)
         shell.does("organizations; new_token beta ci write; echo token-list beta | operator beta", ["^acme$", "^ok$", "^ci write", "^root admin - -$"])
+        shell.does("add_operator /root/operators/beta ann list; systemctl restart custody@beta")
+        serves("/run/custody/beta/socket")
+        own = "SOCKET=/run/custody/beta/socket OPERATOR=/root/operators/beta.ann.curl operator"
+        shell.does("echo org-list | %s; echo stop | %s" % (own, own), ["^beta 1 200$", "need-admin"], ["22 "])
         shell.runs(page, "each_organization list_organization", ["^acme [0-9]+ 300$", "^beta 1 200$"])
         shell.does("exchanges beta | tail -n 1", ['"organization":"beta"'])
         shell.runs(page, "each_organization back_up_organization")
@@ -999,7 +1034,7 @@ def growing():
         shell.does("curl -sS -K /root/beta.root.curl -X UNLOCK %s/state/net" % beta)
         shell.runs(page, "remove_organization beta")
         shell.does(look, ["bad-token"])
-        said("the folder of beta", os.path.exists("/var/lib/custody/beta"), False)
+        said("the folder of beta, and its operators", [os.path.exists("/var/lib/custody/beta"), glob.glob("/root/operators/beta*")], [False, []])
         shell.runs(page, block)
         shell.does("echo org-list | operator beta", ["^beta 0 200$"])
     return page.done()

@@ -78,16 +78,9 @@ REPLAYED = [
     "ten runs with keys",
 ]
 
-# The act of each command at the operator's door, as the log has it; commands, the replies, and what they leave in the tables.
-DOOR_ACTS = {
-    b"org-add": "add organization",
-    b"org-limit": "limit organization",
-    b"org-list": "list organizations",
-    b"org-remove": "remove organization",
-    b"token-add": "add token",
-    b"token-list": "list tokens",
-    b"token-revoke": "revoke token",
-}
+# An operator who may only list. Commands at the operator's door, the replies, and what they leave in the tables; one without a reply
+# is that operator's, and refused.
+LISTER = doors.Operator(["eye", "listlistlistlist1", "list"])
 AT_DOOR = [
     (b"org-add acme", b"ok\n", "INSERT INTO org VALUES ('acme', 200)"),
     (
@@ -99,6 +92,8 @@ AT_DOOR = [
     (b"token-list acme", b"ci write 253402300799 ne\n"),
     (b"org-limit acme 3", b"ok\n", "UPDATE org SET cap = 3"),
     (b"org-list", b"acme 0 3\n"),
+    (b"token-revoke acme ci", None),
+    (b"stop", None),
     (b"token-revoke acme ci", b"ok\n", "DELETE FROM token", "DELETE FROM bound"),
     (b"org-remove acme", b"ok\n", "DELETE FROM org"),
     (b"org-remove acme", b"refused absent\n"),
@@ -593,7 +588,10 @@ def told_at_door(command, text):
     word, *names = command.split(b" ")
     org = names[0].decode() if names else None
     subject = names[1].decode() if word in (b"token-add", b"token-revoke") else None
-    told = doors.done(command, text, DOOR_ACTS[word], org, subject)
+    if text is None:
+        told = doors.turned(command, doors.by(LISTER, command), "need-admin", LISTER.name)
+    else:
+        told = doors.done(command, text, doors.ACTS[word], org, subject)
     told.row = model.row_of(MOMENT, **{key: told.row[key] for key in told.row if key != "end"})
     return told
 
@@ -602,7 +600,7 @@ def refuse_door(custody, library, story, folder, *options):
     """Each command at the operator's door in turn, over a new file. (The story tells only its name.)"""
     counts, due, file = Counts(), Due(), File(folder)
     words = [custody, "serve", "--db", "t.db", "--port", "8090", "--count", "1000000", "--idle", "3600", "--most", "3600", "--operator", *options]
-    with Program(library, "accept", words, folder, doors.SECRET + b"\n") as program:
+    with Program(library, "accept", words, folder, doors.SECRET + b"\neye listlistlistlist1 list\n") as program:
         service = Service(program, file, counts, Earlier())
         for command, text, *leaves in AT_DOOR:
             before = due.rows()

@@ -3,25 +3,62 @@
 # Runs a command of custody as the service's user.
 as_custody() { runuser -u custody -- custody "$@"; }
 
-# FILE: writes a new secret to a new file that only its owner may read.
-new_secret() { (umask 077; set -C; echo "$(head -c 24 /dev/urandom | od -An -v -tx1 | tr -d ' \n')" > "$1"); }
+# Prints a new secret.
+some_secret() { head -c 24 /dev/urandom | od -An -v -tx1 | tr -d ' \n'; }
 
-# [ORG]: makes the operator's secret, or replaces it: of the one service, or of the organization's own. A service takes it at its next start.
+# FILE: writes a new secret to a new file that only its owner may read.
+new_secret() { (umask 077; set -C; echo "$(some_secret)" > "$1"); }
+
+# [ORG]: adds the operator `operator` to the one service or the organization's own, or gives it a new secret. It is root's and the unit's:
+# the functions below and `ExecStop=` send its secret. A service takes it at its next start.
 new_operator() {
     local file=/root/operator
     [ -z "${1-}" ] || { file=/root/operators/$1; install -d -m 700 /root/operators; }
-    rm -f "$file.new"
-    new_secret "$file.new" &&
-        (umask 077; echo "header = \"Authorization: Operator $(cat "$file.new")\"" > "$file.curl") &&
+    add_operator "$file" operator
+}
+
+# FILE NAME [until=SECONDS] [list]: adds an operator to a service's file (/root/operator, /root/operators/ORG), or replaces the one of this
+# name. Leaves curl's header with the new secret in FILE.NAME.curl (of `operator` in FILE.curl). A service takes the file at its next start.
+add_operator() {
+    local file=$1 name=$2 secret="$(some_secret)" line header
+    shift 2 || return 2
+    line="$name $secret${*:+ $*}" header=$file.$name.curl
+    [ "$name" != operator ] || header=$file.curl
+    [ "$line" != "operator $secret" ] || line=$secret
+    { other_operators "$file" "$name" && echo "$line"; } | check_operators "$file.new" &&
+        (umask 077; echo "header = \"Authorization: Operator $secret\"" > "$header") &&
         mv "$file.new" "$file"
 }
 
+# FILE NAME: removes an operator from a service's file, and its header. The service refuses its secret from the next start on.
+remove_operator() {
+    list_operators "$1" | cut -d ' ' -f 1 | grep -qxF -e "$2" || { echo "$1 has no operator $2" >&2; return 1; }
+    other_operators "$1" "$2" | check_operators "$1.new" && mv "$1.new" "$1" && rm -f "$1.$2.curl"
+}
+
+# FILE: prints the operators of a service's file without their secrets. (A secret alone is that of `operator`.)
+list_operators() { awk 'NF == 1 { print "operator" } NF > 1 { $2 = $1; $1 = ""; print substr($0, 2) }' "$1"; }
+
+# FILE NAME: prints the lines of the other operators.
+other_operators() { [ ! -e "$1" ] || awk -v name="$2" '(NF > 1 ? $1 : "operator") != name' "$1"; }
+
+# NEW: writes the lines on standard input to this file. If a service would refuse them, it says why, and removes the file. (The program
+# reads the operators first. At these paths nothing can be opened, so it then ends with status 3.)
+check_operators() {
+    local said status=0
+    rm -f "$1"
+    (umask 077; cat > "$1") || return
+    said=$(custody serve --db /dev/null/none --socket /dev/null/none --count 1 --operator < "$1" 2>&1) || status=$?
+    [ "$status" = 3 ] || { rm -f "$1"; echo "$said" >&2; return 1; }
+}
+
 # [ORG]: sends the command on standard input to an operator's door, and never to a proxy: of the organization's own service if it has
-# one, otherwise of the one at SOCKET (/run/custody/socket), or at PORT if that is set. A service that starts has a minute to make its socket.
+# one, otherwise of the one at SOCKET (/run/custody/socket), or at PORT if that is set, with curl's header in OPERATOR (/root/operator.curl).
+# A service that starts has a minute to make its socket.
 operator() {
-    local socket=${SOCKET:-/run/custody/socket} port=${PORT:-} secret=/root/operator left=60
+    local socket=${SOCKET:-/run/custody/socket} port=${PORT:-} header=${OPERATOR:-/root/operator.curl} left=60
     if [ "${1-}" ] && [ -e "/root/operators/$1" ]; then
-        socket=/run/custody/$1/socket port= secret=/root/operators/$1
+        socket=/run/custody/$1/socket port= header=/root/operators/$1.curl
     fi
     if [ "$port" ]; then
         set -- "http://127.0.0.1:$port/operator"
@@ -29,7 +66,7 @@ operator() {
         set -- --unix-socket "$socket" http://localhost/operator
         until [ -S "$socket" ] || [ $((left -= 1)) -lt 0 ]; do sleep 1; done
     fi
-    curl -sS --noproxy '*' --fail-with-body --retry 6 --retry-connrefused -K "$secret.curl" --data-binary @- "$@"
+    curl -sS --noproxy '*' --fail-with-body --retry 6 --retry-connrefused -K "$header" --data-binary @- "$@"
 }
 
 # ORG NAME: leaves a new secret in /root/ORG.NAME, and curl's header with it in /root/ORG.NAME.curl.
@@ -206,5 +243,5 @@ remove_organization() {
     fi
     rm -f "/etc/custody/organizations/$org" && reload_front || return
     systemctl disable --quiet --now "custody@$org" "custody-backup@$org.timer" &&
-        rm -rf "/var/lib/custody/$org" && rm -f "/root/operators/$org" "/root/operators/$org.curl"
+        rm -rf "/var/lib/custody/$org" && rm -f "/root/operators/$org" "/root/operators/$org".*
 }

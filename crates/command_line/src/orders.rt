@@ -116,8 +116,8 @@ pub enum Order<'a> {
     },
     /// To answer so many connections from a file, at an address; `UNLIMITED` where no number is asked for.
     /// Where `logs` is true, a line is printed for each exchange. Where `checks` is true, faults in
-    /// the file's tables are looked for first. Where `operates` is true, the secret of an operator's door
-    /// is read first.
+    /// the file's tables are looked for first. Where `operates` is true, the operators of the door
+    /// are read first.
     Serve {
         db: &'a str,
         address: Address<'a>,

@@ -309,7 +309,7 @@ fn with_flags<'a>(
     let log_help = "Print one line of JSON per exchange to standard output";
     let check_help = "Check the file's tables first, and refuse to start if they have faults";
     let operator_help =
-        "Accept an operator's commands at /operator. The operator's secret is read from standard input: one line of 16 to 64 ASCII letters or digits";
+        "Accept operators' commands at /operator. The operators are read from standard input, one per line: NAME SECRET [until=SECONDS] [list], or SECRET alone";
     let logging = with_arg(bare, flag(alloc, "log", log_help));
     let checking = with_arg(logging, flag(alloc, "check", check_help));
     with_arg(checking, flag(alloc, "operator", operator_help))

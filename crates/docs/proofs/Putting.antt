@@ -4,7 +4,7 @@ use Rattle.docs.proofs.Outside.{drop_more, drop_all, print, Token, begin_object,
 use Rattle.std.specs.Option.{IsSomeAnd, option_copied}
 use Rattle.basis.specs.declared.runs.RunAction.{RunAction}
 use Rattle.docs.specs.Bodies.{action_value, text_value, objects}
-use Rattle.docs.specs.Logs.{subject_member}
+use Rattle.docs.specs.Logs.{door_member}
 use Rattle.docs.specs.Inner.Put.{Puts, PutsValue, PutsItems, IsBegun, with_member, with_members, ahead, text_of, object_text}
 
 -- ---- members, one behind another
@@ -41,11 +41,11 @@ text_made (Some x) None text post is each = absurd is
 pub text_lent : (from : Option (List ℕ)) (lent made : Option (Bor (List ℕ))) (post : Bor (List ℕ) → Bor (List ℕ) → Type 0) → option_copied lent ≡ from → MatchOption lent (made ≡ None) (λ x. IsSomeAnd made (post x)) → ((x y : Bor (List ℕ)) → post x y → y.now ≡ x.now) → text_value (option_copied made) ≡ text_value from
 text_lent from lent made post lends is each = ap text_value (text_made lent made (λ x. x.now) post is each ∙ lends)
 
--- a subject put is that of what it is lent from
-pub subject_as : {old new : Written} (operator : Bool) (from : Option (List ℕ)) (lent made : Option (Bor (List ℕ))) (post : Bor (List ℕ) → Bor (List ℕ) → Type 0) → option_copied lent ≡ from → MatchOption lent (made ≡ None) (λ x. IsSomeAnd made (post x)) → ((x y : Bor (List ℕ)) → post x y → y.now ≡ x.now)
-    → Puts old new (subject_member operator (option_copied made)) → Puts old new (subject_member operator from)
-subject_as {old} {new} operator from lent made post lends is each put =
-    subst (λ (o : Option (List ℕ)). Puts old new (subject_member operator o)) (text_made lent made (λ x. x.now) post is each ∙ lends) put
+-- a member of a request at the door that is put is that of what it is lent from
+pub at_door_as : {old new : Written} (at_door : Bool) (name : List ℕ) (from : Option (List ℕ)) (lent made : Option (Bor (List ℕ))) (post : Bor (List ℕ) → Bor (List ℕ) → Type 0) → option_copied lent ≡ from → MatchOption lent (made ≡ None) (λ x. IsSomeAnd made (post x)) → ((x y : Bor (List ℕ)) → post x y → y.now ≡ x.now)
+    → Puts old new (door_member at_door name (option_copied made)) → Puts old new (door_member at_door name from)
+at_door_as {old} {new} at_door name from lent made post lends is each put =
+    subst (λ (o : Option (List ℕ)). Puts old new (door_member at_door name o)) (text_made lent made (λ x. x.now) post is each ∙ lends) put
 
 -- a number made of what may be absent
 pub number_made : (from made : Option ℕ) (post : ℕ → ℕ → Type 0) → MatchOption from (made ≡ None) (λ x. IsSomeAnd made (post x)) → ((x y : ℕ) → post x y → y ≡ x) → made ≡ from

@@ -1,5 +1,5 @@
 -- What is escaped reads back: a JSON string with its escapes for what acts on a terminal has the same text as without them.
-use Rattle.docs.proofs.Outside.{◌≡◌, refl, sym, ap, ap₂, ◌∙◌, subst, arith, ℕ, zero, suc, ◌+◌, ◌*◌, ◌<◌, ◌≤◌, ◌==◌, ◌%◌, ◌/◌, ◌&&◌, ◌||◌, ◌⊎◌, inl, inr, List, [], ◌∷◌, ◌++◌, append_assoc, append-nil, get_or, drop, length, Bool, true, false, cond, nat_lt, Option, Some, None, IfSome, ◌^◌, eqb-true, ne_eqb, le-ltb, lt-ltb, ltb-true, ltb-false, take, take-append-drop, eqb-false, lt-leb, cases_lt, cases_eq, and_parts, or_parts, agree_below_at, encode_ascii, digit_char, digit_value, encode_utf8, Token, json_tokens, HasNumbers, MembersHaveNumbers, Lexeme, token, comma, colon, string_token, Mode, lex, lex_byte, between, in_string, operator, space, other, fresh, punctuate, tokens, escape_letter, escape_byte, escape, quoted, token_text, ends, begins, print_from, IsPrintable, ArePrintable, escape_byte_plain, content-escape, lex-escape, print-outline, Members, outline, members_outline}
+use Rattle.docs.proofs.Outside.{codes, ◌≡◌, refl, sym, ap, ap₂, ◌∙◌, subst, arith, ℕ, zero, suc, ◌+◌, ◌*◌, ◌<◌, ◌≤◌, ◌==◌, ◌%◌, ◌/◌, ◌&&◌, ◌||◌, ◌⊎◌, inl, inr, List, [], ◌∷◌, ◌++◌, append_assoc, append-nil, get_or, drop, length, Bool, true, false, cond, nat_lt, Option, Some, None, IfSome, ◌^◌, eqb-true, ne_eqb, le-ltb, lt-ltb, ltb-true, ltb-false, take, take-append-drop, eqb-false, lt-leb, cases_lt, cases_eq, and_parts, or_parts, agree_below_at, encode_ascii, digit_char, digit_value, encode_utf8, Token, json_tokens, HasNumbers, MembersHaveNumbers, Lexeme, token, comma, colon, string_token, Mode, lex, lex_byte, between, in_string, operator, space, other, fresh, punctuate, tokens, escape_letter, escape_byte, escape, quoted, token_text, ends, begins, print_from, IsPrintable, ArePrintable, escape_byte_plain, content-escape, lex-escape, print-outline, Members, outline, members_outline}
 use Rattle.json.specs.Text.{content, plain, prepend, code_unit, short_escape}
 use Rattle.json.specs.Word.{is_operator, is_space, ends_word, word}
 use Rattle.json.proofs.Printed.Numbers.{in_word-ended, lex-number}
@@ -9,7 +9,7 @@ use Rattle.json.proofs.Printed.Trees.{ArePrintable-json_tokens}
 use Rattle.docs.specs.Bodies.{number_value, text_value}
 use Rattle.docs.specs.declared.logs.LogRow.{LogRow}
 use Rattle.docs.specs.Escapes.{acting, code_of, behind_first, unicode_escape, escaped_from, escaped}
-use Rattle.docs.specs.Logs.{log_value, log_line, operator_member, subject_member, HasWords, LinesReadBack}
+use Rattle.docs.specs.Logs.{log_value, log_line, door_member, HasWords, LinesReadBack}
 use Rattle.docs.proofs.Escaping.{Shown, shown_from, none_acts, AreHigh, begun, acts_small, joined}
 use Rattle.docs.proofs.Lines.{escape_shown, itself, IsShown, AreShown, tokens_shown}
 
@@ -268,19 +268,15 @@ number_in (Some n) fits h = (IsNumber-decimal n fits, h)
 abbrev Numbered : Members → Type 0
 Numbered ms = MembersHaveNumbers (members_outline ms)
 
-operator_in : (operator : Bool) (rest : Members) → Numbered rest → Numbered (operator_member operator rest)
-operator_in true rest h = (tt, h)
-operator_in false rest h = h
-
-subject_in : (operator : Bool) (subject : Option (List ℕ)) (rest : Members) → Numbered rest → Numbered (subject_member operator subject rest)
-subject_in true subject rest h = text_in subject h
-subject_in false subject rest h = h
+at_door_in : (at_door : Bool) (name : List ℕ) (text : Option (List ℕ)) (rest : Members) → Numbered rest → Numbered (door_member at_door name text rest)
+at_door_in true name text rest h = text_in text h
+at_door_in false name text rest h = h
 
 row_numbers : (connection : ℕ) (end : List ℕ) (row : LogRow) → HasWords connection row → HasNumbers (outline (log_value connection end row))
 row_numbers connection end row words =
     text_in _ (number_in (Some row.at) words.at_fits (number_in (Some connection) words.connection_fits (text_in (Some end) (text_in row.id (number_in row.number words.number_fits (
-    operator_in row.operator _ (text_in row.organization (text_in _ (number_in row.run words.run_fits (number_in row.status words.status_fits (
-    subject_in row.operator row.subject _ (text_in row.token (number_in row.version words.version_fits (text_in row.workspace tt))))))))))))))
+    at_door_in row.at_door (codes "operator") row.operator _ (text_in row.organization (text_in _ (number_in row.run words.run_fits (number_in row.status words.status_fits (
+    at_door_in row.at_door (codes "subject") row.subject _ (text_in row.token (number_in row.version words.version_fits (text_in row.workspace tt))))))))))))))
 
 pub lines_read_back : LinesReadBack
 unfolding log_line

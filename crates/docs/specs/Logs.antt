@@ -3,7 +3,7 @@ use Rattle.std.specs.Prelude.{◌≡◌, ℕ, ◌^◌, ◌<◌, ◌≤◌, Bool,
 use Rattle.std.specs.List.{AllByRecursion}
 use Rattle.json.specs.Lex.{tokens}
 use Rattle.json.specs.Tree.{json_tokens}
-use Rattle.serde_json.specs.Data.{Data, Members, boolean, number, unsigned, string, object, member, no_members}
+use Rattle.serde_json.specs.Data.{Data, Members, number, unsigned, string, object, member, no_members}
 use Rattle.serde_json.specs.Written.{compact_text, outline}
 use Rattle.basis.specs.Acts.{act_word}
 use Rattle.basis.specs.Refusals.{line_of}
@@ -32,14 +32,10 @@ log_word ListWorkspaces = codes "list workspaces"
 log_word (OfWorkspace act) = act_word act
 log_word (OfOperator act) = operator_word act
 
--- only the line of a request that came to the operator's door has these two members: `true`, and the token that was added or revoked
-abbrev pub operator_member : Bool → Members → Members
-operator_member true rest = member (codes "operator") (boolean true) rest
-operator_member false rest = rest
-
-abbrev pub subject_member : Bool → Option (List ℕ) → Members → Members
-subject_member true subject rest = member (codes "subject") (text_value subject) rest
-subject_member false subject rest = rest
+-- only the line of a request that came to the operator's door has this member
+abbrev pub door_member : Bool → List ℕ → Option (List ℕ) → Members → Members
+door_member true name text rest = member name (text_value text) rest
+door_member false name text rest = rest
 
 -- an exchange of a connection, and how it ended
 abbrev pub log_value : ℕ → List ℕ → LogRow → Data
@@ -50,12 +46,12 @@ log_value connection end row = object (
     member (codes "end") (string end) (
     member (codes "id") (text_value row.id) (
     member (codes "number") (number_value row.number) (
-    operator_member row.operator (
+    door_member row.at_door (codes "operator") row.operator (
     member (codes "organization") (text_value row.organization) (
     member (codes "refusal") (text_value (option_map (λ refusal. (line_of refusal).word) row.refusal)) (
     member (codes "run") (number_value row.run) (
     member (codes "status") (number_value row.status) (
-    subject_member row.operator row.subject (
+    door_member row.at_door (codes "subject") row.subject (
     member (codes "token") (text_value row.token) (
     member (codes "version") (number_value row.version) (
     member (codes "workspace") (text_value row.workspace) no_members)))))))))))))))

@@ -1,12 +1,12 @@
 //! The lines of the log: one of compact JSON for each exchange.
 ghost use Rattle.std.specs.Prelude.{◌≡◌, IfOk, OnOk, option_map};
 ghost use Rattle.std.specs.Option.{option_copied};
-ghost use Rattle.docs.specs.Logs.{operator_word, log_word, operator_member, subject_member, log_line, ExchangesAreLines, LinesReadBack};
+ghost use Rattle.docs.specs.Logs.{operator_word, log_word, door_member, log_line, ExchangesAreLines, LinesReadBack};
 ghost use Rattle.docs.specs.Inner.Put.{Puts};
 ghost use Rattle.docs.specs.Inner.Logs.{asked, named, outcome, made};
 
 use crate::escapes::escape_acting;
-use crate::put::{begin_text, end_text, put_flag, put_number, put_text, whole_number};
+use crate::put::{begin_text, end_text, put_number, put_text, whole_number};
 use basis::{Down, LockId, Moment, Number, OrgName, Refusal, Text, WsAct, WsName};
 use json::Writer;
 use std::alloc::{AllocError, Global};
@@ -72,12 +72,14 @@ pub struct LogRow {
     pub act: Option<LogAct>,
     /// The moment of the exchange, which is always there.
     pub at: Moment,
+    /// Whether the request came to the operator's door. The line has `operator` and `subject` only if it did.
+    pub at_door: bool,
     /// The lock's ID that the request names; absent where it names none.
     pub id: Option<LockId>,
     /// The number of the version or the run that the request names or makes; absent where there is none.
     pub number: Option<Number>,
-    /// Whether the request came to the operator's door. The line has this field and `subject` only if it did.
-    pub operator: bool,
+    /// The name of the operator whose secret the request brings; absent if it brings none that counts.
+    pub operator: Option<OrgName>,
     /// The organization that the token or the command names; absent if neither names one.
     pub organization: Option<OrgName>,
     /// Why the request is refused; absent where it isn't.
@@ -155,35 +157,34 @@ fn put_asked(
     put_text(writer, "end", Some(end))
 }
 
-// Whether the request came to the operator's door; only if it did.
-fn put_operator(writer: &mut Writer, operator: bool) -> Result<(), AllocError>
-    ensures { OnOk result (Puts writer.old writer.new (operator_member operator)) }
+// A member of the line of a request that came to the operator's door, and of no other.
+fn put_at_door(
+    writer: &mut Writer,
+    at_door: bool,
+    name: &str,
+    text: Option<&str>,
+) -> Result<(), AllocError>
+    ensures { OnOk result (Puts writer.old writer.new (door_member at_door name.now (option_copied text.entry))) }
 {
-    if operator {
-        put_flag(writer, "operator", true)
+    if at_door {
+        put_text(writer, name, text)
     } else {
         Ok(())
     }
 }
 
-// The token that a command is about; only if it came to the operator's door.
-fn put_subject(writer: &mut Writer, operator: bool, subject: Option<&str>) -> Result<(), AllocError>
-    ensures { OnOk result (Puts writer.old writer.new (subject_member operator (option_copied subject.entry))) }
-{
-    if operator {
-        put_text(writer, "subject", subject)
-    } else {
-        Ok(())
-    }
-}
-
-// The lock's ID, the number, the operator's flag and the organization.
+// The lock's ID, the number, the operator and the organization.
 fn put_named(writer: &mut Writer, row: &LogRow) -> Result<(), AllocError>
     ensures { OnOk result (Puts writer.old writer.new (named row.now)) }
 {
     put_text(writer, "id", row.id.as_ref().map(LockId::as_str))?;
     put_number(writer, "number", row.number.map(whole_number))?;
-    put_operator(writer, row.operator)?;
+    put_at_door(
+        writer,
+        row.at_door,
+        "operator",
+        row.operator.as_ref().map(OrgName::as_str),
+    )?;
     put_text(
         writer,
         "organization",
@@ -204,9 +205,10 @@ fn put_outcome(writer: &mut Writer, row: &LogRow) -> Result<(), AllocError>
 fn put_made(writer: &mut Writer, row: &LogRow) -> Result<(), AllocError>
     ensures { OnOk result (Puts writer.old writer.new (made row.now)) }
 {
-    put_subject(
+    put_at_door(
         writer,
-        row.operator,
+        row.at_door,
+        "subject",
         row.subject.as_ref().map(OrgName::as_str),
     )?;
     put_text(writer, "token", row.token.as_ref().map(Text::as_str))?;

@@ -15,4 +15,5 @@ mod CopyLemmas
 mod RemoveLemmas
 mod BatchLemmas
 mod LineFaultLemmas
+mod OperatorLemmas
 pub mod InputLemmas

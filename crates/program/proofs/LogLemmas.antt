@@ -10,7 +10,7 @@ use Rattle.wire.specs.Replies.{Answer}
 use Rattle.wire.specs.declared.devices.Inlet as inlet
 use Rattle.wire.specs.declared.devices.Outlet as outlet
 use Rattle.serve.specs.Asks.{Ask, silent, refused, requests, commands, stops, owner_of}
-use Rattle.serve.specs.Doors.{IsAnswerTo}
+use Rattle.serve.specs.Doors.{operator_with, IsAnswerTo}
 use Rattle.serve.specs.Exchanges.{IsAnswered, Exchanges, ChangesAsLogged}
 use Rattle.serve.specs.declared.doors.Door.{Door}
 use Rattle.serve.specs.Logs.{silent_row, with_answer, request_row, command_row, no_command_row, stop_row, row_of_ask}
@@ -52,18 +52,18 @@ heard_log true line old heard new first log = (log.0, Appends-trans old heard ne
 heard_log false line old heard new first same = ([], subst (λ (o : Option (List ℕ)). Appends old o line) (sym same) first)
 
 -- of each exchange something is told
-served_row : (rows : List ℕ → Option Organization) (r : Option Organization) (now : ℕ) (awaited : Bool) (ask : Ask) (answer : Answer) (row : Option LogRow)
-    → IsAnswerTo rows now awaited ask answer → row ≡ row_of_ask r ask answer → (reported : LogRow) × (row ≡ Some reported)
-served_row rows r now awaited silent answer row answers is = absurd answers
-served_row rows r now awaited (refused when due refusal is_head false) answer row answers is = (with_answer (refusing refusal r).answer (silent_row when), is)
-served_row rows r now awaited (refused when due refusal is_head true) answer row answers is = (no_command_row when (refusing refusal r).answer, is)
-served_row rows r now awaited (requests when due asked content_md5 body) answer row answers is = (request_row r when asked content_md5 body, is)
-served_row rows r now awaited (commands when command) answer row answers is = (command_row when command answer, is)
-served_row rows r now awaited (stops when) answer row answers is = (stop_row when answer, is)
+served_row : (by : Option (List ℕ)) (rows : List ℕ → Option Organization) (r : Option Organization) (now : ℕ) (awaited : Bool) (ask : Ask) (answer : Answer) (row : Option LogRow)
+    → IsAnswerTo rows now awaited ask answer → row ≡ row_of_ask by r ask answer → (reported : LogRow) × (row ≡ Some reported)
+served_row by rows r now awaited silent answer row answers is = absurd answers
+served_row by rows r now awaited (refused when due refusal is_head false) answer row answers is = (with_answer (refusing refusal r).answer (silent_row when), is)
+served_row by rows r now awaited (refused when due refusal is_head true) answer row answers is = (no_command_row when by (refusing refusal r).answer, is)
+served_row by rows r now awaited (requests when due asked content_md5 body) answer row answers is = (request_row r when asked content_md5 body, is)
+served_row by rows r now awaited (commands when command) answer row answers is = (command_row when by command answer, is)
+served_row by rows r now awaited (stops when) answer row answers is = (stop_row when by answer, is)
 
 answered_row : (door : Door) (now : ℕ) (received : List ℕ) (old new : List ℕ → Option Organization) (awaited : Bool) (text : List ℕ) (row : Option LogRow) (is_down : Bool)
     → IsAnswered door now received old new awaited text row is_down → (reported : LogRow) × (row ≡ Some reported)
-answered_row door now received old new awaited text row false served = served_row old (record_for old (owner_of served.ask)) now awaited served.ask served.answer row served.carried.answers served.logged
+answered_row door now received old new awaited text row false served = served_row (operator_with door now served.carried.asks.reading) old (record_for old (owner_of served.ask)) now awaited served.ask served.answer row served.carried.answers served.logged
 answered_row door now received old new awaited text row true down = (down.1.reported, down.1.reports)
 
 row_there : {T : Type 0} (door : Door) (now : ℕ) (received : List ℕ) (left : Option (List ℕ)) (old new : List ℕ → Option Organization) (before after : Option (List ℕ)) (is_down : Bool) (row : Option LogRow) (res : Result T LinkFault)

@@ -42,6 +42,10 @@ log_line = codes "custody: the WAL could not be copied into the file: keep the f
 abbrev pub readers_line : List ℕ
 readers_line = codes "custody: users other than its owner may read the file or its -wal: chmod 600 ends that\n"
 
+-- the line for operators that take more room than they may
+abbrev pub long_operators_line : List ℕ
+long_operators_line = codes "custody: the lines of the operators have more than 65536 bytes\n"
+
 -- the line for a secret that is not valid
 abbrev pub secret_line : List ℕ
 secret_line = codes "custody: the secret must be one line of 16 to 64 ASCII letters or digits\n"

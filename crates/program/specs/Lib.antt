@@ -9,6 +9,7 @@ pub mod LineFaults
 pub mod Listening
 pub mod Logs
 pub mod Moves
+pub mod Operators
 pub mod Outcomes
 pub mod Paths
 pub mod Replies

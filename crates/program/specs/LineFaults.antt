@@ -8,7 +8,7 @@ use Rattle.serve.specs.Bounds.{bounds_of}
 use Rattle.serve.specs.Parts.{role_of}
 use Rattle.serve.specs.Words.{words_of}
 use Rattle.program.specs.declared.line_faults.LineFault.{LineFault}
-use Rattle.program.specs.declared.line_faults.LineFault.TheVariants.{Return, Long, Encoding, Command, OrgAdd, OrgLimit, OrgRemove, OrgList, TokenAdd, TokenList, TokenRevoke, Org, Name, Role, Secret, Limit, NewLimit, Until, Prefix}
+use Rattle.program.specs.declared.line_faults.LineFault.TheVariants.{Return, Long, Encoding, Command, OrgAdd, OrgLimit, OrgRemove, OrgList, TokenAdd, TokenList, TokenRevoke, Operator, SameName, SameSecret, ManyOperators, NoOperator, Org, Name, Role, Secret, Limit, NewLimit, Until, Prefix}
 
 -- the line on the error stream for each fault. A value is described as for the words of the program
 abbrev pub fault_text : LineFault → List ℕ
@@ -23,6 +23,11 @@ fault_text OrgList = codes "custody: the line must be: org-list, without other w
 fault_text TokenAdd = codes "custody: the line must be: token-add ORG NAME ROLE SECRET [until=SECONDS] [prefix=TEXT], with one space between words\n"
 fault_text TokenList = codes "custody: the line must be: token-list ORG, with one space between words\n"
 fault_text TokenRevoke = codes "custody: the line must be: token-revoke ORG NAME, with one space between words\n"
+fault_text Operator = codes "custody: the line must be: NAME SECRET [until=SECONDS] [list], or SECRET alone, with one space between words\n"
+fault_text SameName = codes "custody: a line before has the same NAME\n"
+fault_text SameSecret = codes "custody: a line before has the same SECRET\n"
+fault_text ManyOperators = codes "custody: there are more than 100 operators\n"
+fault_text NoOperator = codes "custody: there is no operator\n"
 fault_text Org = form_line argument.Org
 fault_text Name = form_line argument.Name
 fault_text Role = form_line argument.Role

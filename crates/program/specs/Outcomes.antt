@@ -1,7 +1,7 @@
 -- What the program does for each command: how it exits, what is printed to both streams, and what is at each path afterwards. Nothing is said
 -- of standard output that did not take everything. The error stream gets each line completely, unless a call on it failed while the line was
 -- written.
-use Rattle.std.specs.Prelude.{◌≡◌, ◌≢◌, ◌<◌, ◌⊎◌, ◌+◌, ◌++◌, ℕ, suc, Bool, List, [], ◌∷◌, ⊤, Option, Some, None, IfSome, Result, Ok, Err, IfOk, true, false, length, is_some}
+use Rattle.std.specs.Prelude.{◌≡◌, ◌≢◌, ◌<◌, ◌≤◌, ◌⊎◌, ◌+◌, ◌++◌, ℕ, suc, Bool, List, [], ◌∷◌, ⊤, Option, Some, None, IfSome, Result, Ok, Err, IfOk, true, false, length, is_some}
 use Rattle.std.specs.Io.KnownBytes.{Appends}
 use Rattle.basis.specs.declared.memory.Down.{Down}
 use Rattle.machine.specs.StoreCalls.{Unchanged, Lasts}
@@ -24,7 +24,7 @@ use Rattle.program.specs.declared.line_faults.LineFault.{LineFault}
 use Rattle.program.specs.declared.batches.BatchLine.{BatchLine}
 use Rattle.program.specs.declared.batches.BatchLine.TheVariants as batch_line
 use Rattle.program.specs.Exits.{ending_line}
-use Rattle.program.specs.Errors.{log_line, readers_line, secret_line, new_line, cause_line, memory_line, other_line, unprinted_line}
+use Rattle.program.specs.Errors.{log_line, readers_line, secret_line, long_operators_line, new_line, cause_line, memory_line, other_line, unprinted_line}
 use Rattle.program.specs.declared.reasons.Cause.{Cause}
 use Rattle.program.specs.declared.reasons.Cause.TheVariants as cause
 use Rattle.program.specs.declared.reasons.OtherSchema.{OtherSchema}
@@ -51,8 +51,9 @@ use Rattle.program.specs.declared.environment.Connections as connections
 use Rattle.command_line.specs.declared.timeouts.Timeouts.{Timeouts}
 use Rattle.program.specs.declared.serving.Terms.{Terms}
 use Rattle.serve.specs.declared.doors.Door.{Door}
-use Rattle.serve.specs.declared.doors.Door.TheVariants.{Closed}
-use Rattle.serve.specs.Doors.{opened_by}
+use Rattle.serve.specs.declared.doors.Door.TheVariants.{Closed, Open}
+use Rattle.serve.specs.declared.operators.Operator.{Operator}
+use Rattle.program.specs.Operators.{AreOperators}
 use Rattle.wire.specs.declared.devices.Inlet as inlet
 use Rattle.wire.specs.declared.devices.Outlet as outlet
 use Rattle.command_line.specs.Words.{asked_in, AskForHelp, AreNoCommand}
@@ -278,16 +279,27 @@ ServesAt IsSite logs exit.Down output =
 ServesAt IsSite logs exit.Unprinted output = ⊤
 ServesAt IsSite logs e output = ⊥
 
--- if an operator's door is asked for (`true`), its secret is on the input
+-- the input is known, it has at most 65,536 bytes, and these are its operators
+abbrev pub HasOperators : Option (List ℕ) → List Operator → Type 0
+HasOperators input operators = IfSome input (λ bytes. (length bytes ≤ 65_536) × AreOperators [] bytes operators None)
+
+-- if an operator's door is asked for (`true`), its operators are on the input
 abbrev pub HasDoor : Bool → Option (List ℕ) → Type 0
-HasDoor true input = HasSecret input
+HasDoor true input = (operators : List Operator) × HasOperators input operators
 HasDoor false input = ⊤
 
--- connections are served at the site that is asked for; if an operator's door is asked for (`operates`), only after its secret is read
+-- a line of the input is no operator, or there is none: `refused usage`, and on the error stream the number of that line and its fault. Or the
+-- input is longer
+abbrev pub RefusesOperators : Option (List ℕ) → Exit → Stream → Errors → Type 0
+RefusesOperators input e output errors = IsSaid exit.Usage e output.old output.new
+    × (((operators : List Operator) × (fault : LineFault) × IfSome input (λ bytes. AreOperators [] bytes operators (Some fault)) × Reports errors.old errors.new (bad_text (length operators + 1) fault))
+    ⊎ (IfSome input (λ bytes. 65_536 < length bytes) × Reports errors.old errors.new long_operators_line))
+
+-- connections are served at the site that is asked for; if an operator's door is asked for (`operates`), only after its operators are read
 abbrev pub ServesBehind : Site → Bool → Bool → Option (List ℕ) → Exit → Stream → Errors → Type 0
 ServesBehind site operates logs input e output errors =
     (HasDoor operates input × ServesAt (IsGivenFor site) logs e output)
-    ⊎ ((operates ≡ true) × ((HasNoSecret input × RefusesUsage e output errors) ⊎ RefusesDown e output))
+    ⊎ ((operates ≡ true) × (RefusesOperators input e output errors ⊎ RefusesDown e output))
 
 -- an exit after operator's commands that were carried out in order
 abbrev pub EndsBatch : Exit → Type 0
@@ -362,9 +374,9 @@ Prints schema words input e output errors =
 abbrev pub IsSecretOf : Option (List ℕ) → List ℕ → Type 0
 IsSecretOf input secret = IfSome input (λ bytes. secret_in bytes ≡ Some secret)
 
--- the door that is asked for: open to the secret on the input (`true`), or closed
+-- the door that is asked for: open to the operators on the input (`true`), or closed
 abbrev pub IsDoor : Bool → Option (List ℕ) → Door → Type 0
-IsDoor true input door = (secret : List ℕ) × IsSecretOf input secret × (door ≡ opened_by secret)
+IsDoor true input door = (operators : List Operator) × HasOperators input operators × (door ≡ Open operators)
 IsDoor false input door = door ≡ Closed
 
 -- the error stream says that others may read the file, exactly if they may
@@ -728,14 +740,13 @@ module _ {K F N C R W : Type 0} (k : keep.Ghosts K) (f : files.Ghosts F K) (n : 
   StartsAt (at_socket at) checks path (Err why) terms count old new e output errors = (new ≡ old) × Refuses why e output errors
 
   -- the network is asked to listen at a site, and nowhere else. With the result of that, connections are answered, with these timeouts,
-  -- the log or no log, and the door that is asked for. Or a door is asked for (`operates`), and the input has no secret or could not be read,
-  -- and nothing changes
+  -- the log or no log, and the door that is asked for. Or a door is asked for (`operates`), and a line of the input is no operator or the
+  -- input could not be read, and nothing changes
   abbrev pub ServesWithDoor : Bool → Bool → List ℕ → Site → Timeouts → Bool → ℕ → Option (List ℕ) → Environment F N C → Environment F N C → Exit → Stream → Errors → Type 0
   ServesWithDoor operates checks path site timeouts logs count input old new e output errors =
       ((door : Door) × IsDoor operates input door × (bound : Result Site Cause) × (network : N) × AsksToListen n site old.network bound network
       × StartsAt site checks path bound (record { timeouts = timeouts; logs = logs; door = door }) count (environment old.files network old.clock) new e output errors)
-      ⊎ ((operates ≡ true) × (new ≡ old) × ((HasNoSecret input × RefusesUsage e output errors × Reports errors.old errors.new secret_line)
-      ⊎ (RefusesDown e output × ReportsCause cause.Input errors)))
+      ⊎ ((operates ≡ true) × (new ≡ old) × (RefusesOperators input e output errors ⊎ (RefusesDown e output × ReportsCause cause.Input errors)))
 
   -- the command is carried out on the store at its path, and on nothing else
   abbrev pub Leaves : Asked → Option (List ℕ) → Environment F N C → Environment F N C → Exit → Stream → Errors → Type 0

@@ -34,7 +34,8 @@ pub struct Batch {
     pub fault: Option<LineFault>,
 }
 
-fn split_first(bytes: &[u8]) -> Option<(&[u8], &[u8])>
+/// The first line, with or without its line feed, and everything after it; none if there are no bytes.
+pub fn split_first(bytes: &[u8]) -> Option<(&[u8], &[u8])>
     ensures parts { option_map (λ found. (found.0.now, found.1.now)) result ≡ line_and_rest bytes.now }
     ensures shorter { IfSome result (λ found. length found.1.now < length bytes.now) }
 {

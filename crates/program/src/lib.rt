@@ -16,6 +16,7 @@ mod listening;
 mod logs;
 mod openings;
 mod operating;
+mod operators;
 pub mod reasons;
 mod removing;
 pub mod replays;

@@ -1,4 +1,4 @@
-//! Why a line is neither skipped nor a command of an operator.
+//! Why a line is neither skipped nor a command of an operator, or is no operator.
 ghost use Rattle.std.specs.Prelude.{◌≡◌, IfOk};
 ghost use Rattle.basis.specs.Names.{is_org_name, is_secret};
 ghost use Rattle.serve.specs.Words.{bytes_of, words_of};
@@ -12,7 +12,7 @@ use serve::parts::read_role;
 use serve::words::split_words;
 use std::alloc::Global;
 
-/// Why a line is neither skipped nor a command: what is at fault in it.
+/// Why a line is neither skipped nor a command, or is no operator of the door: what is at fault in it.
 #[derive(Clone, Copy)]
 pub enum LineFault {
     /// It ends with CR, as a line that ends with CR LF does.
@@ -31,6 +31,16 @@ pub enum LineFault {
     TokenAdd,
     TokenList,
     TokenRevoke,
+    /// Its words are not those of an operator of the door: too few, too many, or one that must be another.
+    Operator,
+    /// A line before it has its name.
+    SameName,
+    /// A line before it has its secret.
+    SameSecret,
+    /// There are as many operators before it as there may be.
+    ManyOperators,
+    /// There is no line.
+    NoOperator,
     /// The value of this word.
     Org,
     Name,
@@ -75,6 +85,13 @@ impl LineFault {
             LineFault::TokenRevoke => {
                 "custody: the line must be: token-revoke ORG NAME, with one space between words\n"
             }
+            LineFault::Operator => {
+                "custody: the line must be: NAME SECRET [until=SECONDS] [list], or SECRET alone, with one space between words\n"
+            }
+            LineFault::SameName => "custody: a line before has the same NAME\n",
+            LineFault::SameSecret => "custody: a line before has the same SECRET\n",
+            LineFault::ManyOperators => "custody: there are more than 100 operators\n",
+            LineFault::NoOperator => "custody: there is no operator\n",
             LineFault::Org => Argument::Org.line(),
             LineFault::Name => Argument::Name.line(),
             LineFault::Role => Argument::Role.line(),

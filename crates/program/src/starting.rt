@@ -1,26 +1,30 @@
 //! The command `serve`: a file is opened, connections are answered from it, and it is closed.
-ghost use Rattle.std.specs.Prelude.{◌≡◌, ◌≢◌, ◌⊎◌, true, Ok, IfOk, OnOk, OnErr, IsErrOf};
-ghost use Rattle.std.specs.Io.KnownBytes.{IsAtEnd};
+ghost use Rattle.std.specs.Prelude.{◌≡◌, ◌≢◌, ◌⊎◌, true, Ok, OnErr};
 ghost use Rattle.command_line.specs.Orders.{site_of};
 ghost use Rattle.machine.specs.StoreCalls.{Lasts};
 ghost use Rattle.program.specs.Listening.{bound_site};
-ghost use Rattle.program.specs.Outcomes.{stream, error_stream, IsSaid, ServesAt, ServesFrom, ServesChecked, ServesAsAsked, RefusesUnsound, RefusesToOpen, environment, IsAlone, SaysServed, HasNoSecret, IsDoor, HasDoor, ServesBehind, StartsAt, ServesWithDoor};
-ghost use Rattle.program.specs.Inputs.{IsReadIf, ReadsAllIf};
+ghost use Rattle.program.specs.Outcomes.{stream, error_stream, IsSaid, ServesAt, ServesFrom, ServesChecked, ServesAsAsked, RefusesUnsound, RefusesToOpen, environment, IsAlone, SaysServed, ServesBehind, StartsAt, ServesWithDoor};
+ghost use Rattle.program.specs.Inputs.{ReadsOperatorsIf};
+ghost use Rattle.program.specs.Batches.{bad_text};
+ghost use Rattle.program.specs.Streams.{Reports};
+ghost use Rattle.program.specs.Inner.Doors.{IsOpenedTo, OpensDoor, IsReadUnlessDown, IsDoorRead};
 ghost use Rattle.program.specs.Inner.Outcomes.{ServesOpened};
 ghost use Rattle.program.specs.Serving.{Listens, Serves, ServesBound, state, AnswersBound};
 
 use crate::checking::check_first;
 use crate::environment::{Clock, Connections, Files, Opening};
-use crate::errors::report_cause;
+use crate::errors::{report_bad_line, report_cause};
 use crate::exits::Exit;
+use crate::line_faults::LineFault;
 use crate::listening::listen;
 use crate::openings::{close_after, open_one};
-use crate::operating::{SECRET_FORM, input_secret, say_why};
+use crate::operating::say_why;
+use crate::operators::{OperatorsRead, read_input, read_operators};
 use crate::reasons::Cause;
 use crate::replies::{refuse, say};
 use crate::serving::{Terms, serve_loop};
 use crate::streams::ErrorStream;
-use basis::Unfit;
+use basis::Down;
 use command_line::Address;
 use command_line::timeouts::Timeouts;
 use machine::Keep;
@@ -219,26 +223,54 @@ fn start_at<K: Keep, F: Files<K>, N: Connections, C: Clock, O: Write, E: ErrorSt
     }
 }
 
-// Reads a secret from the input, and opens the door to it.
-fn open_door<I: Read>(alloc: Global, input: &mut I) -> Result<Door, Unfit>
-    ensures is { IfOk result (IsDoor true (I.remaining input.old)) }
-    ensures has { OnOk result (HasDoor true (I.remaining input.old)) }
-    ensures syntax { IsErrOf result Unfit.Syntax → HasNoSecret (I.remaining input.old) }
-    ensures end { OnOk result (IsAtEnd (I.remaining input.new)) }
-    ensures end_syntax { IsErrOf result Unfit.Syntax → IsAtEnd (I.remaining input.new) }
+/// The line for an input of more than `MAX_INPUT` bytes.
+const LONG_INPUT: &str = "custody: the lines of the operators have more than 65536 bytes\n";
+
+/// Why the door that is asked for is not there.
+#[derive(Clone, Copy)]
+enum Unopened {
+    /// The line of the input with this number, from 1, is no operator: what is at fault in it.
+    Line { number: usize, fault: LineFault },
+    /// The input has more than `MAX_INPUT` bytes.
+    Long,
+    Down,
+}
+
+// The door that is open to these operators, unless a line was none.
+fn door_to(read: OperatorsRead) -> Result<Door, Unopened>
+    ensures { IsOpenedTo read.operators read.fault result }
 {
-    let secret = input_secret(alloc, input)?;
-    Ok(Door::opened_by(&secret))
+    let OperatorsRead { operators, fault } = read;
+    match fault {
+        None => Ok(Door::Open { operators }),
+        Some(fault) => Err(Unopened::Line {
+            number: operators.as_slice().len() + 1,
+            fault,
+        }),
+    }
+}
+
+// Reads the operators from the input, and opens the door to them.
+fn open_door<I: Read>(alloc: Global, input: &mut I) -> Result<Door, Unopened>
+    ensures opens { OpensDoor true (I.remaining input.old) result }
+    ensures end { IsReadUnlessDown (I.remaining input.new) result }
+{
+    let bytes = match read_input(alloc, input) {
+        Ok(Some(bytes)) => bytes,
+        Ok(None) => return Err(Unopened::Long),
+        Err(Down) => return Err(Unopened::Down),
+    };
+    match read_operators(alloc, bytes.as_slice()) {
+        Ok(read) => door_to(read),
+        Err(Down) => Err(Unopened::Down),
+    }
 }
 
 // The door that is asked for: open if `operates` is true.
-fn read_door<I: Read>(alloc: Global, operates: bool, input: &mut I) -> Result<Door, Unfit>
-    ensures is { IfOk result (IsDoor operates (I.remaining input.old)) }
-    ensures has { OnOk result (HasDoor operates (I.remaining input.old)) }
+fn read_door<I: Read>(alloc: Global, operates: bool, input: &mut I) -> Result<Door, Unopened>
+    ensures opens { OpensDoor operates (I.remaining input.old) result }
     ensures asked { OnErr result (operates ≡ true) }
-    ensures syntax { IsErrOf result Unfit.Syntax → HasNoSecret (I.remaining input.old) }
-    ensures input { OnOk result (IsReadIf operates (I.remaining input.old) (I.remaining input.new)) }
-    ensures input_syntax { IsErrOf result Unfit.Syntax → IsReadIf operates (I.remaining input.old) (I.remaining input.new) }
+    ensures input { IsDoorRead operates (I.remaining input.old) (I.remaining input.new) result }
 {
     if operates {
         open_door(alloc, input)
@@ -247,8 +279,21 @@ fn read_door<I: Read>(alloc: Global, operates: bool, input: &mut I) -> Result<Do
     }
 }
 
+fn refuse_line<O: Write, E: ErrorStream>(
+    output: &mut O,
+    errors: &mut E,
+    number: usize,
+    fault: LineFault,
+) -> Exit
+    ensures said { IsSaid Exit.Usage result (O.contents output.old) (O.contents output.new) }
+    ensures reported { Reports (E.reported errors.old) (E.reported errors.new) (bad_text number fault) }
+{
+    report_bad_line(errors, number, fault);
+    say(output, Exit::Usage)
+}
+
 /// Answers connections from the file at a path, with these timeouts, with the log or without it. If `operates` is true, the
-/// operator's door is open, and its secret is read first. The network listens before the file is opened, so that peers who
+/// operator's door is open, and its operators are read first. The network listens before the file is opened, so that peers who
 /// come meanwhile wait. A port that cannot be had is reported once the file is open.
 pub fn serve_with_door<
     K: Keep,
@@ -276,7 +321,7 @@ pub fn serve_with_door<
 ) -> Exit
     ensures line { ServesBehind (site_of address.entry) operates logs (I.remaining input.old) result (stream (O.contents output.old) (O.contents output.new)) (error_stream (E.reported errors.old) (E.reported errors.new)) }
     ensures serves { ServesWithDoor K.Keep F.Files N.Connections C.Clock N.Reader.Inlet N.Writer.Outlet operates checks db.now (site_of address.entry) timeouts logs count (I.remaining input.old) (environment files.old network.old clock.old) (environment files.new network.new clock.new) result (stream (O.contents output.old) (O.contents output.new)) (error_stream (E.reported errors.old) (E.reported errors.new)) }
-    ensures input { ReadsAllIf operates (I.remaining input.old) (I.remaining input.new) result (stream (O.contents output.old) (O.contents output.new)) (error_stream (E.reported errors.old) (E.reported errors.new)) }
+    ensures input { ReadsOperatorsIf operates (I.remaining input.old) (I.remaining input.new) result (stream (O.contents output.old) (O.contents output.new)) (error_stream (E.reported errors.old) (E.reported errors.new)) }
 {
     match read_door(alloc, operates, input) {
         Ok(door) => {
@@ -291,7 +336,8 @@ pub fn serve_with_door<
                 errors,
             )
         }
-        Err(Unfit::Syntax) => say_why(output, errors, Exit::Usage, SECRET_FORM),
-        Err(Unfit::Down) => refuse(output, errors, Cause::Input),
+        Err(Unopened::Line { number, fault }) => refuse_line(output, errors, number, fault),
+        Err(Unopened::Long) => say_why(output, errors, Exit::Usage, LONG_INPUT),
+        Err(Unopened::Down) => refuse(output, errors, Cause::Input),
     }
 }

@@ -1,6 +1,7 @@
 //! The operator's door: the requests that come to it, and the secret that they bring.
-ghost use Rattle.std.specs.Prelude.{◌≡◌, Some, None, MatchOption};
-ghost use Rattle.route.specs.Doors.{is_at_door, operator_of, has_digest, brings_secret, may_enter};
+ghost use Rattle.std.specs.Prelude.{◌≡◌, Some, None, MatchOption, option_map};
+ghost use Rattle.sha2.specs.Sha256.{sha256};
+ghost use Rattle.route.specs.Doors.{is_at_door, operator_of, digest_in, digest_brought};
 
 use crate::tokens::{cut_at, unspaced};
 use basis::{Allow, Bytes, Refusal};
@@ -28,29 +29,29 @@ fn operator_in(value: &[u8]) -> Option<&[u8]>
     }
 }
 
-// Whether the secret in a field has this digest.
-fn has_digest(digest: &[u8; 32], value: &[u8]) -> bool
-    ensures { result ≡ has_digest digest.now (operator_of value.now) }
+// The digest of the secret in the value of a field.
+fn digest_of_value(value: &[u8]) -> Option<[u8; 32]>
+    ensures { result ≡ option_map sha256 (operator_of value.now) }
 {
     match operator_in(value) {
-        Some(secret) => Sha256::digest(secret) == *digest,
-        None => false,
+        Some(secret) => Some(Sha256::digest(secret)),
+        None => None,
     }
 }
 
-fn brings_secret(digest: &[u8; 32], authorization: &Option<Bytes>) -> bool
-    ensures { result ≡ brings_secret digest.now authorization.now }
+fn digest_in(authorization: &Option<Bytes>) -> Option<[u8; 32]>
+    ensures { result ≡ digest_in authorization.now }
 {
     match authorization {
-        Some(value) => has_digest(digest, value.as_slice()),
-        None => false,
+        Some(value) => digest_of_value(value.as_slice()),
+        None => None,
     }
 }
 
-/// Whether a message at the door may ask for a command, or the refusal of the first check that fails: the method, the query, the
-/// secret of this digest. It allocates nothing.
-pub fn may_enter(digest: &[u8; 32], message: &Message) -> Result<(), Refusal>
-    ensures { result ≡ may_enter digest.now message.now }
+/// The digest of the secret that a message at the door brings, or the refusal of the first check that fails: the method, the query,
+/// whether it brings one. It allocates nothing.
+pub fn digest_brought(message: &Message) -> Result<[u8; 32], Refusal>
+    ensures { result ≡ digest_brought message.now }
 {
     if message.method.as_str() != "POST" {
         return Err(Refusal::NoMethod(Allow::Actions));
@@ -58,9 +59,8 @@ pub fn may_enter(digest: &[u8; 32], message: &Message) -> Result<(), Refusal>
     if message.query.is_some() {
         return Err(Refusal::BadQuery);
     }
-    if brings_secret(digest, &message.authorization) {
-        Ok(())
-    } else {
-        Err(Refusal::BadSecret)
+    match digest_in(&message.authorization) {
+        Some(digest) => Ok(digest),
+        None => Err(Refusal::BadSecret),
     }
 }

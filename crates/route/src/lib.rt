@@ -9,7 +9,7 @@ mod routes;
 mod tokens;
 
 pub use asks::asked;
-pub use doors::{is_at_door, may_enter};
+pub use doors::{digest_brought, is_at_door};
 pub use laws::methods_are_listed;
 pub use policies::allowed;
 pub use routes::{Asked, AskedAct, Routes};

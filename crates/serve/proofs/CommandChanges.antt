@@ -88,12 +88,12 @@ refused_leaves at (TokenList own) answer old is some org = refl
 refused_leaves at (TokenRevoke own name) answer old is some org = own_leaves at (TokenRevoke own name) old own org (bytes_eq org own) refl (not_done answer _ is some)
 
 -- a command changes what its row tells
-pub command_reported : (now : ℕ) (command : Admin) (answer : AdminAnswer) (old new : List ℕ → Option Organization) → IsAdminAnswer old command answer → Carries (commands now command) old new
-    → ChangesAsLogged (command_row now command (reported_answer answer)) old new
-command_reported now command answer old new answered carries = record {
+pub command_reported : (now : ℕ) (by : Option (List ℕ)) (command : Admin) (answer : AdminAnswer) (old new : List ℕ → Option Organization) → IsAdminAnswer old command answer → Carries (commands now command) old new
+    → ChangesAsLogged (command_row now by command (reported_answer answer)) old new
+command_reported now by command answer old new answered carries = record {
   others = λ org apart. carries org ∙ ap (λ (b : Bool). after_ask b (commands now command) (old org)) (not_own now command org apart);
   refused = λ some org. carries org ∙ refused_leaves now command answer old answered some org;
-  own = λ org named. goes_as_logged (command_row now command (reported_answer answer)) (old org) (new org) (record { version = refl; run = refl })
+  own = λ org named. goes_as_logged (command_row now by command (reported_answer answer)) (old org) (new org) (record { version = refl; run = refl })
       (subst (StayOrGo (old org)) (sym (carries org)) (moved now command (is_own (organization org) (commands now command)) (old org)));
   nobody = λ none. (refl, refl);
 }

@@ -4,8 +4,8 @@ use Rattle.route.specs.Asks as route
 use Rattle.wire.specs.declared.messages.WireFault.{WireFault}
 use Rattle.wire.specs.declared.messages.WireFault.TheVariants.{Refused, Down, Ended, Read, Continue}
 use Rattle.wire.specs.Messages.{Reading, unfinished, refused, whole}
-use Rattle.serve.specs.Doors.{commanded, asked_at_door, ask_with, IsAnswerTo}
-use Rattle.serve.specs.Logs.{silent_row, with_answer, unavailable_row, command_row, no_command_row, stop_row, IsUnavailableRow, request_row, row_of_ask, token_named, id_spelt, task_read}
+use Rattle.serve.specs.Doors.{commanded, asked_at_door, ask_with, operator_with, IsAnswerTo}
+use Rattle.serve.specs.Logs.{silent_row, with_answer, unavailable_row, command_row, no_command_row, stop_row, IsUnreadRow, IsUnavailableRow, request_row, row_of_ask, token_named, id_spelt, task_read}
 use Rattle.serve.specs.Asks.{Ask, Owner, owner_of, organization, unattributed, operator, silent, requests, commands, stops}
 use Rattle.serve.specs.Asks as ask
 use Rattle.serve.specs.Steps.{Said, replies, refusing, request_step, step}
@@ -75,20 +75,24 @@ silent_makes_nothing row now is = subst MakesNothing (sym is) (record { version 
 pub unavailable_makes_nothing : (row : LogRow) (now : ℕ) → row ≡ unavailable_row now → MakesNothing row
 unavailable_makes_nothing row now is = subst MakesNothing (sym is) (record { version = refl; run = refl })
 
-row_makes_nothing : (r : Option Organization) (a : Ask) (row : LogRow) → IsUnavailableRow r a row → MakesNothing row
-row_makes_nothing r silent row h = absurd h
-row_makes_nothing r (ask.refused at awaited refusal is_head false) row h = unavailable_makes_nothing row at h
-row_makes_nothing r (ask.refused at awaited refusal is_head true) row h = subst MakesNothing (sym h.1) (record { version = refl; run = refl })
-row_makes_nothing r (requests at awaited asked content_md5 body) row (inl is) = unavailable_makes_nothing row at is
-row_makes_nothing r (requests at awaited asked content_md5 body) row (inr request) = subst MakesNothing (sym request.is) (record { version = refl; run = refl })
-row_makes_nothing r (stops at) row (inl is) = subst MakesNothing (sym is) (record { version = refl; run = refl })
-row_makes_nothing r (stops at) row (inr is) = subst MakesNothing (sym is) (record { version = refl; run = refl })
-row_makes_nothing r (commands at command) row (inl is) = subst MakesNothing (sym is) (record { version = refl; run = refl })
-row_makes_nothing r (commands at command) row (inr is) = subst MakesNothing (sym is) (record { version = refl; run = refl })
+unread_makes_nothing : (by : Option (List ℕ)) (at : ℕ) (row : LogRow) → IsUnreadRow by at row → MakesNothing row
+unread_makes_nothing by at row (inl is) = subst MakesNothing (sym is) (record { version = refl; run = refl })
+unread_makes_nothing by at row (inr is) = subst MakesNothing (sym is) (record { version = refl; run = refl })
+
+row_makes_nothing : (by : Option (List ℕ)) (r : Option Organization) (a : Ask) (row : LogRow) → IsUnavailableRow by r a row → MakesNothing row
+row_makes_nothing by r silent row h = absurd h
+row_makes_nothing by r (ask.refused at awaited refusal is_head false) row h = unavailable_makes_nothing row at h
+row_makes_nothing by r (ask.refused at awaited refusal is_head true) row h = unread_makes_nothing by at row h.1
+row_makes_nothing by r (requests at awaited asked content_md5 body) row (inl is) = unavailable_makes_nothing row at is
+row_makes_nothing by r (requests at awaited asked content_md5 body) row (inr request) = subst MakesNothing (sym request.is) (record { version = refl; run = refl })
+row_makes_nothing by r (stops at) row (inl is) = unread_makes_nothing by at row is
+row_makes_nothing by r (stops at) row (inr is) = subst MakesNothing (sym is) (record { version = refl; run = refl })
+row_makes_nothing by r (commands at command) row (inl is) = unread_makes_nothing by at row is
+row_makes_nothing by r (commands at command) row (inr is) = subst MakesNothing (sym is) (record { version = refl; run = refl })
 
 down_makes_nothing : (door : Door) (now : ℕ) (old : List ℕ → Option Organization) (reading : Option Reading) (row : LogRow) → IsUnavailableFor door now old reading row → MakesNothing row
 down_makes_nothing door now old None row h = unavailable_makes_nothing row now h
-down_makes_nothing door now old (Some reading) row h = row_makes_nothing (record_for old (owner_of (ask_with door now reading))) (ask_with door now reading) row h
+down_makes_nothing door now old (Some reading) row h = row_makes_nothing (operator_with door now reading) (record_for old (owner_of (ask_with door now reading))) (ask_with door now reading) row h
 
 pub stayed_logged : (row : LogRow) (old new : List ℕ → Option Organization) → MakesNothing row → Stays old new → ChangesAsLogged row old new
 stayed_logged row old new nothing stays = record {
@@ -99,22 +103,22 @@ stayed_logged row old new nothing stays = record {
 }
 
 -- what is asked changes what its row tells
-asked_reported : (a : Ask) (now : ℕ) (due : Bool) (answer : Answer) (row : LogRow) (old new : List ℕ → Option Organization) → AreLawful old → Some row ≡ row_of_ask (record_for old (owner_of a)) a answer
+asked_reported : (by : Option (List ℕ)) (a : Ask) (now : ℕ) (due : Bool) (answer : Answer) (row : LogRow) (old new : List ℕ → Option Organization) → AreLawful old → Some row ≡ row_of_ask by (record_for old (owner_of a)) a answer
     → IsAnswerTo old now due a answer → Carries a old new → ChangesAsLogged row old new
-asked_reported silent now due answer row old new lawful is answers carries = absurd answers
-asked_reported (ask.refused at awaited refusal is_head false) now due answer row old new lawful is answers carries =
+asked_reported by silent now due answer row old new lawful is answers carries = absurd answers
+asked_reported by (ask.refused at awaited refusal is_head false) now due answer row old new lawful is answers carries =
     subst (λ (x : LogRow). ChangesAsLogged x old new) (sym (same_Some row (with_answer (refusing refusal None).answer (silent_row at)) is))
     (stayed_logged (with_answer (refusing refusal None).answer (silent_row at)) old new (record { version = refl; run = refl }) carries)
-asked_reported (ask.refused at awaited refusal is_head true) now due answer row old new lawful is answers carries =
-    subst (λ (x : LogRow). ChangesAsLogged x old new) (sym (same_Some row (no_command_row at (refusing refusal None).answer) is))
-    (stayed_logged (no_command_row at (refusing refusal None).answer) old new (record { version = refl; run = refl }) carries)
-asked_reported (stops at) now due answer row old new lawful is answers carries =
-    subst (λ (x : LogRow). ChangesAsLogged x old new) (sym (same_Some row (stop_row at answer) is))
-    (stayed_logged (stop_row at answer) old new (record { version = refl; run = refl }) carries)
-asked_reported (commands at command) now due answer row old new lawful is answers carries =
-    subst (λ (x : LogRow). ChangesAsLogged x old new) (sym (same_Some row (command_row at command answer) is))
-    (subst (λ (x : Answer). ChangesAsLogged (command_row at command x) old new) (sym answers.2) (command_reported at command answers.0 old new answers.1 carries))
-asked_reported (requests at awaited asked content_md5 body) now due answer row old new lawful is answers carries =
+asked_reported by (ask.refused at awaited refusal is_head true) now due answer row old new lawful is answers carries =
+    subst (λ (x : LogRow). ChangesAsLogged x old new) (sym (same_Some row (no_command_row at by (refusing refusal None).answer) is))
+    (stayed_logged (no_command_row at by (refusing refusal None).answer) old new (record { version = refl; run = refl }) carries)
+asked_reported by (stops at) now due answer row old new lawful is answers carries =
+    subst (λ (x : LogRow). ChangesAsLogged x old new) (sym (same_Some row (stop_row at by answer) is))
+    (stayed_logged (stop_row at by answer) old new (record { version = refl; run = refl }) carries)
+asked_reported by (commands at command) now due answer row old new lawful is answers carries =
+    subst (λ (x : LogRow). ChangesAsLogged x old new) (sym (same_Some row (command_row at by command answer) is))
+    (subst (λ (x : Answer). ChangesAsLogged (command_row at by command x) old new) (sym answers.2) (command_reported at by command answers.0 old new answers.1 carries))
+asked_reported by (requests at awaited asked content_md5 body) now due answer row old new lawful is answers carries =
     let same : row ≡ request_row (old asked.caller) at asked content_md5 body = same_Some row (request_row (old asked.caller) at asked content_md5 body) is in
     subst (λ (x : LogRow). ChangesAsLogged x old new) (sym same) (record {
       others = λ org apart. carries org ∙ other_stays org (bytes_eq org asked.caller) refl apart;
@@ -143,19 +147,19 @@ asked_reported (requests at awaited asked content_md5 body) now due answer row o
 answered_reported : (door : Door) (now : ℕ) (received : List ℕ) (old new : List ℕ → Option Organization) (awaited : Bool) (text : List ℕ) (row : LogRow) (is_down : Bool) → AreLawful old
     → IsAnswered door now received old new awaited text (Some row) is_down → ChangesAsLogged row old new
 answered_reported door now received old new awaited text row false lawful served =
-    asked_reported served.ask now awaited served.answer row old new lawful served.logged served.carried.answers served.carried.carries
+    asked_reported (operator_with door now served.carried.asks.reading) served.ask now awaited served.answer row old new lawful served.logged served.carried.answers served.carried.carries
 answered_reported door now received old new awaited text row true lawful (reading, unavailable) =
     stayed_logged row old new (subst MakesNothing (sym (same_Some row unavailable.reported unavailable.reports)) (down_makes_nothing door now old reading unavailable.reported unavailable.logged)) unavailable.stays
 
 -- what passes by the door asks what it would without a door
 asks_past : (door : Door) (at : ℕ) (message : Message) (awaited : Bool) → PassesBy door (Ok message) → ask_with door at (whole message awaited) ≡ asked_by at awaited message (asked_of message)
 asks_past Closed at message awaited passes = refl
-asks_past (Open digest) at message awaited passes =
-    ap (λ (b : Bool). if b then asked_at_door at awaited message (commanded digest message) else asked_by at awaited message (asked_of message)) passes
+asks_past (Open operators) at message awaited passes =
+    ap (λ (b : Bool). if b then asked_at_door at awaited message (commanded operators at message) else asked_by at awaited message (asked_of message)) passes
 
 refuses_past : (door : Door) (at : ℕ) (refusal : Refusal) (head : Bool) → ask_with door at (refused refusal head) ≡ ask.refused at false refusal head false
 refuses_past Closed at refusal head = refl
-refuses_past (Open digest) at refusal head = refl
+refuses_past (Open operators) at refusal head = refl
 
 -- the answer to what is no command is what is said
 asking_answered : (rows : List ℕ → Option Organization) (at : ℕ) (due awaited : Bool) (message : Message) (asking : Asking) (answer : Answer)
@@ -194,7 +198,8 @@ refused_read door now (Ok message) old new text row passes stays is_text logs re
       is = is_text;
       reported = row;
       reports = refl;
-      logged = subst (λ (a : Ask). IsUnavailableRow (record_for old (owner_of a)) a row) (sym (asks_past door now message reported.0 passes)) (logs reported.0);
+      logged = subst (λ (a : Ask). IsUnavailableRow (operator_with door now (whole message reported.0)) (record_for old (owner_of a)) a row) (sym (asks_past door now message reported.0 passes))
+          (logs reported.0 (operator_with door now (whole message reported.0)));
     },
   ),
 )
@@ -211,7 +216,7 @@ refused_read door now (Err (Refused refusal head)) old new text row passes stays
       is = is_text;
       reported = row;
       reports = refl;
-      logged = subst (λ (a : Ask). IsUnavailableRow (record_for old (owner_of a)) a row) (sym (refuses_past door now refusal head)) logs;
+      logged = subst (λ (a : Ask). IsUnavailableRow (operator_with door now (refused refusal head)) (record_for old (owner_of a)) a row) (sym (refuses_past door now refusal head)) logs;
     },
   ),
 )
@@ -222,10 +227,10 @@ refused_read door now (Err Read) old new text row passes stays is_text logs rece
 refused_read door now (Err Continue) old new text row passes stays is_text logs received left before after reported = absurd logs
 
 -- the row of a 503 in place of an answer: all of it had been read
-down_request : (r : Option Organization) (at : ℕ) (awaited : Bool) (message : Message) (asking : Asking) (answer : Answer) (row : LogRow) → row_of_ask r (asked_by at awaited message asking) answer ≡ Some row
-    → IsUnavailableRow r (asked_by at awaited message asking) (as_unavailable row)
-down_request r at awaited message (route.refused refusal) answer row e = ap as_unavailable (sym (same_Some (with_answer (refusing refusal r).answer (silent_row at)) row e))
-down_request r at awaited message (asks asked) answer row e =
+down_request : (by : Option (List ℕ)) (r : Option Organization) (at : ℕ) (awaited : Bool) (message : Message) (asking : Asking) (answer : Answer) (row : LogRow) → row_of_ask by r (asked_by at awaited message asking) answer ≡ Some row
+    → IsUnavailableRow by r (asked_by at awaited message asking) (as_unavailable row)
+down_request by r at awaited message (route.refused refusal) answer row e = ap as_unavailable (sym (same_Some (with_answer (refusing refusal r).answer (silent_row at)) row e))
+down_request by r at awaited message (asks asked) answer row e =
     let content_md5 = message.content_md5 in
     let body = message.body in
     inr (record {
@@ -255,12 +260,12 @@ answered_read door now (Ok message) old mid new p row false text passes stays pr
           answers = asking_answered old now reported.0 reported.0 message (asked_of message) p.reply h.1;
         };
         is = is_text;
-        logged = sym (logs reported.0 p.reply);
+        logged = sym (logs reported.0 (operator_with door now (whole message reported.0)) p.reply);
       },
     )
 answered_read door now (Ok message) old mid new p row true text passes stays prepared logs committed is_text received left before after reported =
     refused_read door now (Ok message) old new text (as_unavailable row) passes (stays_both old mid new stays committed) is_text
-    (λ due. down_request (record_for old (owner_of (asked_by now due message (asked_of message)))) now due message (asked_of message) p.reply row (logs due p.reply)) received left before after reported
+    (λ due by. down_request by (record_for old (owner_of (asked_by now due message (asked_of message)))) now due message (asked_of message) p.reply row (logs due by p.reply)) received left before after reported
 answered_read door now (Err (Refused refusal head)) old mid new p row false text passes stays prepared logs committed is_text received left before after reported =
     let a : Ask = ask.refused now false refusal head false in (
       false,
@@ -274,12 +279,12 @@ answered_read door now (Err (Refused refusal head)) old mid new p row false text
           answers = ap (replies false now) (sym prepared.0);
         };
         is = is_text;
-        logged = sym (logs p.reply);
+        logged = sym (logs (operator_with door now (refused refusal head)) p.reply);
       },
     )
 answered_read door now (Err (Refused refusal head)) old mid new p row true text passes stays prepared logs committed is_text received left before after reported =
     refused_read door now (Err (Refused refusal head)) old new text (as_unavailable row) passes (stays_both old mid new stays committed) is_text
-    (ap as_unavailable (sym (same_Some (with_answer (refusing refusal None).answer (silent_row now)) row (logs p.reply)))) received left before after reported
+    (ap as_unavailable (sym (same_Some (with_answer (refusing refusal None).answer (silent_row now)) row (logs None p.reply)))) received left before after reported
 answered_read door now (Err Down) old mid new p row is_down text passes stays prepared logs committed is_text received left before after reported = absurd prepared
 answered_read door now (Err Ended) old mid new p row is_down text passes stays prepared logs committed is_text received left before after reported = absurd prepared
 answered_read door now (Err Read) old mid new p row is_down text passes stays prepared logs committed is_text received left before after reported = absurd prepared
@@ -319,7 +324,7 @@ replied {T = T} door now read old new is_down row b c text (Err e) answers write
 
 nothing_passes : (door : Door) → PassesBy door (Err Down)
 nothing_passes Closed = tt
-nothing_passes (Open digest) = tt
+nothing_passes (Open operators) = tt
 
 -- nothing is read, and the refusal is written
 pub refused_unread : {T : Type 0} (door : Door) (left : Option (List ℕ)) (now : ℕ) (rows : List ℕ → Option Organization) (row : LogRow) (a c : Option (List ℕ)) (text : List ℕ) (result : Result T LinkFault)

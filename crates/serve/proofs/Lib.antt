@@ -22,5 +22,6 @@ pub mod CommandChanges
 pub mod DoorLemmas
 pub mod LogInputs
 pub mod ServedLemmas
+pub mod OperatorLemmas
 pub mod ApartLemmas
 pub mod ApartExamples

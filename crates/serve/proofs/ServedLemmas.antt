@@ -8,11 +8,12 @@ use Rattle.serve.specs.declared.doors.Door.TheVariants.{Closed, Open}
 use Rattle.serve.specs.declared.doors.DoorCommand.{DoorCommand}
 use Rattle.serve.specs.declared.doors.DoorCommand.TheVariants.{OnStore, Stop}
 use Rattle.serve.specs.declared.exchanges.LinkFault.TheVariants.{Ended, Read, Continue, Write}
+use Rattle.serve.specs.declared.operators.Operator.{Operator}
 use Rattle.serve.specs.declared.steps.Admin.{Admin}
 use Rattle.serve.specs.declared.steps.Admin.TheVariants.{OrgAdd, OrgLimit, OrgRemove, OrgList, TokenAdd, TokenList, TokenRevoke}
 use Rattle.serve.specs.Asks.{Ask, silent, refused, requests, commands, stops, Owner, organization, unattributed, operator, owner_of, IsTimely}
-use Rattle.serve.specs.Doors.{ComesToDoor, commanded, reported_answer, asked_at_door, ask_with, AsksWith, IsAnswerTo}
-use Rattle.serve.specs.Exchanges.{IsAnswered, IsUnavailableFor}
+use Rattle.serve.specs.Doors.{ComesToDoor, commanded, reported_answer, asked_at_door, ask_with, operator_with, AsksWith, IsAnswerTo}
+use Rattle.serve.specs.Exchanges.{IsAnswered, IsUnavailableFor, IsUnavailable}
 use Rattle.serve.specs.Laws.{ExchangesAreServed, EachIsServedAlone, ServedKeepCustody, AsksInTurn, ServedInTurn, WroteAlike, AllWroteAlike, TwoServedWorlds}
 use Rattle.serve.specs.Runs.{IsOwnRecord}
 use Rattle.serve.specs.Service.{Asks, ask_of, asked_by, is_own, with_own, own_asks, replies_at, record_for, after_ask, Carries, Stays, said_to, IsAdminAnswer}
@@ -20,7 +21,7 @@ use Rattle.serve.specs.Steps.{refusing, Said, nothing, reports, lists, lists_tok
 use Rattle.serve.specs.Promises.{ServicesAreAsPromised}
 use Rattle.serve.specs.AbsentForms.{ServedRequest, record_at, ServedTellAbsentForms}
 use Rattle.serve.proofs.AbsentLemmas.{looks_absent}
-use Rattle.serve.specs.Logs.{act_logged, act_commanded, silent_row, with_answer, command_row, no_command_row, request_row, row_of_ask, IsUnavailableRow, is_stop, names_stop}
+use Rattle.serve.specs.Logs.{act_logged, act_commanded, silent_row, with_answer, command_row, no_command_row, request_row, row_of_ask, IsUnreadRow, IsUnavailableRow, is_stop, names_stop}
 use Rattle.serve.specs.Served.{Exchange, AsksToStop, IsLetIn, IsFrontOf, Replies, IsSaidBy, IsTold, IsCutShort, IsServedBy, IsServed, AreServed, with_carried, with_ask, asked_in, carried_in, AreTold, AreOwnTold}
 use Rattle.serve.proofs.BookLemmas.{custody_is_kept}
 use Rattle.serve.proofs.DoorLemmas.{brings}
@@ -65,7 +66,7 @@ both_true false c e h = let no : ⊥ = cc in no
 not_stop : (row : LogRow) → is_stop row.act ≡ false → names_stop (Some row) ≡ true → ⊥
 not_stop row e h = both_true (is_stop row.act) (is_none row.refusal) e h
 
-refused_not_stop : (row : LogRow) → is_none row.refusal ≡ false → names_stop (Some row) ≡ true → ⊥
+pub refused_not_stop : (row : LogRow) → is_none row.refusal ≡ false → names_stop (Some row) ≡ true → ⊥
 refused_not_stop row e h = by_act (is_stop row.act) (is_none row.refusal) e h
   where
     by_act : (b c : Bool) → c ≡ false → (b && c) ≡ true → ⊥
@@ -85,32 +86,45 @@ command_not_stop (TokenAdd org name role secret bounds) = refl
 command_not_stop (TokenList org) = refl
 command_not_stop (TokenRevoke org name) = refl
 
-stop_asked : (r : Option Organization) (ask : Ask) (answer : Answer) → names_stop (row_of_ask r ask answer) ≡ true → (at : ℕ) × (ask ≡ stops at)
-stop_asked r silent answer h = absurd (let no : ⊥ = cc in no)
-stop_asked r (refused at due refusal is_head false) answer h = absurd (not_stop (with_answer (refusing refusal r).answer (silent_row at)) refl h)
-stop_asked r (refused at due refusal is_head true) answer h = absurd (not_stop (no_command_row at (refusing refusal r).answer) refl h)
-stop_asked r (requests at due asked content_md5 body) answer h = absurd (not_stop (request_row r at asked content_md5 body) (act_not_stop asked.act) h)
-stop_asked r (commands at command) answer h = absurd (not_stop (command_row at command answer) (command_not_stop command) h)
-stop_asked r (stops at) answer h = (at, refl)
+stop_asked : (by : Option (List ℕ)) (r : Option Organization) (ask : Ask) (answer : Answer) → names_stop (row_of_ask by r ask answer) ≡ true → (at : ℕ) × (ask ≡ stops at)
+stop_asked by r silent answer h = absurd (let no : ⊥ = cc in no)
+stop_asked by r (refused at due refusal is_head false) answer h = absurd (not_stop (with_answer (refusing refusal r).answer (silent_row at)) refl h)
+stop_asked by r (refused at due refusal is_head true) answer h = absurd (not_stop (no_command_row at by (refusing refusal r).answer) refl h)
+stop_asked by r (requests at due asked content_md5 body) answer h = absurd (not_stop (request_row r at asked content_md5 body) (act_not_stop asked.act) h)
+stop_asked by r (commands at command) answer h = absurd (not_stop (command_row at by command answer) (command_not_stop command) h)
+stop_asked by r (stops at) answer h = (at, refl)
 
 -- no row of a 503 is
-down_not_stop : (r : Option Organization) (ask : Ask) (row : LogRow) → IsUnavailableRow r ask row → is_none row.refusal ≡ false
-down_not_stop r silent row h = absurd h
-down_not_stop r (refused at due refusal is_head false) row h = ap (λ (x : LogRow). is_none x.refusal) h
-down_not_stop r (refused at due refusal is_head true) row h = ap (λ (x : LogRow). is_none x.refusal) h.1
-down_not_stop r (requests at due asked content_md5 body) row (inl is) = ap (λ (x : LogRow). is_none x.refusal) is
-down_not_stop r (requests at due asked content_md5 body) row (inr request) = ap (λ (x : LogRow). is_none x.refusal) request.is
-down_not_stop r (commands at command) row (inl is) = ap (λ (x : LogRow). is_none x.refusal) is
-down_not_stop r (commands at command) row (inr is) = ap (λ (x : LogRow). is_none x.refusal) is
-down_not_stop r (stops at) row (inl is) = ap (λ (x : LogRow). is_none x.refusal) is
-down_not_stop r (stops at) row (inr is) = ap (λ (x : LogRow). is_none x.refusal) is
+unread_refuses : (by : Option (List ℕ)) (at : ℕ) (row : LogRow) → IsUnreadRow by at row → is_none row.refusal ≡ false
+unread_refuses by at row (inl is) = ap (λ (x : LogRow). is_none x.refusal) is
+unread_refuses by at row (inr is) = ap (λ (x : LogRow). is_none x.refusal) is
+
+down_not_stop : (by : Option (List ℕ)) (r : Option Organization) (ask : Ask) (row : LogRow) → IsUnavailableRow by r ask row → is_none row.refusal ≡ false
+down_not_stop by r silent row h = absurd h
+down_not_stop by r (refused at due refusal is_head false) row h = ap (λ (x : LogRow). is_none x.refusal) h
+down_not_stop by r (refused at due refusal is_head true) row h = unread_refuses by at row h.1
+down_not_stop by r (requests at due asked content_md5 body) row (inl is) = ap (λ (x : LogRow). is_none x.refusal) is
+down_not_stop by r (requests at due asked content_md5 body) row (inr request) = ap (λ (x : LogRow). is_none x.refusal) request.is
+down_not_stop by r (commands at command) row (inl is) = unread_refuses by at row is
+down_not_stop by r (commands at command) row (inr is) = ap (λ (x : LogRow). is_none x.refusal) is
+down_not_stop by r (stops at) row (inl is) = unread_refuses by at row is
+down_not_stop by r (stops at) row (inr is) = ap (λ (x : LogRow). is_none x.refusal) is
 
 down_refuses : (door : Door) (now : ℕ) (old : List ℕ → Option Organization) (reading : Option Reading) (row : LogRow) → IsUnavailableFor door now old reading row → is_none row.refusal ≡ false
 down_refuses door now old None row h = ap (λ (x : LogRow). is_none x.refusal) h
-down_refuses door now old (Some reading) row h = down_not_stop (record_for old (owner_of (ask_with door now reading))) (ask_with door now reading) row h
+down_refuses door now old (Some reading) row h = down_not_stop (operator_with door now reading) (record_for old (owner_of (ask_with door now reading))) (ask_with door now reading) row h
 
 stops_of : (row reported : Option LogRow) → row ≡ reported → names_stop row ≡ true → names_stop reported ≡ true
 stops_of row reported is h = subst (λ (x : Option LogRow). names_stop x ≡ true) is h
+
+-- nor is the row of an exchange that had one
+pub down_names_no_stop : (door : Door) (now : ℕ) (received : List ℕ) (old new : List ℕ → Option Organization) (reading : Option Reading) (awaited : Bool) (text : List ℕ) (row : Option LogRow)
+    → IsUnavailable door now received old new reading awaited text row → names_stop row ≡ false
+down_names_no_stop door now received old new reading awaited text row down = by_case (names_stop row) refl
+  where
+    by_case : (b : Bool) → names_stop row ≡ b → b ≡ false
+    by_case true is = absurd (refused_not_stop down.reported (down_refuses door now old reading down.reported down.logged) (stops_of row (Some down.reported) down.reports is))
+    by_case false is = refl
 
 abbrev Found : Door → ℕ → List ℕ → (List ℕ → Option Organization) → (List ℕ → Option Organization) → Option (List ℕ) → Option (List ℕ) → Option LogRow → Type 0
 Found door at received old new before after row =
@@ -126,7 +140,8 @@ answered door at received old new before after awaited text row is_whole written
   refl,
   appends,
   (moment, (served.answer, served.carried, (text, served.is, front))),
-  λ stopped. let asked = stop_asked (record_for old (owner_of served.ask)) served.ask served.answer (stops_of row (row_of_ask (record_for old (owner_of served.ask)) served.ask served.answer) served.logged stopped) in
+  λ stopped. let by = operator_with door at served.carried.asks.reading in
+      let asked = stop_asked by (record_for old (owner_of served.ask)) served.ask served.answer (stops_of row (row_of_ask by (record_for old (owner_of served.ask)) served.ask served.answer) served.logged stopped) in
       (asked.0, ap Some asked.1),
 )
 answered door at received old new before after awaited text row is_whole written true moment front appends down = (
@@ -227,15 +242,15 @@ module _ (at : ℕ) (moment : IsMoment at) where
   door_timely awaited message (Ok Stop) = tt
   door_timely awaited message (Err refusal) = tt
 
-  open_timely : (digest : List ℕ) (message : Message) (awaited b : Bool) → IsTimely (if b then asked_at_door at awaited message (commanded digest message) else asked_by at awaited message (asked_of message))
-  open_timely digest message awaited true = door_timely awaited message (commanded digest message)
-  open_timely digest message awaited false = asking_timely awaited message (asked_of message)
+  open_timely : (operators : List Operator) (message : Message) (awaited b : Bool) → IsTimely (if b then asked_at_door at awaited message (commanded operators at message) else asked_by at awaited message (asked_of message))
+  open_timely operators message awaited true = door_timely awaited message (commanded operators at message)
+  open_timely operators message awaited false = asking_timely awaited message (asked_of message)
 
   with_timely : (door : Door) (reading : Reading) → IsTimely (ask_with door at reading)
   with_timely Closed reading = reading_timely at reading moment
-  with_timely (Open digest) unfinished = tt
-  with_timely (Open digest) (wire.refused refusal head) = tt
-  with_timely (Open digest) (whole message awaited) = open_timely digest message awaited (is_at_door message)
+  with_timely (Open operators) unfinished = tt
+  with_timely (Open operators) (wire.refused refusal head) = tt
+  with_timely (Open operators) (whole message awaited) = open_timely operators message awaited (is_at_door message)
 
 asks_timely : (door : Door) (at : ℕ) (received : List ℕ) (awaited : Bool) (a : Ask) → IsMoment at → AsksWith door at received awaited a → IsTimely a
 asks_timely door at received awaited a moment is = subst IsTimely (sym is.is) (with_timely at moment door is.reading)
@@ -282,18 +297,18 @@ request_at_door at due message (Ok (OnStore command)) awaited asked content_md5 
 request_at_door at due message (Ok Stop) awaited asked content_md5 body is = let no : ⊥ = cc in no
 request_at_door at due message (Err refusal) awaited asked content_md5 body is = let no : ⊥ = cc in no
 
-request_open : (digest : List ℕ) (at : ℕ) (message : Message) (due b awaited : Bool) (asked : Asked) (content_md5 : Option (List ℕ)) (body : List ℕ)
-    → requests at awaited asked content_md5 body ≡ (if b then asked_at_door at due message (commanded digest message) else asked_by at due message (asked_of message))
+request_open : (operators : List Operator) (at : ℕ) (message : Message) (due b awaited : Bool) (asked : Asked) (content_md5 : Option (List ℕ)) (body : List ℕ)
+    → requests at awaited asked content_md5 body ≡ (if b then asked_at_door at due message (commanded operators at message) else asked_by at due message (asked_of message))
     → requests at awaited asked content_md5 body ≡ asked_by at due message (asked_of message)
-request_open digest at message due true awaited asked content_md5 body is = absurd (request_at_door at due message (commanded digest message) awaited asked content_md5 body is)
-request_open digest at message due false awaited asked content_md5 body is = is
+request_open operators at message due true awaited asked content_md5 body is = absurd (request_at_door at due message (commanded operators at message) awaited asked content_md5 body is)
+request_open operators at message due false awaited asked content_md5 body is = is
 
 request_past : (door : Door) (at : ℕ) (reading : Reading) (awaited : Bool) (asked : Asked) (content_md5 : Option (List ℕ)) (body : List ℕ)
     → requests at awaited asked content_md5 body ≡ ask_with door at reading → requests at awaited asked content_md5 body ≡ ask_of at reading
 request_past Closed at reading awaited asked content_md5 body is = is
-request_past (Open digest) at unfinished awaited asked content_md5 body is = is
-request_past (Open digest) at (wire.refused refusal head) awaited asked content_md5 body is = is
-request_past (Open digest) at (whole message due) awaited asked content_md5 body is = request_open digest at message due (is_at_door message) awaited asked content_md5 body is
+request_past (Open operators) at unfinished awaited asked content_md5 body is = is
+request_past (Open operators) at (wire.refused refusal head) awaited asked content_md5 body is = is
+request_past (Open operators) at (whole message due) awaited asked content_md5 body is = request_open operators at message due (is_at_door message) awaited asked content_md5 body is
 
 request_asks : (door : Door) (at : ℕ) (received : List ℕ) (due awaited : Bool) (asked : Asked) (content_md5 : Option (List ℕ)) (body : List ℕ) → AsksWith door at received due (requests at awaited asked content_md5 body)
     → Asks at received (requests at awaited asked content_md5 body)
@@ -319,38 +334,38 @@ served_tell_absent_forms door es old new h a =
     looks_absent (record_at old a) a.one.at a.one.awaited a.one.received a.asked a.content_md5 a.body (λ said. IsTold said a.one)
     (request_asks door a.one.at a.one.received a.one.awaited a.one.awaited a.asked a.content_md5 a.body (request_served door es old new h a).1.asks) (request_told door es old new h a)
 
--- a command is asked for with the secret alone
-asking_let_in : (door : Door) (bytes : List ℕ) (at : ℕ) (awaited : Bool) (message : Message) (asking : Asking) → IsLetIn door bytes (asked_by at awaited message asking)
+-- a command is asked for with the secret of an operator who may ask for it
+asking_let_in : (door : Door) (bytes : List ℕ) (at : ℕ) (awaited : Bool) (message : Message) (asking : Asking) → IsLetIn door at bytes (asked_by at awaited message asking)
 asking_let_in door bytes at awaited message (route.refused refusal) = tt
 asking_let_in door bytes at awaited message (asks asked) = tt
 
-door_let_in : (digest bytes : List ℕ) (at : ℕ) (awaited : Bool) (message : Message) (spells : Result DoorCommand Refusal) → ComesToDoor bytes message awaited → commanded digest message ≡ spells
-    → IsLetIn (Open digest) bytes (asked_at_door at awaited message spells)
-door_let_in digest bytes at awaited message (Ok (OnStore command)) comes is = (message, awaited, comes, brings digest message (OnStore command) is)
-door_let_in digest bytes at awaited message (Ok Stop) comes is = (message, awaited, comes, brings digest message Stop is)
-door_let_in digest bytes at awaited message (Err refusal) comes is = tt
+door_let_in : (operators : List Operator) (bytes : List ℕ) (at : ℕ) (awaited : Bool) (message : Message) (spells : Result DoorCommand Refusal) → ComesToDoor bytes message awaited → commanded operators at message ≡ spells
+    → IsLetIn (Open operators) at bytes (asked_at_door at awaited message spells)
+door_let_in operators bytes at awaited message (Ok (OnStore command)) comes is = let by = brings operators at message (OnStore command) is in (message, awaited, comes, by.0, by.1, by.2)
+door_let_in operators bytes at awaited message (Ok Stop) comes is = let by = brings operators at message Stop is in (message, awaited, comes, by.0, by.1, by.2)
+door_let_in operators bytes at awaited message (Err refusal) comes is = tt
 
-open_let_in : (digest bytes : List ℕ) (at : ℕ) (awaited : Bool) (message : Message) (b : Bool) → is_at_door message ≡ b → Reads bytes (whole message awaited)
-    → IsLetIn (Open digest) bytes (if b then asked_at_door at awaited message (commanded digest message) else asked_by at awaited message (asked_of message))
-open_let_in digest bytes at awaited message true comes reads = door_let_in digest bytes at awaited message (commanded digest message) (record { reads = reads; at_door = comes }) refl
-open_let_in digest bytes at awaited message false comes reads = asking_let_in (Open digest) bytes at awaited message (asked_of message)
+open_let_in : (operators : List Operator) (bytes : List ℕ) (at : ℕ) (awaited : Bool) (message : Message) (b : Bool) → is_at_door message ≡ b → Reads bytes (whole message awaited)
+    → IsLetIn (Open operators) at bytes (if b then asked_at_door at awaited message (commanded operators at message) else asked_by at awaited message (asked_of message))
+open_let_in operators bytes at awaited message true comes reads = door_let_in operators bytes at awaited message (commanded operators at message) (record { reads = reads; at_door = comes }) refl
+open_let_in operators bytes at awaited message false comes reads = asking_let_in (Open operators) bytes at awaited message (asked_of message)
 
-reading_let_in : (door : Door) (bytes : List ℕ) (at : ℕ) (reading : Reading) → Reads bytes reading → IsLetIn door bytes (ask_with door at reading)
+reading_let_in : (door : Door) (bytes : List ℕ) (at : ℕ) (reading : Reading) → Reads bytes reading → IsLetIn door at bytes (ask_with door at reading)
 reading_let_in Closed bytes at unfinished reads = tt
 reading_let_in Closed bytes at (wire.refused refusal head) reads = tt
 reading_let_in Closed bytes at (whole message awaited) reads = asking_let_in Closed bytes at awaited message (asked_of message)
-reading_let_in (Open digest) bytes at unfinished reads = tt
-reading_let_in (Open digest) bytes at (wire.refused refusal head) reads = tt
-reading_let_in (Open digest) bytes at (whole message awaited) reads = open_let_in digest bytes at awaited message (is_at_door message) refl reads
+reading_let_in (Open operators) bytes at unfinished reads = tt
+reading_let_in (Open operators) bytes at (wire.refused refusal head) reads = tt
+reading_let_in (Open operators) bytes at (whole message awaited) reads = open_let_in operators bytes at awaited message (is_at_door message) refl reads
 
-let_in : (door : Door) (at : ℕ) (bytes : List ℕ) (awaited : Bool) (a : Ask) → AsksWith door at bytes awaited a → IsLetIn door bytes a
-let_in door at bytes awaited a is = subst (IsLetIn door bytes) (sym is.is) (reading_let_in door bytes at is.reading is.reads)
+let_in : (door : Door) (at : ℕ) (bytes : List ℕ) (awaited : Bool) (a : Ask) → AsksWith door at bytes awaited a → IsLetIn door at bytes a
+let_in door at bytes awaited a is = subst (IsLetIn door at bytes) (sym is.is) (reading_let_in door bytes at is.reading is.reads)
 
-all_let_in : (door : Door) (es : List Exchange) (old new : List ℕ → Option Organization) → AreServed door es old new → AllByRecursion (λ (e : Exchange). IfSome e.ask (λ ask. IsLetIn door e.received ask)) es
+all_let_in : (door : Door) (es : List Exchange) (old new : List ℕ → Option Organization) → AreServed door es old new → AllByRecursion (λ (e : Exchange). IfSome e.ask (λ ask. IsLetIn door e.at e.received ask)) es
 all_let_in door [] old new h = tt
 all_let_in door (e ∷ es) old new h = (by_ask e.ask h.1.1, all_let_in door es h.0 new h.2)
   where
-    by_ask : (o : Option Ask) → IsServedBy door e o old h.0 → IfSome o (λ ask. IsLetIn door e.received ask)
+    by_ask : (o : Option Ask) → IsServedBy door e o old h.0 → IfSome o (λ ask. IsLetIn door e.at e.received ask)
     by_ask None one = tt
     by_ask (Some a) one = let_in door e.at e.received e.awaited a one.1.asks
 

@@ -1,6 +1,5 @@
 -- The operator's door: what bytes ask with it, and how what they ask is carried out and answered.
 use Rattle.std.specs.Prelude.{◌≡◌, ℕ, Bool, false, true, nat_le, cond, if◌then◌else◌, List, length, Option, Some, None, option_and_then, option_map, bytes_eq, codes, Result, Ok, Err, IsTrue}
-use Rattle.sha2.specs.Sha256.{sha256}
 use Rattle.basis.specs.declared.refusals.Refusal.{Refusal}
 use Rattle.basis.specs.declared.refusals.Refusal.TheVariants.{BadBody}
 use Rattle.basis.specs.Checks.{or_refused, and_then}
@@ -8,7 +7,7 @@ use Rattle.machine.specs.declared.keeps.AdminAnswer.{AdminAnswer}
 use Rattle.machine.specs.declared.keeps.AdminAnswer.TheVariants.{Done}
 use Rattle.machine.specs.declared.records.Organization.{Organization}
 use Rattle.route.specs.Asks.{asked_of}
-use Rattle.route.specs.Doors.{is_at_door, operator_of, may_enter}
+use Rattle.route.specs.Doors.{is_at_door}
 use Rattle.wire.specs.declared.messages.Message.{Message}
 use Rattle.wire.specs.Messages.{Reading, Reads, unfinished, whole}
 use Rattle.wire.specs.Messages as wire
@@ -17,16 +16,14 @@ use Rattle.serve.specs.declared.doors.Door.{Door}
 use Rattle.serve.specs.declared.doors.Door.TheVariants.{Closed, Open}
 use Rattle.serve.specs.declared.doors.DoorCommand.{DoorCommand}
 use Rattle.serve.specs.declared.doors.DoorCommand.TheVariants.{OnStore, Stop}
+use Rattle.serve.specs.declared.operators.Operator.{Operator}
 use Rattle.serve.specs.Asks.{Ask, silent, refused, requests, commands, stops}
 use Rattle.serve.specs.Checks.{digest_checked}
 use Rattle.serve.specs.Lines.{only_line}
+use Rattle.serve.specs.Operators.{let_in, operator_named, permitted}
 use Rattle.serve.specs.Service.{asked_by, ask_of, is_head, Carries, said_to, IsAdminAnswer, reported_text, reported_refusal}
 use Rattle.serve.specs.Steps.{replies}
 use Rattle.serve.specs.Words.{command_in_line}
-
--- the door that is open to this secret
-abbrev pub opened_by : List ℕ → Door
-opened_by secret = Open (sha256 secret)
 
 -- the command at the door that a line is: `stop`, or an operator's command on the store
 abbrev pub door_command : List ℕ → Option DoorCommand
@@ -40,19 +37,20 @@ command_in body = or_refused BadBody (cond (nat_le (length body) 4096) (option_a
 abbrev pub command_asked : Message → Result DoorCommand Refusal
 command_asked message = and_then (digest_checked message.content_md5 message.body) (λ _. command_in message.body)
 
--- the command that a message at the open door asks for, or the refusal of the first check that fails: the method, the query, the secret
--- of this digest, Content-MD5, the body
-abbrev pub commanded : List ℕ → Message → Result DoorCommand Refusal
-commanded digest message = and_then (may_enter digest message) (λ _. command_asked message)
+-- the command that a message of this operator asks for, or the refusal of the first check that fails: Content-MD5, the body, what the operator
+-- may ask for
+abbrev pub command_permitted : Operator → Message → Result DoorCommand Refusal
+command_permitted operator message = and_then (command_asked message) (permitted operator.lists_only)
+
+-- the command that a message at the open door asks for at a moment, or the refusal of the first check that fails: the method, the query, the
+-- secret, Content-MD5, the body, what its operator may ask for
+abbrev pub commanded : List Operator → ℕ → Message → Result DoorCommand Refusal
+commanded operators at message = and_then (let_in operators at message) (λ operator. command_permitted operator message)
 
 -- the bytes are a message that comes to the door; whether `100 Continue` is awaited
 pub record ComesToDoor (received : List ℕ) (message : Message) (awaited : Bool) : Type 0 where
   pub reads : Reads received (whole message awaited)
   pub at_door : IsTrue (is_at_door message)
-
--- a message brings a secret of this digest
-abbrev pub BringsSecret : List ℕ → Message → Type 0
-BringsSecret digest message = (field : List ℕ) × (secret : List ℕ) × (message.authorization ≡ Some field) × (operator_of field ≡ Some secret) × (sha256 secret ≡ digest)
 
 -- the reply to a command that is carried out: what the program would print
 abbrev pub reported_answer : AdminAnswer → Answer
@@ -69,10 +67,17 @@ asked_at_door at awaited message (Err refusal) = refused at awaited refusal (is_
 -- what the reading of a string of bytes asks at a moment, with this door
 abbrev pub ask_with : Door → ℕ → Reading → Ask
 ask_with Closed at reading = ask_of at reading
-ask_with (Open digest) at unfinished = silent
-ask_with (Open digest) at (wire.refused refusal head) = refused at false refusal head false
-ask_with (Open digest) at (whole message awaited) =
-    if is_at_door message then asked_at_door at awaited message (commanded digest message) else asked_by at awaited message (asked_of message)
+ask_with (Open operators) at unfinished = silent
+ask_with (Open operators) at (wire.refused refusal head) = refused at false refusal head false
+ask_with (Open operators) at (whole message awaited) =
+    if is_at_door message then asked_at_door at awaited message (commanded operators at message) else asked_by at awaited message (asked_of message)
+
+-- the name of the operator whom the reading of a string of bytes lets in at a moment, with this door
+abbrev pub operator_with : Door → ℕ → Reading → Option (List ℕ)
+operator_with Closed at reading = None
+operator_with (Open operators) at unfinished = None
+operator_with (Open operators) at (wire.refused refusal head) = None
+operator_with (Open operators) at (whole message awaited) = operator_named operators at message
 
 -- whether `100 Continue` comes before the reply
 abbrev pub awaits : Reading → Bool

@@ -12,7 +12,7 @@ use Rattle.wire.specs.Links.{continue_if, continue_text, WritesPrefix, WritesCon
 use Rattle.wire.specs.Replies.{Answer, IsReplyText, unavailable_answer}
 use Rattle.docs.specs.declared.logs.LogRow.{LogRow}
 use Rattle.serve.specs.Asks.{Ask, owner_of}
-use Rattle.serve.specs.Doors.{ask_with, CarriesOut}
+use Rattle.serve.specs.Doors.{ask_with, operator_with, CarriesOut}
 use Rattle.serve.specs.Logs.{silent_row, unavailable_row, IsUnavailableRow, row_of_ask}
 use Rattle.serve.specs.Service.{Stays, record_for, is_head}
 use Rattle.serve.specs.declared.doors.Door.{Door}
@@ -25,7 +25,7 @@ pub record IsServed (door : Door) (now : ℕ) (received : List ℕ) (old new : L
   pub answer : Answer
   pub carried : CarriesOut door now received awaited ask answer old new
   pub is : IsReplyText answer now text
-  pub logged : row ≡ row_of_ask (record_for old (owner_of ask)) ask answer
+  pub logged : row ≡ row_of_ask (operator_with door now carried.asks.reading) (record_for old (owner_of ask)) ask answer
 
 -- whether `100 Continue` comes before the 503 of a failed allocation or store, and whether its body is left out, by what
 -- had been read: neither, if an allocation failed while reading; after that, `100 Continue` comes first if it is awaited, and
@@ -39,7 +39,7 @@ IsShapedBy (Some (whole message due)) awaited without_body = (awaited ≡ due) �
 -- the row of a 503, by what had been read: only the moment, if an allocation failed while reading (none)
 abbrev pub IsUnavailableFor : Door → ℕ → (List ℕ → Option Organization) → Option Reading → LogRow → Type 0
 IsUnavailableFor door now old None row = row ≡ unavailable_row now
-IsUnavailableFor door now old (Some reading) row = IsUnavailableRow (record_for old (owner_of (ask_with door now reading))) (ask_with door now reading) row
+IsUnavailableFor door now old (Some reading) row = IsUnavailableRow (operator_with door now reading) (record_for old (owner_of (ask_with door now reading))) (ask_with door now reading) row
 
 -- an allocation or the store failed, while reading (none) or after it: nothing changes, and the reply's text says so
 pub record IsUnavailable (door : Door) (now : ℕ) (received : List ℕ) (old new : List ℕ → Option Organization) (reading : Option Reading) (awaited : Bool) (text : List ℕ) (row : Option LogRow) : Type 0 where

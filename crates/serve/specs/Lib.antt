@@ -9,6 +9,7 @@ pub mod Logs
 pub mod Service
 pub mod Runs
 pub mod Exchanges
+pub mod Operators
 pub mod Doors
 pub mod AtDoor
 pub mod Laws

@@ -129,17 +129,17 @@ traced now r (Ok (Carry ws act)) = trace_of (workspace_in r ws) (rules act now (
 
 -- a row of which nothing is known but the moment: no message was read completely, and there is no reply
 abbrev pub silent_row : ℕ → LogRow
-silent_row at = record { act = None; at = at; id = None; number = None; operator = false; organization = None; refusal = None; run = None; status = None; subject = None; token = None; version = None; workspace = None }
+silent_row at = record { act = None; at = at; at_door = false; id = None; number = None; operator = None; organization = None; refusal = None; run = None; status = None; subject = None; token = None; version = None; workspace = None }
 
 -- the row with an answer
 abbrev pub with_answer : Answer → LogRow → LogRow
 with_answer answer row = record row { status = Some answer.status; refusal = answer.refusal }
 
--- the row of a message at the operator's door: what its command asks, the organization that it names, and the token that it adds or revokes,
--- each if there is one; and the answer
-abbrev pub operator_row : ℕ → Option LogAct → Option (List ℕ) → Option (List ℕ) → Answer → LogRow
-operator_row at act org subject answer =
-    record (silent_row at) { act = act; operator = true; organization = org; refusal = answer.refusal; status = Some answer.status; subject = subject }
+-- the row of a message at the operator's door: the name of the operator whom it lets in, what its command asks, the organization that it names,
+-- and the token that it adds or revokes, each if there is one; and the answer
+abbrev pub operator_row : ℕ → Option (List ℕ) → Option LogAct → Option (List ℕ) → Option (List ℕ) → Answer → LogRow
+operator_row at by act org subject answer =
+    record (silent_row at) { act = act; at_door = true; operator = by; organization = org; refusal = answer.refusal; status = Some answer.status; subject = subject }
 
 -- what a command asks, as the log names it
 abbrev pub act_commanded : Admin → LogAct
@@ -172,15 +172,15 @@ token_commanded (TokenList org) = None
 token_commanded (TokenRevoke org name) = Some name
 
 -- the row of a command, and that of a message at the door of which no command was read
-abbrev pub command_row : ℕ → Admin → Answer → LogRow
-command_row at command answer = operator_row at (Some (act_commanded command)) (org_commanded command) (token_commanded command) answer
+abbrev pub command_row : ℕ → Option (List ℕ) → Admin → Answer → LogRow
+command_row at by command answer = operator_row at by (Some (act_commanded command)) (org_commanded command) (token_commanded command) answer
 
-abbrev pub no_command_row : ℕ → Answer → LogRow
-no_command_row at answer = operator_row at None None None answer
+abbrev pub no_command_row : ℕ → Option (List ℕ) → Answer → LogRow
+no_command_row at by answer = operator_row at by None None None answer
 
 -- the row of the command that ends the service: it names no organization
-abbrev pub stop_row : ℕ → Answer → LogRow
-stop_row at answer = operator_row at (Some (logged.OfOperator Stop)) None None answer
+abbrev pub stop_row : ℕ → Option (List ℕ) → Answer → LogRow
+stop_row at by answer = operator_row at by (Some (logged.OfOperator Stop)) None None answer
 
 -- whether a row is that of a `stop` that was answered `ok`
 abbrev pub is_stop : Option LogAct → Bool
@@ -196,9 +196,10 @@ abbrev pub row_of_request : ℕ → Asked → Answer → Option (List ℕ) → O
 row_of_request at asked answer token id trace = record {
   act = Some (act_logged asked.act);
   at = at;
+  at_door = false;
   id = option_or id asked.lock_id;
   number = option_or (number_named asked.act) (option_or trace.shown_run trace.version);
-  operator = false;
+  operator = None;
   organization = Some asked.caller;
   refusal = answer.refusal;
   run = trace.run;
@@ -213,14 +214,14 @@ abbrev pub request_row : Option Organization → ℕ → Asked → Option (List 
 request_row r at asked content_md5 body =
     row_of_request at asked (request_step r at asked content_md5 body).answer (token_named r at asked) (id_spelt (task_read r at asked content_md5 body)) (traced at r (checked r at asked content_md5 body))
 
--- the row of what is asked and answered, over the record that it reads: none for what is unfinished
-abbrev pub row_of_ask : Option Organization → Ask → Answer → Option LogRow
-row_of_ask r silent answer = None
-row_of_ask r (ask.refused at awaited refusal is_head false) answer = Some (with_answer (refusing refusal r).answer (silent_row at))
-row_of_ask r (ask.refused at awaited refusal is_head true) answer = Some (no_command_row at (refusing refusal r).answer)
-row_of_ask r (requests at awaited asked content_md5 body) answer = Some (request_row r at asked content_md5 body)
-row_of_ask r (stops at) answer = Some (stop_row at answer)
-row_of_ask r (commands at command) answer = Some (command_row at command answer)
+-- the row of what is asked and answered, by the name of the operator who is let in, over the record that it reads: none for what is unfinished
+abbrev pub row_of_ask : Option (List ℕ) → Option Organization → Ask → Answer → Option LogRow
+row_of_ask by r silent answer = None
+row_of_ask by r (ask.refused at awaited refusal is_head false) answer = Some (with_answer (refusing refusal r).answer (silent_row at))
+row_of_ask by r (ask.refused at awaited refusal is_head true) answer = Some (no_command_row at by (refusing refusal r).answer)
+row_of_ask by r (requests at awaited asked content_md5 body) answer = Some (request_row r at asked content_md5 body)
+row_of_ask by r (stops at) answer = Some (stop_row at by answer)
+row_of_ask by r (commands at command) answer = Some (command_row at by command answer)
 
 -- the row of the 503 of a failed allocation or store, if nothing was read of what is asked
 abbrev pub unavailable_row : ℕ → LogRow
@@ -249,12 +250,18 @@ pub record IsUnavailableRequest (r : Option Organization) (at : ℕ) (asked : As
   pub read : IsReadSoFar r at asked content_md5 body token id
   pub is : row ≡ row_of_unavailable at asked token id
 
--- the row of a 503 to what is asked, over the record that it reads: a request's, unless an allocation failed before its head was read; a
--- command's, if the command had been read. A message that is turned away for its secret has no 503: that reply needs no memory
-abbrev pub IsUnavailableRow : Option Organization → Ask → LogRow → Type 0
-IsUnavailableRow r silent row = ⊥
-IsUnavailableRow r (ask.refused at awaited refusal is_head false) row = row ≡ unavailable_row at
-IsUnavailableRow r (ask.refused at awaited refusal is_head true) row = (refusal ≢ BadSecret) × (row ≡ no_command_row at (unavailable_answer false))
-IsUnavailableRow r (requests at awaited asked content_md5 body) row = (row ≡ unavailable_row at) ⊎ IsUnavailableRequest r at asked content_md5 body row
-IsUnavailableRow r (stops at) row = (row ≡ no_command_row at (unavailable_answer false)) ⊎ (row ≡ stop_row at (unavailable_answer false))
-IsUnavailableRow r (commands at command) row = (row ≡ no_command_row at (unavailable_answer false)) ⊎ (row ≡ command_row at command (unavailable_answer false))
+-- that of a message at the operator's door of which no command had been read: with the name of the operator whom it lets in, unless an
+-- allocation failed before that was kept
+abbrev pub IsUnreadRow : Option (List ℕ) → ℕ → LogRow → Type 0
+IsUnreadRow by at row = (row ≡ no_command_row at None (unavailable_answer false)) ⊎ (row ≡ no_command_row at by (unavailable_answer false))
+
+-- the row of a 503 to what is asked, by the name of the operator who is let in, over the record that it reads: a request's, unless an allocation
+-- failed before its head was read; a command's, if the command had been read. A message that is turned away for its secret has no 503: that
+-- reply needs no memory
+abbrev pub IsUnavailableRow : Option (List ℕ) → Option Organization → Ask → LogRow → Type 0
+IsUnavailableRow by r silent row = ⊥
+IsUnavailableRow by r (ask.refused at awaited refusal is_head false) row = row ≡ unavailable_row at
+IsUnavailableRow by r (ask.refused at awaited refusal is_head true) row = (refusal ≢ BadSecret) × IsUnreadRow by at row
+IsUnavailableRow by r (requests at awaited asked content_md5 body) row = (row ≡ unavailable_row at) ⊎ IsUnavailableRequest r at asked content_md5 body row
+IsUnavailableRow by r (stops at) row = IsUnreadRow by at row ⊎ (row ≡ stop_row at by (unavailable_answer false))
+IsUnavailableRow by r (commands at command) row = IsUnreadRow by at row ⊎ (row ≡ command_row at by command (unavailable_answer false))

@@ -16,8 +16,8 @@ pub record IsAsPromised (door : Door) (es : List Exchange) (old new : List ℕ �
   pub told : (owner : Owner) → AreOwnTold es old owner
   -- what is out of reach, or outside a prefix, is answered as if it were absent
   pub absent : AbsentFormsAreTold es old
-  -- an operator's command is carried out only for bytes with the secret of an open door
-  pub secrets : AllByRecursion (λ (e : Exchange). IfSome e.ask (λ ask. IsLetIn door e.received ask)) es
+  -- an operator's command is carried out only for bytes with the secret of an operator who may ask for it
+  pub secrets : AllByRecursion (λ (e : Exchange). IfSome e.ask (λ ask. IsLetIn door e.at e.received ask)) es
   -- custody and queue
   pub custody : KeepsCustody (asked_in es) old
 

@@ -1,6 +1,6 @@
 -- Exchanges in a row over the records of all organizations: what each received, what it wrote and what it carried out; and what
 -- follows of each organization.
-use Rattle.std.specs.Prelude.{◌≡◌, ◌⊎◌, ◌<◌, ℕ, Bool, true, false, List, [], ◌∷◌, ◌++◌, length, Option, Some, None, ⊤}
+use Rattle.std.specs.Prelude.{◌≡◌, ◌⊎◌, ◌<◌, ℕ, Bool, true, false, List, [], ◌∷◌, ◌++◌, length, Option, Some, None, Ok, ⊤}
 use Rattle.machine.specs.Ranges.{IsMoment}
 use Rattle.machine.specs.declared.keeps.AdminAnswer.{AdminAnswer}
 use Rattle.machine.specs.declared.keeps.AdminAnswer.TheVariants.{Organizations}
@@ -12,8 +12,12 @@ use Rattle.wire.specs.Messages.{Reads, unfinished, AwaitsContinue, IsAwaited}
 use Rattle.wire.specs.Replies.{Answer, IsReplyText, unavailable_answer}
 use Rattle.serve.specs.declared.doors.Door.{Door}
 use Rattle.serve.specs.declared.doors.Door.TheVariants.{Closed, Open}
+use Rattle.serve.specs.declared.doors.DoorCommand.{DoorCommand}
+use Rattle.serve.specs.declared.doors.DoorCommand.TheVariants.{OnStore, Stop}
+use Rattle.serve.specs.declared.operators.Operator.{Operator}
 use Rattle.serve.specs.Asks.{Ask, silent, refused, requests, commands, stops, Owner, organization}
-use Rattle.serve.specs.Doors.{ComesToDoor, reported_answer, BringsSecret, CarriesOut}
+use Rattle.serve.specs.Doors.{ComesToDoor, reported_answer, CarriesOut}
+use Rattle.serve.specs.Operators.{permitted, BringsSecretOf}
 use Rattle.serve.specs.Runs.{IsOwnRecord}
 use Rattle.serve.specs.Service.{Stays, own_asks, replies_at, record_for}
 use Rattle.serve.specs.Steps.{Said, nothing, replies, reports, lists, lists_tokens, own_said}
@@ -34,18 +38,19 @@ pub record Exchange : Type 0 where
 abbrev pub AsksToStop : Exchange → Type 0
 AsksToStop e = (at : ℕ) × (e.ask ≡ Some (stops at))
 
--- the bytes are a message at the open door with its secret
-abbrev pub BringsSecretTo : Door → List ℕ → Type 0
-BringsSecretTo Closed bytes = ⊥
-BringsSecretTo (Open digest) bytes = (message : Message) × (awaited : Bool) × ComesToDoor bytes message awaited × BringsSecret digest message
+-- the bytes are a message at the open door with the secret of an operator, which counts at a moment, and who may ask for this command
+abbrev pub ComesFromOperator : Door → ℕ → List ℕ → DoorCommand → Type 0
+ComesFromOperator Closed at bytes command = ⊥
+ComesFromOperator (Open operators) at bytes command =
+    (message : Message) × (awaited : Bool) × ComesToDoor bytes message awaited × (operator : Operator) × BringsSecretOf operators at message operator × (permitted operator.lists_only command ≡ Ok command)
 
--- an operator's command, or `stop`, came with the secret
-abbrev pub IsLetIn : Door → List ℕ → Ask → Type 0
-IsLetIn door bytes silent = ⊤
-IsLetIn door bytes (refused now due refusal is_head at_door) = ⊤
-IsLetIn door bytes (requests now due asked content_md5 body) = ⊤
-IsLetIn door bytes (stops now) = BringsSecretTo door bytes
-IsLetIn door bytes (commands now command) = BringsSecretTo door bytes
+-- an operator's command, or `stop`, came with the secret of an operator who may ask for it
+abbrev pub IsLetIn : Door → ℕ → List ℕ → Ask → Type 0
+IsLetIn door at bytes silent = ⊤
+IsLetIn door at bytes (refused now due refusal is_head at_door) = ⊤
+IsLetIn door at bytes (requests now due asked content_md5 body) = ⊤
+IsLetIn door at bytes (stops now) = ComesFromOperator door at bytes Stop
+IsLetIn door at bytes (commands now command) = ComesFromOperator door at bytes (OnStore command)
 
 -- these bytes are the text, or the front of it
 abbrev pub IsFrontOf : Bool → List ℕ → List ℕ → Type 0

@@ -28,7 +28,8 @@ fn behind<'a>(mark: &str, word: &'a str) -> Option<&'a str>
     word.strip_prefix(mark)
 }
 
-fn until_word(word: &str) -> Option<Moment>
+/// Reads the word `until=SECONDS`.
+pub fn until_word(word: &str) -> Option<Moment>
     ensures { result ≡ until_word word.now }
 {
     read_moment(behind("until=", word)?)

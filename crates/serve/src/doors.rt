@@ -5,42 +5,32 @@ ghost use Rattle.machine.specs.StoreCalls.{Lasts};
 ghost use Rattle.machine.specs.declared.keeps.AdminAnswer.TheVariants.{Done};
 ghost use Rattle.docs.specs.Bodies.{error_text};
 ghost use Rattle.wire.specs.Replies.{text_answer, refused_answer, unavailable_answer};
-ghost use Rattle.serve.specs.Doors.{opened_by, door_command, command_in, command_asked, reported_answer};
+ghost use Rattle.serve.specs.Doors.{door_command, command_in, command_asked, command_permitted, reported_answer};
+ghost use Rattle.serve.specs.Operators.{is_list, permitted};
 ghost use Rattle.serve.specs.Logs.{act_commanded, org_commanded, token_commanded, command_row, no_command_row, stop_row};
 ghost use Rattle.serve.specs.Service.{Stays};
-ghost use Rattle.serve.specs.Inner.Doors.{row_commanded, Operates, TurnsAway, OperatesOrNot, IsRowSoFar};
+ghost use Rattle.serve.specs.Inner.Doors.{row_commanded, Operates, TurnsAway, OperatesAs, OperatesOrNot, IsRowAs, IsRowSoFar};
 
 use crate::checks::digest_checked;
 use crate::commands::{CommandReport, report, report_done};
 use crate::lines::{MAX_LINE, only_line};
 use crate::logs::operator_row;
 use crate::messages::is_head;
+use crate::operators::{Operator, Operators};
 use crate::requests::refuse;
 use crate::steps::Admin;
 use crate::words::read_command_line;
-use basis::{Down, Moment, OrgName, Refusal, Secret, Unfit};
+use basis::{Down, Moment, OrgName, Refusal, Unfit};
 use docs::{LogAct, LogRow, OperatorAct};
 use machine::Keep;
-use route::{may_enter, secret_digest};
 use std::alloc::Global;
 use wire::{Message, Reply};
 
-/// The operator's door: closed, or open to the secret of this digest.
+/// The operator's door: closed, or open to these operators.
 #[derive(Drop)]
 pub enum Door {
     Closed,
-    Open { digest: [u8; 32] },
-}
-
-impl Door {
-    /// A door that is open to this secret. The secret is not kept.
-    pub fn opened_by(secret: &Secret) -> Door
-        ensures { result ≡ opened_by secret.now }
-    {
-        Door::Open {
-            digest: secret_digest(secret),
-        }
-    }
+    Open { operators: Operators },
 }
 
 /// A command at the operator's door.
@@ -88,6 +78,39 @@ fn command_asked(alloc: Global, message: &Message) -> Result<DoorCommand, Refusa
 {
     digest_checked(&message.content_md5, &message.body)?;
     command_in(alloc, message.body.as_slice())
+}
+
+fn is_list(command: &DoorCommand) -> bool
+    ensures { result ≡ is_list command.now }
+{
+    match command {
+        DoorCommand::OnStore(Admin::OrgList | Admin::TokenList { .. }) => true,
+        _ => false,
+    }
+}
+
+// The command, unless its operator may only list and it is no list.
+fn permitted(lists_only: bool, command: DoorCommand) -> Result<DoorCommand, Refusal>
+    ensures { result ≡ permitted lists_only command }
+{
+    if lists_only && !is_list(&command) {
+        Err(Refusal::NeedAdmin)
+    } else {
+        Ok(command)
+    }
+}
+
+// The command that a message of this operator asks for, or the refusal of the first check that fails: Content-MD5, the body, what the
+// operator may ask for. `Unavailable` if an allocation fails.
+fn command_permitted(
+    alloc: Global,
+    operator: &Operator,
+    message: &Message,
+) -> Result<DoorCommand, Refusal>
+    ensures { Follows result (command_permitted operator.now message.now) }
+{
+    let command = command_asked(alloc, message)?;
+    permitted(operator.lists_only, command)
 }
 
 fn act_of(asked: &Admin) -> LogAct
@@ -159,88 +182,89 @@ pub struct Operated {
 }
 
 // The reply and the row for a command that is carried out.
-fn answered(at: Moment, asked: Admin, reported: CommandReport) -> Operated
+fn answered(at: Moment, by: Option<OrgName>, asked: Admin, reported: CommandReport) -> Operated
     ensures reply { result.reply ≡ text_answer reported.refusal reported.text }
-    ensures row { result.row ≡ command_row at asked (text_answer reported.refusal reported.text) }
+    ensures row { result.row ≡ command_row at by asked (text_answer reported.refusal reported.text) }
 {
     let CommandReport { refusal, text } = reported;
     let act = act_of(&asked);
     let Names { org, token } = names_in(asked);
     let reply = Reply::text(refusal, text);
-    let row = operator_row(at, Some(act), org, token, &reply);
+    let row = operator_row(at, by, Some(act), org, token, &reply);
     Operated { reply, row }
 }
 
 // The row of a 503, if this command had been read.
-fn row_so_far(at: Moment, asked: Admin) -> LogRow
-    ensures { result ≡ command_row at asked (unavailable_answer false) }
+fn row_so_far(at: Moment, by: Option<OrgName>, asked: Admin) -> LogRow
+    ensures { result ≡ command_row at by asked (unavailable_answer false) }
 {
     let act = act_of(&asked);
     let Names { org, token } = names_in(asked);
     let reply = Reply::unavailable(false);
-    operator_row(at, Some(act), org, token, &reply)
+    operator_row(at, by, Some(act), org, token, &reply)
 }
 
 // The row of a 503, if no command had been read.
-fn unread_row(at: Moment) -> LogRow
-    ensures { result ≡ no_command_row at (unavailable_answer false) }
+fn unread_row(at: Moment, by: Option<OrgName>) -> LogRow
+    ensures { result ≡ no_command_row at by (unavailable_answer false) }
 {
     let reply = Reply::unavailable(false);
-    operator_row(at, None, None, None, &reply)
+    operator_row(at, by, None, None, None, &reply)
 }
 
 fn carry_out<K: Keep>(
     alloc: Global,
     keep: &mut K,
     at: Moment,
+    by: Option<OrgName>,
     asked: Admin,
 ) -> Result<Operated, LogRow>
     ensures lasts { Lasts K.clean K.sound K.keyed K.shielded keep.old keep.new }
-    ensures ok { K.clean keep.new → K.sound keep.old → IfOk result (Operates at (DoorCommand.OnStore asked) (K.rows keep.old) (K.rows keep.new)) }
+    ensures ok { K.clean keep.new → K.sound keep.old → IfOk result (Operates at by (DoorCommand.OnStore asked) (K.rows keep.old) (K.rows keep.new)) }
     ensures err { K.clean keep.new → OnErr result (Stays (K.rows keep.old) (K.rows keep.new)) }
-    ensures row { IfErr result (λ row. row ≡ command_row at asked (unavailable_answer false)) }
+    ensures row { IfErr result (λ row. row ≡ command_row at by asked (unavailable_answer false)) }
 {
     match report(alloc, keep, &asked) {
-        Ok(reported) => Ok(answered(at, asked, reported)),
-        Err(Down) => Err(row_so_far(at, asked)),
+        Ok(reported) => Ok(answered(at, by, asked, reported)),
+        Err(Down) => Err(row_so_far(at, by, asked)),
     }
 }
 
-fn stop_row(at: Moment, reply: &Reply) -> LogRow
-    ensures { result ≡ stop_row at reply.now }
+fn stop_row(at: Moment, by: Option<OrgName>, reply: &Reply) -> LogRow
+    ensures { result ≡ stop_row at by reply.now }
 {
     let act = LogAct::OfOperator(OperatorAct::Stop);
-    operator_row(at, Some(act), None, None, reply)
+    operator_row(at, by, Some(act), None, None, reply)
 }
 
 // The reply and the row for `stop`.
-fn stopped(at: Moment, reported: CommandReport) -> Operated
+fn stopped(at: Moment, by: Option<OrgName>, reported: CommandReport) -> Operated
     ensures reply { result.reply ≡ text_answer reported.refusal reported.text }
-    ensures row { result.row ≡ stop_row at (text_answer reported.refusal reported.text) }
+    ensures row { result.row ≡ stop_row at by (text_answer reported.refusal reported.text) }
 {
     let CommandReport { refusal, text } = reported;
     let reply = Reply::text(refusal, text);
-    let row = stop_row(at, &reply);
+    let row = stop_row(at, by, &reply);
     Operated { reply, row }
 }
 
 // The row of its 503.
-fn down_row(at: Moment) -> LogRow
-    ensures { result ≡ stop_row at (unavailable_answer false) }
+fn down_row(at: Moment, by: Option<OrgName>) -> LogRow
+    ensures { result ≡ stop_row at by (unavailable_answer false) }
 {
     let reply = Reply::unavailable(false);
-    stop_row(at, &reply)
+    stop_row(at, by, &reply)
 }
 
 // Answers `stop`. It changes nothing: whoever serves the connections ends the service, by the row.
-fn stop(alloc: Global, at: Moment) -> Result<Operated, LogRow>
+fn stop(alloc: Global, at: Moment, by: Option<OrgName>) -> Result<Operated, LogRow>
     ensures reply { IfOk result (λ done. done.reply ≡ reported_answer Done) }
-    ensures row { IfOk result (λ done. done.row ≡ stop_row at (reported_answer Done)) }
-    ensures down { IfErr result (λ row. row ≡ stop_row at (unavailable_answer false)) }
+    ensures row { IfOk result (λ done. done.row ≡ stop_row at by (reported_answer Done)) }
+    ensures down { IfErr result (λ row. row ≡ stop_row at by (unavailable_answer false)) }
 {
     match report_done(alloc) {
-        Ok(reported) => Ok(stopped(at, reported)),
-        Err(Down) => Err(down_row(at)),
+        Ok(reported) => Ok(stopped(at, by, reported)),
+        Err(Down) => Err(down_row(at, by)),
     }
 }
 
@@ -249,16 +273,17 @@ fn obey<K: Keep>(
     alloc: Global,
     keep: &mut K,
     at: Moment,
+    by: Option<OrgName>,
     asked: DoorCommand,
 ) -> Result<Operated, LogRow>
     ensures lasts { Lasts K.clean K.sound K.keyed K.shielded keep.old keep.new }
-    ensures ok { K.clean keep.new → K.sound keep.old → IfOk result (Operates at asked (K.rows keep.old) (K.rows keep.new)) }
+    ensures ok { K.clean keep.new → K.sound keep.old → IfOk result (Operates at by asked (K.rows keep.old) (K.rows keep.new)) }
     ensures err { K.clean keep.new → OnErr result (Stays (K.rows keep.old) (K.rows keep.new)) }
-    ensures row { IfErr result (λ row. row ≡ row_commanded at asked (unavailable_answer false)) }
+    ensures row { IfErr result (λ row. row ≡ row_commanded at by asked (unavailable_answer false)) }
 {
     match asked {
-        DoorCommand::OnStore(command) => carry_out(alloc, keep, at, command),
-        DoorCommand::Stop => stop(alloc, at),
+        DoorCommand::OnStore(command) => carry_out(alloc, keep, at, by, command),
+        DoorCommand::Stop => stop(alloc, at, by),
     }
 }
 
@@ -275,18 +300,46 @@ fn refusal_reply(alloc: Global, refusal: Refusal, is_head: bool) -> Result<Reply
     refuse(alloc, refusal, is_head)
 }
 
-fn turn_away(alloc: Global, at: Moment, refusal: Refusal, is_head: bool) -> Result<Operated, LogRow>
+fn turn_away(
+    alloc: Global,
+    at: Moment,
+    by: Option<OrgName>,
+    refusal: Refusal,
+    is_head: bool,
+) -> Result<Operated, LogRow>
     ensures known { OnOk result (refusal ≢ Refusal.Unavailable) }
-    ensures ok { IfOk result (TurnsAway at refusal is_head) }
+    ensures ok { IfOk result (TurnsAway at by refusal is_head) }
     ensures secret { OnErr result (refusal ≢ Refusal.BadSecret) }
-    ensures row { IfErr result (λ row. row ≡ no_command_row at (unavailable_answer false)) }
+    ensures row { IfErr result (λ row. row ≡ no_command_row at by (unavailable_answer false)) }
 {
     match refusal_reply(alloc, refusal, is_head) {
         Ok(reply) => {
-            let row = operator_row(at, None, None, None, &reply);
+            let row = operator_row(at, by, None, None, None, &reply);
             Ok(Operated { reply, row })
         }
-        Err(Down) => Err(unread_row(at)),
+        Err(Down) => Err(unread_row(at, by)),
+    }
+}
+
+// Carries out the command of a message that let this operator in, and returns the reply; or the row of a 503.
+fn operate_for<K: Keep>(
+    alloc: Global,
+    keep: &mut K,
+    operator: &Operator,
+    at: Moment,
+    message: &Message,
+) -> Result<Operated, LogRow>
+    ensures lasts { Lasts K.clean K.sound K.keyed K.shielded keep.old keep.new }
+    ensures ok { K.clean keep.new → K.sound keep.old → IfOk result (OperatesAs (command_permitted operator.now message.now) (Some operator.now.name) at message.now (K.rows keep.old) (K.rows keep.new)) }
+    ensures err { K.clean keep.new → OnErr result (Stays (K.rows keep.old) (K.rows keep.new)) }
+    ensures row { IfErr result (IsRowAs (command_permitted operator.now message.now) (Some operator.now.name) at message.now) }
+{
+    let Ok(name) = operator.name.clone() else {
+        return Err(unread_row(at, None));
+    };
+    match command_permitted(alloc, operator, message) {
+        Ok(asked) => obey(alloc, keep, at, Some(name), asked),
+        Err(refusal) => turn_away(alloc, at, Some(name), refusal, is_head(message)),
     }
 }
 
@@ -294,20 +347,17 @@ fn turn_away(alloc: Global, at: Moment, refusal: Refusal, is_head: bool) -> Resu
 pub fn operate<K: Keep>(
     alloc: Global,
     keep: &mut K,
-    digest: &[u8; 32],
+    operators: &Operators,
     at: Moment,
     message: &Message,
 ) -> Result<Operated, LogRow>
     ensures lasts { Lasts K.clean K.sound K.keyed K.shielded keep.old keep.new }
-    ensures ok { K.clean keep.new → K.sound keep.old → IfOk result (OperatesOrNot digest.now at message.now (K.rows keep.old) (K.rows keep.new)) }
+    ensures ok { K.clean keep.new → K.sound keep.old → IfOk result (OperatesOrNot operators.now at message.now (K.rows keep.old) (K.rows keep.new)) }
     ensures err { K.clean keep.new → OnErr result (Stays (K.rows keep.old) (K.rows keep.new)) }
-    ensures row { IfErr result (IsRowSoFar digest.now at message.now) }
+    ensures row { IfErr result (IsRowSoFar operators.now at message.now) }
 {
-    if let Err(why) = may_enter(digest, message) {
-        return turn_away(alloc, at, why, is_head(message));
-    }
-    match command_asked(alloc, message) {
-        Ok(asked) => obey(alloc, keep, at, asked),
-        Err(refusal) => turn_away(alloc, at, refusal, is_head(message)),
+    match operators.let_in(at, message) {
+        Ok(operator) => operate_for(alloc, keep, operator, at, message),
+        Err(refusal) => turn_away(alloc, at, None, refusal, is_head(message)),
     }
 }

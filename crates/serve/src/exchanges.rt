@@ -14,6 +14,7 @@ ghost use Rattle.serve.specs.Inner.Replying.{AnswersTo, AnswersPast, due_reply, 
 use crate::doors::{Door, Operated, operate};
 use crate::logs::{as_unavailable, silent_row};
 use crate::messages::{Prepared, commit, is_head, prepare, without_body};
+use crate::operators::Operators;
 use basis::{Down, Moment};
 use docs::LogRow;
 use machine::Keep;
@@ -147,7 +148,7 @@ fn answer_read<K: Keep, O: Outlet>(
 fn answer_at_door<K: Keep, O: Outlet>(
     alloc: Global,
     keep: &mut K,
-    digest: &[u8; 32],
+    operators: &Operators,
     now: Moment,
     message: &Message,
     outlet: &mut O,
@@ -156,12 +157,12 @@ fn answer_at_door<K: Keep, O: Outlet>(
 ) -> Result<(), LinkFault>
     requires { O.broken outlet.old ≡ false }
     ensures lasts { Lasts K.clean K.sound K.keyed K.shielded keep.old keep.new }
-    ensures text { K.clean keep.new → K.sound keep.old → (text : List ℕ) × IsAnsweredThere digest.now now message.now (K.rows keep.old) (K.rows keep.new) text row.new is_down.new
+    ensures text { K.clean keep.new → K.sound keep.old → (text : List ℕ) × IsAnsweredThere operators.now now message.now (K.rows keep.old) (K.rows keep.new) text row.new is_down.new
         × Writes (O.written outlet.old) (O.written outlet.new) text result }
     ensures fault { IfErr result (λ fault. fault ≡ LinkFault.Write) }
     ensures cause { O.broken outlet.new ≡ is_err result }
 {
-    match operate(alloc, keep, digest, now, message) {
+    match operate(alloc, keep, operators, now, message) {
         Ok(operated) => {
             let Operated {
                 reply,
@@ -202,10 +203,10 @@ fn answer<K: Keep, O: Outlet>(
 {
     match door {
         Door::Closed => answer_read(alloc, keep, routes, now, read, outlet, is_down, row),
-        Door::Open { digest } => match read {
+        Door::Open { operators } => match read {
             Ok(message) => {
                 if is_at_door(&message) {
-                    answer_at_door(alloc, keep, digest, now, &message, outlet, is_down, row)
+                    answer_at_door(alloc, keep, operators, now, &message, outlet, is_down, row)
                 } else {
                     answer_read(alloc, keep, routes, now, Ok(message), outlet, is_down, row)
                 }

@@ -1,7 +1,7 @@
 //! Laws of steps and runs, each the contract of a call that does nothing.
 ghost use Rattle.serve.specs.Laws.{OneAsking, TwoWorlds, SameStepsAskTheSame, RefusedStepsChangeNothing, OutOfReachIsNotFound, OutOfReachIsAsAbsent, OutsideThePrefixIsNotFound, OutsideThePrefixIsAsAbsent, NamesDecideNothing, SecretsAreNotLogged, ExchangesAreServed, EachIsServedAlone, OwnersAreTold, ServedKeepCustody, AsksInTurn, ServedInTurn, TwoServedWorlds};
 ghost use Rattle.serve.specs.Custody.{StepsChangeWhatTheyName, LocksAreKept, OrganizationsGoByRemoval, RemovalsAreCarriedOut, OrganizationsBeginAnew, StepsAreRepeatable, RepeatsLeaveTheWorkspace, LockedNamesTheHolder, SameBytesAskAgain, RequestsChangeTheirWorkspaceAlone};
-ghost use Rattle.serve.specs.AtDoor.{OnlyTheSecretOpens, WithoutTheSecret, WrongSecretsAreAlike, AddedSecretsAreNotLogged};
+ghost use Rattle.serve.specs.AtDoor.{ListersChangeNothing, LoggedOperatorsAsk, OnlyTheSecretOpens, WithoutTheSecret, WrongSecretsAreAlike, AddedSecretsAreNotLogged};
 ghost use Rattle.serve.specs.Book.{BooksAreOfTheRun, PeriodsAreTheStepsBetween, CustodyIsKept};
 ghost use Rattle.serve.specs.AbsentForms.{ServedTellAbsentForms};
 ghost use Rattle.serve.specs.Promises.{ServicesAreAsPromised};
@@ -121,12 +121,22 @@ pub fn secrets_are_not_logged()
     ensures { SecretsAreNotLogged }
 {}
 
+/// Operators who may only list change nothing, and do not end the service.
+pub fn listers_change_nothing()
+    ensures { ListersChangeNothing }
+{}
+
+/// The operator whom a line of the log names brought the secret of that operator.
+pub fn logged_operators_ask()
+    ensures { LoggedOperatorsAsk }
+{}
+
 /// No secret of an added token is told: the log's row of the command has none.
 pub fn added_secrets_are_not_logged()
     ensures { AddedSecretsAreNotLogged }
 {}
 
-/// Nobody without the operator's secret changes anything at the operator's door.
+/// Nobody without the secret of an operator, which counts, changes anything at the operator's door.
 pub fn only_the_secret_opens()
     ensures { OnlyTheSecretOpens }
 {}

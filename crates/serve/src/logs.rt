@@ -187,9 +187,10 @@ pub fn silent_row(at: Moment) -> LogRow
     LogRow {
         act: None,
         at,
+        at_door: false,
         id: None,
         number: None,
-        operator: false,
+        operator: None,
         organization: None,
         refusal: None,
         run: None,
@@ -234,20 +235,22 @@ pub fn as_unavailable(row: LogRow) -> LogRow
     }
 }
 
-/// The row of a request at the operator's door: what its command asks, the organization that it names, and the token that it
-/// added or revoked, each if there is one.
+/// The row of a request at the operator's door: the operator whom it lets in, what its command asks, the organization that it names,
+/// and the token that it added or revoked, each if there is one.
 pub fn operator_row(
     at: Moment,
+    by: Option<OrgName>,
     act: Option<LogAct>,
     organization: Option<OrgName>,
     subject: Option<OrgName>,
     reply: &Reply,
 ) -> LogRow
-    ensures { result ≡ operator_row at act organization subject reply.now }
+    ensures { result ≡ operator_row at by act organization subject reply.now }
 {
     LogRow {
         act,
-        operator: true,
+        at_door: true,
+        operator: by,
         organization,
         refusal: reply.refusal(),
         status: Some(reply.status()),
@@ -274,9 +277,10 @@ pub fn request_row(at: Moment, asked: Asked, reply: &Reply, facts: RowFacts) -> 
     LogRow {
         act: Some(act_logged(&act)),
         at,
+        at_door: false,
         id: id.or(lock_id),
         number: number_named(&act).or(trace.shown_run.or(trace.version)),
-        operator: false,
+        operator: None,
         organization: Some(caller),
         refusal,
         run: trace.run,

@@ -5,7 +5,7 @@ use crate::keyed::Keyed;
 use crate::lines::Mark;
 use crate::requests::{reply_of, request_of};
 use basis::{Bytes, Down, Moment, Secret, Unfit};
-use serve::{Door, Step};
+use serve::{Door, Operator as DoorOperator, Operators, Step};
 use std::alloc::Global;
 
 /// What is due to a step, and the line of that step.
@@ -201,10 +201,17 @@ impl Play {
     }
 }
 
+// The door that is open to one operator, for all commands.
+fn door_to(alloc: Global, secret: &Secret) -> Result<Door, Down> {
+    let mut operators = Operators::new(alloc);
+    operators.push(DoorOperator::alone(alloc, secret)?)?;
+    Ok(Door::Open { operators })
+}
+
 // The door that is open to an operator's secret.
 fn door_of(alloc: Global, operator: Operator<'_>) -> Result<Door, Unread> {
     match Secret::read(alloc, operator.secret) {
-        Ok(secret) => Ok(Door::opened_by(&secret)),
+        Ok(secret) => Ok(door_to(alloc, &secret)?),
         Err(Unfit::Syntax) => Err(Unread {
             line: operator.line,
             why: "an operator's secret is 16 to 64 ASCII letters or digits",

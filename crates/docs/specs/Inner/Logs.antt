@@ -3,7 +3,7 @@ use Rattle.std.specs.Prelude.{ℕ, List, codes, option_map}
 use Rattle.serde_json.specs.Data.{Members, member, unsigned, number, string}
 use Rattle.docs.specs.Bodies.{number_value, text_value}
 use Rattle.basis.specs.Refusals.{line_of}
-use Rattle.docs.specs.Logs.{log_word, operator_member, subject_member}
+use Rattle.docs.specs.Logs.{log_word, door_member}
 use Rattle.docs.specs.declared.logs.LogRow.{LogRow}
 
 -- the members of a line, each part with what follows it
@@ -18,7 +18,7 @@ abbrev pub named : LogRow → Members → Members
 named row rest =
     member (codes "id") (text_value row.id) (
     member (codes "number") (number_value row.number) (
-    operator_member row.operator (
+    door_member row.at_door (codes "operator") row.operator (
     member (codes "organization") (text_value row.organization) rest)))
 
 abbrev pub outcome : LogRow → Members → Members
@@ -29,7 +29,7 @@ outcome row rest =
 
 abbrev pub made : LogRow → Members → Members
 made row rest =
-    subject_member row.operator row.subject (
+    door_member row.at_door (codes "subject") row.subject (
     member (codes "token") (text_value row.token) (
     member (codes "version") (number_value row.version) (
     member (codes "workspace") (text_value row.workspace) rest)))

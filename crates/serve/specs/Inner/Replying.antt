@@ -41,7 +41,7 @@ PreparesFor at rows (Err Continue) p = ⊥
 
 -- the row of the log for what a request asks, by the records as they stand
 abbrev pub IsLogged : (List ℕ → Option Organization) → Ask → LogRow → Type 0
-IsLogged rows a row = (answer : Answer) → row_of_ask (record_for rows (owner_of a)) a answer ≡ Some row
+IsLogged rows a row = (by : Option (List ℕ)) (answer : Answer) → row_of_ask by (record_for rows (owner_of a)) a answer ≡ Some row
 
 abbrev pub LogsFor : ℕ → (List ℕ → Option Organization) → Result Message WireFault → LogRow → Type 0
 LogsFor at rows (Ok message) row = (awaited : Bool) → IsLogged rows (asked_by at awaited message (asked_of message)) row
@@ -53,7 +53,7 @@ LogsFor at rows (Err Continue) row = ⊥
 
 -- the row of the 503
 abbrev pub IsLoggedDown : (List ℕ → Option Organization) → Ask → LogRow → Type 0
-IsLoggedDown rows a row = IsUnavailableRow (record_for rows (owner_of a)) a row
+IsLoggedDown rows a row = (by : Option (List ℕ)) → IsUnavailableRow by (record_for rows (owner_of a)) a row
 
 abbrev pub LogsDownFor : ℕ → (List ℕ → Option Organization) → Result Message WireFault → LogRow → Type 0
 LogsDownFor at rows (Ok message) row = (awaited : Bool) → IsLoggedDown rows (asked_by at awaited message (asked_of message)) row
@@ -71,8 +71,8 @@ AnswersTo door now read old new between after is_down row result =
 -- what was read passes by the door: the door is closed, or this is no message that comes to it
 abbrev pub PassesBy : Door → Result Message WireFault → Type 0
 PassesBy Closed read = ⊤
-PassesBy (Open digest) (Ok message) = is_at_door message ≡ false
-PassesBy (Open digest) (Err fault) = ⊤
+PassesBy (Open operators) (Ok message) = is_at_door message ≡ false
+PassesBy (Open operators) (Err fault) = ⊤
 
 -- it is answered so with every door that it passes by
 abbrev pub AnswersPast : ℕ → Result Message WireFault → (List ℕ → Option Organization) → (List ℕ → Option Organization) → Option (List ℕ) → Option (List ℕ) → Bool → Option LogRow → {T : Type 0} → Result T LinkFault → Type 0
