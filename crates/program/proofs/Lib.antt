@@ -1,5 +1,7 @@
 pub mod Examples
 pub mod BatchExamples
+pub mod OperatorExamples
+pub mod LineFaultExamples
 pub mod FrameLemmas
 pub mod WordLemmas
 mod ReplayLemmas

@@ -1,5 +1,5 @@
 -- The operators on standard input.
-use Rattle.std.proofs.Common.{◌≡◌, ◌<◌, inl, inr, ℕ, Bool, true, false, List, [], ◌++◌, length, Option, Some, None, IfSome, Result, Ok, Err, sym, subst, append-nil}
+use Rattle.std.proofs.Common.{◌≡◌, ◌<◌, inl, inr, ℕ, Bool, true, false, List, [], ◌++◌, length, Option, Some, None, IfSome, Err, sym, subst, append-nil}
 use Rattle.serve.specs.declared.doors.Door.{Door}
 use Rattle.serve.specs.declared.operators.Operator.{Operator}
 use Rattle.program.specs.Batches.{line_and_rest, bad_text}
@@ -15,7 +15,7 @@ use Rattle.program.specs.declared.line_faults.LineFault.{LineFault}
 use Rattle.program.specs.declared.operators.OperatorUnread.{OperatorUnread}
 use Rattle.program.specs.declared.operators.OperatorUnread.TheVariants.{Fault}
 use Rattle.program.specs.declared.starting.Unopened.{Unopened}
-use Rattle.program.specs.declared.starting.Unopened.TheVariants.{Line, Long, Down}
+use Rattle.program.specs.declared.starting.Unopened.TheVariants.{Line, Long}
 
 -- what the rest turns out to be, behind these operators, follows them in all
 abbrev pub Follow : List ℕ → List Operator → List ℕ → Type 0

@@ -12,11 +12,11 @@ use Rattle.serve.specs.Exchanges.{Exchanges, ChangesAsLogged}
 use Rattle.serve.specs.Laws.{HasNoReply}
 use Rattle.serve.specs.Logs.{silent_row}
 use Rattle.serve.specs.Service.{Stays}
-use Rattle.serve.specs.Served.{Exchange, AsksToStop, IsServed, AreServed}
+use Rattle.serve.specs.Served.{Exchange, AsksToStop, IsServed, AreServed, same_door}
 use Rattle.serve.specs.declared.doors.Door.{Door}
 use Rattle.serve.specs.declared.exchanges.LinkFault.{LinkFault}
 use Rattle.serve.specs.declared.exchanges.LinkFault.TheVariants.{Ended, Read, Continue, Write}
-use Rattle.serve.proofs.ServedLemmas.{exchanges_are_served, served_in_turn, services_are_as_promised}
+use Rattle.serve.proofs.ServedLemmas.{exchanges_are_served, served_on, services_are_as_promised}
 use Rattle.command_line.specs.Orders.{Site}
 use Rattle.program.specs.declared.serving.Terms.{Terms}
 use Rattle.program.specs.declared.environment.Clock as clock
@@ -132,7 +132,7 @@ module _ {K F N C R W : Type 0} (k : keep.Ghosts K) (f : files.Ghosts F K) (n : 
       let since = served_last terms count (length h.2) last new h.5 clean (sound_all terms 1 h.2 start last h.4 clean_then sound) in (
         served.0 ++ since.0,
         (h.0, h.1, served.0, since.0, refl, last, served.2, subst (λ (m : ℕ). EndsServedInOrder k f n c i o terms count m since.0 last new) (sym served.1) since.1),
-        served_in_turn terms.door served.0 since.0 (k.rows old.store) (k.rows last.store) (k.rows new.store) served.3 since.2,
+        served_on terms.door served.0 since.0 (k.rows old.store) (k.rows last.store) (k.rows new.store) served.3 since.2,
       )
   loops_are_served site terms count old new exit.Down h clean sound =
       let start = state old.network old.clock old.store old.errors h.0 in
@@ -143,7 +143,7 @@ module _ {K F N C R W : Type 0} (k : keep.Ghosts K) (f : files.Ghosts F K) (n : 
       let since = served_early terms (suc (length h.2)) last ended h.6 h.8 clean (sound_all terms 1 h.2 start last h.5 clean_last sound) in (
         served.0 ++ since.0,
         (h.0, h.1, served.0, since.0, refl, last, subst (λ (m : ℕ). m < count) (sym served.1) h.4, served.2, h.6, h.7, subst (λ (m : ℕ). EndsServed k f n c i o terms (suc m) since.0 last ended h.6) (sym served.1) since.1, h.9),
-        served_in_turn terms.door served.0 since.0 (k.rows old.store) (k.rows last.store) (k.rows new.store) served.3 since.2,
+        served_on terms.door served.0 since.0 (k.rows old.store) (k.rows last.store) (k.rows new.store) served.3 since.2,
       )
   loops_are_served site terms count old new exit.Unprinted h clean sound = ([], (refl, h.0, h.1, h.2, h.3), λ org. ap (λ (s : K). k.rows s org) h.2)
   loops_are_served site terms count old new exit.Exists h clean sound = absurd h
@@ -193,7 +193,7 @@ module _ {K F N C R W : Type 0} (k : keep.Ghosts K) (f : files.Ghosts F K) (n : 
         few = few_served site terms count served.0 old new e served.1;
         of_connections = served.1;
         served = served.2;
-        promised = services_are_as_promised terms.door served.0 (k.rows old.store) (k.rows new.store) served.2 lawful;
+        promised = services_are_as_promised (same_door terms.door served.0) served.0 (k.rows old.store) (k.rows new.store) served.2 lawful;
       }
 
   -- and so is nothing, if the network cannot listen
@@ -206,5 +206,5 @@ module _ {K F N C R W : Type 0} (k : keep.Ghosts K) (f : files.Ghosts F K) (n : 
         few = omega arith;
         of_connections = (refl, network, clock, store, refl);
         served = stays;
-        promised = services_are_as_promised terms.door [] (k.rows old.store) (k.rows new.store) stays lawful;
+        promised = services_are_as_promised [] [] (k.rows old.store) (k.rows new.store) stays lawful;
       }

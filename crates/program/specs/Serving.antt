@@ -10,7 +10,7 @@ use Rattle.machine.specs.StoreCalls.{Unchanged, Lasts}
 use Rattle.serve.specs.declared.exchanges.LinkFault.{LinkFault}
 use Rattle.serve.specs.Exchanges.{Exchanges, ChangesAsLogged}
 use Rattle.serve.specs.declared.doors.Door.{Door}
-use Rattle.serve.specs.Served.{Exchange, AsksToStop, IsServed, AreServed}
+use Rattle.serve.specs.Served.{Exchange, AsksToStop, IsServed, AreServed, same_door}
 use Rattle.serve.specs.Promises.{IsAsPromised}
 use Rattle.program.specs.Errors.{GetsConnectionLines, cause_line}
 use Rattle.program.specs.Streams.{Reported, Reports}
@@ -232,4 +232,4 @@ pub record Serves (AreOf : List Exchange → Type 0) (door : Door) (count : ℕ)
   pub few : length exchanges ≤ count
   pub of_connections : AreOf exchanges
   pub served : AreServed door exchanges old new
-  pub promised : IsAsPromised door exchanges old new
+  pub promised : IsAsPromised (same_door door exchanges) exchanges old new

@@ -1,7 +1,7 @@
 -- An exchange with an open door.
 use Rattle.basis.specs.Roles.{is_before}
 use Rattle.serve.proofs.Outside.{◌≡◌, ◌≢◌, ◌⊎◌, inl, inr, ℕ, Bool, true, false, List, Option, Some, None, Result, Ok, Err, IfOk, IfErr, refl, sym, ap, ap₂, subst, ◌∙◌, bytes_eq, bytes_eq-Decides, sha256, or_refused, and_then, Refusal, NoMethod, BadQuery, BadSecret, BadDigest, BadBody, Unavailable, error_text, serde_json_on_literals, LogRow, Organization, asked_of, Writes, Reading, Reads, whole, Answer, IsReplyText, text_answer, refused_answer, unavailable_answer, secret_text, bad_secret_answer, Message, reads_one, one_reply}
-use Rattle.std.specs.Prelude.{OnOk, OnErr, is_none, codes, if◌then◌else◌, cond, ◌&&◌, not, [], ◌∷◌, find, option_map, option_and_then}
+use Rattle.std.specs.Prelude.{OnOk, OnErr, is_none, codes, if◌then◌else◌, cond, ◌&&◌, not, [], ◌∷◌, find, option_map}
 use Rattle.std.proofs.lemmas.Option.{same_Some}
 use Rattle.basis.specs.declared.refusals.Allow.TheVariants.{Actions}
 use Rattle.basis.specs.declared.refusals.Refusal.TheVariants.{NeedAdmin}
@@ -16,7 +16,7 @@ use Rattle.serve.specs.Exchanges.{IsShapedBy, IsUnavailable}
 use Rattle.serve.specs.Logs.{unavailable_row, command_row, no_command_row, stop_row, row_of_ask, IsUnreadRow, IsUnavailableRow}
 use Rattle.serve.specs.Service.{is_head, asked_by, record_for, Carries, Stays}
 use Rattle.serve.specs.Steps.{replies}
-use Rattle.serve.specs.Inner.Doors.{row_commanded, Operates, TurnsAway, OperatesAs, OperatesOrNot, IsRowAs, IsRowSoFar, IsAnsweredThere}
+use Rattle.serve.specs.Inner.Doors.{Operates, TurnsAway, OperatesAs, OperatesOrNot, IsRowAs, IsRowSoFar, IsAnsweredThere}
 use Rattle.serve.specs.Inner.Replying.{AnswersTo}
 use Rattle.serve.specs.Inner.Taking.{IsCarriedOut}
 use Rattle.serve.specs.declared.commands.CommandReport.{CommandReport}
@@ -219,18 +219,6 @@ pub row_of_turned : {T : Type 0} (operator : Operator) (by given : Option (List 
 row_of_turned operator by given at message (Ok done) same is = tt
 row_of_turned operator by given at message (Err row) same is = λ r awaited.
     unread_of operator by r at awaited message row (inr (subst (λ (b : Option (List ℕ)). row ≡ no_command_row at b (unavailable_answer false)) same is))
-
--- or if it had been read
-read_row : (by : Option (List ℕ)) (r : Option Organization) (at : ℕ) (awaited : Bool) (message : Message) (command : DoorCommand) (row : LogRow) → row ≡ row_commanded at by command (unavailable_answer false)
-    → IsUnavailableRow by r (asked_at_door at awaited message (Ok command)) row
-read_row by r at awaited message (OnStore command) row is = inr is
-read_row by r at awaited message Stop row is = inr is
-
-pub row_of_command : {T : Type 0} (asks : Result DoorCommand Refusal) (by : Option (List ℕ)) (at : ℕ) (message : Message) (command : DoorCommand) (res : Result T LogRow) → asks ≡ Ok command
-    → IfErr res (λ row. row ≡ row_commanded at by command (unavailable_answer false)) → IfErr res (IsRowAs asks by at message)
-row_of_command asks by at message command (Ok done) spells is = tt
-row_of_command asks by at message command (Err row) spells is = λ r awaited.
-    subst (λ (a : Result DoorCommand Refusal). IsUnavailableRow by r (asked_at_door at awaited message a) row) (sym spells) (read_row by r at awaited message command row is)
 
 -- a message at the door has a 503
 pub unserved_at_door : (operators : List Operator) (now : ℕ) (message : Message) (old new : List ℕ → Option Organization) (row : LogRow) (text : List ℕ)

@@ -1,11 +1,11 @@
 -- What an operator's secret opens, and whom the log names.
-use Rattle.serve.proofs.Outside.{◌≡◌, inl, inr, ℕ, Bool, true, false, List, Option, Some, None, Result, Ok, Err, refl, sym, ap, subst, ◌∙◌, Refusal, LogRow, Organization, Reading, Answer, unavailable_answer, Message}
+use Rattle.serve.proofs.Outside.{◌≡◌, inl, inr, ℕ, Bool, true, false, List, Option, Some, None, Result, Ok, Err, refl, sym, ap, subst, ◌∙◌, Refusal, LogRow, Organization, Reading, Answer, Message}
 use Rattle.std.proofs.lemmas.Option.{same_Some}
 use Rattle.serve.specs.Asks.{Ask, owner_of}
-use Rattle.serve.specs.AtDoor.{IsReportedAtDoor, ListersChangeNothing, LoggedOperatorsAsk}
+use Rattle.serve.specs.AtDoor.{ListersChangeNothing, LoggedOperatorsAsk}
 use Rattle.serve.specs.Doors.{commanded, asked_at_door, ask_with, operator_with}
 use Rattle.serve.specs.Exchanges.{IsUnavailable}
-use Rattle.serve.specs.Logs.{unavailable_row, names_stop, row_of_ask, IsUnreadRow, IsUnavailableRow}
+use Rattle.serve.specs.Logs.{names_stop, row_of_ask, IsUnreadRow, IsUnavailableRow}
 use Rattle.serve.specs.Operators.{let_in, name_of, operator_named, permitted, BringsSecretOf}
 use Rattle.serve.specs.Service.{record_for, Carries, Stays}
 use Rattle.serve.specs.declared.doors.Door.TheVariants.{Open}
@@ -17,10 +17,6 @@ use Rattle.serve.proofs.DoorLemmas.{brought, brings, named_there, asks_message, 
 use Rattle.serve.proofs.ServedLemmas.{down_names_no_stop}
 
 -- ---- who may only list
-
--- of an operator who may only list, this command is not permitted
-not_permitted : {A : Type 0} (lists_only : Bool) (command : DoorCommand) → lists_only ≡ true → permitted lists_only command ≡ Ok command → (permitted true command ≡ Ok command → A) → A
-not_permitted lists_only command is e next = next (subst (λ (b : Bool). permitted b command ≡ Ok command) is e)
 
 -- what such an operator asks changes nothing, and is not `stop`
 lists : (at : ℕ) (awaited : Bool) (message : Message) (by : Option (List ℕ)) (r : Option Organization) (old new : List ℕ → Option Organization) (answer : Answer) (asks : Result DoorCommand Refusal)

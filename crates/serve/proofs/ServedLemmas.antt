@@ -22,7 +22,7 @@ use Rattle.serve.specs.Promises.{ServicesAreAsPromised}
 use Rattle.serve.specs.AbsentForms.{ServedRequest, record_at, ServedTellAbsentForms}
 use Rattle.serve.proofs.AbsentLemmas.{looks_absent}
 use Rattle.serve.specs.Logs.{act_logged, act_commanded, silent_row, with_answer, command_row, no_command_row, request_row, row_of_ask, IsUnreadRow, IsUnavailableRow, is_stop, names_stop}
-use Rattle.serve.specs.Served.{Exchange, AsksToStop, IsLetIn, IsFrontOf, Replies, IsSaidBy, IsTold, IsCutShort, IsServedBy, IsServed, AreServed, with_carried, with_ask, asked_in, carried_in, AreTold, AreOwnTold}
+use Rattle.serve.specs.Served.{Exchange, AsksToStop, IsLetIn, IsFrontOf, Replies, IsSaidBy, IsTold, IsCutShort, IsServedBy, IsServed, AreServedBy, AreServed, AreLetIn, with_carried, with_ask, asked_in, carried_in, AreTold, AreOwnTold}
 use Rattle.serve.proofs.BookLemmas.{custody_is_kept}
 use Rattle.serve.proofs.DoorLemmas.{brings}
 use Rattle.serve.proofs.RunLemmas.{own_record-append, own_asks-append, IsOfOne, AreOfOne, own_of_one, owner_is, nobody_still, operator_still}
@@ -182,9 +182,11 @@ exchanges_are_served door at received left old new before after is_down row (Err
 
 -- ---- exchanges in a row
 
-pub served_rows : (door : Door) (es : List Exchange) (old new : List ℕ → Option Organization) → AreServed door es old new → (org : List ℕ) → IsOwnRecord (asked_in es) old new org
-served_rows door [] old new stays org = stays org
-served_rows door (e ∷ es) old new h org = by_ask e.ask h.1.1 (served_rows door es h.0 new h.2 org)
+pub served_rows : (doors : List Door) (es : List Exchange) (old new : List ℕ → Option Organization) → AreServedBy doors es old new → (org : List ℕ) → IsOwnRecord (asked_in es) old new org
+served_rows [] [] old new stays org = stays org
+served_rows [] (e ∷ es) old new h org = absurd h
+served_rows (door ∷ doors) [] old new h org = absurd h
+served_rows (door ∷ doors) (e ∷ es) old new h org = by_ask e.ask h.1.1 (served_rows doors es h.0 new h.2 org)
   where
     by_owner : (a : Ask) (b : Bool) → own_record (after_ask b a (old org)) (own_asks (organization org) (asked_in es)) ≡ own_record (old org) (with_own b a (own_asks (organization org) (asked_in es)))
     by_owner a true = refl
@@ -207,9 +209,11 @@ record_stays (organization org) old mid stays = stays org
 record_stays unattributed old mid stays = refl
 record_stays operator old mid stays = refl
 
-pub served_told : (door : Door) (es : List Exchange) (old new : List ℕ → Option Organization) → AreServed door es old new → (owner : Owner) → AreOwnTold es old owner
-served_told door [] old new h owner = tt
-served_told door (e ∷ es) old new h owner = by_ask e.ask h.1.1 (served_told door es h.0 new h.2 owner)
+pub served_told : (doors : List Door) (es : List Exchange) (old new : List ℕ → Option Organization) → AreServedBy doors es old new → (owner : Owner) → AreOwnTold es old owner
+served_told [] [] old new h owner = tt
+served_told [] (e ∷ es) old new h owner = absurd h
+served_told (door ∷ doors) [] old new h owner = absurd h
+served_told (door ∷ doors) (e ∷ es) old new h owner = by_ask e.ask h.1.1 (served_told doors es h.0 new h.2 owner)
   where
     by_own : (a : Ask) (b : Bool) → is_own owner a ≡ b → IsServedBy door e (Some a) old h.0 → AreTold (own_said (record_for h.0 owner) (own_asks owner (asked_in es))) (replies_at owner (asked_in es) (carried_in es))
         → AreTold (own_said (record_for old owner) (with_own b a (own_asks owner (asked_in es)))) (with_own b e (replies_at owner (asked_in es) (carried_in es)))
@@ -229,7 +233,7 @@ served_told door (e ∷ es) old new h owner = by_ask e.ask h.1.1 (served_told do
     by_ask (Some a) one rest = by_own a (is_own owner a) refl one rest
 
 pub each_is_served_alone : EachIsServedAlone
-each_is_served_alone door es old new h org = record { own_replies = served_told door es old new h (organization org); own_record = served_rows door es old new h org }
+each_is_served_alone doors es old new h org = record { own_replies = served_told doors es old new h (organization org); own_record = served_rows doors es old new h org }
 
 -- the moments of what is carried out
 module _ (at : ℕ) (moment : IsMoment at) where
@@ -255,16 +259,18 @@ module _ (at : ℕ) (moment : IsMoment at) where
 asks_timely : (door : Door) (at : ℕ) (received : List ℕ) (awaited : Bool) (a : Ask) → IsMoment at → AsksWith door at received awaited a → IsTimely a
 asks_timely door at received awaited a moment is = subst IsTimely (sym is.is) (with_timely at moment door is.reading)
 
-pub served_timely : (door : Door) (es : List Exchange) (old new : List ℕ → Option Organization) → AreServed door es old new → AllByRecursion IsTimely (asked_in es)
-served_timely door [] old new h = tt
-served_timely door (e ∷ es) old new h = by_ask e.ask h.1.1 (served_timely door es h.0 new h.2)
+pub served_timely : (doors : List Door) (es : List Exchange) (old new : List ℕ → Option Organization) → AreServedBy doors es old new → AllByRecursion IsTimely (asked_in es)
+served_timely [] [] old new h = tt
+served_timely [] (e ∷ es) old new h = absurd h
+served_timely (door ∷ doors) [] old new h = absurd h
+served_timely (door ∷ doors) (e ∷ es) old new h = by_ask e.ask h.1.1 (served_timely doors es h.0 new h.2)
   where
     by_ask : (o : Option Ask) → IsServedBy door e o old h.0 → AllByRecursion IsTimely (asked_in es) → AllByRecursion IsTimely (with_ask o (asked_in es))
     by_ask None one rest = rest
     by_ask (Some a) one rest = (asks_timely door e.at e.received e.awaited a h.1.0 one.1.asks, rest)
 
 pub served_keep_custody : ServedKeepCustody
-served_keep_custody door es old new h lawful = custody_is_kept (asked_in es) old (served_timely door es old new h) lawful
+served_keep_custody doors es old new h lawful = custody_is_kept (asked_in es) old (served_timely doors es old new h) lawful
 
 pub asks_in_turn : AsksInTurn
 asks_in_turn asked more old mid new org first second =
@@ -272,23 +278,34 @@ asks_in_turn asked more old mid new org first second =
     ∙ ap (own_record (old org)) (sym (own_asks-append (organization org) asked more))
 
 pub served_in_turn : ServedInTurn
-served_in_turn door [] fs old mid new h k = subst (λ (rows : List ℕ → Option Organization). AreServed door fs rows new) (fun_ext h) k
-served_in_turn door (e ∷ es) fs old mid new h k = (h.0, h.1, served_in_turn door es fs h.0 mid new h.2 k)
+served_in_turn [] others [] fs old mid new h k = subst (λ (rows : List ℕ → Option Organization). AreServedBy others fs rows new) (fun_ext h) k
+served_in_turn [] others (e ∷ es) fs old mid new h k = absurd h
+served_in_turn (door ∷ doors) others [] fs old mid new h k = absurd h
+served_in_turn (door ∷ doors) others (e ∷ es) fs old mid new h k = (h.0, h.1, served_in_turn doors others es fs h.0 mid new h.2 k)
+
+-- with one door
+pub served_on : (door : Door) (es fs : List Exchange) (old mid new : List ℕ → Option Organization) → AreServed door es old mid → AreServed door fs mid new → AreServed door (es ++ fs) old new
+served_on door [] fs old mid new h k = subst (λ (rows : List ℕ → Option Organization). AreServed door fs rows new) (fun_ext h) k
+served_on door (e ∷ es) fs old mid new h k = (h.0, h.1, served_on door es fs h.0 mid new h.2 k)
 
 -- ---- one place of them
 
 -- what stands before a place, and at it
-record StandsAt (door : Door) (earlier : List Exchange) (e : Exchange) (old : List ℕ → Option Organization) : Type 0 where
+record StandsAt (earlier : List Exchange) (e : Exchange) (old : List ℕ → Option Organization) : Type 0 where
+  pub doors : List Door
+  pub door : Door
   pub before : List ℕ → Option Organization
   pub after : List ℕ → Option Organization
-  pub came : AreServed door earlier old before
+  pub came : AreServedBy doors earlier old before
   pub served : IsServed door e before after
 
-stands_at : (door : Door) (earlier : List Exchange) (e : Exchange) (later : List Exchange) (old new : List ℕ → Option Organization) → AreServed door (earlier ++ e ∷ later) old new → StandsAt door earlier e old
-stands_at door [] e later old new h = record { before = old; after = h.0; came = λ org. refl; served = h.1 }
-stands_at door (x ∷ earlier) e later old new h =
-    let more = stands_at door earlier e later h.0 new h.2 in
-    record { before = more.before; after = more.after; came = (h.0, h.1, more.came); served = more.served }
+stands_at : (doors : List Door) (earlier : List Exchange) (e : Exchange) (later : List Exchange) (old new : List ℕ → Option Organization) → AreServedBy doors (earlier ++ e ∷ later) old new → StandsAt earlier e old
+stands_at [] [] e later old new h = absurd h
+stands_at [] (x ∷ earlier) e later old new h = absurd h
+stands_at (door ∷ doors) [] e later old new h = record { doors = []; door = door; before = old; after = h.0; came = λ org. refl; served = h.1 }
+stands_at (door ∷ doors) (x ∷ earlier) e later old new h =
+    let more = stands_at doors earlier e later h.0 new h.2 in
+    record { doors = door ∷ more.doors; door = more.door; before = more.before; after = more.after; came = (h.0, h.1, more.came); served = more.served }
 
 -- a request is asked past the door
 request_at_door : (at : ℕ) (due : Bool) (message : Message) (spells : Result DoorCommand Refusal) (awaited : Bool) (asked : Asked) (content_md5 : Option (List ℕ)) (body : List ℕ)
@@ -315,24 +332,24 @@ request_asks : (door : Door) (at : ℕ) (received : List ℕ) (due awaited : Boo
 request_asks door at received due awaited asked content_md5 body is = record { reading = is.reading; reads = is.reads; is = request_past door at is.reading awaited asked content_md5 body is.is }
 
 -- what was written to a request, where the machine answers it as this
-module _ (door : Door) (es : List Exchange) (old new : List ℕ → Option Organization) (h : AreServed door es old new) (a : ServedRequest es) where
-  request_stands : StandsAt door a.earlier a.one old
-  request_stands = stands_at door a.earlier a.one a.later old new (subst (λ (all : List Exchange). AreServed door all old new) a.stands h)
+module _ (doors : List Door) (es : List Exchange) (old new : List ℕ → Option Organization) (h : AreServedBy doors es old new) (a : ServedRequest es) where
+  request_stands : StandsAt a.earlier a.one old
+  request_stands = stands_at doors a.earlier a.one a.later old new (subst (λ (all : List Exchange). AreServedBy doors all old new) a.stands h)
 
-  request_served : IsServedBy door a.one (Some (requests a.one.at a.one.awaited a.asked a.content_md5 a.body)) request_stands.before request_stands.after
-  request_served = subst (λ (o : Option Ask). IsServedBy door a.one o request_stands.before request_stands.after) a.asks request_stands.served.1
+  request_served : IsServedBy request_stands.door a.one (Some (requests a.one.at a.one.awaited a.asked a.content_md5 a.body)) request_stands.before request_stands.after
+  request_served = subst (λ (o : Option Ask). IsServedBy request_stands.door a.one o request_stands.before request_stands.after) a.asks request_stands.served.1
 
   record_is : request_stands.before a.asked.caller ≡ record_at old a
-  record_is = served_rows door a.earlier old request_stands.before request_stands.came a.asked.caller
+  record_is = served_rows request_stands.doors a.earlier old request_stands.before request_stands.came a.asked.caller
 
   request_told : IsTold (step (record_at old a) (requests a.one.at a.one.awaited a.asked a.content_md5 a.body)).answer a.one
   request_told = subst (λ (r : Option Organization). IsTold (step r (requests a.one.at a.one.awaited a.asked a.content_md5 a.body)).answer a.one) record_is
       (request_served.0, answer_said request_stands.before a.one.at a.one.awaited (requests a.one.at a.one.awaited a.asked a.content_md5 a.body) request_served.0 request_served.1.answers, request_served.2)
 
 pub served_tell_absent_forms : ServedTellAbsentForms
-served_tell_absent_forms door es old new h a =
+served_tell_absent_forms doors es old new h a =
     looks_absent (record_at old a) a.one.at a.one.awaited a.one.received a.asked a.content_md5 a.body (λ said. IsTold said a.one)
-    (request_asks door a.one.at a.one.received a.one.awaited a.one.awaited a.asked a.content_md5 a.body (request_served door es old new h a).1.asks) (request_told door es old new h a)
+    (request_asks (request_stands doors es old new h a).door a.one.at a.one.received a.one.awaited a.one.awaited a.asked a.content_md5 a.body (request_served doors es old new h a).1.asks) (request_told doors es old new h a)
 
 -- a command is asked for with the secret of an operator who may ask for it
 asking_let_in : (door : Door) (bytes : List ℕ) (at : ℕ) (awaited : Bool) (message : Message) (asking : Asking) → IsLetIn door at bytes (asked_by at awaited message asking)
@@ -361,9 +378,11 @@ reading_let_in (Open operators) bytes at (whole message awaited) reads = open_le
 let_in : (door : Door) (at : ℕ) (bytes : List ℕ) (awaited : Bool) (a : Ask) → AsksWith door at bytes awaited a → IsLetIn door at bytes a
 let_in door at bytes awaited a is = subst (IsLetIn door at bytes) (sym is.is) (reading_let_in door bytes at is.reading is.reads)
 
-all_let_in : (door : Door) (es : List Exchange) (old new : List ℕ → Option Organization) → AreServed door es old new → AllByRecursion (λ (e : Exchange). IfSome e.ask (λ ask. IsLetIn door e.at e.received ask)) es
-all_let_in door [] old new h = tt
-all_let_in door (e ∷ es) old new h = (by_ask e.ask h.1.1, all_let_in door es h.0 new h.2)
+all_let_in : (doors : List Door) (es : List Exchange) (old new : List ℕ → Option Organization) → AreServedBy doors es old new → AreLetIn doors es
+all_let_in [] [] old new h = tt
+all_let_in [] (e ∷ es) old new h = absurd h
+all_let_in (door ∷ doors) [] old new h = absurd h
+all_let_in (door ∷ doors) (e ∷ es) old new h = (by_ask e.ask h.1.1, all_let_in doors es h.0 new h.2)
   where
     by_ask : (o : Option Ask) → IsServedBy door e o old h.0 → IfSome o (λ ask. IsLetIn door e.at e.received ask)
     by_ask None one = tt
@@ -372,12 +391,12 @@ all_let_in door (e ∷ es) old new h = (by_ask e.ask h.1.1, all_let_in door es h
 -- ---- all of it
 
 pub services_are_as_promised : ServicesAreAsPromised
-services_are_as_promised door es old new h lawful = record {
-  alone = λ org. each_is_served_alone door es old new h org;
-  told = λ owner. served_told door es old new h owner;
-  absent = served_tell_absent_forms door es old new h;
-  secrets = all_let_in door es old new h;
-  custody = served_keep_custody door es old new h lawful;
+services_are_as_promised doors es old new h lawful = record {
+  alone = λ org. each_is_served_alone doors es old new h org;
+  told = λ owner. served_told doors es old new h owner;
+  absent = served_tell_absent_forms doors es old new h;
+  secrets = all_let_in doors es old new h;
+  custody = served_keep_custody doors es old new h lawful;
 }
 
 -- ---- two worlds

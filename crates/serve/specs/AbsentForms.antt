@@ -21,7 +21,7 @@ use Rattle.serve.specs.Asks.{Ask, requests, organization}
 use Rattle.serve.specs.Checks.{makes, is_in_reach, known_caller, may_do}
 use Rattle.serve.specs.Service.{Asks, AreAsked, IsSaidText, own_asks}
 use Rattle.serve.specs.Steps.{Said, replies, step, own_record}
-use Rattle.serve.specs.Served.{Exchange, IsTold, AreServed, asked_in}
+use Rattle.serve.specs.Served.{Exchange, IsTold, AreServedBy, asked_in}
 use Rattle.serve.specs.declared.doors.Door.{Door}
 
 -- one target names what another does, except for the workspace, and perhaps the organization: the other parts of the path are equal, and so is the query
@@ -118,4 +118,4 @@ abbrev pub AbsentFormsAreTold : List Exchange → (List ℕ → Option Organizat
 AbsentFormsAreTold es rows = (a : ServedRequest es) → LooksAbsent (record_at rows a) a.one.at a.one.awaited a.one.received a.asked (λ said. IsTold said a.one)
 
 abbrev pub ServedTellAbsentForms : Type 0
-ServedTellAbsentForms = (door : Door) (es : List Exchange) (old new : List ℕ → Option Organization) → AreServed door es old new → AbsentFormsAreTold es old
+ServedTellAbsentForms = (doors : List Door) (es : List Exchange) (old new : List ℕ → Option Organization) → AreServedBy doors es old new → AbsentFormsAreTold es old

@@ -32,7 +32,7 @@ use Rattle.serve.specs.Steps.{replies, reports, refusing, request_step, step}
 use Rattle.serve.specs.Logs.{request_row, names_stop}
 use Rattle.serve.specs.Service.{Stays, AreAsked, with_own, is_own, own_asks, replies_at}
 use Rattle.serve.specs.Exchanges.{Exchanges}
-use Rattle.serve.specs.Served.{Exchange, AsksToStop, IsServed, AreServed, AreOwnTold, IsServedAlone, asked_in, carried_in}
+use Rattle.serve.specs.Served.{Exchange, AsksToStop, IsServed, AreServedBy, AreOwnTold, IsServedAlone, asked_in, carried_in}
 use Rattle.serve.specs.Runs.{IsOwnMachine, IsOwnRecord}
 
 -- a list of steps asks one list of things
@@ -120,24 +120,24 @@ ExchangesAreServed = (door : Door) (at : ℕ) (received : List ℕ) (left : Opti
 
 -- isolation of exchanges in a row
 abbrev pub EachIsServedAlone : Type 0
-EachIsServedAlone = (door : Door) (es : List Exchange) (old new : List ℕ → Option Organization) → AreServed door es old new → (org : List ℕ) → IsServedAlone org es old new
+EachIsServedAlone = (doors : List Door) (es : List Exchange) (old new : List ℕ → Option Organization) → AreServedBy doors es old new → (org : List ℕ) → IsServedAlone org es old new
 
 -- what nobody's exchanges wrote, and the operator's
 abbrev pub OwnersAreTold : Type 0
-OwnersAreTold = (door : Door) (es : List Exchange) (old new : List ℕ → Option Organization) → AreServed door es old new → (owner : Owner) → AreOwnTold es old owner
+OwnersAreTold = (doors : List Door) (es : List Exchange) (old new : List ℕ → Option Organization) → AreServedBy doors es old new → (owner : Owner) → AreOwnTold es old owner
 
 -- custody of exchanges in a row
 abbrev pub ServedKeepCustody : Type 0
-ServedKeepCustody = (door : Door) (es : List Exchange) (old new : List ℕ → Option Organization) → AreServed door es old new → AreLawful old → KeepsCustody (asked_in es) old
+ServedKeepCustody = (doors : List Door) (es : List Exchange) (old new : List ℕ → Option Organization) → AreServedBy doors es old new → AreLawful old → KeepsCustody (asked_in es) old
 
 -- what is asked in turn, and then more from the records that it left, is all of it in turn: so exchanges of two services, and what an
 -- operator's commands ask between them
 abbrev pub AsksInTurn : Type 0
 AsksInTurn = (asked more : List Ask) (old mid new : List ℕ → Option Organization) (org : List ℕ) → IsOwnRecord asked old mid org → IsOwnRecord more mid new org → IsOwnRecord (asked ++ more) old new org
 
--- exchanges in a row, and then others from the records that they left, are all of them in a row
+-- exchanges in a row, and then others from the records that they left, are all of them in a row: also if the other service has other operators
 abbrev pub ServedInTurn : Type 0
-ServedInTurn = (door : Door) (es fs : List Exchange) (old mid new : List ℕ → Option Organization) → AreServed door es old mid → AreServed door fs mid new → AreServed door (es ++ fs) old new
+ServedInTurn = (doors others : List Door) (es fs : List Exchange) (old mid new : List ℕ → Option Organization) → AreServedBy doors es old mid → AreServedBy others fs mid new → AreServedBy (doors ++ others) (es ++ fs) old new
 
 -- two exchanges wrote the same, if both wrote all of their replies, at the same moment, and `100 Continue` went before both or neither
 abbrev pub WroteAlike : Exchange → Exchange → Type 0

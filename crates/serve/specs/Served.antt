@@ -1,6 +1,6 @@
 -- Exchanges in a row over the records of all organizations: what each received, what it wrote and what it carried out; and what
 -- follows of each organization.
-use Rattle.std.specs.Prelude.{◌≡◌, ◌⊎◌, ◌<◌, ℕ, Bool, true, false, List, [], ◌∷◌, ◌++◌, length, Option, Some, None, Ok, ⊤}
+use Rattle.std.specs.Prelude.{◌≡◌, ◌⊎◌, ◌<◌, ℕ, Bool, true, false, List, [], ◌∷◌, ◌++◌, length, Option, Some, None, IfSome, Ok, ⊤}
 use Rattle.machine.specs.Ranges.{IsMoment}
 use Rattle.machine.specs.declared.keeps.AdminAnswer.{AdminAnswer}
 use Rattle.machine.specs.declared.keeps.AdminAnswer.TheVariants.{Organizations}
@@ -97,10 +97,28 @@ IsServed door e old new = IsMoment e.at × IsServedBy door e e.ask old new
 
 -- ---- exchanges in a row
 
--- exchanges are served, one after the other: the records before the first and after the last
+-- exchanges are served, one after the other, each with its own door: the records before the first and after the last
+abbrev pub AreServedBy : List Door → List Exchange → (List ℕ → Option Organization) → (List ℕ → Option Organization) → Type 0
+AreServedBy [] [] old new = Stays old new
+AreServedBy (door ∷ doors) (e ∷ es) old new = (mid : List ℕ → Option Organization) × IsServed door e old mid × AreServedBy doors es mid new
+AreServedBy [] (e ∷ es) old new = ⊥
+AreServedBy (door ∷ doors) [] old new = ⊥
+
+-- this door for each exchange
+abbrev pub same_door : Door → List Exchange → List Door
+same_door door [] = []
+same_door door (e ∷ es) = door ∷ same_door door es
+
+-- exchanges are served with one door
 abbrev pub AreServed : Door → List Exchange → (List ℕ → Option Organization) → (List ℕ → Option Organization) → Type 0
-AreServed door [] old new = Stays old new
-AreServed door (e ∷ es) old new = (mid : List ℕ → Option Organization) × IsServed door e old mid × AreServed door es mid new
+AreServed door es old new = AreServedBy (same_door door es) es old new
+
+-- each command, and each `stop`, came with the secret of an operator of its door who may ask for it
+abbrev pub AreLetIn : List Door → List Exchange → Type 0
+AreLetIn [] [] = ⊤
+AreLetIn (door ∷ doors) (e ∷ es) = IfSome e.ask (λ ask. IsLetIn door e.at e.received ask) × AreLetIn doors es
+AreLetIn [] (e ∷ es) = ⊥
+AreLetIn (door ∷ doors) [] = ⊥
 
 -- one more at the front, if something was carried out
 abbrev pub with_carried : {A : Type 0} → Option Ask → A → List A → List A
