@@ -11,7 +11,7 @@
 // FAILS=FILE: each sync fails as long as FILE exists. With ONCE=NUMBER only the sync of this number fails, from 1 on, and removes FILE.
 // FULL=FILE: a write at a place finds no room on the disk as long as FILE exists.
 // UNSEEN=FILE: each look at a path fails for want of memory of the system as long as FILE exists.
-// REFUSED='CALL NUMBER': each CALL fails by this number of errno: `open` (of a database, to be written), `pwrite`, or `bind`.
+// REFUSED='CALL NUMBER': each CALL fails by this number of errno: `open` (of a database, to be written), `pwrite`, `bind`, or `accept`.
 #define _GNU_SOURCE
 #include <dlfcn.h>
 #include <errno.h>
@@ -107,6 +107,11 @@ int statx(int folder, const char *restrict path, int flags, unsigned mask, struc
 int bind(int socket, const struct sockaddr *address, socklen_t length) {
   REAL(bind);
   return is_refused("bind") ? -1 : real(socket, address, length);
+}
+
+int accept4(int listener, struct sockaddr *restrict address, socklen_t *restrict length, int flags) {
+  REAL(accept4);
+  return is_refused("accept") ? -1 : real(listener, address, length, flags);
 }
 
 ssize_t send(int socket, const void *from, size_t size, int flags) {

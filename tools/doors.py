@@ -2,7 +2,7 @@
 """Tests the operator's door of a service: `serve --operator`, by requests over 127.0.0.1 and exact replies; and `admin`.
 
     python3 tools/doors.py CUSTODY    the program as `rt ci` or `rt run` leaves it
-    python3 tools/doors.py story      prints the stories of the door: four of the program, with the same requests, replies and lines of the log; and those of a store
+    python3 tools/doors.py story      prints the stories of the door: four of the program, for words.txt, with the same requests, replies and lines of the log; and those of a store
 
 It prints a line for each thing that holds, and ends with status 1 at the first that does not.
 """

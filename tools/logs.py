@@ -11,7 +11,7 @@ are told again from the lines alone, and have to be what SQLite's library finds 
 service; who holds, behind each line. Without `--log` nothing more is printed. Where standard output takes no more, the service
 ends with status 3 and accepts no further connection, and all lines before stand there.
 
-What `story` prints stands in crates/stories/stdin; that is looked at, too. It prints a line for each thing that holds, and ends
+What `story` prints stands in tools/words.txt; that is looked at, too. It prints a line for each thing that holds, and ends
 with status 1 at the first that doesn't.
 """
 
@@ -32,7 +32,6 @@ from harness import Service, Wrong, answered, bytes_of, closed_pipe, connected, 
 from model import ACTING, ACTIONS, AT, FIRST_KEPT, MOST_HEAD, MOST_ID, Custody, date_of, defined, line_of, row_of
 
 CONTINUE_UNWRITTEN = b"custody: connection %d: 100 Continue could not be sent\n"
-NOT_ACCEPTED = "custody: a connection could not be accepted"
 LISTENING = "listening 127.0.0.1:8090"
 # The bytes that a refused peer sends on, and the seconds between them. The service waits a second for each.
 BYTES, BETWEEN = 20, 0.25
@@ -332,8 +331,8 @@ class Scene:
             self.custody.operate(words)
             self.lines += operator(words, place == 0)
 
-    def serve(self, sent, at=AT, further=0):
-        """A service with a peer for each of these; it waits for further ones, which don't come."""
+    def serve(self, sent, at=AT):
+        """A service with a peer for each of these."""
         if at != AT:
             self.lines += ["at %d %s" % (at, date_of(at)), ""]
         printed, errors = [LISTENING], []
@@ -343,18 +342,15 @@ class Scene:
             printed.append(line_of(place, told.end(), told.row).decode().rstrip("\n"))
             if told.end() == "ended":
                 errors.append((LEFT_EARLY % place).decode().rstrip("\n"))
-        if further:
-            printed.append("refused down")
-            errors.append(NOT_ACCEPTED)
-        self.lines += ["$ serve --db m.db --port 8090 --count %d --log" % (len(sent) + further), "= %d" % (3 if further else 0)]
+        self.lines += ["$ serve --db m.db --port 8090 --count %d --log" % len(sent), "= 0"]
         self.lines += ["| " + line for line in printed] + ["|"]
         self.lines += (["?"] + ["| " + line for line in errors] + ["|"] if errors else []) + [""]
         if at != AT:
             self.lines += ["at %d %s" % (AT, date_of(AT)), ""]
 
 
-UNTOLD = """# The first line can't be flushed: no connection is accepted. Without a clock none is answered, and no line tells of it.
-story a log that can't be flushed, and one without a clock
+UNTOLD = """# The first line can't be printed: no connection is accepted. Without a clock none is answered, and no line tells of it.
+story a log that can't be printed, and one without a clock
 file m.db
 breaks output
 
@@ -364,8 +360,6 @@ peer
 
 $ serve --db m.db --port 8090 --count 1 --log
 = 3
-| listening 127.0.0.1:8090
-|
 ?
 | custody: there was no file at the path; a new one was created
 | custody: not everything could be printed to standard output or standard error
@@ -399,8 +393,8 @@ def story():
     ends.serve(AT_ITS_END, 1700000010)
     unshown = Scene("the log escapes what acts on a terminal", "A lock's ID may have characters that act on a terminal: an escape stands for each in its line, whoever sent it.", OPERATED[:5])
     unshown.serve(UNSHOWN)
-    leaving = Scene("the log has a line for each peer that leaves", "Of a peer that leaves within its request the moment is told, and nothing else; one that doesn't come has no line.", OPERATED[:5])
-    leaving.serve(LEAVING, further=1)
+    leaving = Scene("the log has a line for each peer that leaves", "The line of a peer that leaves within its request has the moment, and nothing else.", OPERATED[:5])
+    leaving.serve(LEAVING)
     return "\n".join("\n".join(scene.lines) for scene in (act, refused, unshown, ends, leaving)) + "\n" + UNTOLD
 
 
@@ -577,7 +571,7 @@ def begun(program, path, operated):
 
 
 def look_at_stories(program):
-    with open(stories.TEXT, encoding="utf-8") as file:
+    with open(stories.WORDS, encoding="utf-8") as file:
         said("whether the text has the stories of the log", story() in file.read(), True)
     print("right: the stories of the log stand in the text")
 

@@ -3,9 +3,9 @@
 
     python3 tools/program.py CUSTODY    the program as `rt ci` or `rt run` leaves it
 
-What the stories run is `run_here` inside of another program. Here is what only `main` does: the words of the system, which may
-not be UTF-8; the streams of the system, which may be full, closed at their other end, or not there at all; the exit status; and
-`serve` up to its count, or without one, by requests over 127.0.0.1 and exact replies. It prints a line for each thing that holds,
+Stories run in memory, inside of another program, or over files (words.py). Here is what only `main` does: the words of the system,
+which may not be UTF-8; the streams of the system, which may be full, closed at their other end, or not there at all; the exit status;
+and `serve` up to its count, or without one, by requests over 127.0.0.1 and exact replies. It prints a line for each thing that holds,
 and ends with status 1 at the first that doesn't.
 """
 

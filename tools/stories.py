@@ -6,11 +6,12 @@
     python3 tools/stories.py show NAME..   prints them as a text that `rt try` or the program takes
     python3 tools/stories.py sql NAME      the SQL statements that each step of a story of a store runs
     python3 tools/stories.py frames NAME   a story's frames, as `custody replay` takes them
-    python3 tools/stories.py breaks        how often links and streams break under the stories, as the program has to print it
+    python3 tools/stories.py breaks        how often links break under the stories, as the program has to print it
 
 `try` and `show` add the definitions, and the stories that the named ones come after. `try` runs the program in a copy of
 crates/stories/data, prints what it prints, with the line numbers of crates/stories/stdin, and ends with its status: 0 if all
 passed, 1 if one failed, 2 if the text cannot be read. Status 3 means that nothing was tried. A name is one argument: quote it.
+A story of tools/words.txt is tried by `python3 tools/words.py CUSTODY NAME`, which reads that text by this reader.
 
 `sql` runs the story's frames in crates/custody/out/custody, or in --program FILE, under gdb, and takes each statement from the
 call of the kit's SQLite that binds its parameters. BEGIN and COMMIT are no statements there. A token is looked up once and
@@ -35,10 +36,13 @@ STORIES = os.path.join(CRATES, "stories")
 TEXT = os.path.join(STORIES, "stdin")
 # The files with stories; `longest` has no definitions of its own.
 TEXTS = ["stdin", "longest"]
+# The stories of the program; tools/words.py runs them.
+WORDS = os.path.join(HERE, "words.txt")
 BUILT = os.path.join(STORIES, "out", "stories")
 CUSTODY = os.path.join(CRATES, "custody", "out", "custody")
-VALUES = ["state", "lock", "settings", "run", "digest", "org", "ws", "lock-id", "secret", "number", "whole", "moment", "limit", "message", "line", "route", "asks", "kept"]
-FILES = ["file", "write", "copy", "table", "absent", "same", "peer", "breaks", "hidden", "mode", "chmod", "taken", "check"]
+VALUES = ["state", "lock", "settings", "run", "digest", "org", "ws", "lock-id", "secret", "number", "whole", "moment", "limit", "message", "line", "kept"]
+# How a step of the program begins, in tools/words.txt.
+PROGRAM = ["$", "file", "write", "copy", "table", "absent", "same", "hidden", "mode", "chmod", "taken", "peer", "breaks", "moved"]
 ESCAPES = {"r": b"\r", "n": b"\n", "t": b"\t", "\\": b"\\"}
 
 
@@ -57,8 +61,10 @@ def unescaped(text):
 class Part:
     """A line of a step, with the bytes of the pieces and the fields that follow it, and what the step leaves."""
 
-    def __init__(self, line):
-        self.line, self.bytes, self.in_rows, self.fields, self.leaves = line, None, False, [], []
+    def __init__(self, line, number=0):
+        self.line, self.number, self.bytes, self.in_rows, self.fields, self.leaves = line, number, None, False, [], []
+        # Of the first line of a step: the moment of the line `at` above, if there is one.
+        self.moment = None
 
     def add(self, mark, text):
         if mark == "|":
@@ -90,7 +96,7 @@ def read(text):
     """The stories by their names; a step is the bytes of a request and of its reply, an operator's words and the answer, or None."""
     told, at, stories, story, parts = {"token": {}, "reason": {}, "challenge": {}}, None, {}, None, None
     waiting = []
-    for line in text.split("\n"):
+    for number, line in enumerate(text.split("\n"), 1):
         if line in ["", "stops", "stops first-byte", "large", "resumes", "copied"] or line.startswith("#"):
             continue
         mark, rest = marked(line, ["|", ">", "\\", "*"])
@@ -98,7 +104,7 @@ def read(text):
             parts[-1].add(mark, rest)
             continue
         if marked(line, ["=", "?", "->", "query"])[0]:
-            parts.append(Part(line))
+            parts.append(Part(line, number))
             continue
         mark, rest = marked(line, ["+"])
         if mark:
@@ -110,9 +116,13 @@ def read(text):
             continue
         mark, rest = marked(line, ["story", "after"])
         if mark == "story":
+            if rest in stories:
+                sys.exit("stories.py: line %d: an earlier story has the name %s" % (number, rest))
             story = stories[rest] = Story(rest)
             continue
         if mark == "after":
+            if rest not in stories:
+                sys.exit("stories.py: line %d: no earlier story has the name %s" % (number, rest))
             story.after = stories[rest]
             continue
         mark, rest = marked(line, ["begins"])
@@ -135,7 +145,8 @@ def read(text):
             else:
                 told[mark][name] = what
             continue
-        parts = [Part(line)]
+        parts = [Part(line, number)]
+        parts[0].moment = at and at[0]
         waiting.append((story, at, parts))
     for story, at, parts in waiting:
         story.steps.append(step(told, at, parts))
@@ -147,7 +158,7 @@ def step(told, at, parts):
     word, _, rest = parts[0].line.partition(" ")
     if word == "admin":
         return at[0], rest, "".join(part.line[2:] + "\n" for part in parts[1:]).encode()
-    if word in VALUES + FILES + ["sql", "$"]:
+    if word in VALUES + PROGRAM + ["sql", "loopback"]:
         return None
     method = "" if word == "raw" else rest.split(" ")[0]
     sent = parts[0].bytes if word == "raw" else request(told, word, rest, parts[0])
@@ -233,28 +244,13 @@ def broken_requests(story):
     return {"cut": cut, "reads": reads, "writes": 2 * readers * sum(due for _, due in asked)}
 
 
-def broken_words(story):
-    """Reads that fail of a standard input, and writes on the output and the error stream, of words that leave no mark."""
-    reads, writes = 0, 0
-    for parts in story.plots:
-        if not parts[0].line.startswith("$"):
-            continue
-        sent, out = parts[0].bytes or b"", parts[1].bytes or b""
-        errors = parts[2].bytes or b"" if len(parts) == 3 and parts[2].line == "?" else b""
-        replays = parts[0].line.startswith("$ replay")
-        reads += len(sent) + 1 if replays else 0
-        if replays or parts[1].line == "= 2":
-            writes += 2 * (len(out) + len(errors)) + (1 if out else 0)
-    return {"reads": reads, "writes": writes}
-
-
 def breaks(stories):
     """A line for each story and way to break but for the changes that are refused: which those are, the rules say."""
     names = {"cut": "cut", "reads": "reads that fail", "writes": "writes that fail"}
     for name, story in stories.items():
         if not story.links:
             continue
-        counts = broken_requests(story) if any(story.steps) else broken_words(story)
+        counts = broken_requests(story)
         for word in [word for word in names if word in story.links and counts.get(word)]:
             print("passed %s, %s: %d" % (name, names[word], counts[word]))
 
@@ -318,10 +314,19 @@ def blocks():
     return [line for line in top if line[2] and not line[2].startswith("#")], found
 
 
+def is_of_words(name):
+    """Whether tools/words.txt has a story of this name."""
+    with open(WORDS, encoding="utf-8") as file:
+        return "story %s\n" % name in file
+
+
 def chosen(names, found):
     """The named stories with those that they come after."""
     wanted = set()
     for name in names:
+        if is_of_words(name):
+            print("stories.py: the story %s is in tools/words.txt. To try it:\n  python3 tools/words.py CUSTODY \"%s\"" % (name, name), file=sys.stderr)
+            sys.exit(3)
         if name not in found:
             near = [one for one in found if name.lower() in one.lower()] or difflib.get_close_matches(name, found, 5, 0.5)
             print("stories.py: there is no story %s%s" % (name, "".join("\n  is it: " + one for one in near[:5])), file=sys.stderr)

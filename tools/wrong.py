@@ -10,7 +10,7 @@ that the others are right; how many failed of how many; and to end with status 1
 No text is wrong on some ways alone, as by readers of one byte. So a story that is right is told where one request for memory
 is refused (refuse.c), or one sync of a file fails (calls.c): it then fails on the way on which that comes, and the program
 has to say so: of each way; of files for each that is opened, and for the steps over each; of links for what is cut, read, written
-and sent again by each reader; of a store that refuses changes; and of streams. It ends with status 1 at the first that isn't said.
+and sent again by each reader; and of a store that refuses changes. It ends with status 1 at the first that isn't said.
 """
 
 import concurrent.futures
@@ -35,6 +35,7 @@ UNREAD = [
     ("story x\n\\ \\q\n", "line 2: a piece stands in no step"),
     ("story x\noperator short\n- GET /\n= nothing\n", "line 2: an operator's secret is 16 to 64 ASCII letters or digits"),
     ("story x\n- GET /\n= nothing\noperator operatoroperator1\n", "line 4: `operator` stands before the first step of a story"),
+    ("story x\nwrite x\n| y\n", "line 2: a request is a token's name, a method and a target"),
     ("story x\nraw\n\\ \\q\n= nothing\n", "line 3: the escapes are \\r \\n \\t \\\\ and \\xHH"),
 ]
 
@@ -58,38 +59,16 @@ W GET state/net
 = 200
 | {"serial":2}
 """
-# Another one of the same name, of one request, and one of the program.
+# Another one of the same name, of one request.
 LOCK = """
 W LOCK state/net
 | {"ID":"x"}
 = 200
 """
-REPLAY = """
-file m.db
-$ replay
-| at 1700000000 admin org-add acme
-|
-= 0
-| reply 3
-| ok
-|
-|
-"""
-SECRET = """
-file m.db
-$ token-add --db m.db acme ci write
-| short
-= 2
-| refused usage
-|
-?
-| custody: the secret must be one line of 16 to 64 ASCII letters or digits
-|
-"""
 
 # The ways on which it is told.
 IN_FILE, COPIED, BESIDE, LINKS = "tables in a file", "tables that are copied", "all rows and the queries, asked before each act", "links that break"
-REFUSES, PROGRAM = "a store that refuses changes", "a database and peers in memory"
+REFUSES = "a store that refuses changes"
 READS = ["replayed", "1 byte a read", "7 bytes a read", "all bytes in one read"]
 FIRST_BYTES = "tables by first bytes, "
 LARGE = ["values, all bytes in one read", "tables, all bytes in one read"]
@@ -107,8 +86,6 @@ REPLY, ROWS = "another reply", "other rows"
 
 CUT, READ, WRITE = ("something else came where " + what for what in ("it is cut behind byte", "reading fails at read", "writing stops at byte"))
 STORE = "memory or the store refused"
-INPUT, OUTPUT, ERRORS = (READ, *("something else came where %s stops at byte" % stream for stream in ("the output", "the error stream")))
-FLUSH = "something else came where the output can't be flushed, bytes"
 
 # How many requests a copy makes at most behind the one that is refused; and how many there are at least where
 # a reply is stopped at one byte.
@@ -187,11 +164,11 @@ def run(program, text, env=None):
 # ----------------------------------------------------------------------------------------------------
 
 
-def right_text(text, modes, steps=POSTS, after="after " + GROUND):
+def right_text(text, modes, steps=POSTS):
     """The definitions, the ground, which is told over few ways and no file, and the story that is right, with these lines on how it is told."""
     parts = text.split("\nstory ")
     ground = next(part for part in parts if part.startswith(GROUND + "\n"))
-    return "%s\nstory %s\nstory %s\n%s\n%s\n%s" % (parts[0], ground.replace("\n", "\nresumes\n", 1), NAMED, after, modes, steps)
+    return "%s\nstory %s\nstory %s\nafter %s\n%s\n%s" % (parts[0], ground.replace("\n", "\nresumes\n", 1), NAMED, GROUND, modes, steps)
 
 
 def said_of(status, output):
@@ -410,15 +387,6 @@ def look_at_links(asking, text):
     is_in_turn("over a store that refuses changes, and its bytes", refused, [STORE, WRITE, STORE])
 
 
-def look_at_streams(asking, text):
-    """The program's words fail where a read of the standard input fails, where an output stops, and where it can't be flushed."""
-    for what, steps, step, due in [("of a replay", REPLAY, 25, [INPUT, OUTPUT]), ("of words", SECRET, 5, 2 * [OUTPUT, ERRORS] + [FLUSH])]:
-        told = right_text(text, "links reads writes", steps, "")
-        first = asking.count(told.partition("\nstory " + NAMED)[0])
-        came = asking.sayings(told, first, asking.count(told), step)
-        is_in_turn("where streams break " + what, in_turn(said for way, _, said, _ in came if way == PROGRAM and said in {INPUT, OUTPUT, ERRORS, FLUSH}), due)
-
-
 def main(words):
     if len(words) not in (1, 2):
         sys.exit(__doc__)
@@ -451,7 +419,7 @@ def main(words):
     look_at_syncs(words[0], text)
     with tempfile.TemporaryDirectory() as folder:
         asking = Asking(words[0], compiled("refuse", folder))
-        for look in (look_at_ways, look_at_files, look_at_links, look_at_streams):
+        for look in (look_at_ways, look_at_files, look_at_links):
             look(asking, text)
     print("%d wrong stories and %d texts that don't read, each is said to be wrong" % (count, len(UNREAD)))
 

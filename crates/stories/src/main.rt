@@ -3,14 +3,10 @@
 
 mod begun;
 mod commands;
-mod devices;
 mod files;
-mod memories;
-mod named_checks;
+mod loopback;
 mod programs;
-mod sockets;
 mod stories;
-mod streams;
 mod values;
 
 use std::io;

@@ -1,13 +1,11 @@
-//! A story run by its kind: of a store, of the program, of values, or of checks.
+//! A story run by its kind: of a store, of values, or over loopback.
 use crate::begun::run_begun;
 use crate::commands::FrameWords;
 use crate::files::{run_copied, run_in_file};
-use crate::memories::{Memory, Place, WAY, place_of};
-use crate::named_checks::{is_check, run_check};
-use crate::programs::{Files, is_of_program};
+use crate::loopback::{is_loopback, take_loopback};
 use crate::values::{is_of_values, take_value};
 use std::alloc::Global;
-use story_runner::books::{Book, Part, Plot, Story};
+use story_runner::books::{Book, Part, Story};
 use story_runner::failures::Failure;
 use story_runner::modes::{Counts, Modes};
 use story_runner::plays::{Play, play_of};
@@ -97,64 +95,6 @@ fn run_over_refusals(
     }
 }
 
-fn take_all(rt: &HostRuntime, files: &mut Files, plots: &[Plot<'_>]) -> Result<(), Failure> {
-    for plot in plots {
-        files.take(rt, plot)?;
-    }
-    Ok(())
-}
-
-// Over the files, the sockets and the clock of the system.
-fn run_here(rt: &HostRuntime, book: &Book<'_>, story: &Story<'_>) -> Result<(), Failure> {
-    let mut files = Files::new(rt.alloc());
-    for index in story.before.as_slice() {
-        if let Some(earlier) = book.stories.get(*index) {
-            take_all(rt, &mut files, earlier.plots.as_slice())?;
-        }
-    }
-    take_all(rt, &mut files, story.plots.as_slice())
-}
-
-// In memory, where no earlier stories run first.
-fn run_alone(alloc: Global, story: &Story<'_>, counts: &mut Counts) -> Result<(), Failure> {
-    let mut memory = Memory::new(alloc);
-    for plot in story.plots.as_slice() {
-        if let Err(failure) = memory.take(alloc, plot, story.modes, counts) {
-            return Err(failure.on(WAY));
-        }
-    }
-    Ok(())
-}
-
-// A story with peers comes after no other.
-fn check_alone(story: &Story<'_>) -> Result<(), Failure> {
-    match first_head(story) {
-        Some(head) if !story.before.is_empty() => Err(Failure::from(head.unread(
-            "a story with peers comes after no other",
-        ))),
-        _ => Ok(()),
-    }
-}
-
-fn run_program(
-    rt: &HostRuntime,
-    book: &Book<'_>,
-    story: &Story<'_>,
-    counts: &mut Counts,
-) -> Result<(), Failure> {
-    match place_of(story) {
-        Place::Memory => {
-            check_alone(story)?;
-            run_alone(rt.alloc(), story, counts)
-        }
-        Place::Files => run_here(rt, book, story),
-        Place::Both => {
-            run_alone(rt.alloc(), story, counts)?;
-            run_here(rt, book, story)
-        }
-    }
-}
-
 fn run_values(rt: &HostRuntime, story: &Story<'_>) -> Result<(), Failure> {
     for plot in story.plots.as_slice() {
         take_value(rt.alloc(), plot)?;
@@ -167,9 +107,9 @@ fn first_head<'s, 'a>(story: &'s Story<'a>) -> Option<&'s Part<'a>> {
     plot.parts.first()
 }
 
-fn run_checks(rt: &HostRuntime, story: &Story<'_>) -> Result<(), Failure> {
+fn run_loopback(rt: &HostRuntime, story: &Story<'_>) -> Result<(), Failure> {
     for plot in story.plots.as_slice() {
-        run_check(rt, plot)?;
+        take_loopback(rt, plot)?;
     }
     Ok(())
 }
@@ -182,9 +122,8 @@ pub fn run_story(
     counts: &mut Counts,
 ) -> Result<(), Failure> {
     match first_head(story) {
-        Some(head) if is_check(head) => run_checks(rt, story),
+        Some(head) if is_loopback(head) => run_loopback(rt, story),
         Some(head) if is_of_values(head) => run_values(rt, story),
-        Some(head) if is_of_program(head) => run_program(rt, book, story, counts),
         _ => run_store(rt, book, story, counts),
     }
 }

@@ -1,4 +1,4 @@
-//! Steps of values: a document, a name, a number or a message read and shown, and what a request asks.
+//! Steps of values: a document, a name, a number or a message read and shown.
 use basis::numbers::whole_number;
 use basis::{
     Limit, LockId, Moment, Number, OrgName, RunAsk, Secret, SettingsAsk, StateHead, Unfit, WsName,
@@ -11,7 +11,6 @@ use story_runner::definitions::Unread;
 use story_runner::failures::{Failure, compare_bytes};
 use story_runner::lines::Mark;
 use story_runner::messages::show_message;
-use story_runner::routes::{show_asks, show_route};
 use story_stores::kept::show_kept;
 
 /// What is read.
@@ -32,8 +31,6 @@ enum Kind {
     Limit,
     Message,
     Line,
-    Route,
-    Asks,
     Kept,
 }
 
@@ -53,8 +50,6 @@ const KINDS: &[(&str, Kind)] = &[
     ("limit", Kind::Limit),
     ("message", Kind::Message),
     ("line", Kind::Line),
-    ("route", Kind::Route),
-    ("asks", Kind::Asks),
     ("kept", Kind::Kept),
 ];
 
@@ -261,7 +256,6 @@ fn show_bytes(alloc: Global, kind: Kind, words: &str, bytes: &[u8]) -> Shown {
         Kind::Digest => show_digest(alloc, words, bytes),
         Kind::Message => show_message(alloc, bytes),
         Kind::Line => show_front(alloc, bytes),
-        Kind::Route => show_route(alloc, words, bytes),
         Kind::Kept => show_kept(alloc, words, bytes),
         _ => match str::from_utf8(bytes) {
             Ok(text) => show_text(alloc, kind, text),
@@ -270,25 +264,14 @@ fn show_bytes(alloc: Global, kind: Kind, words: &str, bytes: &[u8]) -> Shown {
     }
 }
 
-// A text on one line: a digest's field comes before its body, a route has no body.
+// A text on one line: a digest's field comes before its body.
 fn show_line(alloc: Global, kind: Kind, text: &str) -> Shown {
     match kind {
         Kind::Digest => match text.split_once(' ') {
             Some((field, body)) => show_digest(alloc, field, body.as_bytes()),
             None => show_digest(alloc, text, b""),
         },
-        Kind::Route => show_route(alloc, text, b""),
-        Kind::Asks => show_asks(alloc, field_in(text), None),
         _ => show_bytes(alloc, kind, "", text.as_bytes()),
-    }
-}
-
-// A field that is empty on a line is absent.
-fn field_in(text: &str) -> Option<&[u8]> {
-    if text.is_empty() {
-        None
-    } else {
-        Some(text.as_bytes())
     }
 }
 
@@ -325,16 +308,6 @@ fn result_lines(alloc: Global, parts: &[Part<'_>]) -> Result<String, Unread> {
     Ok(lines)
 }
 
-// The query after the pieces of a field, if there is one, and the lines of the result.
-fn query_in<'s, 'a>(kind: Kind, parts: &'s [Part<'a>]) -> (Option<&'s [u8]>, &'s [Part<'a>]) {
-    match (kind, parts) {
-        (Kind::Asks, [query, results @ ..]) if query.mark == Mark::Query => {
-            (query.pieces(), results)
-        }
-        _ => (None, parts),
-    }
-}
-
 // A step whose value is written in pieces.
 fn take_block(
     alloc: Global,
@@ -343,12 +316,8 @@ fn take_block(
     words: &str,
     parts: &[Part<'_>],
 ) -> Result<(), Failure> {
-    let (query, results) = query_in(kind, parts);
-    let due = result_lines(alloc, results)?;
-    let came = match kind {
-        Kind::Asks => show_asks(alloc, head.pieces(), query),
-        _ => show_bytes(alloc, kind, words, head.written()),
-    };
+    let due = result_lines(alloc, parts)?;
+    let came = show_bytes(alloc, kind, words, head.written());
     compare(alloc, head, due.as_str(), came)
 }
 

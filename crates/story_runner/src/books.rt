@@ -40,15 +40,6 @@ impl<'a> Part<'a> {
         self.bytes.as_slice()
     }
 
-    /// The same; `None` without a piece.
-    pub fn pieces(&self) -> Option<&[u8]> {
-        if self.has_pieces {
-            Some(self.bytes.as_slice())
-        } else {
-            None
-        }
-    }
-
     /// An error: this line cannot be read.
     pub fn unread(&self, why: &'static str) -> Unread {
         Unread {

@@ -59,7 +59,6 @@ pub struct Taker {
     pub writes: usize,
     stops_at: usize,
     stop: Stop,
-    is_flushed: bool,
 }
 
 impl Taker {
@@ -71,7 +70,6 @@ impl Taker {
             writes: 0,
             stops_at: 0,
             stop: Stop::Fails,
-            is_flushed: true,
         }
     }
 
@@ -83,19 +81,6 @@ impl Taker {
             writes: 0,
             stops_at,
             stop,
-            is_flushed: true,
-        }
-    }
-
-    /// Takes all that is written, and fails when it is flushed.
-    pub fn unflushed(alloc: Global) -> Taker {
-        Taker {
-            taken: Vec::new(alloc),
-            most: ALL,
-            writes: 0,
-            stops_at: 0,
-            stop: Stop::Fails,
-            is_flushed: false,
         }
     }
 }
@@ -119,10 +104,6 @@ impl Write for Taker {
     }
 
     fn flush(&mut self) -> io::Result<()> {
-        if self.is_flushed {
-            Ok(())
-        } else {
-            Err(io::Error::from(ErrorKind::BrokenPipe))
-        }
+        Ok(())
     }
 }

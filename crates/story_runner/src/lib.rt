@@ -1,7 +1,6 @@
 //! Reads the text of stories, and takes a story's steps over any store.
 #![tactic(auto)]
 
-pub mod acts;
 pub mod books;
 pub mod breaking;
 pub mod definitions;
@@ -20,7 +19,6 @@ pub mod refusals;
 pub mod refusing;
 pub mod reports;
 pub mod requests;
-pub mod routes;
 pub mod stopping;
 pub mod stores;
 pub mod taking;

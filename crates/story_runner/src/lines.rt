@@ -10,12 +10,8 @@ pub enum Mark {
     Head,
     /// `=`: what is answered.
     Answer,
-    /// `?`: what the error stream has.
-    Errors,
     /// `->`: what a value comes to.
     Outcome,
-    /// `query`: the query of a route that is asked.
-    Query,
 }
 
 /// How a piece writes bytes.
@@ -97,9 +93,7 @@ const FRONTS: &[(&str, Front)] = &[
     ("\\", Front::Piece(Piece::Escaped)),
     ("*", Front::Piece(Piece::Repeated)),
     ("=", Front::Begins(Mark::Answer)),
-    ("?", Front::Begins(Mark::Errors)),
     ("->", Front::Begins(Mark::Outcome)),
-    ("query", Front::Begins(Mark::Query)),
     ("story", Front::Story),
     ("after", Front::After),
     ("links", Front::Links),
